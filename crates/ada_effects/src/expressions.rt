@@ -2,7 +2,7 @@
 
 ghost use Rattle.std.specs.Prelude.{◌≡◌, map};
 ghost use Rattle.ada_effects.specs.Effects as rules;
-ghost use Rattle.ada_program.specs.Form.{actual_form, condition_form, expression_form, item_form, links_form, path_form, record_path_form, value_given};
+ghost use Rattle.ada_program.specs.Form.{actual_form, condition_form, expression_form, item_form, links_form, path_form, record_path_form};
 
 use ada_program::Path;
 use ada_program::program::{Actual, Expression, Item, Link, RecordPath};
@@ -74,13 +74,16 @@ pub fn record_path_raises(path: &RecordPath) -> bool
     !path.object.of_record || !path.object.selectors.is_empty()
 }
 
-/// Whether an actual parameter may raise an exception.
+/// Whether an actual parameter may raise an exception, where its value is evaluated (6.4.1).
 fn actual_raises(actual: &Actual) -> bool
-    ensures { result ≡ rules.expression_raises (value_given (actual_form actual.now)) }
+    ensures { result ≡ rules.actual_raises (actual_form actual.now) }
 {
     match actual {
         Actual::In(value) => expression_raises(value),
-        Actual::InOut(path) => path_raises(path),
+        Actual::InNull => false,
+        Actual::InAccess(path) | Actual::InOut(path) | Actual::InOutAccess(path) => {
+            path_raises(path)
+        }
     }
 }
 

@@ -1,7 +1,6 @@
 -- Whether a variable may hold an alias: where it is said that none does, none does behind any step.
 
 use Rattle.std.proofs.Common.{◌≡◌, ℕ, zero, suc, Bool, true, false, ◌||◌, not, List, [], ◌∷◌, length, take, map, Some, refl, sym, ap, ◌∙◌}
-use Rattle.std.proofs.Math.ListN.{replicate}
 use Rattle.std.specs.Bool.{IsTrue}
 use Rattle.std.specs.List.{list_any, slice_set}
 use Rattle.ada_program.specs.declared.program.Variable.{Variable}
@@ -9,7 +8,7 @@ use Rattle.ada_program.specs.ProgramForm.{VariableForm, variable_form}
 use Rattle.ada_program.specs.WellFormed.{access_of, is_this}
 use Rattle.ada_flow.specs.Aliases.{is_alias, tells_aliases}
 use Rattle.ada_flow.specs.declared.rule.Hold.{Hold}
-use Rattle.ada_flow.specs.declared.rule.Hold.TheVariants.{Null, Own, Alias, Lost}
+use Rattle.ada_flow.specs.declared.rule.Hold.TheVariants.{Null, Kept, Own, Alias, Lost}
 use Rattle.ada_flow.specs.declared.rule.Region.TheVariants.{Whole}
 use Rattle.ada_flow.specs.Flow.{Holds, if_own, is_among, join, join_hold, without_alias, without_aliases, without_types}
 
@@ -29,14 +28,6 @@ pub not_so : (b : Bool) → not b ≡ true → b ≡ false
 not_so false e = refl
 not_so true e = cc
 
--- where each is lost, none is an alias
-none_among_lost : (n : ℕ) → list_any is_alias (replicate n Lost) ≡ false
-none_among_lost zero = refl
-none_among_lost (suc n) = none_among_lost n
-
-pub told_of_lost : (n : ℕ) → IsTrue (tells_aliases false (replicate n Lost))
-told_of_lost n = ap not (none_among_lost n)
-
 -- where a variable gets a hold
 none_set : (hs : Holds) (x : ℕ) (h : Hold) → list_any is_alias hs ≡ false → is_alias h ≡ false → list_any is_alias (slice_set hs x h) ≡ false
 none_set [] x h none own = refl
@@ -55,10 +46,20 @@ told_of_set false b hs x h is told = told_set b hs x h is told
 
 -- where two ways meet
 own_joined : (g h : Hold) → is_alias g ≡ false → is_alias h ≡ false → is_alias (join_hold g h) ≡ false
-own_joined Null h one other = other
+own_joined Null Null one other = refl
+own_joined Null (Kept Whole) one other = refl
+own_joined Null (Own Whole) one other = refl
+own_joined Null (Alias q) one other = cc
+own_joined Null Lost one other = refl
+own_joined (Kept Whole) Null one other = refl
+own_joined (Kept Whole) (Kept Whole) one other = refl
+own_joined (Kept Whole) (Own Whole) one other = refl
+own_joined (Kept Whole) (Alias q) one other = cc
+own_joined (Kept Whole) Lost one other = refl
 own_joined (Own Whole) Null one other = refl
+own_joined (Own Whole) (Kept Whole) one other = refl
 own_joined (Own Whole) (Own Whole) one other = refl
-own_joined (Own Whole) (Alias q) one other = refl
+own_joined (Own Whole) (Alias q) one other = cc
 own_joined (Own Whole) Lost one other = refl
 own_joined (Alias r) h one other = cc
 own_joined Lost h one other = refl
@@ -97,6 +98,7 @@ told_of_left false vs types hs told = ap not (none_left vs types hs (not_so (lis
 pub own_kept : (b : Bool) (h : Hold) → is_alias h ≡ false → h ≡ without_alias b h
 own_kept false h own = refl
 own_kept true Null own = refl
+own_kept true (Kept r) own = refl
 own_kept true (Own r) own = refl
 own_kept true (Alias r) own = cc
 own_kept true Lost own = refl

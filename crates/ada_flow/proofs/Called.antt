@@ -1,11 +1,11 @@
 -- What is left behind a call: every alias is lost of the access types of which it may free objects.
 
-use Rattle.std.proofs.Common.{◌≡◌, ℕ, ◌+◌, ◌<◌, ◌≤◌, arith, Bool, true, false, ◌||◌, ◌==◌, List, [], ◌∷◌, get_or, length, take, drop, map, Option, Some, None, refl, sym, ap, ◌∙◌, add-one, inl, inr}
+use Rattle.std.proofs.Common.{◌≡◌, ℕ, zero, suc, ◌+◌, ◌<◌, ◌≤◌, arith, Bool, true, false, ◌||◌, ◌==◌, List, [], ◌∷◌, get_or, length, take, drop, map, Option, Some, None, refl, sym, ap, ◌∙◌, add-one, inl, inr}
 use Rattle.std.proofs.lemmas.Bool.{cases_Bool, eqb-true, eqb-false, eq-eqb, ne_eqb}
 use Rattle.std.proofs.Math.Path.{fun_ext}
 use Rattle.std.proofs.Math.Seq.{drop-cons}
 use Rattle.std.specs.Bool.{IsTrue}
-use Rattle.std.specs.List.{list_any}
+use Rattle.std.specs.List.{list_any, slice_index_or}
 use Rattle.ada_effects.specs.Found.{has_number}
 use Rattle.ada_program.specs.declared.program.Exception.{Exception}
 use Rattle.ada_program.specs.declared.program.TypeNo.{TypeNo}
@@ -15,8 +15,9 @@ use Rattle.ada_program.specs.WellFormed.{access_of}
 use Rattle.ada_flow.specs.Aliases.{is_alias, tells_aliases}
 use Rattle.ada_flow.specs.declared.marks.Marks.{Marks}
 use Rattle.ada_flow.specs.declared.rule.Hold.{Hold}
-use Rattle.ada_flow.specs.Flow.{Holds, is_among, is_freed, without_alias, without_freed}
-use Rattle.ada_flow.specs.Told.{AreMarks, is_marked, marked_types, type_number}
+use Rattle.ada_flow.specs.Flow.{Holds, Keeping, first_kept, is_among, is_freed, others_kept, without_alias, without_freed}
+use Rattle.ada_flow.specs.Told.{AreMarks, Noted, unwanted, wanted, also_noted, is_marked, is_wanted, marked_types, type_number}
+use Rattle.ada_flow.proofs.Noted.{nothing_noted}
 use Rattle.ada_flow.proofs.Aliased.{own_kept, first_not, second_not, not_so, told_of_take, told_of_itself}
 
 -- a type that is marked
@@ -84,3 +85,29 @@ pub ruleset freeing_steps = (aliases_stay, freed_by_marks, told_of_take, told_of
 pub something_raised : (es : List Exception) → 1 ≤ length es → true ≡ list_any (λ e. true) es
 something_raised [] h = absurd (omega arith)
 something_raised (e ∷ es) h = refl
+
+-- whether the formal parameter of a number is kept
+pub kept_next : (kept : Keeping) (n : ℕ) → first_kept (drop n kept) ≡ slice_index_or kept n false
+kept_next [] zero = refl
+kept_next [] (suc n) = refl
+kept_next (b ∷ kept) zero = refl
+kept_next (b ∷ kept) (suc n) = kept_next kept n
+
+-- and which of those behind it are
+others_behind : (kept : Keeping) (n : ℕ) → others_kept (drop n kept) ≡ drop (suc n) kept
+others_behind [] zero = refl
+others_behind [] (suc n) = refl
+others_behind (b ∷ kept) zero = refl
+others_behind (b ∷ kept) (suc n) = others_behind kept n
+
+pub others_next : (kept : Keeping) (n : ℕ) → others_kept (drop n kept) ≡ drop (n + 1) kept
+others_next kept n = others_behind kept n ∙ ap (λ (m : ℕ). drop m kept) (sym (add-one n))
+
+pub ruleset unkept_steps = (kept_next, others_next)
+
+-- where nothing is wanted, nothing is noted
+pub unwanted_stays : (n : Noted) (raising : Option Holds) → is_wanted n ≡ false → also_noted n raising ≡ n
+unwanted_stays unwanted raising e = refl
+unwanted_stays (wanted before) raising e = cc
+
+pub ruleset raising_steps = (unwanted_stays, nothing_noted)

@@ -2,29 +2,92 @@
 
 use Rattle.std.proofs.Common.{◌≡◌, [], ◌∷◌, length, take, Option, Some, None, refl, ap}
 use Rattle.ada_flow.specs.declared.rule.Hold.{Hold}
-use Rattle.ada_flow.specs.declared.rule.Hold.TheVariants.{Null, Own, Alias, Lost}
+use Rattle.ada_flow.specs.declared.rule.Hold.TheVariants.{Null, Kept, Own, Alias, Lost}
 use Rattle.ada_flow.specs.declared.rule.Region.TheVariants.{Whole}
 use Rattle.ada_flow.specs.Flow.{Holds, join_hold, join, join_option}
 
 -- of three ways, the same is known of a variable however they are taken
 join_hold_of_three : (a b c : Hold) → join_hold (join_hold a b) c ≡ join_hold a (join_hold b c)
-join_hold_of_three Null b c = refl
-join_hold_of_three (Own Whole) Null c = refl
+join_hold_of_three Null Null Null = refl
+join_hold_of_three Null Null (Kept Whole) = refl
+join_hold_of_three Null Null (Own Whole) = refl
+join_hold_of_three Null Null (Alias Whole) = refl
+join_hold_of_three Null Null Lost = refl
+join_hold_of_three Null (Kept Whole) Null = refl
+join_hold_of_three Null (Kept Whole) (Kept Whole) = refl
+join_hold_of_three Null (Kept Whole) (Own Whole) = refl
+join_hold_of_three Null (Kept Whole) (Alias Whole) = refl
+join_hold_of_three Null (Kept Whole) Lost = refl
+join_hold_of_three Null (Own Whole) Null = refl
+join_hold_of_three Null (Own Whole) (Kept Whole) = refl
+join_hold_of_three Null (Own Whole) (Own Whole) = refl
+join_hold_of_three Null (Own Whole) (Alias Whole) = refl
+join_hold_of_three Null (Own Whole) Lost = refl
+join_hold_of_three Null (Alias Whole) Null = refl
+join_hold_of_three Null (Alias Whole) (Kept Whole) = refl
+join_hold_of_three Null (Alias Whole) (Own Whole) = refl
+join_hold_of_three Null (Alias Whole) (Alias Whole) = refl
+join_hold_of_three Null (Alias Whole) Lost = refl
+join_hold_of_three Null Lost c = refl
+join_hold_of_three (Kept Whole) Null Null = refl
+join_hold_of_three (Kept Whole) Null (Kept Whole) = refl
+join_hold_of_three (Kept Whole) Null (Own Whole) = refl
+join_hold_of_three (Kept Whole) Null (Alias Whole) = refl
+join_hold_of_three (Kept Whole) Null Lost = refl
+join_hold_of_three (Kept Whole) (Kept Whole) Null = refl
+join_hold_of_three (Kept Whole) (Kept Whole) (Kept Whole) = refl
+join_hold_of_three (Kept Whole) (Kept Whole) (Own Whole) = refl
+join_hold_of_three (Kept Whole) (Kept Whole) (Alias Whole) = refl
+join_hold_of_three (Kept Whole) (Kept Whole) Lost = refl
+join_hold_of_three (Kept Whole) (Own Whole) Null = refl
+join_hold_of_three (Kept Whole) (Own Whole) (Kept Whole) = refl
+join_hold_of_three (Kept Whole) (Own Whole) (Own Whole) = refl
+join_hold_of_three (Kept Whole) (Own Whole) (Alias Whole) = refl
+join_hold_of_three (Kept Whole) (Own Whole) Lost = refl
+join_hold_of_three (Kept Whole) (Alias Whole) Null = refl
+join_hold_of_three (Kept Whole) (Alias Whole) (Kept Whole) = refl
+join_hold_of_three (Kept Whole) (Alias Whole) (Own Whole) = refl
+join_hold_of_three (Kept Whole) (Alias Whole) (Alias Whole) = refl
+join_hold_of_three (Kept Whole) (Alias Whole) Lost = refl
+join_hold_of_three (Kept Whole) Lost c = refl
+join_hold_of_three (Own Whole) Null Null = refl
+join_hold_of_three (Own Whole) Null (Kept Whole) = refl
+join_hold_of_three (Own Whole) Null (Own Whole) = refl
+join_hold_of_three (Own Whole) Null (Alias Whole) = refl
+join_hold_of_three (Own Whole) Null Lost = refl
+join_hold_of_three (Own Whole) (Kept Whole) Null = refl
+join_hold_of_three (Own Whole) (Kept Whole) (Kept Whole) = refl
+join_hold_of_three (Own Whole) (Kept Whole) (Own Whole) = refl
+join_hold_of_three (Own Whole) (Kept Whole) (Alias Whole) = refl
+join_hold_of_three (Own Whole) (Kept Whole) Lost = refl
 join_hold_of_three (Own Whole) (Own Whole) Null = refl
+join_hold_of_three (Own Whole) (Own Whole) (Kept Whole) = refl
 join_hold_of_three (Own Whole) (Own Whole) (Own Whole) = refl
 join_hold_of_three (Own Whole) (Own Whole) (Alias Whole) = refl
 join_hold_of_three (Own Whole) (Own Whole) Lost = refl
 join_hold_of_three (Own Whole) (Alias Whole) Null = refl
+join_hold_of_three (Own Whole) (Alias Whole) (Kept Whole) = refl
 join_hold_of_three (Own Whole) (Alias Whole) (Own Whole) = refl
 join_hold_of_three (Own Whole) (Alias Whole) (Alias Whole) = refl
 join_hold_of_three (Own Whole) (Alias Whole) Lost = refl
 join_hold_of_three (Own Whole) Lost c = refl
-join_hold_of_three (Alias Whole) Null c = refl
+join_hold_of_three (Alias Whole) Null Null = refl
+join_hold_of_three (Alias Whole) Null (Kept Whole) = refl
+join_hold_of_three (Alias Whole) Null (Own Whole) = refl
+join_hold_of_three (Alias Whole) Null (Alias Whole) = refl
+join_hold_of_three (Alias Whole) Null Lost = refl
+join_hold_of_three (Alias Whole) (Kept Whole) Null = refl
+join_hold_of_three (Alias Whole) (Kept Whole) (Kept Whole) = refl
+join_hold_of_three (Alias Whole) (Kept Whole) (Own Whole) = refl
+join_hold_of_three (Alias Whole) (Kept Whole) (Alias Whole) = refl
+join_hold_of_three (Alias Whole) (Kept Whole) Lost = refl
 join_hold_of_three (Alias Whole) (Own Whole) Null = refl
+join_hold_of_three (Alias Whole) (Own Whole) (Kept Whole) = refl
 join_hold_of_three (Alias Whole) (Own Whole) (Own Whole) = refl
 join_hold_of_three (Alias Whole) (Own Whole) (Alias Whole) = refl
 join_hold_of_three (Alias Whole) (Own Whole) Lost = refl
 join_hold_of_three (Alias Whole) (Alias Whole) Null = refl
+join_hold_of_three (Alias Whole) (Alias Whole) (Kept Whole) = refl
 join_hold_of_three (Alias Whole) (Alias Whole) (Own Whole) = refl
 join_hold_of_three (Alias Whole) (Alias Whole) (Alias Whole) = refl
 join_hold_of_three (Alias Whole) (Alias Whole) Lost = refl

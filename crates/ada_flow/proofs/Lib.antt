@@ -14,6 +14,8 @@ pub mod Aliased
 pub mod Freed
 -- actual parameters, one behind the other
 pub mod Actuals
+-- formal parameters where a body begins and ends
+pub mod Formals
 -- what is left behind a call
 pub mod Called
 -- the first fault of bodies

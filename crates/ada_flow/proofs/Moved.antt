@@ -5,7 +5,7 @@ use Rattle.std.proofs.Math.Bool.{or_assoc, or_comm}
 use Rattle.std.proofs.lemmas.List.{at_drop_more, take_more, map-append}
 use Rattle.std.specs.Prelude.{if◌then◌else◌}
 use Rattle.ada_text.specs.declared.spot.Spot.{Spot}
-use Rattle.ada_flow.specs.Flow.{Breach, Holds, Use, moves_it, moves_again, broken_among, leftmost, is_named, is_target, named_by_item, same_path, uses_in_item, uses_in_items, without_value, without_values}
+use Rattle.ada_flow.specs.Flow.{Breach, Holds, Use, moves_it, moves_again, all_touched, broken_among, leftmost, is_named, is_target, named_by_item, same_path, touched, uses_in_item, uses_in_items, without_value, without_values}
 use Rattle.ada_flow.specs.Told.{named_by_items}
 use Rattle.ada_flow.proofs.Leftmost.{broken_among_more, leftmost_of_three}
 use Rattle.ada_program.specs.declared.program.Item.{Item}
@@ -31,6 +31,13 @@ named_by_more (i ∷ is) js = ap (λ (ps : List PathForm). named_by_item i ++ ps
 pub without_more : (xs ys : List ℕ) (holds : Holds) → without_values (xs ++ ys) holds ≡ without_values ys (without_values xs holds)
 without_more [] ys holds = refl
 without_more (x ∷ xs) ys holds = without_more xs ys (without_value x holds)
+
+-- and touched in turn
+pub touched_more : (xs ys : List ℕ) (holds : Holds) → all_touched (xs ++ ys) holds ≡ all_touched ys (all_touched xs holds)
+touched_more [] ys holds = refl
+touched_more (x ∷ xs) ys holds = touched_more xs ys (touched x holds)
+
+pub ruleset touching_steps = (touched_more)
 
 -- how an item moves its path, behind items that move the same paths
 item_uses_by_same : (types : List TypeForm) (spot : Spot) (target : Option PathForm) (xs ys : List PathForm) (i : ItemForm) → ((path : PathForm) → is_named xs path ≡ is_named ys path) →

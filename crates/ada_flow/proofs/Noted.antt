@@ -9,7 +9,7 @@ use Rattle.ada_program.specs.declared.program.Handler.{Handler}
 use Rattle.ada_flow.specs.declared.rule.Rule.{Rule}
 use Rattle.ada_flow.specs.declared.rule.Rule.TheVariants.{LoopState}
 use Rattle.ada_flow.specs.Flow.{Holds, Outcome, faults, goes, Gone, Around, begins_pair, join_option, left_option, either_of, also_raises, then_flow, computed, stmt_flow, stmts_flow, branches_flow, handlers_flow, handled, leaves_block, raising_if, left_with, ends_turn, unless_worse, are_as_good, condition_flow, loop_flow, in_loop, in_block, gone_with, declaration_flow, declarations_flow}
-use Rattle.ada_flow.specs.Told.{Noted, unwanted, wanted, also_noted, noted_behind, emptied, ending, end_handled, joined_end, judgement, noted_for}
+use Rattle.ada_flow.specs.Told.{Noted, unwanted, wanted, also_noted, noted_behind, emptied, ending, end_handled, joined_end, noted_for}
 use Rattle.ada_flow.proofs.Joined.{join_option_of_three, join_option_none}
 use Rattle.ada_program.specs.Form.{StmtForm, StmtsForm, a_stmt, BranchesForm, a_branch, ExpressionForm, HandlersForm, no_handlers, a_handler, DeclarationForm, encloses, handlers_form}
 use Rattle.ada_program.specs.ProgramForm.{TypeForm, VariableForm}
@@ -221,23 +221,6 @@ body_ends n types variables around passes ds fs hs holds =
     then_ends n (declarations_flow types variables ds holds) (λ at. handled passes (handlers_flow types variables around hs) (stmts_flow types variables around fs at))
     ∙ handled_behind types variables around passes fs hs (ending n (declarations_flow types variables ds holds))
 
--- the judgement by an end
-abbrev pub judged : End → Result (Unit {0}) (Spot × Rule)
-judged (Err breach) = Err breach
-judged (Ok end) = Ok tt
-
-pub judgement_by : (n : Noted) (o : Outcome) → judgement o ≡ judged (ending n o)
-judgement_by n (faults spot rule) = refl
-judgement_by n (goes normal raising) = refl
-
--- a whole program is judged by how it ends
-pub program_ends : (n : Noted) (types : List TypeForm) (variables : List VariableForm) (around : Around) (passes : Bool) (ds : List DeclarationForm) (fs : StmtsForm) (hs : HandlersForm) (holds : Holds) →
-    judgement (then_flow (declarations_flow types variables ds holds) (λ at. handled passes (handlers_flow types variables around hs) (stmts_flow types variables around fs at)))
-    ≡ judged (then_handled types variables around passes fs hs (ending n (declarations_flow types variables ds holds)))
-program_ends n types variables around passes ds fs hs holds =
-    judgement_by n (then_flow (declarations_flow types variables ds holds) (λ at. handled passes (handlers_flow types variables around hs) (stmts_flow types variables around fs at)))
-    ∙ ap judged (body_ends n types variables around passes ds fs hs holds)
-
 -- declarations end as the first, or else as the others
 pub declarations_end : (n : Noted) (types : List TypeForm) (variables : List VariableForm) (d : DeclarationForm) (ds : List DeclarationForm) (holds : Holds) →
     ending n (declarations_flow types variables (d ∷ ds) holds) ≡ then_end (ending n (declaration_flow types variables d holds)) (declarations_flow types variables ds)
@@ -307,16 +290,15 @@ block_handles n m k types variables around cleared gone ds fs hs holds at normal
     ∙ ap (λ e. left_end n variables gone (handled_end m (passes around.effects fs hs) (handlers_flow types variables (in_block gone around) hs) e)) ends
     ∙ ap (left_end n variables gone) handles
 
--- a program whose declarations, statements and handlers come to an end obeys the rules
-pub program_obeys : (n m k : Noted) (types : List TypeForm) (variables : List VariableForm) (around : Around) (passes : Bool) (ds : List DeclarationForm) (fs : StmtsForm) (hs : HandlersForm) (holds at : Holds) (normal : Option Holds) (end : Option Holds × Noted) →
+-- a body whose declarations and statements come to an end ends as its handlers do
+pub parts_end : (n m k : Noted) (types : List TypeForm) (variables : List VariableForm) (around : Around) (passes : Bool) (ds : List DeclarationForm) (fs : StmtsForm) (hs : HandlersForm) (holds at : Holds) (normal : Option Holds) →
     ending n (declarations_flow types variables ds holds) ≡ Ok (Some at, m) → ending (noted_for m hs) (stmts_flow types variables around fs at) ≡ Ok (normal, k) →
-    end_handled m passes (handlers_flow types variables around hs) normal k ≡ Ok end →
-    judgement (then_flow (declarations_flow types variables ds holds) (λ at. handled passes (handlers_flow types variables around hs) (stmts_flow types variables around fs at))) ≡ Ok tt
-program_obeys n m k types variables around passes ds fs hs holds at normal end declares ends handles =
-    program_ends n types variables around passes ds fs hs holds
-    ∙ ap (λ e. judged (then_handled types variables around passes fs hs e)) declares
-    ∙ ap (λ e. judged (handled_end m passes (handlers_flow types variables around hs) e)) ends
-    ∙ ap judged handles
+    ending n (then_flow (declarations_flow types variables ds holds) (λ at. handled passes (handlers_flow types variables around hs) (stmts_flow types variables around fs at)))
+    ≡ end_handled m passes (handlers_flow types variables around hs) normal k
+parts_end n m k types variables around passes ds fs hs holds at normal declares ends =
+    body_ends n types variables around passes ds fs hs holds
+    ∙ ap (λ e. then_handled types variables around passes fs hs e) declares
+    ∙ ap (λ e. handled_end m passes (handlers_flow types variables around hs) e) ends
 
 pub ruleset block_steps = (block_declares_badly, block_breaks, block_handles)
 

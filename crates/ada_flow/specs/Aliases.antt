@@ -3,11 +3,12 @@
 use Rattle.std.specs.Prelude.{Bool, true, false, ◌||◌, not, List}
 use Rattle.std.specs.List.{list_any}
 use Rattle.ada_flow.specs.declared.rule.Hold.{Hold}
-use Rattle.ada_flow.specs.declared.rule.Hold.TheVariants.{Null, Own, Alias, Lost}
+use Rattle.ada_flow.specs.declared.rule.Hold.TheVariants.{Null, Kept, Own, Alias, Lost}
 
 -- A hold is an alias: its object may have an owner besides (3.10).
 abbrev pub is_alias : Hold → Bool
 is_alias Null = false
+is_alias (Kept r) = false
 is_alias (Own r) = false
 is_alias (Alias r) = true
 is_alias Lost = false

@@ -1,22 +1,24 @@
 -- The rules of the flow of values: what each variable may be relied on for, from statement to statement.
 
-use Rattle.std.specs.Prelude.{◌≡◌, ℕ, Bool, true, false, ◌&&◌, ◌||◌, not, ◌==◌, nat_lt, if◌then◌else◌, List, [], ◌∷◌, ◌++◌, length, map, Option, Some, None}
+use Rattle.std.specs.Prelude.{◌≡◌, ℕ, ◌+◌, Bool, true, false, ◌&&◌, ◌||◌, not, ◌==◌, nat_lt, if◌then◌else◌, List, [], ◌∷◌, ◌++◌, map, Option, Some, None}
 use Rattle.std.specs.List.{list_any, slice_get, slice_index_or, slice_set}
-use Rattle.std.proofs.Math.ListN.{replicate}
 use Rattle.ada_text.specs.declared.spot.Spot.{Spot}
 use Rattle.ada_program.specs.declared.program.ComponentKind.{ComponentKind}
 use Rattle.ada_program.specs.declared.program.ComponentKind.TheVariants as component
+use Rattle.ada_program.specs.declared.program.FormalMode.{FormalMode}
+use Rattle.ada_program.specs.declared.program.FormalMode.TheVariants.{In, InOut}
 use Rattle.ada_program.specs.declared.program.Program.{Program}
 use Rattle.ada_program.specs.declared.program.VariableKind.{VariableKind}
-use Rattle.ada_program.specs.Form.{ActualForm, in_value, in_out_path, PathForm, RecordPathForm, ExpressionForm, integer, boolean, reads, is_null, applied_to, chained, LinksForm, no_more_links, a_link, ItemForm, null_item, item_of_path, item_of_value, item_of_record, RightForm, nothing, value_of, allocates, allocates_default, computes, StmtForm, skips, assigns, assigns_record, frees, gets, writes, writes_text, chooses, repeats, counts, exits, calls, returns, raises, encloses, StmtsForm, no_stmts, a_stmt, BranchesForm, otherwise, a_branch, HandlersForm, no_handlers, a_handler, DeclarationForm, collects, declares, declares_record}
-use Rattle.ada_program.specs.ProgramForm.{TypeForm, type_form, VariableForm, variable_form, BodyForm, ProgramForm, main_body, program_form}
-use Rattle.ada_program.specs.WellFormed.{record_components, reached_components, access_of, variable_kind, selected_kind, path_access, is_this, is_borrower}
+use Rattle.ada_program.specs.declared.program.VariableKind.TheVariants as variable
+use Rattle.ada_program.specs.Form.{ActualForm, in_value, in_null, in_access, in_out_path, in_out_access, PathForm, RecordPathForm, ExpressionForm, integer, boolean, reads, is_null, applied_to, chained, LinksForm, no_more_links, a_link, ItemForm, null_item, item_of_path, item_of_value, item_of_record, RightForm, nothing, value_of, allocates, allocates_default, computes, StmtForm, skips, assigns, assigns_record, frees, gets, writes, writes_text, chooses, repeats, counts, exits, calls, returns, raises, encloses, StmtsForm, no_stmts, a_stmt, BranchesForm, otherwise, a_branch, HandlersForm, no_handlers, a_handler, DeclarationForm, collects, declares, declares_record}
+use Rattle.ada_program.specs.ProgramForm.{TypeForm, type_form, VariableForm, variable_form, BodyForm, nowhere, ProgramForm, main_body, program_form}
+use Rattle.ada_program.specs.WellFormed.{record_components, reached_components, access_of, variable_kind, selected_kind, path_access, is_this, is_borrower, names_borrower}
 use Rattle.ada_effects.specs.Effects.{expression_raises, path_raises, record_path_raises, actuals_raise, items_raise, initial_raises, Effect, call_raises, passes, effect_of}
 use Rattle.ada_flow.specs.declared.rule.Hold.{Hold}
-use Rattle.ada_flow.specs.declared.rule.Hold.TheVariants.{Null, Own, Alias, Lost}
+use Rattle.ada_flow.specs.declared.rule.Hold.TheVariants.{Null, Kept, Own, Alias, Lost}
 use Rattle.ada_flow.specs.declared.rule.Region.TheVariants.{Whole}
 use Rattle.ada_flow.specs.declared.rule.Rule.{Rule}
-use Rattle.ada_flow.specs.declared.rule.Rule.TheVariants.{LostValue, AliasMoved, TakePair, LoopState, UnsafePath, RecordCopied}
+use Rattle.ada_flow.specs.declared.rule.Rule.TheVariants.{LostValue, AliasMoved, TakePair, LoopState, UnsafePath, FormalNotOwned, RecordCopied}
 
 -- What the variables of a body hold, by their numbers.
 abbrev pub Holds : Type 0
@@ -28,12 +30,23 @@ hold_at holds x = slice_index_or holds x Lost
 
 -- What is known after two ways: of each variable what both say of it.
 abbrev pub join_hold : Hold → Hold → Hold
-join_hold Null h = h
+join_hold Null Null = Null
+join_hold Null (Kept r) = Own r
+join_hold Null (Own r) = Own r
+join_hold Null (Alias r) = Alias r
+join_hold Null Lost = Lost
+join_hold (Kept r) Null = Own r
+join_hold (Kept Whole) (Kept Whole) = Kept Whole
+join_hold (Kept Whole) (Own Whole) = Own Whole
+join_hold (Kept r) (Alias q) = Lost
+join_hold (Kept r) Lost = Lost
 join_hold (Own r) Null = Own r
+join_hold (Own Whole) (Kept Whole) = Own Whole
 join_hold (Own Whole) (Own Whole) = Own Whole
 join_hold (Own r) (Alias q) = Lost
 join_hold (Own r) Lost = Lost
 join_hold (Alias r) Null = Alias r
+join_hold (Alias r) (Kept q) = Lost
 join_hold (Alias r) (Own q) = Lost
 join_hold (Alias Whole) (Alias Whole) = Alias Whole
 join_hold (Alias r) Lost = Lost
@@ -85,8 +98,10 @@ ends_with may_raise before after = goes (Some after) (raising_if may_raise befor
 
 -- What a statement uses: a path, whose value is read, or an access value that is compared with null, or lent to a borrower, or moved: out of a
 -- variable, or out of a component, which the same or the next statement overwrites then, or none does; or it is moved though an item before it moves
--- it already (4.8); or its variable is given for a formal parameter of mode `in out`, though it is given for one before it (6.4.1); or the path to the object in which a record lies; or a record as a whole, which goes to what stands here, and of which some
--- component owns what it names, or none does (4.3.1, 5.2).
+-- it already (4.8); or an Integer or a Boolean is given for a formal parameter of mode `in out`, though it is given for one before it (6.4.1); or an
+-- access value is lent to a formal parameter of mode `in`, or handed over to one of mode `in out`, where another actual parameter before it begins with
+-- the same variable and one of the two is for mode `in out`, or none is; or the path to the object in which a record lies; or a record as a whole, which
+-- goes to what stands here, and of which some component owns what it names, or none does (4.3.1, 5.2).
 pub data Use : Type 0 where
   reads_it : PathForm → Use
   compares_it : PathForm → Use
@@ -94,6 +109,8 @@ pub data Use : Type 0 where
   moves_it : (overwritten : Bool) → PathForm → Use
   moves_again : PathForm → Use
   gives_again : PathForm → Use
+  lends_it : (again : Bool) → PathForm → Use
+  hands_it : (again : Bool) → PathForm → Use
   reaches_it : PathForm → Use
   copies_to : (owning : Bool) → Spot → Use
 
@@ -223,6 +240,7 @@ leftmost (Some a) (Some b) = if is_left_of b.0 a.0 then Some b else Some a
 -- What is lost is neither followed nor compared (4.1).
 abbrev pub lost_by : Hold → Spot → Option Breach
 lost_by Null spot = None
+lost_by (Kept r) spot = None
 lost_by (Own r) spot = None
 lost_by (Alias r) spot = None
 lost_by Lost spot = Some (spot, LostValue)
@@ -235,6 +253,7 @@ lost_behind (c ∷ cs) hold spot = lost_by hold spot
 -- A value that is moved out of a variable is neither lost nor an alias.
 abbrev pub moved_by : Hold → Spot → Option Breach
 moved_by Null spot = None
+moved_by (Kept r) spot = None
 moved_by (Own r) spot = None
 moved_by (Alias r) spot = Some (spot, AliasMoved)
 moved_by Lost spot = Some (spot, LostValue)
@@ -243,6 +262,7 @@ moved_by Lost spot = Some (spot, LostValue)
 abbrev pub taken_by : (overwritten : Bool) → Hold → Spot → Option Breach
 taken_by true hold spot = lost_by hold spot
 taken_by false Null spot = Some (spot, TakePair)
+taken_by false (Kept r) spot = Some (spot, TakePair)
 taken_by false (Own r) spot = Some (spot, TakePair)
 taken_by false (Alias r) spot = Some (spot, TakePair)
 taken_by false Lost spot = Some (spot, LostValue)
@@ -251,6 +271,27 @@ taken_by false Lost spot = Some (spot, LostValue)
 abbrev pub moved_behind : (overwritten : Bool) → List ℕ → Hold → Spot → Option Breach
 moved_behind overwritten [] hold spot = moved_by hold spot
 moved_behind overwritten (c ∷ cs) hold spot = taken_by overwritten hold spot
+
+-- An actual parameter begins with a variable with which another one before it begins, and one of them is for a formal parameter of mode `in out`.
+abbrev pub given_by_both : (again : Bool) → Spot → Option Breach
+given_by_both false spot = None
+given_by_both true spot = Some (spot, UnsafePath)
+
+-- A value that is lent to a formal parameter of mode `in` (6.4.1) is not lost.
+abbrev pub lent_by : (again : Bool) → Hold → Spot → Option Breach
+lent_by again Null spot = given_by_both again spot
+lent_by again (Kept r) spot = given_by_both again spot
+lent_by again (Own r) spot = given_by_both again spot
+lent_by again (Alias r) spot = given_by_both again spot
+lent_by again Lost spot = Some (spot, LostValue)
+
+-- A variable that is given for a formal parameter of mode `in out` of an access type (6.4.1) hands over what it owns: it is neither lost nor an alias.
+abbrev pub handed_by : (again : Bool) → Hold → Spot → Option Breach
+handed_by again Null spot = given_by_both again spot
+handed_by again (Kept r) spot = given_by_both again spot
+handed_by again (Own r) spot = given_by_both again spot
+handed_by again (Alias r) spot = Some (spot, AliasMoved)
+handed_by again Lost spot = Some (spot, LostValue)
 
 -- A record is copied as a whole only if none of its components owns what it names: else there would be two owners.
 abbrev pub copied_to : (owning : Bool) → Spot → Option Breach
@@ -266,6 +307,8 @@ broken_in holds (borrows_it path) = lost_by (hold_at holds path.root) path.spot
 broken_in holds (moves_it overwritten path) = moved_behind overwritten path.selectors (hold_at holds path.root) path.spot
 broken_in holds (moves_again path) = Some (path.spot, LostValue)
 broken_in holds (gives_again path) = Some (path.spot, UnsafePath)
+broken_in holds (lends_it again path) = lent_by again (hold_at holds path.root) path.spot
+broken_in holds (hands_it again path) = handed_by again (hold_at holds path.root) path.spot
 broken_in holds (reaches_it path) = lost_by (hold_at holds path.root) path.spot
 broken_in holds (copies_to owning spot) = copied_to owning spot
 
@@ -301,6 +344,7 @@ variable_access variables x = access_of (variable_kind variables x)
 -- What is left of a hold once its value was moved: an owner owns nothing any more.
 abbrev pub left_by_move : Hold → Hold
 left_by_move Null = Null
+left_by_move (Kept r) = Lost
 left_by_move (Own r) = Lost
 left_by_move (Alias r) = Alias r
 left_by_move Lost = Lost
@@ -331,10 +375,19 @@ moved_by_right borrows (allocates access items) = moved_by_items items
 moved_by_right borrows (allocates_default access) = []
 moved_by_right borrows (computes e) = []
 
+-- What is said of a formal parameter once its value is moved, freed or overwritten: it no longer holds what its call gave it. Of others nothing changes.
+abbrev pub touched_hold : Hold → Hold
+touched_hold Null = Null
+touched_hold (Kept r) = Own r
+touched_hold (Own r) = Own r
+touched_hold (Alias r) = Alias r
+touched_hold Lost = Lost
+
 -- What the value of a path is relied on for: a variable's own hold; a component owns its value, which is null where the variable is.
 abbrev pub value_hold : List ℕ → Hold → Hold
-value_hold [] hold = hold
+value_hold [] hold = touched_hold hold
 value_hold (c ∷ cs) Null = Null
+value_hold (c ∷ cs) (Kept r) = Own r
 value_hold (c ∷ cs) (Own r) = Own r
 value_hold (c ∷ cs) (Alias r) = Own r
 value_hold (c ∷ cs) Lost = Lost
@@ -342,6 +395,7 @@ value_hold (c ∷ cs) Lost = Lost
 -- What a borrower holds with the value of a path, by what the path's variable holds: the object has an owner, or null is behind null.
 abbrev pub borrowed_hold : Hold → Hold
 borrowed_hold Null = Null
+borrowed_hold (Kept r) = Alias r
 borrowed_hold (Own r) = Alias r
 borrowed_hold (Alias r) = Alias r
 borrowed_hold Lost = Lost
@@ -395,6 +449,7 @@ gives_record types target items holds =
 abbrev pub without_alias : Bool → Hold → Hold
 without_alias false hold = hold
 without_alias true Null = Null
+without_alias true (Kept r) = Kept r
 without_alias true (Own r) = Own r
 without_alias true (Alias r) = Lost
 without_alias true Lost = Lost
@@ -417,6 +472,7 @@ freed variables x holds = slice_set (behind_end variables (variable_access varia
 -- After Free (X) (13.11.2), by what X holds: only an owner frees.
 abbrev pub released : List VariableForm → (x : ℕ) → Spot → Holds → Hold → Outcome
 released variables x spot holds Null = ends_with false holds (freed variables x holds)
+released variables x spot holds (Kept r) = ends_with false holds (freed variables x holds)
 released variables x spot holds (Own r) = ends_with false holds (freed variables x holds)
 released variables x spot holds (Alias r) = faults spot AliasMoved
 released variables x spot holds Lost = faults spot LostValue
@@ -465,6 +521,7 @@ passes_own types variables path (Some t) = passes_type types (variable_kind vari
 abbrev pub freed_behind : (passes : Bool) → Hold → Spot → Option Breach
 freed_behind false hold spot = lost_by hold spot
 freed_behind true Null spot = Some (spot, UnsafePath)
+freed_behind true (Kept r) spot = Some (spot, UnsafePath)
 freed_behind true (Own r) spot = Some (spot, UnsafePath)
 freed_behind true (Alias r) spot = Some (spot, UnsafePath)
 freed_behind true Lost spot = Some (spot, LostValue)
@@ -494,41 +551,93 @@ without_freed [] may holds = []
 without_freed (v ∷ vs) may [] = []
 without_freed (v ∷ vs) may (h ∷ hs) = without_alias (is_freed may (access_of (Some v.kind))) h ∷ without_freed vs may hs
 
--- What is left behind a call: the procedure has no part in the variables, but whoever borrowed an object of a type that it frees may have borrowed one of
--- those that are gone.
+-- What is left behind a call, or where it raises an exception, of what is not handed over: the procedure has no part in the variables, but whoever
+-- borrowed an object of a type that it frees may have borrowed one of those that are gone.
 abbrev pub left_by_call : List VariableForm → Option Effect → Holds → Holds
 left_by_call variables None holds = holds
 left_by_call variables (Some effect) holds = without_freed variables effect.frees holds
 
--- Is a variable one of these?
-abbrev pub is_given : List ℕ → (root : ℕ) → Bool
+-- Is a variable given by one of these actual parameters for a formal one of mode `in out` (6.4.1)?
+abbrev pub is_given : List ActualForm → (variable : ℕ) → Bool
 is_given [] x = false
-is_given (y ∷ ys) x = (x == y) || is_given ys x
+is_given (in_value e ∷ rest) x = is_given rest x
+is_given (in_null ∷ rest) x = is_given rest x
+is_given (in_access path ∷ rest) x = is_given rest x
+is_given (in_out_path path ∷ rest) x = (x == path.root) || is_given rest x
+is_given (in_out_access path ∷ rest) x = (x == path.root) || is_given rest x
 
--- How the path to what is given for a formal parameter of mode `in out` is used, where these variables are given before.
-abbrev pub given_use : (earlier : List ℕ) → PathForm → Use
-given_use earlier path = if is_given earlier path.root then gives_again path else reads_it path
+-- Does one of these actual parameters begin with a variable? The operands of an expression for a formal parameter of mode `in` don't count.
+abbrev pub is_begun_with : List ActualForm → (variable : ℕ) → Bool
+is_begun_with [] x = false
+is_begun_with (in_value e ∷ rest) x = is_begun_with rest x
+is_begun_with (in_null ∷ rest) x = is_begun_with rest x
+is_begun_with (in_access path ∷ rest) x = (x == path.root) || is_begun_with rest x
+is_begun_with (in_out_path path ∷ rest) x = (x == path.root) || is_begun_with rest x
+is_begun_with (in_out_access path ∷ rest) x = (x == path.root) || is_begun_with rest x
 
--- The paths in an actual parameter, where these variables are given before for formal ones of mode `in out`.
-abbrev pub uses_in_actual : (earlier : List ℕ) → ActualForm → List Use
+-- How the path to an Integer or a Boolean is used that is given for a formal parameter of mode `in out`, behind other actual parameters.
+abbrev pub given_use : (earlier : List ActualForm) → PathForm → Use
+given_use earlier path = if is_begun_with earlier path.root then gives_again path else reads_it path
+
+-- The paths in an actual parameter, behind others of its call.
+abbrev pub uses_in_actual : (earlier : List ActualForm) → ActualForm → List Use
 uses_in_actual earlier (in_value e) = uses_in e
+uses_in_actual earlier in_null = []
+uses_in_actual earlier (in_access path) = lends_it (is_given earlier path.root) path ∷ []
 uses_in_actual earlier (in_out_path path) = given_use earlier path ∷ []
+uses_in_actual earlier (in_out_access path) = hands_it (is_begun_with earlier path.root) path ∷ []
 
--- The variable that is given for a formal parameter of mode `in out`, if one is.
-abbrev pub given_by : ActualForm → List ℕ
-given_by (in_value e) = []
-given_by (in_out_path path) = path.root ∷ []
-
--- The paths in actual parameters, in order, where these variables are given before.
-abbrev pub uses_in_actuals : (earlier : List ℕ) → List ActualForm → List Use
+-- The paths in actual parameters, in order, behind others.
+abbrev pub uses_in_actuals : (earlier : List ActualForm) → List ActualForm → List Use
 uses_in_actuals earlier [] = []
-uses_in_actuals earlier (a ∷ rest) = uses_in_actual earlier a ++ uses_in_actuals (given_by a ++ earlier) rest
+uses_in_actuals earlier (a ∷ rest) = uses_in_actual earlier a ++ uses_in_actuals (earlier ++ a ∷ []) rest
 
--- After a call with these actual parameters. Where it raises an exception, or its actual parameters do, as little is said as behind it.
-abbrev pub called : List VariableForm → Option Effect → (actuals : List ActualForm) → Holds → Outcome
-called variables effect actuals holds =
+-- What is known behind a call of the variables that were handed over (6.4.1): each owns what comes back.
+abbrev pub handed_back : List ActualForm → Holds → Holds
+handed_back [] holds = holds
+handed_back (in_value e ∷ rest) holds = handed_back rest holds
+handed_back (in_null ∷ rest) holds = handed_back rest holds
+handed_back (in_access path ∷ rest) holds = handed_back rest holds
+handed_back (in_out_path path ∷ rest) holds = handed_back rest holds
+handed_back (in_out_access path ∷ rest) holds = handed_back rest (slice_set holds path.root (Own Whole))
+
+-- Which formal parameters a procedure keeps, by their numbers: wherever an exception leaves its body, they hold what the call handed over. None past the
+-- end.
+abbrev pub Keeping : Type 0
+Keeping = List Bool
+
+-- Is the first formal parameter kept?
+abbrev pub first_kept : Keeping → Bool
+first_kept [] = false
+first_kept (b ∷ bs) = b
+
+-- Which of the other formal parameters are kept.
+abbrev pub others_kept : Keeping → Keeping
+others_kept [] = []
+others_kept (b ∷ bs) = bs
+
+-- A variable that was handed over to a formal parameter, where the call raises an exception (6.4.1, 11.4): nothing comes back. It is what it was, if the
+-- parameter is kept, and else the object that it owned may be gone, or have another owner.
+abbrev pub unless_kept : (kept : Bool) → (variable : ℕ) → Holds → Holds
+unless_kept true x holds = holds
+unless_kept false x holds = without_value x holds
+
+-- What is known of the variables that were handed over, where the call raises an exception.
+abbrev pub left_unkept : Keeping → List ActualForm → Holds → Holds
+left_unkept kept [] holds = holds
+left_unkept kept (in_value e ∷ rest) holds = left_unkept (others_kept kept) rest holds
+left_unkept kept (in_null ∷ rest) holds = left_unkept (others_kept kept) rest holds
+left_unkept kept (in_access path ∷ rest) holds = left_unkept (others_kept kept) rest holds
+left_unkept kept (in_out_path path ∷ rest) holds = left_unkept (others_kept kept) rest holds
+left_unkept kept (in_out_access path ∷ rest) holds = left_unkept (others_kept kept) rest (unless_kept (first_kept kept) path.root holds)
+
+-- After a call with these actual parameters of a procedure that keeps these. Where they raise an exception themselves, as little is said as where the
+-- body does.
+abbrev pub called : List VariableForm → Option Effect → Keeping → (actuals : List ActualForm) → Holds → Outcome
+called variables effect kept actuals holds =
     using_paths (uses_in_actuals [] actuals) holds
-    (ends_with (actuals_raise actuals || call_raises effect (λ e. true)) (left_by_call variables effect holds) (left_by_call variables effect holds))
+    (ends_with (actuals_raise actuals || call_raises effect (λ e. true))
+    (left_unkept kept actuals (left_by_call variables effect holds)) (handed_back actuals (left_by_call variables effect holds)))
 
 -- Two ways that join behind an `if` (5.3): the first fault in text order stands.
 abbrev pub either_of : Outcome → Outcome → Outcome
@@ -538,18 +647,30 @@ either_of (goes normal raising) (goes other_normal other_raising) = goes (join_o
 
 -- Loops (5.5).
 
--- What is known of a variable at least as well: null is an owner or an alias, and whatever it is may be called lost.
+-- What is known of a variable at least as well: null is an owner or an alias, what is kept is owned, and whatever it is may be called lost.
 abbrev pub is_as_good : Hold → Hold → Bool
-is_as_good Null h = true
-is_as_good (Own Whole) (Own Whole) = true
+is_as_good Null Null = true
+is_as_good Null (Kept r) = false
+is_as_good Null (Own r) = true
+is_as_good Null (Alias r) = true
+is_as_good Null Lost = true
+is_as_good (Kept r) Null = false
+is_as_good (Kept Whole) (Kept Whole) = true
+is_as_good (Kept Whole) (Own Whole) = true
+is_as_good (Kept r) (Alias q) = false
+is_as_good (Kept r) Lost = true
 is_as_good (Own r) Null = false
+is_as_good (Own r) (Kept q) = false
+is_as_good (Own Whole) (Own Whole) = true
 is_as_good (Own r) (Alias q) = false
 is_as_good (Own r) Lost = true
 is_as_good (Alias Whole) (Alias Whole) = true
 is_as_good (Alias r) Null = false
+is_as_good (Alias r) (Kept q) = false
 is_as_good (Alias r) (Own q) = false
 is_as_good (Alias r) Lost = true
 is_as_good Lost Null = false
+is_as_good Lost (Kept q) = false
 is_as_good Lost (Own q) = false
 is_as_good Lost (Alias q) = false
 is_as_good Lost Lost = true
@@ -564,9 +685,11 @@ are_as_good (g ∷ gs) (h ∷ hs) = is_as_good g h && are_as_good gs hs
 abbrev pub opened_null : (borrows : Bool) → Hold
 opened_null borrows = if borrows then Alias Whole else Own Whole
 
--- A variable that holds null where a loop begins, and that its body assigns, may name an object at the start of each turn.
+-- A variable that holds null where a loop begins, and that its body assigns or hands over, may name an object at the start of each turn; and what is
+-- kept may have changed.
 abbrev pub opened_hold : (borrows : Bool) → Hold → Hold
 opened_hold borrows Null = opened_null borrows
+opened_hold borrows (Kept r) = Own r
 opened_hold borrows (Own r) = Own r
 opened_hold borrows (Alias r) = Alias r
 opened_hold borrows Lost = Lost
@@ -580,13 +703,40 @@ abbrev pub opened_target : List VariableForm → List ℕ → (root : ℕ) → H
 opened_target variables [] x holds = opened variables x holds
 opened_target variables (c ∷ cs) x holds = holds
 
+-- What a loop's start holds for variables whose values its body moves or frees: what is kept may have changed.
+abbrev pub touched : ℕ → Holds → Holds
+touched x holds = slice_set holds x (touched_hold (hold_at holds x))
+
+-- So it is for each of these variables.
+abbrev pub all_touched : List ℕ → Holds → Holds
+all_touched [] holds = holds
+all_touched (x ∷ xs) holds = all_touched xs (touched x holds)
+
+-- What a loop's start holds for the declarations of a block in its body (3.3.1).
+abbrev pub touched_by_all : List VariableForm → List DeclarationForm → Holds → Holds
+touched_by_all variables [] holds = holds
+touched_by_all variables (collects access ∷ ds) holds = touched_by_all variables ds holds
+touched_by_all variables (declares x right ∷ ds) holds = touched_by_all variables ds (all_touched (moved_by_right (is_borrower variables x) right) holds)
+touched_by_all variables (declares_record x object initial ∷ ds) holds = touched_by_all variables ds holds
+
+-- What a loop's start holds for the actual parameters of a call in its body: each variable that is handed over is opened (6.4.1).
+abbrev pub opened_by_actuals : List VariableForm → List ActualForm → Holds → Holds
+opened_by_actuals variables [] holds = holds
+opened_by_actuals variables (in_value e ∷ rest) holds = opened_by_actuals variables rest holds
+opened_by_actuals variables (in_null ∷ rest) holds = opened_by_actuals variables rest holds
+opened_by_actuals variables (in_access path ∷ rest) holds = opened_by_actuals variables rest holds
+opened_by_actuals variables (in_out_path path ∷ rest) holds = opened_by_actuals variables rest holds
+opened_by_actuals variables (in_out_access path ∷ rest) holds = opened_by_actuals variables rest (opened variables path.root holds)
+
 abbrev mutual
-  -- What a loop's start holds: each variable that a statement of its body assigns, wherever it stands there, is opened (5.2, 5.5).
+  -- What a loop's start holds: each variable that a statement of its body assigns or hands over, wherever it stands there, is opened (5.2, 5.5, 6.4.1),
+  -- and what is kept and moved or freed there may have changed.
   pub opened_by : List VariableForm → StmtForm → Holds → Holds
   opened_by variables skips holds = holds
-  opened_by variables (assigns target right) holds = opened_target variables target.selectors target.root holds
+  opened_by variables (assigns target right) holds =
+      opened_target variables target.selectors target.root (all_touched (moved_by_right (names_borrower variables target) right) holds)
   opened_by variables (assigns_record target items) holds = holds
-  opened_by variables (frees access path) holds = holds
+  opened_by variables (frees access path) holds = all_touched (variable_of path.selectors path.root) holds
   opened_by variables (gets target) holds = holds
   opened_by variables (writes e) holds = holds
   opened_by variables (writes_text text) holds = holds
@@ -594,10 +744,11 @@ abbrev mutual
   opened_by variables (repeats condition fs end_spot) holds = opened_by_all variables fs holds
   opened_by variables (counts x low high fs end_spot) holds = opened_by_all variables fs holds
   opened_by variables (exits condition spot) holds = holds
-  opened_by variables (calls procedure actuals) holds = holds
+  opened_by variables (calls procedure actuals) holds = opened_by_actuals variables actuals holds
   opened_by variables (returns spot) holds = holds
   opened_by variables (raises e) holds = holds
-  opened_by variables (encloses ds fs hs) holds = opened_by_handlers variables hs (opened_by_all variables fs holds)
+  opened_by variables (encloses ds fs hs) holds =
+      opened_by_handlers variables hs (opened_by_all variables fs (touched_by_all variables ds holds))
 
   pub opened_by_all : List VariableForm → StmtsForm → Holds → Holds
   opened_by_all variables no_stmts holds = holds
@@ -743,16 +894,16 @@ handled passes handlers (faults spot rule) = faults spot rule
 handled passes handlers (goes normal None) = goes normal None
 handled passes handlers (goes normal (Some raising)) = either_of (goes normal (raising_if passes raising)) (handlers raising)
 
--- Where a statement stands: what is known of the calls of procedures, the start of the innermost loop around it, if there is one, and what goes with the
--- blocks between that loop and the statement.
+-- Where a statement stands: what is known of the calls of procedures, and what they keep; which variables of its body are formal parameters that own
+-- something or null at each normal end of it; the start of the innermost loop around the statement, if there is one; and what goes with the blocks
+-- between that loop and the statement, and with the body and all blocks around the statement.
 pub record Around : Type 0 where
   pub effects : List Effect
+  pub kept : List Keeping
+  pub owed : List ℕ
   pub start : Option Holds
   pub inside : Gone
-
--- In no loop and no block.
-abbrev pub outermost : List Effect → Around
-outermost effects = record { effects = effects; start = None; inside = nothing_gone }
+  pub within : Gone
 
 -- Around the statements of a loop: its start, and no block since.
 abbrev pub in_loop : Option Holds → Around → Around
@@ -760,7 +911,7 @@ in_loop start around = record around { start = start; inside = nothing_gone }
 
 -- Around the statements of a block with which this goes.
 abbrev pub in_block : Gone → Around → Around
-in_block gone around = record around { inside = gone_with_both gone around.inside }
+in_block gone around = record around { inside = gone_with_both gone around.inside; within = gone_with_both gone around.within }
 
 -- An exit (5.7): at a condition, what is known is known behind it, too.
 abbrev pub exit_of : Option ExpressionForm → Holds → Outcome
@@ -774,7 +925,7 @@ exit_flow variables (Some start) inside condition spot holds = unless_worse star
 
 -- Where the name of a variable is declared: nowhere, if there is none.
 abbrev pub spot_in : Option VariableForm → Spot
-spot_in None = record { line = 0; column = 0 }
+spot_in None = nowhere
 spot_in (Some v) = v.spot
 
 -- Where the name of the variable of a number is declared.
@@ -811,6 +962,35 @@ bounds_flow low high holds = then_flow (computed low holds) (computed high)
 abbrev pub counting_start : List VariableForm → (parameter : ℕ) → StmtsForm → Holds → Holds
 counting_start variables x fs holds = slice_set (opened_by_all variables fs holds) x Lost
 
+-- Normal ends of a body (6.4.1, 6.5).
+
+-- What a formal parameter may hold that is to give something back: null, or what it owns.
+abbrev pub gives_back : Hold → Bool
+gives_back Null = true
+gives_back (Kept r) = true
+gives_back (Own r) = true
+gives_back (Alias r) = false
+gives_back Lost = false
+
+-- So does each of these.
+abbrev pub all_give_back : List ℕ → Holds → Bool
+all_give_back [] holds = true
+all_give_back (x ∷ xs) holds = gives_back (hold_at holds x) && all_give_back xs holds
+
+-- A return leaves all blocks and the body (6.5), and there these formal parameters give something back.
+abbrev pub return_flow : List VariableForm → (owed : List ℕ) → (within : Gone) → Spot → Holds → Outcome
+return_flow variables owed within spot holds = if all_give_back owed (left variables within holds) then goes None None else faults spot FormalNotOwned
+
+-- So they do at the end of the body.
+abbrev pub ends_body : (owed : List ℕ) → Spot → Outcome → Outcome
+ends_body owed end_spot (faults spot rule) = faults spot rule
+ends_body owed end_spot (goes None raising) = goes None raising
+ends_body owed end_spot (goes (Some holds) raising) = if all_give_back owed holds then goes (Some holds) raising else faults end_spot FormalNotOwned
+
+-- What the procedure of a number keeps: nothing, where there is no such procedure.
+abbrev pub kept_at : List Keeping → (procedure : ℕ) → Keeping
+kept_at kept procedure = slice_index_or kept procedure []
+
 abbrev mutual
   -- After a statement, which is the first one of a take pair, or is not.
   pub stmt_flow : List TypeForm → List VariableForm → Around → (cleared : Bool) → StmtForm → Holds → Outcome
@@ -828,8 +1008,9 @@ abbrev mutual
       then_flow (bounds_flow low high holds)
       (λ hs. loop_flow None true end_spot (λ start hs. stmts_flow types variables (in_loop start around) fs hs) (counting_start variables x fs hs))
   stmt_flow types variables around cleared (exits condition spot) holds = exit_flow variables around.start around.inside condition spot holds
-  stmt_flow types variables around cleared (calls procedure actuals) holds = called variables (slice_get around.effects procedure) actuals holds
-  stmt_flow types variables around cleared (returns spot) holds = goes None None
+  stmt_flow types variables around cleared (calls procedure actuals) holds =
+      called variables (slice_get around.effects procedure) (kept_at around.kept procedure) actuals holds
+  stmt_flow types variables around cleared (returns spot) holds = return_flow variables around.owed around.within spot holds
   stmt_flow types variables around cleared (raises e) holds = goes None (Some holds)
   stmt_flow types variables around cleared (encloses ds fs hs) holds =
       leaves_block variables (gone_with ds)
@@ -856,17 +1037,89 @@ abbrev mutual
 
 -- Bodies, and the whole program.
 
--- At first no variable of a body is declared.
-abbrev pub first_holds : List VariableForm → Holds
-first_holds variables = replicate (length variables) Lost
+-- What a formal parameter of a mode is relied on for where its body begins (6.4.1): one of an access type borrows what its call gives it, or owns it. What
+-- gets an Integer or a Boolean is not relied on.
+abbrev pub formal_hold : FormalMode → VariableKind → Hold
+formal_hold In (variable.Access access) = Alias Whole
+formal_hold InOut (variable.Access access) = Kept Whole
+formal_hold mode variable.Integer = Lost
+formal_hold mode variable.Boolean = Lost
+formal_hold mode (variable.Record object) = Lost
+
+-- At first no other variable of a body is declared.
+abbrev pub first_holds : List FormalMode → List VariableForm → Holds
+first_holds modes [] = []
+first_holds [] (v ∷ vs) = Lost ∷ first_holds [] vs
+first_holds (m ∷ ms) (v ∷ vs) = formal_hold m v.kind ∷ first_holds ms vs
+
+-- A formal parameter that gives something back at each normal end: one of mode `in out` of an access type.
+abbrev pub owed_by : FormalMode → VariableKind → (formal : ℕ) → List ℕ
+owed_by InOut (variable.Access access) x = x ∷ []
+owed_by mode kind x = []
+
+-- The formal parameters that do, of those from a number on.
+abbrev pub owed_from : (formal : ℕ) → List FormalMode → List VariableForm → List ℕ
+owed_from x [] vs = []
+owed_from x (m ∷ ms) [] = []
+owed_from x (m ∷ ms) (v ∷ vs) = owed_by m v.kind x ++ owed_from (x + 1) ms vs
+
+-- Around the statements of a body: in no loop, and in no block but the body.
+abbrev pub body_around : List Effect → List Keeping → BodyForm → Around
+body_around effects kept b = record {
+  effects = effects;
+  kept = kept;
+  owed = owed_from 0 b.formals b.variables;
+  start = None;
+  inside = nothing_gone;
+  within = gone_with b.declarations;
+}
 
 -- After the declarations, the statements and the handlers of a body (6.3), where this is known of the calls of procedures.
-abbrev pub body_flow : List TypeForm → List Effect → BodyForm → Outcome
-body_flow types effects b =
-    then_flow (declarations_flow types b.variables b.declarations (first_holds b.variables))
+abbrev pub body_flow : List TypeForm → List Effect → List Keeping → BodyForm → Outcome
+body_flow types effects kept b =
+    ends_body (owed_from 0 b.formals b.variables) b.end_spot
+    (leaves_block b.variables (gone_with b.declarations)
+    (then_flow (declarations_flow types b.variables b.declarations (first_holds b.formals b.variables))
     (λ at. handled (passes effects b.statements b.handlers)
-    (handlers_flow types b.variables (outermost effects) b.handlers)
-    (stmts_flow types b.variables (outermost effects) b.statements at))
+    (handlers_flow types b.variables (body_around effects kept b) b.handlers)
+    (stmts_flow types b.variables (body_around effects kept b) b.statements at))))
+
+-- Is a formal parameter kept, by what it holds where an exception leaves its body?
+abbrev pub is_kept : Hold → Bool
+is_kept Null = false
+is_kept (Kept r) = true
+is_kept (Own r) = false
+is_kept (Alias r) = false
+is_kept Lost = false
+
+-- So it is where no exception leaves the body.
+abbrev pub is_kept_where : (raising : Option Holds) → (formal : ℕ) → Bool
+is_kept_where None x = true
+is_kept_where (Some holds) x = is_kept (hold_at holds x)
+
+-- Which of the formal parameters from a number on are kept.
+abbrev pub kept_from : (raising : Option Holds) → (formal : ℕ) → List FormalMode → Keeping
+kept_from raising x [] = []
+kept_from raising x (m ∷ ms) = is_kept_where raising x ∷ kept_from raising (x + 1) ms
+
+-- Which of these formal parameters a body keeps, by its outcome: where it breaks a rule, this plays no part.
+abbrev pub kept_by : Outcome → List FormalMode → Keeping
+kept_by (faults spot rule) ms = []
+kept_by (goes normal raising) ms = kept_from raising 0 ms
+
+-- What the body of a procedure keeps.
+abbrev pub body_keeps : List TypeForm → List Effect → List Keeping → BodyForm → Keeping
+body_keeps types effects kept b = kept_by (body_flow types effects kept b) b.formals
+
+-- What these procedures keep, behind others: each calls those before it.
+abbrev pub keeping_from : List TypeForm → List Effect → List Keeping → List BodyForm → List Keeping
+keeping_from types effects kept [] = kept
+keeping_from types effects kept (b ∷ bs) =
+    keeping_from types (effects ++ effect_of types effects b ∷ []) (kept ++ body_keeps types effects kept b ∷ []) bs
+
+-- What the procedures of a program keep, by their numbers.
+abbrev pub keeping_of : ProgramForm → List Keeping
+keeping_of p = keeping_from p.types [] [] p.bodies
 
 -- Each body is examined on its own: the first fault in the text is told.
 abbrev pub first_fault : Outcome → Outcome → Outcome
@@ -875,10 +1128,11 @@ first_fault (faults spot rule) (goes normal raising) = faults spot rule
 first_fault (faults spot rule) (faults other_spot other_rule) = if is_left_of other_spot spot then faults other_spot other_rule else faults spot rule
 
 -- After the main body, where none of these procedures breaks a rule, of which each calls those before it.
-abbrev pub bodies_flow : List TypeForm → List Effect → List BodyForm → (main : BodyForm) → Outcome
-bodies_flow types effects [] main = body_flow types effects main
-bodies_flow types effects (b ∷ bs) main =
-    first_fault (body_flow types effects b) (bodies_flow types (effects ++ effect_of types effects b ∷ []) bs main)
+abbrev pub bodies_flow : List TypeForm → List Effect → List Keeping → List BodyForm → (main : BodyForm) → Outcome
+bodies_flow types effects kept [] main = body_flow types effects kept main
+bodies_flow types effects kept (b ∷ bs) main =
+    first_fault (body_flow types effects kept b)
+    (bodies_flow types (effects ++ effect_of types effects b ∷ []) (kept ++ body_keeps types effects kept b ∷ []) bs main)
 
 -- The types of a program, as plain data.
 abbrev pub types_of : Program → List TypeForm
@@ -890,7 +1144,7 @@ variables_of program = map variable_form program.variables.items
 
 -- The flow through all bodies of a program.
 abbrev pub flow_of : ProgramForm → Outcome
-flow_of p = bodies_flow p.types [] p.bodies (main_body p)
+flow_of p = bodies_flow p.types [] [] p.bodies (main_body p)
 
 -- The same of a program as it is kept.
 abbrev pub program_flow : Program → Outcome

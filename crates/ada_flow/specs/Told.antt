@@ -11,28 +11,33 @@ use Rattle.ada_flow.specs.declared.fault.Breach.{Breach}
 use Rattle.ada_flow.specs.declared.fault.FlowFault.{FlowFault}
 use Rattle.ada_flow.specs.declared.fault.FlowFault.TheVariants.{Broken, NoMemory}
 use Rattle.ada_flow.specs.declared.gone.Gone.{Gone as HeldGone}
+use Rattle.ada_flow.specs.declared.keeping.Keeping.{Keeping as HeldKeeping}
 use Rattle.ada_flow.specs.declared.known.Known.{Known}
 use Rattle.ada_flow.specs.declared.marks.Marks.{Marks}
 use Rattle.ada_flow.specs.declared.raised.Raised.{Raised}
 use Rattle.ada_flow.specs.declared.raised.Raised.TheVariants.{Unwanted, Wanted}
+use Rattle.ada_flow.specs.declared.rule.Hold.{Hold}
+use Rattle.ada_flow.specs.declared.rule.Hold.TheVariants.{Lost}
 use Rattle.ada_flow.specs.declared.rule.Rule.{Rule}
 use Rattle.ada_program.specs.declared.program.Program.{Program}
 use Rattle.ada_program.specs.declared.program.Branch.{Branch}
 use Rattle.ada_program.specs.declared.program.Declaration.{Declaration}
 use Rattle.ada_program.specs.declared.program.Expression.{Expression}
+use Rattle.ada_program.specs.declared.program.FormalMode.{FormalMode}
 use Rattle.ada_program.specs.declared.program.Handler.{Handler}
 use Rattle.ada_program.specs.declared.program.Path.{Path}
 use Rattle.ada_program.specs.declared.program.Right.{Right}
 use Rattle.ada_program.specs.declared.program.Stmt.{Stmt}
 use Rattle.ada_program.specs.declared.program.TypeNo.{TypeNo}
 use Rattle.ada_program.specs.declared.program.Variable.{Variable}
+use Rattle.ada_program.specs.declared.program.VariableKind.{VariableKind}
 use Rattle.ada_program.specs.declared.program.VariableNo.{VariableNo}
-use Rattle.ada_program.specs.Form.{ActualForm, PathForm, ItemForm, ExpressionForm, StmtsForm, branches_form, HandlersForm, no_handlers, a_handler, condition_form, declaration_form, handlers_form, path_form, right_form, stmts_form}
+use Rattle.ada_program.specs.Form.{PathForm, ItemForm, ExpressionForm, StmtsForm, branches_form, HandlersForm, no_handlers, a_handler, condition_form, declaration_form, handlers_form, path_form, right_form, stmts_form}
 use Rattle.ada_program.specs.ProgramForm.{TypeForm, type_form, VariableForm, variable_form, BodyForm}
 use Rattle.ada_program.specs.WellFormed.{access_of}
 use Rattle.ada_effects.specs.Effects.{Effect, passes}
 use Rattle.ada_effects.specs.Found.{effects_in as effects_held}
-use Rattle.ada_flow.specs.Flow.{Outcome, faults, goes, Holds, Gone, Around, are_as_good, if_own, is_among, is_left, join_option, left, left_option, in_loop, loop_flow, named_by_item, opened_by_all, counting_start, exit_flow, given_by, gives_path, raising_if, declarations_flow, handlers_flow, stmts_flow, branches_flow, program_flow}
+use Rattle.ada_flow.specs.Flow.{Outcome, faults, goes, Holds, Gone, Around, Keeping, are_as_good, formal_hold, handled, if_own, is_among, is_left, join_option, kept_from, left, left_option, in_loop, loop_flow, named_by_item, opened_by_all, counting_start, exit_flow, gives_path, raising_if, return_flow, then_flow, declarations_flow, handlers_flow, stmts_flow, branches_flow, program_flow}
 
 -- The judgement of a whole program: no rule is broken, or this is the first one, and where.
 abbrev pub judgement : Outcome → Result (Unit {0}) (Spot × Rule)
@@ -80,15 +85,23 @@ gone_of gone = record { types = map type_number gone.types.items; variables = ma
 -- Where a statement stands: the types of its program, the variables of its body, what is known of calls, the start of the innermost loop, and what goes
 -- with blocks.
 abbrev pub types_in : HeldAround → List TypeForm
-types_in around = map type_form around.types.now
+types_in around = map type_form around.setting.types.now
 
 -- The variables of its body.
 abbrev pub variables_in : HeldAround → List VariableForm
-variables_in around = map variable_form around.variables.now
+variables_in around = map variable_form around.setting.variables.now
 
 -- What is known of the calls of procedures.
 abbrev pub effects_in : HeldAround → List Effect
-effects_in around = effects_held around.effects.now
+effects_in around = effects_held around.setting.effects.now
+
+-- What a procedure keeps.
+abbrev pub keeping_in : HeldKeeping → Keeping
+keeping_in keeping = keeping.formals.items
+
+-- What procedures keep, by their numbers.
+abbrev pub keepings_in : List HeldKeeping → List Keeping
+keepings_in kept = map keeping_in kept
 
 -- The start of the loop around a form, as the code keeps it.
 abbrev pub start_in : HeldAround → Option Holds
@@ -96,7 +109,14 @@ start_in around = option_copied around.start
 
 -- What stands around a form, as the code keeps it.
 abbrev pub around_of : HeldAround → Around
-around_of around = record { effects = effects_in around; start = start_in around; inside = gone_of around.inside.now }
+around_of around = record {
+  effects = effects_in around;
+  kept = keepings_in around.setting.kept.now;
+  owed = map variable_number around.setting.owed.now;
+  start = start_in around;
+  inside = gone_of around.inside.now;
+  within = gone_of around.within.now;
+}
 
 -- Is there such a type, and is it marked? One past the last mark is not.
 abbrev pub is_marked : Marks → Option ℕ → Bool
@@ -148,6 +168,16 @@ abbrev pub noted_for : Noted → HandlersForm → Noted
 noted_for (wanted before) hs = wanted None
 noted_for unwanted no_handlers = unwanted
 noted_for unwanted (a_handler choices fs hs) = wanted None
+
+-- What is noted where a body begins, with formal parameters of these modes: what may be raised is wanted, if there are some.
+abbrev pub noted_first : List FormalMode → Noted
+noted_first [] = unwanted
+noted_first (m ∷ ms) = wanted None
+
+-- What is raised, as far as it is noted.
+abbrev pub raised_by : Noted → Option Holds
+raised_by unwanted = None
+raised_by (wanted raising) = raising
 
 -- Is anything wanted?
 abbrev pub is_wanted : Noted → Bool
@@ -215,6 +245,10 @@ exit_keeps variables (Some start) inside holds = are_as_good (left variables ins
 abbrev pub exit_in : HeldAround → Option ExpressionForm → Spot → Holds → Outcome
 exit_in around condition spot holds = exit_flow (variables_in around) (start_in around) (gone_of around.inside.now) condition spot holds
 
+-- A return that stands here.
+abbrev pub return_in : HeldAround → Spot → Holds → Outcome
+return_in around spot holds = return_flow (variables_in around) (around_of around).owed (gone_of around.within.now) spot holds
+
 -- The handlers of statements that stand here, with what is known where an exception is raised.
 abbrev pub handlers_in : HeldAround → List Handler → Holds → Outcome
 handlers_in around handlers raising = handlers_flow (types_in around) (variables_in around) (around_of around) (handlers_form handlers) raising
@@ -257,21 +291,34 @@ abbrev pub named_by_items : List ItemForm → List PathForm
 named_by_items [] = []
 named_by_items (i ∷ is) = named_by_item i ++ named_by_items is
 
--- The variables that are given for formal parameters of mode `in out` by these actual ones, behind earlier ones; the last stands first.
-abbrev pub given_behind : (earlier : List ℕ) → List ActualForm → List ℕ
-given_behind earlier [] = earlier
-given_behind earlier (a ∷ rest) = given_behind (given_by a ++ earlier) rest
-
 -- Declarations, in order.
 abbrev pub declarations_of : HeldAround → List Declaration → Holds → Outcome
 declarations_of around declarations holds = declarations_flow (types_in around) (variables_in around) (map declaration_form declarations) holds
 
--- A body, as the code keeps its parts; which of its variables are formal parameters plays no part.
-abbrev pub body_in : List Variable → List Declaration → List Stmt → List Handler → BodyForm
-body_in variables declarations statements handlers = record {
-  formals = [];
+-- What a variable of a kind is relied on for where its body begins, if it is a formal parameter of a mode, or if it is none.
+abbrev pub first_hold : Option FormalMode → VariableKind → Hold
+first_hold None kind = Lost
+first_hold (Some mode) kind = formal_hold mode kind
+
+-- The judgement of a body, with what it keeps of formal parameters of these modes where it breaks no rule.
+abbrev pub kept_judgement : Outcome → List FormalMode → Result Keeping (Spot × Rule)
+kept_judgement (faults spot rule) modes = Err (spot, rule)
+kept_judgement (goes normal raising) modes = Ok (kept_from raising 0 modes)
+
+-- A body, as the code keeps its parts.
+abbrev pub body_in : List FormalMode → List Variable → List Declaration → List Stmt → List Handler → (end_spot : Spot) → BodyForm
+body_in modes variables declarations statements handlers end_spot = record {
+  formals = modes;
   variables = map variable_form variables;
   declarations = map declaration_form declarations;
   statements = stmts_form statements;
   handlers = handlers_form handlers;
+  end_spot = end_spot;
 }
+
+-- The declarations of a body, and then its statements with their handlers.
+abbrev pub parts_of : HeldAround → List Declaration → List Stmt → List Handler → Holds → Outcome
+parts_of around declarations statements handlers holds =
+    then_flow (declarations_of around declarations holds)
+    (λ at. handled (passes (effects_in around) (stmts_form statements) (handlers_form handlers)) (handlers_in around handlers)
+    (stmts_flow (types_in around) (variables_in around) (around_of around) (stmts_form statements) at))

@@ -32,8 +32,15 @@ fn give(
     ensures { Leads result known.new.holds.items raised.old raised.new
         (gives (types_in around.now) (variables_in around.now) spot cleared target.0 (right_form value.now) known.old.holds.items) }
 {
-    let borrows = is_borrower(around.variables, target.0);
-    use_right(around.types, spot, known.holds(), borrows, cleared, value)?;
+    let borrows = is_borrower(around.setting.variables, target.0);
+    use_right(
+        around.setting.types,
+        spot,
+        known.holds(),
+        borrows,
+        cleared,
+        value,
+    )?;
     raised.note_if(evaluation_raises(value), alloc, known)?;
     let hold = right_hold(known.holds(), borrows, value);
     lose_moved(known, borrows, value);
@@ -54,7 +61,7 @@ fn give_component(
     ensures { Leads result known.new.holds.items raised.old raised.new
         (gives_component (types_in around.now) cleared (path_form target.now) (right_form value.now) known.old.holds.items) }
 {
-    use_assignment(around.types, known.holds(), cleared, target, value)?;
+    use_assignment(around.setting.types, known.holds(), cleared, target, value)?;
     raised.note_if(
         path_raises(target) || evaluation_raises(value),
         alloc,

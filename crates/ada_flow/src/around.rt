@@ -3,69 +3,89 @@
 ghost use Rattle.std.specs.Prelude.{◌≡◌, Some, None, map};
 ghost use Rattle.ada_effects.specs.Found.{effects_in};
 ghost use Rattle.ada_flow.specs.Flow as rules;
-ghost use Rattle.ada_flow.specs.Told.{around_of, gone_of, types_in, variables_in};
+ghost use Rattle.ada_flow.specs.Told.{around_of, gone_of, keepings_in, types_in, variable_number, variables_in};
 ghost use Rattle.ada_program.specs.ProgramForm.{type_form, variable_form};
 
 use crate::gone::Gone;
+use crate::keeping::Keeping;
 use crate::rule::Hold;
 use ada_effects::Effect;
 use ada_program::program::{TypeDefinition, Variable};
 use ada_program::{Spot, VariableNo};
 
+/// What is the same for all statements of a body.
+#[derive(Clone, Copy)]
+pub(crate) struct Setting<'a> {
+    /// The types of the program.
+    pub(crate) types: &'a [TypeDefinition],
+    /// The variables of the body.
+    pub(crate) variables: &'a [Variable],
+    /// What is known of the calls of the procedures before it.
+    pub(crate) effects: &'a [Effect],
+    /// What these procedures keep.
+    pub(crate) kept: &'a [Keeping],
+    /// The formal parameters that give something back at each normal end of the body.
+    pub(crate) owed: &'a [VariableNo],
+}
+
 /// Where a statement stands.
 #[derive(Clone, Copy)]
 pub(crate) struct Around<'a> {
-    /// The types of the program.
-    pub(crate) types: &'a [TypeDefinition],
-    /// The variables of its body.
-    pub(crate) variables: &'a [Variable],
-    /// What is known of the calls of the procedures before that body.
-    pub(crate) effects: &'a [Effect],
+    /// What is the same for all statements of its body.
+    pub(crate) setting: Setting<'a>,
     /// What is known where the innermost loop around it starts, if there is one.
     pub(crate) start: Option<&'a [Hold]>,
     /// What goes with the blocks between that loop and the statement.
     pub(crate) inside: &'a Gone,
+    /// What goes with the body and with all blocks around the statement.
+    pub(crate) within: &'a Gone,
 }
 
 impl<'a> Around<'a> {
-    /// In no loop, and in blocks with which this goes.
-    pub(crate) fn in_no_loop(
-        types: &'a [TypeDefinition],
-        variables: &'a [Variable],
-        effects: &'a [Effect],
-        inside: &'a Gone,
-    ) -> Around<'a>
-        ensures types { types_in result ≡ map type_form types.now }
-        ensures variables { variables_in result ≡ map variable_form variables.now }
-        ensures place { around_of result ≡ record { effects = effects_in effects.now; start = None; inside = gone_of inside.now } }
+    /// In no loop, and in no block but the body, with which this goes.
+    pub(crate) fn in_body(setting: Setting<'a>, inside: &'a Gone, within: &'a Gone) -> Around<'a>
+        ensures types { types_in result ≡ map type_form setting.entry.types.now }
+        ensures variables { variables_in result ≡ map variable_form setting.entry.variables.now }
+        ensures place { around_of result ≡ record {
+          effects = effects_in setting.entry.effects.now;
+          kept = keepings_in setting.entry.kept.now;
+          owed = map variable_number setting.entry.owed.now;
+          start = None;
+          inside = gone_of inside.now;
+          within = gone_of within.now;
+        } }
     {
         Around {
-            types,
-            variables,
-            effects,
+            setting,
             start: None,
             inside,
+            within,
         }
     }
 
-    /// In a loop with this start, and in blocks inside it with which this goes.
+    /// In a loop with this start, and in blocks inside it with which this goes, and in those around it.
     pub(crate) fn in_loop(
-        types: &'a [TypeDefinition],
-        variables: &'a [Variable],
-        effects: &'a [Effect],
+        setting: Setting<'a>,
         start: &'a [Hold],
         inside: &'a Gone,
+        within: &'a Gone,
     ) -> Around<'a>
-        ensures types { types_in result ≡ map type_form types.now }
-        ensures variables { variables_in result ≡ map variable_form variables.now }
-        ensures place { around_of result ≡ record { effects = effects_in effects.now; start = Some start.now; inside = gone_of inside.now } }
+        ensures types { types_in result ≡ map type_form setting.entry.types.now }
+        ensures variables { variables_in result ≡ map variable_form setting.entry.variables.now }
+        ensures place { around_of result ≡ record {
+          effects = effects_in setting.entry.effects.now;
+          kept = keepings_in setting.entry.kept.now;
+          owed = map variable_number setting.entry.owed.now;
+          start = Some start.now;
+          inside = gone_of inside.now;
+          within = gone_of within.now;
+        } }
     {
         Around {
-            types,
-            variables,
-            effects,
+            setting,
             start: Some(start),
             inside,
+            within,
         }
     }
 
@@ -73,7 +93,7 @@ impl<'a> Around<'a> {
     pub(crate) fn declared_at(&self, variable: VariableNo) -> Spot
         ensures { result ≡ rules.declared_at (variables_in self.now) variable.0 }
     {
-        match self.variables.get(variable.0) {
+        match self.setting.variables.get(variable.0) {
             None => Spot { line: 0, column: 0 },
             Some(variable) => variable.spot,
         }

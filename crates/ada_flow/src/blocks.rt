@@ -32,7 +32,7 @@ pub(crate) fn handled(
     };
     if raised.is_wanted() {
         raised.note_if(
-            passes(alloc, around.effects, statements, handlers)?,
+            passes(alloc, around.setting.effects, statements, handlers)?,
             alloc,
             &raising,
         )?;

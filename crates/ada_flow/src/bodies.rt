@@ -1,93 +1,161 @@
 //! The flow of values through bodies, and through a whole program: each body on its own, with what is known of the calls of
 //! the procedures before it.
 
-ghost use Rattle.std.specs.Prelude.{◌≡◌, ◌++◌, ◌∷◌, [], None, MatchResult, OnOk, map};
+ghost use Rattle.std.specs.Prelude.{◌≡◌, ◌++◌, ◌∷◌, [], Option, None, IfOk, MatchResult, OnOk, map};
 ghost use Rattle.ada_effects.specs.Effects as rules;
 ghost use Rattle.ada_effects.specs.Found.{effects_in};
-ghost use Rattle.ada_flow.specs.Flow.{bodies_flow, body_flow, leftmost, program_flow};
-ghost use Rattle.ada_flow.specs.Told.{body_in, breach_of, broken, fault_in, judgement};
+ghost use Rattle.ada_flow.specs.Flow.{Holds, bodies_flow, body_flow, body_keeps, ends_body, faults, goes, kept_by, leftmost, program_flow};
+ghost use Rattle.ada_flow.specs.Told.{Ends, body_in, breach_of, broken, fault_in, held, judgement, keeping_in, keepings_in, kept_judgement, parts_of, variable_number};
 ghost use Rattle.ada_program.specs.ProgramForm.{body_form, main_body, program_form, type_form};
 ghost use Rattle.ada_text.specs.Exactly.{Exactly};
 
 use crate::analysis::declare;
-use crate::around::Around;
+use crate::around::{Around, Setting};
 use crate::blocks::handled;
 use crate::fault::{Breach, FlowFault};
 use crate::follow::leftmost;
 use crate::gone::Gone;
+use crate::keeping::{Keeping, all_give_back, owed_by, what_is_kept};
+use crate::kinds::leave_end;
 use crate::known::Known;
 use crate::raised::Raised;
+use crate::rule::Rule;
 use crate::statements::statements;
 use ada_effects::{Effect, effect_of};
-use ada_program::program::{Declaration, Handler, Procedure, TypeDefinition, Variable};
-use ada_program::{Program, Stmt};
+use ada_program::program::{Declaration, FormalMode, Handler, Procedure, TypeDefinition, Variable};
+use ada_program::{Program, Spot, Stmt, VariableNo};
 use std::alloc::{AllocError, Global};
 
-/// Whether a body obeys the rules of the flow of values: its declarations, its statements and their handlers.
+/// The declarations of a body, and then its statements with their handlers.
+#[tactic(auto, using(std::proofs::lemmas::Grind::common_steps, crate::proofs::Noted::body_ends, crate::proofs::Noted::parts_end))]
+fn parts(
+    alloc: Global,
+    around: &Around<'_>,
+    mut known: Known,
+    raised: &mut Raised,
+    declarations: &[Declaration],
+    statements: &[Stmt],
+    handlers: &[Handler],
+) -> Result<Option<Known>, FlowFault>
+    ensures { Ends result raised.old raised.new
+        (parts_of around.now declarations.now statements.now handlers.now known.holds.items) }
+{
+    declare(alloc, around, &mut known, raised, declarations)?;
+    let mut inner = raised.with_handlers(handlers);
+    let end = self::statements(alloc, around, known, &mut inner, statements)?;
+    handled(alloc, around, inner, end, raised, handlers, statements)
+}
+
+/// Where a body comes to its end, each formal parameter gives back what it is to give back.
+///
+/// # Errors
+/// Where one gives nothing back.
+fn give_all_back(owed: &[VariableNo], end: &Option<Known>, spot: Spot) -> Result<(), Breach>
+    ensures { let given = (λ (raising : Option Holds). ends_body (map variable_number owed.now) spot (goes (held end.now) raising)) in
+        (raising : Option Holds) → MatchResult result (λ _. given raising ≡ goes (held end.now) raising)
+        (λ breach. given raising ≡ faults breach.spot breach.rule) }
+{
+    match end {
+        Some(known) if !all_give_back(owed, known.holds()) => Err(Breach {
+            spot,
+            rule: Rule::FormalNotOwned,
+        }),
+        _ => Ok(()),
+    }
+}
+
+/// Whether a body obeys the rules of the flow of values: its declarations, its statements and their handlers. What it keeps of its
+/// formal parameters, where it does.
 ///
 /// # Errors
 /// The first rule that is broken, with its spot, or want of memory.
-#[tactic(auto, using(std::proofs::lemmas::Grind::common_steps, crate::proofs::Noted::program_ends, crate::proofs::Noted::program_obeys))]
 fn body(
     alloc: Global,
     types: &[TypeDefinition],
     effects: &[Effect],
+    kept: &[Keeping],
+    formals: &[FormalMode],
     variables: &[Variable],
     declarations: &[Declaration],
     statements: &[Stmt],
     handlers: &[Handler],
-) -> Result<(), FlowFault>
-    ensures { let whole = body_in variables.now declarations.now statements.now handlers.now in
-        Exactly (λ _. tt) breach_of result (judgement (body_flow (map type_form types.now) (effects_in effects.now) whole)) }
+    end: Spot,
+) -> Result<Keeping, FlowFault>
+    ensures { let whole = body_in formals.now variables.now declarations.now statements.now handlers.now end in
+        Exactly keeping_in breach_of result
+        (kept_judgement (body_flow (map type_form types.now) (effects_in effects.now) (keepings_in kept.now) whole) formals.now) }
 {
+    let owed = owed_by(alloc, formals, variables)?;
+    let gone = Gone::with(alloc, declarations)?;
     let nothing = Gone::nothing(alloc);
-    let around = Around::in_no_loop(types, variables, effects, &nothing);
-    let mut known = Known::of_lost(alloc, variables.len())?;
-    let mut raised = Raised::Unwanted;
-    declare(alloc, &around, &mut known, &mut raised, declarations)?;
-    let mut inner = raised.with_handlers(handlers);
-    let end = self::statements(alloc, &around, known, &mut inner, statements)?;
-    handled(
+    let setting = Setting {
+        types,
+        variables,
+        effects,
+        kept,
+        owed: &owed,
+    };
+    let around = Around::in_body(setting, &nothing, &gone);
+    let known = Known::at_first(alloc, formals, variables)?;
+    let mut raised = Raised::at_first(formals);
+    let last = parts(
         alloc,
         &around,
-        inner,
-        end,
+        known,
         &mut raised,
-        handlers,
+        declarations,
         statements,
+        handlers,
     )?;
-    Ok(())
+    let last = leave_end(alloc, variables, &gone, last)?;
+    give_all_back(&owed, &last, end)?;
+    let raising = leave_end(alloc, variables, &gone, raised.into_known())?;
+    Ok(what_is_kept(alloc, &raising, formals)?)
 }
 
-/// The first rule that a body breaks, and where, if it breaks one.
+/// The first rule that a body breaks, and where, if it breaks one, and what it keeps of its formal parameters.
 ///
 /// # Errors
 /// Want of memory.
+#[tactic(auto, using(std::proofs::lemmas::Grind::common_steps, crate::proofs::FirstFaults::fault_steps))]
 fn body_fault(
     alloc: Global,
     types: &[TypeDefinition],
     effects: &[Effect],
+    kept: &[Keeping],
+    formals: &[FormalMode],
     variables: &[Variable],
     declarations: &[Declaration],
     statements: &[Stmt],
     handlers: &[Handler],
-) -> Result<Option<Breach>, FlowFault>
-    ensures { let whole = body_in variables.now declarations.now statements.now handlers.now in
-        MatchResult result
-        (λ found. broken found ≡ fault_in (body_flow (map type_form types.now) (effects_in effects.now) whole))
-        (λ fault. breach_of fault ≡ None) }
+    end: Spot,
+) -> Result<(Option<Breach>, Keeping), FlowFault>
+    ensures found { let whole = body_in formals.now variables.now declarations.now statements.now handlers.now end in
+        let flow = body_flow (map type_form types.now) (effects_in effects.now) (keepings_in kept.now) whole in
+        MatchResult result (λ told. broken told.0 ≡ fault_in flow) (λ fault. breach_of fault ≡ None) }
+    ensures keeps { let whole = body_in formals.now variables.now declarations.now statements.now handlers.now end in
+        let flow = body_flow (map type_form types.now) (effects_in effects.now) (keepings_in kept.now) whole in
+        IfOk result (λ told. keeping_in told.1 ≡ kept_by flow formals.now) }
 {
     match body(
         alloc,
         types,
         effects,
+        kept,
+        formals,
         variables,
         declarations,
         statements,
         handlers,
+        end,
     ) {
-        Ok(()) => Ok(None),
-        Err(FlowFault::Broken { spot, rule }) => Ok(Some(Breach { spot, rule })),
+        Ok(keeping) => Ok((None, keeping)),
+        Err(FlowFault::Broken { spot, rule }) => Ok((
+            Some(Breach { spot, rule }),
+            Keeping {
+                formals: Vec::new(alloc),
+            },
+        )),
         Err(FlowFault::NoMemory) => Err(FlowFault::NoMemory),
     }
 }
@@ -107,8 +175,17 @@ fn learn(
     Ok(())
 }
 
-/// The first rule that the body of a procedure breaks, and where, if it breaks one. What is known of its calls joins that of
-/// the procedures before it.
+/// What a procedure keeps joins what those before it keep.
+fn keep(kept: &mut Vec<Keeping>, keeping: Keeping) -> Result<(), AllocError>
+    ensures { OnOk result (keepings_in kept.new.items
+        ≡ keepings_in kept.old.items ++ keeping_in keeping ∷ []) }
+{
+    kept.push(keeping)?;
+    Ok(())
+}
+
+/// The first rule that the body of a procedure breaks, and where, if it breaks one. What is known of its calls and what it keeps
+/// join those of the procedures before it.
 ///
 /// # Errors
 /// Want of memory.
@@ -116,28 +193,37 @@ fn procedure_fault(
     alloc: Global,
     types: &[TypeDefinition],
     effects: &mut Vec<Effect>,
+    kept: &mut Vec<Keeping>,
     procedure: &Procedure,
 ) -> Result<Option<Breach>, FlowFault>
     ensures found { MatchResult result
-        (λ found. broken found ≡ fault_in (body_flow (map type_form types.now) (effects_in effects.old.items) (body_form procedure.now)))
+        (λ found. broken found
+        ≡ fault_in (body_flow (map type_form types.now) (effects_in effects.old.items) (keepings_in kept.old.items) (body_form procedure.now)))
         (λ fault. breach_of fault ≡ None) }
     ensures known { OnOk result (effects_in effects.new.items ≡ effects_in effects.old.items
         ++ rules.effect_of (map type_form types.now) (effects_in effects.old.items) (body_form procedure.now) ∷ []) }
+    ensures keeps { OnOk result (keepings_in kept.new.items ≡ keepings_in kept.old.items
+        ++ body_keeps (map type_form types.now) (effects_in effects.old.items) (keepings_in kept.old.items) (body_form procedure.now) ∷ []) }
 {
-    let found = body_fault(
+    let (found, keeping) = body_fault(
         alloc,
         types,
         effects,
+        kept,
+        &procedure.formals,
         &procedure.variables,
         &procedure.declarations,
         &procedure.statements,
         &procedure.handlers,
+        procedure.end,
     )?;
     learn(alloc, types, effects, procedure)?;
+    keep(kept, keeping)?;
     Ok(found)
 }
 
-/// The leftmost of the first rules that the bodies of procedures break, if one breaks one, and what is known of their calls.
+/// The leftmost of the first rules that the bodies of procedures break, if one breaks one, and what is known of their calls, and
+/// what they keep.
 ///
 /// # Errors
 /// Want of memory.
@@ -146,17 +232,19 @@ fn procedures_fault(
     alloc: Global,
     program: &Program,
     effects: &mut Vec<Effect>,
+    kept: &mut Vec<Keeping>,
 ) -> Result<Option<Breach>, FlowFault>
     ensures { let main = main_body (program_form program.now) in
         let types = map type_form program.now.types.items in
+        let bodies = map body_form program.now.procedures.items in
         MatchResult result
-        (λ found. leftmost (broken found) (fault_in (body_flow types (effects_in effects.new.items) main))
-        ≡ fault_in (bodies_flow types (effects_in effects.old.items) (map body_form program.now.procedures.items) main))
+        (λ found. leftmost (broken found) (fault_in (body_flow types (effects_in effects.new.items) (keepings_in kept.new.items) main))
+        ≡ fault_in (bodies_flow types (effects_in effects.old.items) (keepings_in kept.old.items) bodies main))
         (λ fault. breach_of fault ≡ None) }
 {
     let mut first = None;
     'procedures: for procedure in &program.procedures {
-        let found = procedure_fault(alloc, &program.types, effects, procedure)?;
+        let found = procedure_fault(alloc, &program.types, effects, kept, procedure)?;
         first = leftmost(first, found);
     }
     Ok(first)
@@ -171,15 +259,19 @@ pub fn flow(alloc: Global, program: &Program) -> Result<(), FlowFault>
     ensures { Exactly (λ _. tt) breach_of result (judgement (program_flow program.now)) }
 {
     let mut effects = Vec::new(alloc);
-    let first = procedures_fault(alloc, program, &mut effects)?;
-    let last = body_fault(
+    let mut kept = Vec::new(alloc);
+    let first = procedures_fault(alloc, program, &mut effects, &mut kept)?;
+    let (last, _) = body_fault(
         alloc,
         &program.types,
         &effects,
+        &kept,
+        &[],
         &program.variables,
         &program.declarations,
         &program.statements,
         &program.handlers,
+        Spot { line: 0, column: 0 },
     )?;
     match leftmost(first, last) {
         None => Ok(()),

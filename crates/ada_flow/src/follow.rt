@@ -117,7 +117,7 @@ pub(crate) fn lost_by(hold: Hold, spot: Spot) -> Option<Breach>
     ensures { broken result ≡ rules.lost_by hold spot }
 {
     match hold {
-        Hold::Null | Hold::Own(_) | Hold::Alias(_) => None,
+        Hold::Null | Hold::Kept(_) | Hold::Own(_) | Hold::Alias(_) => None,
         Hold::Lost => Some(Breach {
             spot,
             rule: Rule::LostValue,

@@ -87,7 +87,7 @@ fn release_variable(variables: &[Variable], known: &mut Known, path: &Path) -> R
         (rules.released (map variable_form variables.now) freed.root freed.spot known.old.holds.items hold) }
 {
     match hold_of(known.holds(), path.root) {
-        Hold::Null | Hold::Own(_) => {
+        Hold::Null | Hold::Kept(_) | Hold::Own(_) => {
             let own = access_of(variable_kind(variables, path.root.0));
             end_object(variables, known, own);
             known.put(path.root, Hold::Null);
@@ -135,7 +135,7 @@ fn freed_behind(passes: bool, hold: Hold, spot: Spot) -> Option<Breach>
     ensures { broken result ≡ rules.freed_behind passes hold spot }
 {
     match hold {
-        Hold::Null | Hold::Own(_) | Hold::Alias(_) if passes => Some(Breach {
+        Hold::Null | Hold::Kept(_) | Hold::Own(_) | Hold::Alias(_) if passes => Some(Breach {
             spot,
             rule: Rule::UnsafePath,
         }),

@@ -12,8 +12,13 @@ fn join_hold(one: Hold, other: Hold) -> Hold
     ensures { result ≡ rules.join_hold one other }
 {
     match (one, other) {
+        (Hold::Null, Hold::Kept(region)) | (Hold::Kept(region), Hold::Null) => Hold::Own(region),
         (Hold::Null, hold) | (hold, Hold::Null) => hold,
-        (Hold::Own(Region::Whole), Hold::Own(Region::Whole)) => one,
+        (Hold::Kept(Region::Whole), Hold::Kept(Region::Whole)) => one,
+        (
+            Hold::Kept(Region::Whole) | Hold::Own(Region::Whole),
+            Hold::Kept(Region::Whole) | Hold::Own(Region::Whole),
+        ) => Hold::Own(Region::Whole),
         (Hold::Alias(Region::Whole), Hold::Alias(Region::Whole)) => one,
         _ => Hold::Lost,
     }

@@ -8,23 +8,25 @@ ghost use Rattle.ada_program.specs.ProgramForm.{variable_form};
 use crate::holds::hold_of;
 use crate::known::Known;
 use crate::rule::{Hold, Region};
-use ada_program::borrowers::is_borrower;
+use crate::touching::{open_actuals, touch_declared, touch_moved, touch_path};
+use ada_program::borrowers::{is_borrower, names_borrower};
 use ada_program::program::{Branch, Handler, Variable};
 use ada_program::{Path, Stmt, VariableNo};
 
-/// What is known of a variable, a borrower or not, that a loop's body assigns, where each turn begins.
+/// What is known of a variable, a borrower or not, that a loop's body assigns or hands over, where each turn begins.
 fn opened_hold(borrows: bool, hold: Hold) -> Hold
     ensures { result ≡ rules.opened_hold borrows hold }
 {
     match hold {
         Hold::Null if borrows => Hold::Alias(Region::Whole),
         Hold::Null => Hold::Own(Region::Whole),
+        Hold::Kept(region) => Hold::Own(region),
         hold => hold,
     }
 }
 
-/// A variable that a loop's body assigns is opened.
-fn open(variables: &[Variable], known: &mut Known, variable: VariableNo)
+/// A variable that a loop's body assigns or hands over is opened.
+pub(crate) fn open(variables: &[Variable], known: &mut Known, variable: VariableNo)
     ensures { known.new.holds.items
         ≡ rules.opened (map variable_form variables.now) variable.0 known.old.holds.items }
 {
@@ -44,7 +46,8 @@ fn open_target(variables: &[Variable], known: &mut Known, target: &Path)
     }
 }
 
-/// Each variable that statements of a loop's body assign, wherever they stand in it, is opened.
+/// Each variable that statements of a loop's body assign or hand over, wherever they stand in it, is opened, and each whose
+/// value they move or free is touched.
 #[cycle(opening)]
 pub(crate) fn open_all(variables: &[Variable], known: &mut Known, statements: &[Stmt])
     ensures { known.new.holds.items ≡ rules.opened_by_all
@@ -55,7 +58,8 @@ pub(crate) fn open_all(variables: &[Variable], known: &mut Known, statements: &[
     }
 }
 
-/// Each variable that a statement of a loop's body assigns is opened.
+/// Each variable that a statement of a loop's body assigns or hands over is opened, and each whose value it moves or frees is
+/// touched.
 #[cycle(opening)]
 #[tactic(auto, using(std::proofs::lemmas::Grind::common_steps, ada_program::specs::Form::statement_rules))]
 fn open_by(variables: &[Variable], known: &mut Known, statement: &Stmt)
@@ -63,7 +67,15 @@ fn open_by(variables: &[Variable], known: &mut Known, statement: &Stmt)
         (map variable_form variables.now) (stmt_form statement.now) known.old.holds.items }
 {
     match statement {
-        Stmt::Assign { target, value: _ } => open_target(variables, known, target),
+        Stmt::Assign { target, value } => {
+            touch_moved(known, names_borrower(variables, target), value);
+            open_target(variables, known, target);
+        }
+        Stmt::Free { access: _, path } => touch_path(known, path),
+        Stmt::Call {
+            procedure: _,
+            actuals,
+        } => open_actuals(variables, known, actuals),
         Stmt::If {
             branches,
             otherwise,
@@ -84,27 +96,26 @@ fn open_by(variables: &[Variable], known: &mut Known, statement: &Stmt)
             end: _,
         } => open_all(variables, known, statements),
         Stmt::Block {
-            declarations: _,
+            declarations,
             statements,
             handlers,
         } => {
+            touch_declared(variables, known, declarations);
             open_all(variables, known, statements);
             open_handlers(variables, known, handlers);
         }
         Stmt::Null
         | Stmt::AssignRecord { .. }
-        | Stmt::Free { .. }
         | Stmt::Get(_)
         | Stmt::PutImage(_)
         | Stmt::PutText(_)
         | Stmt::Exit { .. }
-        | Stmt::Call { .. }
         | Stmt::Return(_)
         | Stmt::Raise(_) => {}
     }
 }
 
-/// Each variable that a branch assigns is opened.
+/// The same of branches.
 #[cycle(opening)]
 fn open_branches(variables: &[Variable], known: &mut Known, branches: &[Branch])
     ensures { (others : StmtsForm) → rules.opened_by_branches
@@ -116,7 +127,7 @@ fn open_branches(variables: &[Variable], known: &mut Known, branches: &[Branch])
     }
 }
 
-/// Each variable that a handler assigns is opened.
+/// The same of handlers.
 #[cycle(opening)]
 fn open_handlers(variables: &[Variable], known: &mut Known, handlers: &[Handler])
     ensures { known.new.holds.items ≡ rules.opened_by_handlers
@@ -211,12 +222,15 @@ pub(crate) fn are_as_good(holds: &[Hold], start: &[Hold]) -> bool
     true
 }
 
-/// Whether a variable is known at least as well: null is an owner or an alias, and whatever it is may be called lost.
+/// Whether a variable is known at least as well: null is an owner or an alias, what is kept is owned, and whatever it is may
+/// be called lost.
 fn is_as_good(hold: Hold, wanted: Hold) -> bool
     ensures { result ≡ rules.is_as_good hold wanted }
 {
     match (hold, wanted) {
-        (Hold::Null, _) | (_, Hold::Lost) => true,
+        (_, Hold::Lost) => true,
+        (Hold::Null, Hold::Null | Hold::Own(_) | Hold::Alias(_)) => true,
+        (Hold::Kept(Region::Whole), Hold::Kept(Region::Whole) | Hold::Own(Region::Whole)) => true,
         (Hold::Own(Region::Whole), Hold::Own(Region::Whole)) => true,
         (Hold::Alias(Region::Whole), Hold::Alias(Region::Whole)) => true,
         _ => false,

@@ -17,7 +17,7 @@ use crate::pairs::is_same_path;
 use crate::rule::{Hold, Region, Rule};
 use ada_effects::{expression_raises, path_raises};
 use ada_program::program::{Item, RecordPath, Right, TypeDefinition};
-use ada_program::{Path, Spot};
+use ada_program::{Path, Spot, VariableNo};
 
 /// Uses what is assigned to a variable that stands at the spot, a borrower or not, where the next statement clears what is
 /// moved, or does not.
@@ -245,7 +245,7 @@ fn moved_by(hold: Hold, spot: Spot) -> Option<Breach>
     ensures { broken result ≡ rules.moved_by hold spot }
 {
     match hold {
-        Hold::Null | Hold::Own(_) => None,
+        Hold::Null | Hold::Kept(_) | Hold::Own(_) => None,
         Hold::Alias(_) => Some(Breach {
             spot,
             rule: Rule::AliasMoved,
@@ -259,10 +259,12 @@ fn taken_by(overwritten: bool, hold: Hold, spot: Spot) -> Option<Breach>
     ensures { broken result ≡ rules.taken_by overwritten hold spot }
 {
     match hold {
-        Hold::Null | Hold::Own(_) | Hold::Alias(_) if !overwritten => Some(Breach {
-            spot,
-            rule: Rule::TakePair,
-        }),
+        Hold::Null | Hold::Kept(_) | Hold::Own(_) | Hold::Alias(_) if !overwritten => Some(
+            Breach {
+                spot,
+                rule: Rule::TakePair,
+            },
+        ),
         _ => lost_by(hold, spot),
     }
 }
@@ -295,7 +297,7 @@ fn borrowed_hold(hold: Hold) -> Hold
     ensures { result ≡ rules.borrowed_hold hold }
 {
     match hold {
-        Hold::Own(region) => Hold::Alias(region),
+        Hold::Kept(region) | Hold::Own(region) => Hold::Alias(region),
         hold => hold,
     }
 }
@@ -305,7 +307,19 @@ fn value_hold(path: &Path, hold: Hold) -> Hold
     ensures { result ≡ rules.value_hold (path_form path.now).selectors hold }
 {
     match hold {
+        Hold::Kept(region) => Hold::Own(region),
         Hold::Alias(region) if !path.selectors.is_empty() => Hold::Own(region),
+        hold => hold,
+    }
+}
+
+/// What is said of a hold once its value is moved, freed or overwritten: a formal parameter no longer holds what its call gave
+/// it.
+pub(crate) fn touched_hold(hold: Hold) -> Hold
+    ensures { result ≡ rules.touched_hold hold }
+{
+    match hold {
+        Hold::Kept(region) => Hold::Own(region),
         hold => hold,
     }
 }
@@ -362,9 +376,16 @@ fn lose_path(known: &mut Known, path: &Path)
         known.new.holds.items ≡ rules.without_values (rules.variable_of moved.selectors moved.root) known.old.holds.items }
 {
     if path.selectors.is_empty() {
-        let hold = left_by_move(hold_of(known.holds(), path.root));
-        known.put(path.root, hold);
+        lose_value(known, path.root);
     }
+}
+
+/// A variable whose value is moved owns nothing any more.
+pub(crate) fn lose_value(known: &mut Known, variable: VariableNo)
+    ensures { known.new.holds.items ≡ rules.without_value variable.0 known.old.holds.items }
+{
+    let hold = left_by_move(hold_of(known.holds(), variable));
+    known.put(variable, hold);
 }
 
 /// What is left of a hold once its value was moved.
@@ -372,7 +393,7 @@ fn left_by_move(hold: Hold) -> Hold
     ensures { result ≡ rules.left_by_move hold }
 {
     match hold {
-        Hold::Own(_) => Hold::Lost,
+        Hold::Kept(_) | Hold::Own(_) => Hold::Lost,
         hold => hold,
     }
 }

@@ -2,7 +2,7 @@
 
 ghost use Rattle.std.specs.Prelude.{◌≡◌, Some, None, OnOk, map};
 ghost use Rattle.ada_flow.specs.Flow.{raising_if};
-ghost use Rattle.ada_flow.specs.Told.{held, noted, also_noted, noted_behind, emptied, gone_of, is_wanted, noted_for};
+ghost use Rattle.ada_flow.specs.Told.{held, noted, also_noted, noted_behind, emptied, gone_of, is_wanted, noted_first, noted_for, raised_by};
 ghost use Rattle.ada_program.specs.Form.{handlers_form};
 ghost use Rattle.ada_program.specs.ProgramForm.{variable_form};
 
@@ -10,7 +10,7 @@ use crate::gone::Gone;
 use crate::joins::{join_ends, join_into};
 use crate::kinds::leave_end;
 use crate::known::Known;
-use ada_program::program::{Handler, Variable};
+use ada_program::program::{FormalMode, Handler, Variable};
 use std::alloc::{AllocError, Global};
 
 /// What each variable holds wherever an exception may be raised.
@@ -30,6 +30,26 @@ impl Raised {
         match self {
             Raised::Unwanted => false,
             Raised::Wanted(_) => true,
+        }
+    }
+
+    /// Nothing is raised yet by a body with formal parameters of these modes: what it keeps of them is wanted, if there are some.
+    pub(crate) fn at_first(formals: &[FormalMode]) -> Raised
+        ensures { noted result ≡ noted_first formals.now }
+    {
+        match formals {
+            [] => Raised::Unwanted,
+            [_, ..] => Raised::Wanted(None),
+        }
+    }
+
+    /// What is known wherever an exception may be raised, as far as it is noted.
+    pub(crate) fn into_known(self) -> Option<Known>
+        ensures { held result ≡ raised_by (noted self) }
+    {
+        match self {
+            Raised::Unwanted => None,
+            Raised::Wanted(known) => known,
         }
     }
 

@@ -72,7 +72,7 @@ pub(crate) fn give_record(
         let given = map item_form items.now in
         Leads result known.now.holds.items raised.old raised.new (rules.gives_record (types_in around.now) to given known.now.holds.items) }
 {
-    use_record(around.types, known.holds(), target, items)?;
+    use_record(around.setting.types, known.holds(), target, items)?;
     raised.note_if(
         record_path_raises(target) || items_raise(items),
         alloc,
@@ -129,7 +129,7 @@ pub(crate) fn create_record(
         (rules.declaration_flow (types_in around.now) (variables_in around.now) creation known.old.holds.items) }
 {
     let spot = around.declared_at(variable);
-    use_initial(around.types, spot, object, known.holds(), initial)?;
+    use_initial(around.setting.types, spot, object, known.holds(), initial)?;
     raised.note_if(initial_raises(initial), alloc, known)?;
     known.put(variable, Hold::Own(Region::Whole));
     Ok(())

@@ -46,7 +46,12 @@ pub(crate) fn keeps_start(
     match around.start {
         None => Ok(true),
         Some(start) => {
-            let behind = leave(alloc, around.variables, around.inside, known.copy(alloc)?)?;
+            let behind = leave(
+                alloc,
+                around.setting.variables,
+                around.inside,
+                known.copy(alloc)?,
+            )?;
             Ok(are_as_good(behind.holds(), start))
         }
     }
@@ -66,7 +71,7 @@ pub(crate) fn repeat(
     ensures { Ends result raised.old raised.new
         (loop_of around.now condition.now body.now end known.holds.items) }
 {
-    open_all(around.variables, &mut known, body);
+    open_all(around.setting.variables, &mut known, body);
     let leaves = condition.is_some() || have_exit(body);
     turn(alloc, around, known, raised, condition, body, end, leaves)
 }
@@ -85,7 +90,7 @@ pub(crate) fn count(
     ensures { Ends result raised.old raised.new
         (for_of around.now parameter.0 body.now end known.holds.items) }
 {
-    open_all(around.variables, &mut known, body);
+    open_all(around.setting.variables, &mut known, body);
     known.put(parameter, Hold::Lost);
     turn(alloc, around, known, raised, &None, body, end, true)
 }
@@ -108,13 +113,7 @@ fn turn(
 {
     compute_condition(alloc, &start, raised, condition)?;
     let nothing = Gone::nothing(alloc);
-    let within = Around::in_loop(
-        around.types,
-        around.variables,
-        around.effects,
-        start.holds(),
-        &nothing,
-    );
+    let within = Around::in_loop(around.setting, start.holds(), &nothing, around.within);
     if let Some(after) = statements(alloc, &within, start.copy(alloc)?, raised, body)? {
         unless_worse(after.holds(), start.holds(), end)?;
     }

@@ -12,9 +12,13 @@ pub enum Region {
 pub enum Hold {
     /// It holds null.
     Null,
+    /// It is a formal parameter of mode `in out`, and holds what its call gave it: null, or an object that it owns. Should an
+    /// exception leave the body, the caller's variable owns that again.
+    Kept(Region),
     /// It holds null, or owns the object that it names: no other variable and no component owns it.
     Own(Region),
-    /// It holds null, or names an object that exists, which another may own: so does a borrower.
+    /// It holds null, or names an object that exists, which another may own: so do borrowers and formal parameters of mode
+    /// `in`.
     Alias(Region),
     /// Nothing: its object may be gone.
     Lost,
@@ -25,15 +29,18 @@ pub enum Hold {
 pub enum Rule {
     /// A value that may be gone is followed, moved or freed.
     LostValue,
-    /// A variable is moved or freed whose object another variable owns.
+    /// A variable is moved, freed or given for a formal parameter of mode `in out` whose object another one owns.
     AliasMoved,
     /// A value is moved out of a component that keeps it: the next statement does not set it to null, and it is not what gets the new object.
     TakePair,
     /// At the end of a loop's body, or at an exit, less is known of a variable than at the loop's start.
     LoopState,
     /// A component is freed whose path follows a value of the component's own access type: the object that is freed may be one on the way.
-    /// Or a variable is given for two formal parameters of mode `in out`: it could get their values in either order.
+    /// Or two actual parameters of a call begin with one variable, and one of them is for mode `in out`: what is done through
+    /// one formal parameter would be seen through the other.
     UnsafePath,
+    /// At a normal end of a body a formal parameter of mode `in out` owns nothing that it could give back, and is not null.
+    FormalNotOwned,
     /// A record is copied that has a component of an access type, or an aggregate with such a component stands outside an allocator: what it names
     /// would have two owners.
     RecordCopied,

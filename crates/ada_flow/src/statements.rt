@@ -1,8 +1,8 @@
 //! The flow of values through statements that nest: what is known where each comes to its end, if it does.
 
-ghost use Rattle.std.specs.Prelude.{◌≡◌, None};
-ghost use Rattle.ada_flow.specs.Flow.{stmt_flow, stmts_flow};
-ghost use Rattle.ada_flow.specs.Told.{Joins, Ends, around_of, exit_in, types_in, variables_in};
+ghost use Rattle.std.specs.Prelude.{◌≡◌, IfOk, IfSome, MatchResult, None};
+ghost use Rattle.ada_flow.specs.Flow.{all_give_back, faults, goes, left, stmt_flow, stmts_flow};
+ghost use Rattle.ada_flow.specs.Told.{Joins, Ends, around_of, breach_of, exit_in, gone_of, return_in, types_in, variables_in};
 ghost use Rattle.ada_program.specs.Form.{condition_form, stmt_form, stmts_form};
 
 use crate::analysis::{assign, declare, get};
@@ -14,7 +14,8 @@ use crate::fault::FlowFault;
 use crate::frees::release;
 use crate::gone::Gone;
 use crate::joins::join_ends;
-use crate::kinds::leave_end;
+use crate::keeping::all_give_back;
+use crate::kinds::{leave, leave_end};
 use crate::known::Known;
 use crate::pairs::begins_pair;
 use crate::raised::Raised;
@@ -23,7 +24,7 @@ use crate::repetition::{count, keeps_start, repeat};
 use crate::rule::Rule;
 use ada_program::program::{Branch, Expression};
 use ada_program::{Spot, Stmt};
-use std::alloc::Global;
+use std::alloc::{AllocError, Global};
 
 /// `exit`, inside a loop, if it stands in one.
 #[tactic(auto, using(std::proofs::lemmas::Grind::common_steps, crate::proofs::Behind::exit_steps))]
@@ -53,6 +54,49 @@ fn exit(
     }
 }
 
+/// `return`: it leaves all blocks and the body, and there each formal parameter gives back what it is to give back. Costs the
+/// number of variables, where one is.
+///
+/// # Errors
+/// Where one gives nothing back, or want of memory.
+#[tactic(auto, using(std::proofs::lemmas::Grind::common_steps, crate::proofs::Formals::return_steps))]
+fn leave_body(
+    alloc: Global,
+    around: &Around<'_>,
+    known: &Known,
+    spot: Spot,
+) -> Result<(), FlowFault>
+    ensures { let returns = return_in around.now spot known.now.holds.items in
+        MatchResult result (λ _. returns ≡ goes None None)
+        (λ fault. IfSome (breach_of fault) (λ breach. returns ≡ faults breach.0 breach.1)) }
+{
+    if gives_all_back(alloc, around, known)? {
+        Ok(())
+    } else {
+        Err(FlowFault::Broken {
+            spot,
+            rule: Rule::FormalNotOwned,
+        })
+    }
+}
+
+/// Whether each formal parameter gives back what it is to give back, where the body is left.
+fn gives_all_back(alloc: Global, around: &Around<'_>, known: &Known) -> Result<bool, AllocError>
+    ensures { IfOk result (λ gives. gives ≡ all_give_back
+        (around_of around.now).owed (left (variables_in around.now) (gone_of around.now.within.now) known.now.holds.items)) }
+{
+    if around.setting.owed.is_empty() {
+        return Ok(true);
+    }
+    let behind = leave(
+        alloc,
+        around.setting.variables,
+        around.within,
+        known.copy(alloc)?,
+    )?;
+    Ok(all_give_back(around.setting.owed, behind.holds()))
+}
+
 /// One statement, which is the first one of a take pair, or is not.
 #[cycle(flowing)]
 #[tactic(auto, using(std::proofs::lemmas::Grind::common_steps, ada_program::specs::Form::statement_rules, crate::proofs::Noted::noted_steps, crate::proofs::Noted::block_steps, crate::proofs::Noted::then_ends))]
@@ -77,8 +121,8 @@ fn statement(
         }
         Stmt::Free { access: _, path } => release(
             alloc,
-            around.types,
-            around.variables,
+            around.setting.types,
+            around.setting.variables,
             &mut known,
             raised,
             path,
@@ -115,7 +159,10 @@ fn statement(
         Stmt::Call { procedure, actuals } => {
             call(alloc, around, &mut known, raised, *procedure, actuals)?;
         }
-        Stmt::Return(_) => return Ok(None),
+        Stmt::Return(spot) => {
+            leave_body(alloc, around, &known, *spot)?;
+            return Ok(None);
+        }
         Stmt::Raise(_) => {
             raised.add(Some(known));
             return Ok(None);
@@ -127,20 +174,20 @@ fn statement(
         } => {
             let gone = Gone::with(alloc, declarations)?;
             let inside = gone.and(alloc, around.inside)?;
+            let both = gone.and(alloc, around.within)?;
             let within = Around {
-                types: around.types,
-                variables: around.variables,
-                effects: around.effects,
+                setting: around.setting,
                 start: around.start,
                 inside: &inside,
+                within: &both,
             };
             let mut own = raised.emptied();
             declare(alloc, around, &mut known, &mut own, declarations)?;
             let mut inner = own.with_handlers(handlers);
             let end = self::statements(alloc, &within, known, &mut inner, statements)?;
             let end = handled(alloc, &within, inner, end, &mut own, handlers, statements)?;
-            raised.add_behind(alloc, around.variables, &gone, own)?;
-            return Ok(leave_end(alloc, around.variables, &gone, end)?);
+            raised.add_behind(alloc, around.setting.variables, &gone, own)?;
+            return Ok(leave_end(alloc, around.setting.variables, &gone, end)?);
         }
     }
     Ok(Some(known))

@@ -1,14 +1,13 @@
 -- Activations with the places of all of them behind one another.
 
-use Rattle.std.proofs.Common.{◌≡◌, ◌⊎◌, inl, inr, ℕ, List, [], ◌∷◌, ◌++◌, drop, take, length, map, Option, Some, None, Result, Ok, Err, OnOk, OnErr, zero, suc, refl, sym, ap, ◌∙◌, append_assoc, arith}
+use Rattle.std.proofs.Common.{◌≡◌, ◌⊎◌, inl, inr, ℕ, List, [], ◌∷◌, ◌++◌, drop, take, length, map, Some, None, Result, Ok, Err, OnOk, OnErr, zero, suc, refl, sym, ap, ◌∙◌, append_assoc, arith}
 use Rattle.std.specs.List.{slice_get}
 use Rattle.ada_program.specs.declared.program.Actual.{Actual}
 use Rattle.ada_program.specs.declared.program.Variable.{Variable}
-use Rattle.ada_program.specs.Form.{ActualForm, in_value, in_out_path, actual_form}
-use Rattle.ada_program.specs.ProgramForm.{VariableForm, variable_form}
+use Rattle.ada_program.specs.Form.{ActualForm, in_value, in_null, in_access, in_out_path, in_out_access, actual_form}
+use Rattle.ada_program.specs.ProgramForm.{variable_form}
 use Rattle.ada_meaning.specs.declared.state.Value.{Value}
-use Rattle.ada_meaning.specs.State.{Activation}
-use Rattle.ada_meaning.specs.Step.{operands_of, with_operands, blanks, given_places, copied_back, older, places_of, with_places}
+use Rattle.ada_meaning.specs.Step.{blanks, given_places, copied_back, older, places_of, with_places}
 use Rattle.ada_meaning.specs.Named.{named}
 use Rattle.ada_interpreter.specs.declared.activations.Begun.{Begun}
 use Rattle.ada_interpreter.specs.Activations.{activations_of, AreAwaited}
@@ -40,7 +39,10 @@ pub none_gets : (actuals : List ActualForm) (formals : List Value) → copied_ba
 none_gets [] formals = refl
 none_gets (a ∷ rest) [] = refl
 none_gets (in_value e ∷ rest) (v ∷ vs) = none_gets rest vs
+none_gets (in_null ∷ rest) (v ∷ vs) = none_gets rest vs
+none_gets (in_access path ∷ rest) (v ∷ vs) = none_gets rest vs
 none_gets (in_out_path path ∷ rest) (v ∷ vs) = none_gets rest vs
+none_gets (in_out_access path ∷ rest) (v ∷ vs) = none_gets rest vs
 
 -- nor where nothing is left of the actual parameters or of the formal ones
 pub no_more_gives : (actuals : List Actual) (formals places : List Value) → (actuals ≡ []) ⊎ (formals ≡ []) → places ≡ copied_back (map actual_form actuals) formals places

@@ -249,8 +249,11 @@ fn copy_back(variables: &mut [Value], formals: &[Value], actuals: &[Actual])
     ensures { variables.new ≡ copied_back (map actual_form actuals.now) formals.now variables.old }
 {
     for (actual, held) in actuals.iter().zip(formals) {
-        if let Actual::InOut(path) = actual {
-            set_value(variables, path.root.0, *held);
+        match actual {
+            Actual::InOut(path) | Actual::InOutAccess(path) => {
+                set_value(variables, path.root.0, *held);
+            }
+            Actual::In(_) | Actual::InNull | Actual::InAccess(_) => {}
         }
     }
 }

@@ -106,7 +106,7 @@ impl<'a> Process<'a> {
                     let expression = *expression;
                     self.compute_next(expression)
                 }
-                Frame::Reads(path) => {
+                Frame::Reads(path) | Frame::Names(path) => {
                     let path = *path;
                     self.read_next(path)
                 }

@@ -94,7 +94,7 @@ impl<'a> Process<'a> {
             Frame::Returns(actuals) => Ok(self.resume(actuals)),
             Frame::Evaluates(right) => self.evaluate(program, right),
             Frame::Computes(expression) => self.compute(expression),
-            Frame::Reads(path) => self.read(path),
+            Frame::Reads(path) | Frame::Names(path) => self.read(path),
             Frame::Follows(selectors) => self.follow(selectors),
             Frame::TestsNull { equal } => self.test_null(equal),
             Frame::Continues(links) => {

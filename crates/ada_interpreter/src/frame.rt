@@ -1,7 +1,7 @@
 //! What is left to do.
 
 ghost use Rattle.std.specs.Prelude.{◌≡◌};
-ghost use Rattle.ada_program.specs.Form.{actual_form, value_given};
+ghost use Rattle.ada_program.specs.Form.{actual_form};
 ghost use Rattle.ada_meaning.specs.Frame as frame;
 ghost use Rattle.ada_meaning.specs.Frame.{is_master, is_return, exit_landing, return_landing, exception_landing, landing, begins_by};
 ghost use Rattle.ada_interpreter.specs.Process.{frame_of, landing_of};
@@ -77,6 +77,8 @@ pub(crate) enum Frame<'a> {
     Computes(&'a Expression),
     /// A path is to be read, as an expression that is one is evaluated (4.1, 4.4).
     Reads(&'a Path),
+    /// The access value that a path names is to be evaluated, as what is assigned is (4.1, 5.2).
+    Names(&'a Path),
     /// The newest operand is an access value, and these components are named behind it (4.1.3).
     Follows(&'a [ComponentNo]),
     /// The newest operand is an access value: is it null, or is it not (4.5.2)?
@@ -165,11 +167,13 @@ pub(crate) enum Frame<'a> {
 impl<'a> Frame<'a> {
     /// An actual parameter is to be evaluated (6.4.1): the value that is given, or what the variable holds.
     pub(crate) fn evaluating(actual: &'a Actual) -> Frame<'a>
-        ensures { frame_of result ≡ frame.Computes (value_given (actual_form actual.now)) }
+        ensures { frame_of result ≡ frame.evaluating (actual_form actual.now) }
     {
         match actual {
             Actual::In(value) => Frame::Computes(value),
+            Actual::InNull => Frame::Evaluates(None),
             Actual::InOut(path) => Frame::Reads(path),
+            Actual::InAccess(path) | Actual::InOutAccess(path) => Frame::Names(path),
         }
     }
 

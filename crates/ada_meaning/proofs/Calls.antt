@@ -8,13 +8,13 @@ use Rattle.ada_program.specs.declared.program.Program.{Program}
 use Rattle.ada_program.specs.declared.program.TypeDefinition.{TypeDefinition}
 use Rattle.ada_program.specs.declared.program.VariableKind.{VariableKind}
 use Rattle.ada_program.specs.declared.program.VariableKind.TheVariants as variable
-use Rattle.ada_program.specs.Form.{ActualForm, value_given, calls, StmtsForm, a_stmt}
+use Rattle.ada_program.specs.Form.{ActualForm, calls, StmtsForm, a_stmt}
 use Rattle.ada_program.specs.ProgramForm.{VariableForm, BodyForm, body_forms}
 use Rattle.ada_meaning.specs.declared.state.Mode.{Mode}
 use Rattle.ada_meaning.specs.declared.state.Mode.TheVariants.{Running, Raising, Exiting, Returning}
 use Rattle.ada_meaning.specs.declared.state.Value.{Value}
 use Rattle.ada_meaning.specs.Event.{Quiet}
-use Rattle.ada_meaning.specs.Frame.{Frame}
+use Rattle.ada_meaning.specs.Frame.{Frame, evaluating}
 use Rattle.ada_meaning.specs.Frame as frame
 use Rattle.ada_meaning.specs.State.{Activation}
 use Rattle.ada_meaning.specs.Step.{moves, at, blank, blanks, given_places, begun, computing, newest_ones, resumed, returned}
@@ -38,17 +38,17 @@ module _ (program : Program) (before known : State) (P : State → Type 0) (hold
 
 -- Actual parameters that are evaluated.
 computing_all :
-    (actuals : List ActualForm) (k : List (Frame Value)) → computing named actuals k ≡ map (λ (a : ActualForm). frame.Computes (value_given a)) actuals ++ k
+    (actuals : List ActualForm) (k : List (Frame Value)) → computing named actuals k ≡ map evaluating actuals ++ k
 computing_all [] k = refl
-computing_all (a ∷ rest) k = ap (λ (fs : List (Frame Value)). frame.Computes (value_given a) ∷ fs) (computing_all rest k)
+computing_all (a ∷ rest) k = ap (λ (fs : List (Frame Value)). evaluating a ∷ fs) (computing_all rest k)
 
 module _ (types : List TypeDefinition) (bodies : List BodyForm) (procedure : ℕ) (outer : List (Frame Value)) where
-  abbrev evaluating : List ActualForm → BodyForm → StmtsForm → State → State
-  evaluating actuals body later s = record s { control = computing named actuals (frame.Calls procedure body actuals ∷ frame.Does later ∷ outer) }
+  abbrev called : List ActualForm → BodyForm → StmtsForm → State → State
+  called actuals body later s = record s { control = computing named actuals (frame.Calls procedure body actuals ∷ frame.Does later ∷ outer) }
 
   call_step :
       (actuals : List ActualForm) (body : BodyForm) (later : StmtsForm) (s : State) → slice_get bodies procedure ≡ Some body → s.mode ≡ Running
-      → s.control ≡ frame.Does (a_stmt (calls procedure actuals) later) ∷ outer → next types bodies s ≡ moves Quiet (evaluating actuals body later s)
+      → s.control ≡ frame.Does (a_stmt (calls procedure actuals) later) ∷ outer → next types bodies s ≡ moves Quiet (called actuals body later s)
   unfolding next
   call_step actuals body later s named_so runs is = rw (runs, is, named_so) refl
 
@@ -60,7 +60,7 @@ module _ (types : List TypeDefinition) (bodies : List BodyForm) (procedure : ℕ
 
 pub calls_evaluate : CallsEvaluate
 calls_evaluate program procedure actuals body later outer before named_so runs is =
-    let known = evaluating program.types.items (body_forms program) procedure outer actuals body later before in
+    let known = called program.types.items (body_forms program) procedure outer actuals body later before in
     comes_to program before known (EvaluatesActuals procedure actuals body later outer before)
     (record {
       control = computing_all actuals (frame.Calls procedure body actuals ∷ frame.Does later ∷ outer);

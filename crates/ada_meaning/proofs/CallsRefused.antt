@@ -6,7 +6,7 @@ use Rattle.ada_values.specs.declared.value.Value.TheVariants as scalar
 use Rattle.ada_program.specs.declared.program.Exception.{Exception}
 use Rattle.ada_program.specs.declared.program.VariableKind.{VariableKind}
 use Rattle.ada_program.specs.declared.program.VariableKind.TheVariants as variable
-use Rattle.ada_program.specs.Form.{PathForm, ActualForm, in_value, in_out_path, ExpressionForm}
+use Rattle.ada_program.specs.Form.{PathForm, ActualForm, in_value, in_access, in_out_path, in_out_access, ExpressionForm, nothing, value_of, StmtsForm}
 use Rattle.ada_program.specs.ProgramForm.{VariableForm, BodyForm}
 use Rattle.ada_meaning.specs.declared.state.Mode.{Mode}
 use Rattle.ada_meaning.specs.declared.state.Mode.TheVariants.{Running, Raising, Exiting, Returning}
@@ -16,7 +16,7 @@ use Rattle.ada_meaning.specs.Frame.{Frame}
 use Rattle.ada_meaning.specs.Frame as frame
 use Rattle.ada_meaning.specs.State.{Activation}
 use Rattle.ada_meaning.specs.Named.{State}
-use Rattle.ada_meaning.specs.Calls.{callers_in, waiting, EndsBody, EndsNormally, EndsAbruptly, GetsBack, ComesBack, CallersStay, goes_on, calls_one, ends, breaks_off, IsOfKind, AreOfKinds, HasBegun, HasReturned}
+use Rattle.ada_meaning.specs.Calls.{callers_in, waiting, EndsBody, EndsNormally, EndsAbruptly, variable_given, IsGiven, GetsBack, ComesBack, CallersStay, goes_on, calls_one, ends, breaks_off, EvaluatesActuals, IsOfKind, AreOfKinds, HasBegun, HasReturned}
 use Rattle.ada_meaning.proofs.CopiedBack.{comes_back}
 
 -- Callers stay.
@@ -46,8 +46,8 @@ first_given spot = in_out_path (to_first spot) ∷ []
 abbrev EndsWith : (callee caller : Activation Value) (formal before after : Value) → State → Type 0
 EndsWith a b u v w s = CallersStay (active (holding (u ∷ []) a ∷ holding (v ∷ []) b ∷ []) s) (active (holding (w ∷ []) b ∷ []) s)
 
--- A running body that assigns to its variable; one that ends before two others; one whose formal parameter gives back what it holds; and one that an
--- exception passes.
+-- A running body that assigns to its variable; one that ends before two others; one whose formal parameter gives back what it holds, or an access value;
+-- and one that an exception passes.
 assignment_passes :
     (s : State) (a b : Activation Value) (u v : Value) → CallersStay (active (holding (u ∷ []) a ∷ b ∷ []) s) (active (holding (v ∷ []) a ∷ b ∷ []) s)
 assignment_passes s a b u v = goes_on (refl, refl, refl)
@@ -61,6 +61,12 @@ giving_back_passes :
 giving_back_passes s a b spot u v returns is =
     ends (record { actuals = first_given spot; outer = is.0; first = is.1 }) (inr returns)
     (comes_back (first_given spot) (holding (u ∷ []) a ∷ holding (v ∷ []) b ∷ []))
+
+access_back_passes :
+    (s : State) (a b : Activation Value) (spot : Spot) (u v : Value) → s.mode ≡ Running → Ending (in_out_access (to_first spot) ∷ []) s → EndsWith a b u v u s
+access_back_passes s a b spot u v runs is =
+    ends (record { actuals = in_out_access (to_first spot) ∷ []; outer = is.0; first = is.1 }) (inl runs)
+    (comes_back (in_out_access (to_first spot) ∷ []) (holding (u ∷ []) a ∷ holding (v ∷ []) b ∷ []))
 
 raise_passes :
     (s : State) (a b : Activation Value) (actuals : List ActualForm) (u v : Value) (e : Exception) → s.mode ≡ Raising e → Ending actuals s
@@ -142,24 +148,48 @@ returned_to s callee caller later actuals normal is (breaks_off body abrupt left
 one_of : (u v : Value) → Some u ≡ Some v → u ≡ v
 one_of u v is = cc
 
--- A return that gives nothing back.
+-- A return that gives nothing back: neither an Integer or a Boolean, nor an access value.
 nothing_given :
-    (a b : Activation Value) (spot : Spot) (u v : Value) → u ≢ v
-    → GetsBack (first_given spot) (holding (u ∷ []) a) (holding (v ∷ []) b) (holding (v ∷ []) b) → ⊥
-nothing_given a b spot u v apart got = apart (sym (one_of v u (got.back [] [] (to_first spot) u refl (λ never. never) refl (omega arith))))
+    (a b : Activation Value) (given : ActualForm) (u v : Value) → u ≢ v → variable_given given ≡ Some 0
+    → GetsBack (given ∷ []) (holding (u ∷ []) a) (holding (v ∷ []) b) (holding (v ∷ []) b) → ⊥
+nothing_given a b given u v apart gives got = apart (sym (one_of v u (got.back [] [] given 0 u refl gives (λ never. never) refl (omega arith))))
+
+forgotten_refused :
+    (s : State) (a b : Activation Value) (given : ActualForm) (u v : Value) → u ≢ v → variable_given given ≡ Some 0 → EndsNormally s.mode
+    → Ending (given ∷ []) s → EndsWith a b u v v s → ⊥
+forgotten_refused s a b given u v apart gives normal is ended =
+    nothing_given a b given u v apart gives (returned_to s (holding (u ∷ []) a) (holding (v ∷ []) b) (holding (v ∷ []) b) (given ∷ []) normal is ended)
 
 nothing_back_refused :
     (s : State) (a b : Activation Value) (spot : Spot) (u v : Value) → u ≢ v → EndsNormally s.mode → Ending (first_given spot) s → EndsWith a b u v v s → ⊥
-nothing_back_refused s a b spot u v apart normal is ended =
-    nothing_given a b spot u v apart (returned_to s (holding (u ∷ []) a) (holding (v ∷ []) b) (holding (v ∷ []) b) (first_given spot) normal is ended)
+nothing_back_refused s a b spot u v apart = forgotten_refused s a b (in_out_path (to_first spot)) u v apart refl
 
--- A formal parameter of mode `in` that gives back what it holds.
+no_access_back_refused :
+    (s : State) (a b : Activation Value) (spot : Spot) (u v : Value) → u ≢ v → EndsNormally s.mode → Ending (in_out_access (to_first spot) ∷ []) s
+    → EndsWith a b u v v s → ⊥
+no_access_back_refused s a b spot u v apart = forgotten_refused s a b (in_out_access (to_first spot)) u v apart refl
+
+-- A formal parameter of mode `in` that gives back what it holds: the value of an expression, or an access value, though the first variable names it.
+gives_none : (given : ActualForm) (x : ℕ) → variable_given given ≡ None → IsGiven x (given ∷ []) → ⊥
+gives_none given x none (inl is) = absurd (cc)
+gives_none given x none (inr never) = never
+
+constant_back_refused :
+    (s : State) (a b : Activation Value) (given : ActualForm) (u v : Value) → u ≢ v → variable_given given ≡ None → EndsNormally s.mode
+    → Ending (given ∷ []) s → EndsWith a b u v u s → ⊥
+constant_back_refused s a b given u v apart none normal is ended =
+    let got = returned_to s (holding (u ∷ []) a) (holding (v ∷ []) b) (holding (u ∷ []) b) (given ∷ []) normal is ended in
+    apart (one_of u v (got.others 0 (gives_none given 0 none)))
+
 value_back_refused :
     (s : State) (a b : Activation Value) (e : ExpressionForm) (u v : Value) → u ≢ v → EndsNormally s.mode → Ending (in_value e ∷ []) s
     → EndsWith a b u v u s → ⊥
-value_back_refused s a b e u v apart normal is ended =
-    let got = returned_to s (holding (u ∷ []) a) (holding (v ∷ []) b) (holding (u ∷ []) b) (in_value e ∷ []) normal is ended in
-    apart (one_of u v (got.others 0 (λ never. never)))
+value_back_refused s a b e u v apart = constant_back_refused s a b (in_value e) u v apart refl
+
+access_back_refused :
+    (s : State) (a b : Activation Value) (spot : Spot) (u v : Value) → u ≢ v → EndsNormally s.mode → Ending (in_access (to_first spot) ∷ []) s
+    → EndsWith a b u v u s → ⊥
+access_back_refused s a b spot u v apart = constant_back_refused s a b (in_access (to_first spot)) u v apart refl
 
 -- Two that stand for one variable, of which the first gives back last.
 first_back_refused :
@@ -169,7 +199,7 @@ first_back_refused :
 first_back_refused s a b spot u v w apart normal is ended =
     let both : List ActualForm = in_out_path (to_first spot) ∷ first_given spot in
     let got = returned_to s (holding (u ∷ v ∷ []) a) (holding (w ∷ []) b) (holding (u ∷ []) b) both normal is ended in
-    apart (one_of u v (got.back (first_given spot) [] (to_first spot) v refl (λ never. never) refl (omega arith)))
+    apart (one_of u v (got.back (first_given spot) [] (in_out_path (to_first spot)) 0 v refl refl (λ never. never) refl (omega arith)))
 
 -- An exception that passes the body, and gives something back.
 first_held : (b : Activation Value) (u v : Value) → (holding (u ∷ []) b ∷ []) ≡ (holding (v ∷ []) b ∷ []) → u ≡ v
@@ -182,6 +212,18 @@ raise_gives_refused s a b u v e apart raises (calls_one begins callee called) =
     unlike (holding (u ∷ []) b ∷ []) (callee ∷ waiting (holding (u ∷ []) a ∷ holding (v ∷ []) b ∷ [])) (λ same. absurd (omega (arith, same))) called
 raise_gives_refused s a b u v e apart raises (ends body normal back) = apart_modes s.mode normal (subst EndsAbruptly (sym raises) tt)
 raise_gives_refused s a b u v e apart raises (breaks_off body abrupt left) = apart (first_held b u v left)
+
+-- Calls evaluate: null is not evaluated in place of the access value that a variable is to hand over.
+module _ (path : PathForm) (body : BodyForm) (later : StmtsForm) (outer : List (Frame Value)) (before after : State) where
+  null_evaluated_refused :
+      after.control ≡ frame.Evaluates nothing ∷ frame.Calls 0 body (in_out_access path ∷ []) ∷ frame.Does later ∷ outer
+      → EvaluatesActuals 0 (in_out_access path ∷ []) body later outer before after → ⊥
+  null_evaluated_refused is evaluates =
+      let never :
+      frame.Evaluates nothing ∷ frame.Calls 0 body (in_out_access path ∷ []) ∷ frame.Does later ∷ outer
+      ≡ frame.Evaluates (value_of path) ∷ frame.Calls 0 body (in_out_access path ∷ []) ∷ frame.Does later ∷ outer =
+      sym is ∙ evaluates.control in
+      absurd (cc)
 
 -- Actuals arrive: a callee whose places are these has begun.
 abbrev Given : BodyForm → List Value → List Value → State → State → Type 0
@@ -200,6 +242,17 @@ reverse_refused body u v behind before after apart given = apart (sym (first_of_
 -- In the last places, behind the body's own variables.
 last_places_refused : (body : BodyForm) (u v w : Value) (before after : State) → w ≢ u → Given body (u ∷ v ∷ []) (w ∷ u ∷ v ∷ []) before after → ⊥
 last_places_refused body u v w before after apart given = apart (first_of_two w u u v (ap (take 2) (sym given.2) ∙ given.1.formals))
+
+-- An access value that a variable hands over for a formal parameter of mode `in out` arrives there: the callee doesn't begin with another one.
+module _ (body : BodyForm) (path : PathForm) (caller : Activation Value) (u v : Value) (behind : List Value) (before after : State) where
+  abbrev HandsOver : Type 0
+  HandsOver = HasBegun 0 body (in_out_access path ∷ []) (u ∷ []) caller [] [] before after
+
+  first_of_one : (u ∷ []) ≡ (v ∷ []) → u ≡ v
+  first_of_one is = cc
+
+  other_access_refused : u ≢ v → (begun : HandsOver) → begun.callee.places ≡ v ∷ behind → ⊥
+  other_access_refused apart begun holds = apart (first_of_one (sym begun.formals ∙ ap (take 1) holds))
 
 of_kinds_of :
     (n : ℕ) (xs ys : List VariableForm) (us vs : List Value) → xs ≡ ys → us ≡ vs → AreOfKinds (drop n xs) (drop n us) → AreOfKinds (drop n ys) (drop n vs)
@@ -263,7 +316,7 @@ module _ (a b : Activation Value) (spot : Spot) (u v : Value) (outer : List (Fra
   lost_value_refused : u ≢ v → before.mode ≡ Returning → after.activations ≡ holding (v ∷ []) b ∷ [] → HasReturnedOne → ⊥
   lost_value_refused apart returns left returned =
       let back = subst (ComesBack (first_given spot) (holding (u ∷ []) a ∷ holding (v ∷ []) b ∷ [])) left (returned.gets_back (inr returns)) in
-      nothing_given a b spot u v apart back.1
+      nothing_given a b (in_out_path (to_first spot)) u v apart refl back.1
 
   raised_value_refused : (e : Exception) → u ≢ v → before.mode ≡ Raising e → after.activations ≡ holding (u ∷ []) b ∷ [] → HasReturnedOne → ⊥
   raised_value_refused e apart raises left returned =

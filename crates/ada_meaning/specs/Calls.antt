@@ -1,20 +1,20 @@
 -- Calls (6.4, 6.5), in any step and any run of any program: what they do to activations, and what comes next where one begins and ends.
 
-use Rattle.std.specs.Prelude.{◌≡◌, ◌⊎◌, ℕ, ◌+◌, ◌<◌, ℤ, Bool, List, [], ◌∷◌, ◌++◌, length, map, take, drop, reverse, Some}
+use Rattle.std.specs.Prelude.{◌≡◌, ◌⊎◌, ℕ, ◌+◌, ◌<◌, ℤ, Bool, List, [], ◌∷◌, ◌++◌, length, map, take, drop, reverse, Option, Some, None}
 use Rattle.std.specs.List.{slice_get}
 use Rattle.ada_values.specs.declared.value.Value.TheVariants as scalar
 use Rattle.ada_program.specs.declared.program.Exception.{Exception}
 use Rattle.ada_program.specs.declared.program.Program.{Program}
 use Rattle.ada_program.specs.declared.program.VariableKind.{VariableKind}
 use Rattle.ada_program.specs.declared.program.VariableKind.TheVariants as variable
-use Rattle.ada_program.specs.Form.{PathForm, ActualForm, in_value, in_out_path, value_given, calls, StmtsForm, a_stmt}
+use Rattle.ada_program.specs.Form.{ActualForm, in_value, in_null, in_access, in_out_path, in_out_access, calls, StmtsForm, a_stmt}
 use Rattle.ada_program.specs.ProgramForm.{VariableForm, BodyForm, body_forms}
 use Rattle.ada_meaning.specs.declared.state.Mode.{Mode}
 use Rattle.ada_meaning.specs.declared.state.Mode.TheVariants.{Running, Raising, Exiting, Returning}
 use Rattle.ada_meaning.specs.declared.state.Value.{Value}
 use Rattle.ada_meaning.specs.declared.state.Value.TheVariants.{Null, Scalar}
 use Rattle.ada_meaning.specs.Event.{Quiet}
-use Rattle.ada_meaning.specs.Frame.{Frame}
+use Rattle.ada_meaning.specs.Frame.{Frame, evaluating}
 use Rattle.ada_meaning.specs.Frame as frame
 use Rattle.ada_meaning.specs.State.{Activation}
 use Rattle.ada_meaning.specs.Named.{State}
@@ -66,11 +66,18 @@ EndsAbruptly (Raising e) = Unit {0}
 EndsAbruptly Exiting = Unit {0}
 EndsAbruptly Returning = ⊥
 
+-- The variable that an actual parameter gives for a formal one of mode `in out` (6.4.1): none, for one of mode `in`.
+abbrev pub variable_given : ActualForm → Option ℕ
+variable_given (in_value e) = None
+variable_given in_null = None
+variable_given (in_access path) = None
+variable_given (in_out_path path) = Some path.root
+variable_given (in_out_access path) = Some path.root
+
 -- A variable is given for a formal parameter of mode `in out` (6.4.1).
 abbrev pub IsGiven : (variable : ℕ) → List ActualForm → Type 0
 IsGiven x [] = ⊥
-IsGiven x (in_value e ∷ rest) = IsGiven x rest
-IsGiven x (in_out_path path ∷ rest) = (path.root ≡ x) ⊎ IsGiven x rest
+IsGiven x (a ∷ rest) = (variable_given a ≡ Some x) ⊎ IsGiven x rest
 
 -- What a caller gets back, once the body of its call has ended normally (6.4.1): it has the same variables, and those that are given for no formal
 -- parameter of mode `in out` hold what they held. Each one that is given holds what the last formal parameter holds for which it is given.
@@ -80,8 +87,8 @@ pub record GetsBack (actuals : List ActualForm) (callee caller later : Activatio
   pub count : length later.places ≡ length caller.places
   pub others : (x : ℕ) → (IsGiven x actuals → ⊥) → slice_get later.places x ≡ slice_get caller.places x
   pub back :
-      (front behind : List ActualForm) (path : PathForm) (held : Value) → actuals ≡ front ++ in_out_path path ∷ behind → (IsGiven path.root behind → ⊥)
-      → slice_get callee.places (length front) ≡ Some held → path.root < length caller.places → slice_get later.places path.root ≡ Some held
+      (front behind : List ActualForm) (a : ActualForm) (x : ℕ) (held : Value) → actuals ≡ front ++ a ∷ behind → variable_given a ≡ Some x
+      → (IsGiven x behind → ⊥) → slice_get callee.places (length front) ≡ Some held → x < length caller.places → slice_get later.places x ≡ Some held
 
 -- The running body ends normally, and its caller gets back what it is to get; those that wait for the caller are as they were.
 abbrev pub ComesBack : List ActualForm → (before after : List (Activation Value)) → Type 0
@@ -134,7 +141,7 @@ pub record LeavesAlone (before after : State) : Type 0 where
 -- A call evaluates its actual parameters, in order, before the procedure's body begins; then the statements behind it are left (6.4).
 pub record EvaluatesActuals (procedure : ℕ) (actuals : List ActualForm) (body : BodyForm) (later : StmtsForm)
     (outer : List (Frame Value)) (before after : State) : Type 0 where
-  pub control : after.control ≡ map (λ a. frame.Computes (value_given a)) actuals ++ frame.Calls procedure body actuals ∷ frame.Does later ∷ outer
+  pub control : after.control ≡ map evaluating actuals ++ frame.Calls procedure body actuals ∷ frame.Does later ∷ outer
   pub mode : after.mode ≡ Running
   pub activations : after.activations ≡ before.activations
   pub masters : after.masters ≡ before.masters

@@ -5,7 +5,7 @@ use Rattle.std.specs.Prelude.{ℕ, ℤ, Bool, true, false, if◌then◌else◌, 
 use Rattle.ada_values.specs.declared.operator.BinaryOperator.{BinaryOperator}
 use Rattle.ada_values.specs.declared.operator.UnaryOperator.{UnaryOperator}
 use Rattle.ada_program.specs.declared.program.Exception.{Exception}
-use Rattle.ada_program.specs.Form.{ActualForm, ExpressionForm, LinksForm, ItemForm, RightForm, StmtsForm, a_stmt, BranchesForm, HandlersForm, DeclarationForm}
+use Rattle.ada_program.specs.Form.{ActualForm, in_value, in_null, in_access, in_out_path, in_out_access, ExpressionForm, reads, LinksForm, ItemForm, RightForm, nothing, value_of, StmtsForm, a_stmt, BranchesForm, HandlersForm, DeclarationForm}
 use Rattle.ada_program.specs.Handling.{handler_of}
 use Rattle.ada_program.specs.ProgramForm.{BodyForm}
 use Rattle.ada_meaning.specs.declared.state.Mode.{Mode}
@@ -90,6 +90,14 @@ pub data Frame (V : Type 0) : Type 0 where
   Clears : (variable : ℕ) → Frame V
   -- a component of an object becomes null: the end of a Free (13.11.2)
   ClearsIn : (object : V) → (component : ℕ) → Frame V
+
+-- An actual parameter is to be evaluated (6.4.1): an Integer or a Boolean as an expression is, and an access value as one that is assigned.
+abbrev pub evaluating : {V : Type 0} → ActualForm → Frame V
+evaluating (in_value e) = Computes e
+evaluating in_null = Evaluates nothing
+evaluating (in_access path) = Evaluates (value_of path)
+evaluating (in_out_path path) = Computes (reads path)
+evaluating (in_out_access path) = Evaluates (value_of path)
 
 -- Does a jump stop at this frame? A master does not let it pass before it has been left (7.6.1, 11.4).
 abbrev pub is_master : {V : Type 0} → Frame V → Bool

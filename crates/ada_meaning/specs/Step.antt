@@ -11,7 +11,7 @@ use Rattle.ada_program.specs.declared.program.ComponentKind.TheVariants as compo
 use Rattle.ada_program.specs.declared.program.TypeDefinition.{TypeDefinition}
 use Rattle.ada_program.specs.declared.program.VariableKind.{VariableKind}
 use Rattle.ada_program.specs.declared.program.VariableKind.TheVariants as variable
-use Rattle.ada_program.specs.Form.{ActualForm, in_value, in_out_path, value_given, ExpressionForm, integer, boolean, reads, is_null, applied_to, chained, LinksForm, no_more_links, a_link, ItemForm, null_item, item_of_path, item_of_value, item_of_record, RightForm, nothing, value_of, allocates, allocates_default, computes, StmtForm, skips, assigns, assigns_record, frees, gets, writes, writes_text, chooses, repeats, counts, exits, calls, returns, raises, encloses, StmtsForm, no_stmts, a_stmt, BranchesForm, otherwise, a_branch, HandlersForm, DeclarationForm, collects, declares, declares_record}
+use Rattle.ada_program.specs.Form.{ActualForm, in_value, in_null, in_access, in_out_path, in_out_access, ExpressionForm, integer, boolean, reads, is_null, applied_to, chained, LinksForm, no_more_links, a_link, ItemForm, null_item, item_of_path, item_of_value, item_of_record, RightForm, nothing, value_of, allocates, allocates_default, computes, StmtForm, skips, assigns, assigns_record, frees, gets, writes, writes_text, chooses, repeats, counts, exits, calls, returns, raises, encloses, StmtsForm, no_stmts, a_stmt, BranchesForm, otherwise, a_branch, HandlersForm, DeclarationForm, collects, declares, declares_record}
 use Rattle.ada_program.specs.ProgramForm.{VariableForm, BodyForm}
 use Rattle.ada_program.specs.Typed.{reached_of, words_of, width_of}
 use Rattle.ada_meaning.specs.declared.state.Mode.{Mode}
@@ -25,7 +25,7 @@ use Rattle.ada_meaning.specs.declared.event.Halt.TheVariants.{Finished, Unhandle
 use Rattle.ada_meaning.specs.declared.event.Line.TheVariants.{Image, Literal}
 use Rattle.ada_meaning.specs.declared.event.Why.TheVariants.{FollowsGone, EndsTwice, GivesElsewhere}
 use Rattle.ada_meaning.specs.Event.{Event, Back, Followed, Left, Line, Quiet, Request, Allocate, GiveBack}
-use Rattle.ada_meaning.specs.Frame.{Frame, is_master, Landing, passes_on, goes_behind, goes_in, landing}
+use Rattle.ada_meaning.specs.Frame.{Frame, evaluating, is_master, Landing, passes_on, goes_behind, goes_in, landing}
 use Rattle.ada_meaning.specs.Frame as frame
 use Rattle.ada_meaning.specs.State.{Activation, Owned, declared, collection, record_object, Item, Master, State, height, home_of, pool_of, counted}
 use Rattle.ada_meaning.specs.Heap.{Cell, Found, on_null, on_gone, on_other, finds, Ops}
@@ -129,7 +129,10 @@ abbrev pub copied_back : {V : Type 0} → List ActualForm → (formals : List V)
 copied_back [] vs places = places
 copied_back (a ∷ rest) [] places = places
 copied_back (in_value e ∷ rest) (v ∷ vs) places = copied_back rest vs places
+copied_back (in_null ∷ rest) (v ∷ vs) places = copied_back rest vs places
+copied_back (in_access path ∷ rest) (v ∷ vs) places = copied_back rest vs places
 copied_back (in_out_path path ∷ rest) (v ∷ vs) places = copied_back rest vs (slice_set places path.root v)
+copied_back (in_out_access path ∷ rest) (v ∷ vs) places = copied_back rest vs (slice_set places path.root v)
 
 -- The running activation ends normally (6.4.1, 6.5): its caller gets back what it is to get, and goes on.
 abbrev pub returned : {V H : Type 0} → List ActualForm → State V H → State V H
@@ -554,7 +557,7 @@ module _ {V H : Type 0} (ops : Ops V H) where
   -- Actual parameters are evaluated one after another before what comes behind them.
   abbrev pub computing : List ActualForm → List (Frame V) → List (Frame V)
   computing [] k = k
-  computing (a ∷ rest) k = frame.Computes (value_given a) ∷ computing rest k
+  computing (a ∷ rest) k = evaluating a ∷ computing rest k
 
   -- A call (6.4): its actual parameters are evaluated, in order.
   abbrev pub call_next : (procedure : ℕ) → (actuals : List ActualForm) → Option BodyForm → State V H → Next V H

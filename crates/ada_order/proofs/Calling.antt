@@ -50,6 +50,7 @@ procedure = record {
   declarations = vec [] (omega arith);
   statements = vec (block ∷ stmt.PutImage (Integer (pos 9)) ∷ []) (omega arith);
   handlers = vec [] (omega arith);
+  end = spot;
 }
 
 -- declare X : A; begin X := new Cell'(7); P (3); Put_Line (Integer'Image (0)); end;

@@ -4,7 +4,7 @@ use Rattle.std.proofs.Common.{◌≡◌, ℕ, ℤ, Bool, true, false, if◌then�
 use Rattle.std.specs.Prelude.{int_le}
 use Rattle.std.specs.List.{slice_get}
 use Rattle.ada_program.specs.declared.program.TypeDefinition.{TypeDefinition}
-use Rattle.ada_program.specs.Form.{ActualForm, ExpressionForm, integer, boolean, reads, is_null, applied_to, chained, LinksForm, no_more_links, a_link, ItemForm, null_item, item_of_path, item_of_value, item_of_record, RightForm, nothing, value_of, allocates, allocates_default, computes, StmtForm, skips, assigns, assigns_record, frees, gets, writes, writes_text, chooses, repeats, counts, exits, calls, raises, encloses, StmtsForm, no_stmts, a_stmt, BranchesForm, otherwise, a_branch, HandlersForm, DeclarationForm, collects, declares, declares_record}
+use Rattle.ada_program.specs.Form.{ActualForm, in_value, in_null, in_access, in_out_path, in_out_access, ExpressionForm, integer, boolean, reads, is_null, applied_to, chained, LinksForm, no_more_links, a_link, ItemForm, null_item, item_of_path, item_of_value, item_of_record, RightForm, nothing, value_of, allocates, allocates_default, computes, StmtForm, skips, assigns, assigns_record, frees, gets, writes, writes_text, chooses, repeats, counts, exits, calls, raises, encloses, StmtsForm, no_stmts, a_stmt, BranchesForm, otherwise, a_branch, HandlersForm, DeclarationForm, collects, declares, declares_record}
 use Rattle.ada_program.specs.Form as form
 use Rattle.ada_program.specs.ProgramForm.{BodyForm}
 use Rattle.ada_program.specs.Typed.{words_of, width_of}
@@ -276,7 +276,11 @@ exited_works (Some false) s p = stays refl p refl refl
 -- A call: its actual parameters are evaluated before its body begins.
 computing_is_plain : (actuals : List ActualForm) (k : List (Frame Value)) → Plain k → Plain (computing named actuals k)
 computing_is_plain [] k p = p
-computing_is_plain (a ∷ rest) k p = (tt, computing_is_plain rest k p)
+computing_is_plain (in_value e ∷ rest) k p = (tt, computing_is_plain rest k p)
+computing_is_plain (in_null ∷ rest) k p = (tt, computing_is_plain rest k p)
+computing_is_plain (in_access path ∷ rest) k p = (tt, computing_is_plain rest k p)
+computing_is_plain (in_out_path path ∷ rest) k p = (tt, computing_is_plain rest k p)
+computing_is_plain (in_out_access path ∷ rest) k p = (tt, computing_is_plain rest k p)
 
 call_works : (procedure : ℕ) (actuals : List ActualForm) (body : Option BodyForm) (s : State) → Plain s.control → Works s (call_next named procedure actuals body s)
 call_works procedure actuals None s p = tt

@@ -113,6 +113,7 @@ returning_body = record {
   declarations = [];
   statements = a_stmt returning_block (a_stmt (writes (integer (pos 9))) no_stmts);
   handlers = no_handlers;
+  end_spot = record { line = 1; column = 1 };
 }
 
 -- begin declare X : A; begin X := new Cell'(7); P (3); Put_Line (Integer'Image (0)); end; end;

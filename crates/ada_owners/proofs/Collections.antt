@@ -54,6 +54,7 @@ module _ (kinds : Kinds) (objects : List Object) {activations : List (Activation
     where
       not_lost : (h : Hold) → Borrows h → h ≢ held.Lost
       not_lost held.Null b e = b
+      not_lost (held.Kept r) b e = b
       not_lost (held.Own r) b e = b
       not_lost (held.Alias r) b e = cc e
       not_lost held.Lost b e = b

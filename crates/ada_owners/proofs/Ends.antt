@@ -24,6 +24,7 @@ pub record IsUnnamed (objects : List Object) (activations : List (Activation Val
 
 pub kind_is : (access : Id → Option ℕ) (h : Hold) (k : Option ℕ) (o : Id) (t : ℕ) → Borrows h → access o ≡ Some t → Says access h k o → k ≡ Some t
 kind_is access held.Null k o t b is s = absurd b
+kind_is access (held.Kept r) k o t b is s = absurd b
 kind_is access (held.Own r) k o t b is s = absurd b
 kind_is access (held.Alias r) None o t b is s = absurd s
 kind_is access (held.Alias r) (Some u) o t b is s = sym s ∙ is
@@ -53,6 +54,7 @@ module _ (objects : List Object) (o : Id) (x : Object) (found : object_at object
   module _ {kinds : Kinds} {activations : List (Activation Value)} {hold : Place → Hold} (f : Fits kinds objects activations hold) (unnamed : IsUnnamed objects activations hold o) where
     lost_by : (p : Place) (h : Hold) → hold p ≡ h → value_at objects activations p ≡ Names o → h ≡ held.Lost
     lost_by p held.Null is e = absurd (rw is at (f.fit.relied p o e))
+    lost_by p (held.Kept r) is e = absurd (unnamed.unowned p (rw is tt) e)
     lost_by p (held.Own r) is e = absurd (unnamed.unowned p (rw is tt) e)
     lost_by p (held.Alias r) is e = absurd (unnamed.unborrowed p (rw is tt) e)
     lost_by p held.Lost is e = refl

@@ -28,6 +28,7 @@ there_by objects (Some t) o s = let h = listed_at objects o t s in (h.object, h.
 
 borrower_right : (access : Id → Option ℕ) (h : Hold) (k : Option ℕ) (o : Id) → Borrows h → Says access h k o → IsOf access k o
 borrower_right access held.Null k o b s = absurd b
+borrower_right access (held.Kept r) k o b s = absurd b
 borrower_right access (held.Own r) k o b s = absurd b
 borrower_right access (held.Alias r) k o b s = s
 borrower_right access held.Lost k o b s = absurd b

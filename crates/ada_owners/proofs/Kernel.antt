@@ -50,24 +50,28 @@ same_place (elsewhere a x) (elsewhere b y) = same_elsewhere a b x y (same_or_not
 -- A hold that is not lost says that the object exists; one that is not null may say so.
 pub right_by : (access : Id → Option ℕ) (h : Hold) (k : Option ℕ) (o : Id) → h ≢ held.Lost → Says access h k o → IsOf access k o
 right_by access held.Null k o ne s = absurd s
+right_by access (held.Kept r) k o ne s = s
 right_by access (held.Own r) k o ne s = s
 right_by access (held.Alias r) k o ne s = s
 right_by access held.Lost k o ne s = absurd (ne refl)
 
 pub says_right : (access : Id → Option ℕ) (h : Hold) (k : Option ℕ) (o : Id) → h ≢ held.Null → IsOf access k o → Says access h k o
 says_right access held.Null k o ne s = absurd (ne refl)
+says_right access (held.Kept r) k o ne s = s
 says_right access (held.Own r) k o ne s = s
 says_right access (held.Alias r) k o ne s = s
 says_right access held.Lost k o ne s = tt
 
 owner_right : (access : Id → Option ℕ) (h : Hold) (k : Option ℕ) (o : Id) → Owns h → Says access h k o → IsOf access k o
 owner_right access held.Null k o own s = absurd own
+owner_right access (held.Kept r) k o own s = s
 owner_right access (held.Own r) k o own s = s
 owner_right access (held.Alias r) k o own s = absurd own
 owner_right access held.Lost k o own s = absurd own
 
 pub lost_owns : (h : Hold) → h ≡ held.Lost → Owns h → ⊥
 lost_owns held.Null e own = own
+lost_owns (held.Kept r) e own = cc e
 lost_owns (held.Own r) e own = cc e
 lost_owns (held.Alias r) e own = own
 lost_owns held.Lost e own = own
@@ -75,27 +79,38 @@ lost_owns held.Lost e own = own
 -- What is as good says as much, and what owns by the worse hold owned by the better one.
 says_worse : (access : Id → Option ℕ) (g h : Hold) (k : Option ℕ) (o : Id) → is_as_good g h ≡ true → Says access g k o → Says access h k o
 says_worse access held.Null h k o e s = absurd s
+says_worse access (held.Kept Whole) held.Null k o e s = absurd (cc e)
+says_worse access (held.Kept Whole) (held.Kept Whole) k o e s = s
+says_worse access (held.Kept Whole) (held.Own Whole) k o e s = s
+says_worse access (held.Kept Whole) (held.Alias q) k o e s = s
+says_worse access (held.Kept Whole) held.Lost k o e s = tt
 says_worse access (held.Own Whole) held.Null k o e s = absurd (cc e)
+says_worse access (held.Own Whole) (held.Kept Whole) k o e s = s
 says_worse access (held.Own Whole) (held.Own Whole) k o e s = s
 says_worse access (held.Own Whole) (held.Alias q) k o e s = s
 says_worse access (held.Own Whole) held.Lost k o e s = tt
 says_worse access (held.Alias Whole) held.Null k o e s = absurd (cc e)
+says_worse access (held.Alias Whole) (held.Kept q) k o e s = s
 says_worse access (held.Alias Whole) (held.Own q) k o e s = s
 says_worse access (held.Alias Whole) (held.Alias Whole) k o e s = s
 says_worse access (held.Alias Whole) held.Lost k o e s = tt
 says_worse access held.Lost held.Null k o e s = absurd (cc e)
+says_worse access held.Lost (held.Kept q) k o e s = absurd (cc e)
 says_worse access held.Lost (held.Own q) k o e s = absurd (cc e)
 says_worse access held.Lost (held.Alias q) k o e s = absurd (cc e)
 says_worse access held.Lost held.Lost k o e s = tt
 
 owned_before : (access : Id → Option ℕ) (g h : Hold) (k : Option ℕ) (o : Id) → is_as_good g h ≡ true → Says access g k o → Owns h → Owns g
 owned_before access held.Null h k o e s own = absurd s
+owned_before access (held.Kept r) h k o e s own = tt
 owned_before access (held.Own r) h k o e s own = tt
 owned_before access (held.Alias Whole) held.Null k o e s own = own
+owned_before access (held.Alias Whole) (held.Kept q) k o e s own = absurd (cc e)
 owned_before access (held.Alias Whole) (held.Own q) k o e s own = absurd (cc e)
 owned_before access (held.Alias Whole) (held.Alias q) k o e s own = own
 owned_before access (held.Alias Whole) held.Lost k o e s own = own
 owned_before access held.Lost held.Null k o e s own = own
+owned_before access held.Lost (held.Kept q) k o e s own = absurd (cc e)
 owned_before access held.Lost (held.Own q) k o e s own = absurd (cc e)
 owned_before access held.Lost (held.Alias q) k o e s own = own
 owned_before access held.Lost held.Lost k o e s own = own
@@ -107,6 +122,7 @@ of_same access now (Some t) o e s = e ∙ s
 
 pub says_same : (access now : Id → Option ℕ) (h : Hold) (k : Option ℕ) (o : Id) → now o ≡ access o → Says access h k o → Says now h k o
 says_same access now held.Null k o e s = s
+says_same access now (held.Kept r) k o e s = of_same access now k o e s
 says_same access now (held.Own r) k o e s = of_same access now k o e s
 says_same access now (held.Alias r) k o e s = of_same access now k o e s
 says_same access now held.Lost k o e s = tt
@@ -184,6 +200,7 @@ module _ {access : Id → Option ℕ} {read : Place → Value} {hold : Place →
 
       grown : (h : Hold) (k : Option ℕ) (o : Id) → Says access h k o → Says to h k o
       grown held.Null k o s = s
+      grown (held.Kept r) k o s = grown_of k o s
       grown (held.Own r) k o s = grown_of k o s
       grown (held.Alias r) k o s = grown_of k o s
       grown held.Lost k o s = tt

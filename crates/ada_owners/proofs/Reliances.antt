@@ -23,12 +23,14 @@ use Rattle.ada_owners.proofs.Changes.{weaken, hand_worse, taken, nulls, held_ane
 
 pub good_same : (h : Hold) → is_as_good h h ≡ true
 good_same held.Null = refl
+good_same (held.Kept Whole) = refl
 good_same (held.Own Whole) = refl
 good_same (held.Alias Whole) = refl
 good_same held.Lost = refl
 
 pub good_lost : (h : Hold) → is_as_good h held.Lost ≡ true
 good_lost held.Null = refl
+good_lost (held.Kept Whole) = refl
 good_lost (held.Own Whole) = refl
 good_lost (held.Alias Whole) = refl
 good_lost held.Lost = refl
@@ -168,6 +170,7 @@ module _ {kinds : Kinds} {objects : List Object} {activations : List (Activation
 forget_one_good : (b : Bool) (h : Hold) → is_as_good h (without_alias b h) ≡ true
 forget_one_good false h = good_same h
 forget_one_good true held.Null = refl
+forget_one_good true (held.Kept Whole) = refl
 forget_one_good true (held.Own Whole) = refl
 forget_one_good true (held.Alias Whole) = refl
 forget_one_good true held.Lost = refl
@@ -175,6 +178,7 @@ forget_one_good true held.Lost = refl
 forget_one_borrows : (b : Bool) (h : Hold) → Borrows (without_alias b h) → b ≡ false
 forget_one_borrows false h a = refl
 forget_one_borrows true held.Null a = absurd a
+forget_one_borrows true (held.Kept r) a = absurd a
 forget_one_borrows true (held.Own r) a = absurd a
 forget_one_borrows true (held.Alias r) a = absurd a
 forget_one_borrows true held.Lost a = absurd a
@@ -182,6 +186,7 @@ forget_one_borrows true held.Lost a = absurd a
 forget_one_owns : (b : Bool) (h : Hold) → Owns (without_alias b h) → Owns h
 forget_one_owns false h a = a
 forget_one_owns true held.Null a = a
+forget_one_owns true (held.Kept r) a = a
 forget_one_owns true (held.Own r) a = a
 forget_one_owns true (held.Alias r) a = a
 forget_one_owns true held.Lost a = a

@@ -21,6 +21,7 @@ IsOf access (Some t) o = access o ≡ Some t
 -- What a hold says of the object that a place of this access type names.
 abbrev pub Says : (Id → Option ℕ) → Hold → Option ℕ → Id → Type 0
 Says access held.Null kind o = ⊥
+Says access (held.Kept r) kind o = IsOf access kind o
 Says access (held.Own r) kind o = IsOf access kind o
 Says access (held.Alias r) kind o = IsOf access kind o
 Says access held.Lost kind o = Unit {0}
@@ -28,6 +29,7 @@ Says access held.Lost kind o = Unit {0}
 -- A place with this hold owns the object that it names.
 abbrev pub Owns : Hold → Type 0
 Owns held.Null = ⊥
+Owns (held.Kept r) = Unit {0}
 Owns (held.Own r) = Unit {0}
 Owns (held.Alias r) = ⊥
 Owns held.Lost = ⊥
@@ -35,6 +37,7 @@ Owns held.Lost = ⊥
 -- A place with this hold names an object that another place owns.
 abbrev pub Borrows : Hold → Type 0
 Borrows held.Null = ⊥
+Borrows (held.Kept r) = ⊥
 Borrows (held.Own r) = ⊥
 Borrows (held.Alias r) = Unit {0}
 Borrows held.Lost = ⊥

@@ -71,15 +71,14 @@ pub data ItemForm : Type 0 where
   item_of_value : ExpressionForm → ItemForm
   item_of_record : RecordPathForm → ItemForm
 
--- An actual parameter (6.4.1): the value of a formal one of mode `in`, or the path to the variable for which one of mode `in out` stands.
+-- An actual parameter (6.4.1). For a formal one of mode `in`: the value of an expression, which is an Integer or a Boolean, null, or the access value
+-- that a path names. For one of mode `in out`: the path to a variable, an Integer or Boolean one, or one of an access type.
 pub data ActualForm : Type 0 where
   in_value : ExpressionForm → ActualForm
+  in_null : ActualForm
+  in_access : PathForm → ActualForm
   in_out_path : PathForm → ActualForm
-
--- The value that a formal parameter gets (6.4.1): one of mode `in out` gets what the variable holds.
-abbrev pub value_given : ActualForm → ExpressionForm
-value_given (in_value e) = e
-value_given (in_out_path path) = reads path
+  in_out_access : PathForm → ActualForm
 
 -- What is assigned (5.2): null, the access value that a path names, a new object of an access type (4.8) with items for its components, or with
 -- what they hold at first (3.3.1), or an expression.
@@ -169,7 +168,10 @@ links_form (link ∷ links) = a_link link.operator (expression_form link.operand
 -- An actual parameter.
 abbrev pub actual_form : Actual → ActualForm
 actual_form (actual.In e) = in_value (expression_form e)
+actual_form actual.InNull = in_null
+actual_form (actual.InAccess path) = in_access (path_form path)
 actual_form (actual.InOut path) = in_out_path (path_form path)
+actual_form (actual.InOutAccess path) = in_out_access (path_form path)
 
 -- An item.
 abbrev pub item_form : Item → ItemForm

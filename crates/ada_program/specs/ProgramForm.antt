@@ -37,26 +37,34 @@ pub record VariableForm : Type 0 where
   pub borrows : Bool
 
 -- A body of a procedure (6.3): the modes of its formal parameters, which are the first of its variables (6.2); its variables, its declarations (3.11), its
--- statements and their handlers (11.2).
+-- statements and their handlers (11.2); and where its last `end` stands.
 pub record BodyForm : Type 0 where
   pub formals : List FormalMode
   pub variables : List VariableForm
   pub declarations : List DeclarationForm
   pub statements : StmtsForm
   pub handlers : HandlersForm
+  pub end_spot : Spot
 
 -- A program: types, procedures, texts and exceptions by their numbers; and of its main procedure the variables by their numbers, the declarations (3.11),
--- the statements and their handlers (11.2).
+-- the statements and their handlers (11.2). The main procedure has no formal parameters, so no rule is told at its end; as the body of another one sees
+-- it, the program has that one's.
 pub record ProgramForm : Type 0 where
   pub types : List TypeForm
   -- the bodies of the procedures that it declares
   pub bodies : List BodyForm
+  pub formals : List FormalMode
   pub variables : List VariableForm
   pub texts : List (List ℕ)
   pub exceptions : List (List ℕ)
   pub declarations : List DeclarationForm
   pub statements : StmtsForm
   pub handlers : HandlersForm
+  pub end_spot : Spot
+
+-- No place in the text.
+abbrev pub nowhere : Spot
+nowhere = record { line = 0; column = 0 }
 
 -- A declared component, as the program keeps it.
 abbrev pub part_form : Part → PartForm
@@ -80,6 +88,7 @@ body_form b = record {
   declarations = map declaration_form b.declarations.items;
   statements = stmts_form b.statements.items;
   handlers = handlers_form b.handlers.items;
+  end_spot = b.end;
 }
 
 -- The bodies of the procedures that a program declares.
@@ -91,26 +100,37 @@ abbrev pub program_form : Program → ProgramForm
 program_form p = record {
   types = map type_form p.types.items;
   bodies = body_forms p;
+  formals = [];
   variables = map variable_form p.variables.items;
   texts = map string_bytes p.texts.items;
   exceptions = map string_bytes p.exceptions.items;
   declarations = declaration_forms p;
   statements = stmt_forms p;
   handlers = handler_forms p;
+  end_spot = nowhere;
 }
 
 -- The main procedure's body.
 abbrev pub main_body : ProgramForm → BodyForm
-main_body p = record { formals = []; variables = p.variables; declarations = p.declarations; statements = p.statements; handlers = p.handlers }
+main_body p = record {
+  formals = p.formals;
+  variables = p.variables;
+  declarations = p.declarations;
+  statements = p.statements;
+  handlers = p.handlers;
+  end_spot = p.end_spot;
+}
 
 -- A program as the body of a procedure sees it: that body stands for the main one, and the procedures before it are those that it may call.
 abbrev pub seen_by : (number : ℕ) → BodyForm → ProgramForm → ProgramForm
 seen_by number b p = record p {
   bodies = take number p.bodies;
+  formals = b.formals;
   variables = b.variables;
   declarations = b.declarations;
   statements = b.statements;
   handlers = b.handlers;
+  end_spot = b.end_spot;
 }
 
 -- As the procedure of a number sees it, where there is one.

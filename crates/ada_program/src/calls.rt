@@ -3,13 +3,15 @@
 
 ghost use Rattle.std.specs.Prelude.{◌≡◌, ◌&&◌, Some, length, map, take};
 ghost use Rattle.std.specs.List.{slice_get};
-ghost use Rattle.ada_program.specs.Form.{actual_form, value_given};
+ghost use Rattle.ada_program.specs.Form.{actual_form, path_form};
 ghost use Rattle.ada_program.specs.Kept.{profiles_in, types_in, variables_in};
 ghost use Rattle.ada_program.specs.ProgramForm.{body_form};
 ghost use Rattle.ada_program.specs.WellFormed as fits;
 
+use crate::borrowers::names_borrower;
+use crate::lookup::{is_this, path_access};
 use crate::program::{
-    Actual, FormalMode, Procedure, ScalarType, TypeDefinition, Variable, VariableKind,
+    Actual, FormalMode, Path, Procedure, ScalarType, TypeDefinition, Variable, VariableKind,
 };
 use crate::typing::{has_type, is_type, read_type};
 
@@ -94,30 +96,64 @@ fn actual_fits(
         result ≡ fits.actual_fits (types_in types.now) (variables_in variables.now) kind given }
 {
     match kind {
-        VariableKind::Integer => is_given(types, variables, ScalarType::Integer, actual),
-        VariableKind::Boolean => is_given(types, variables, ScalarType::Boolean, actual),
-        VariableKind::Access(_) | VariableKind::Record(_) => false,
+        VariableKind::Integer => is_scalar_given(types, variables, ScalarType::Integer, actual),
+        VariableKind::Boolean => is_scalar_given(types, variables, ScalarType::Boolean, actual),
+        VariableKind::Access(access) => is_access_given(types, variables, access.0, actual),
+        VariableKind::Record(_) => false,
     }
 }
 
-/// Whether an actual parameter has the type; one that gets a value back is a variable (6.4.1).
+/// Whether an actual parameter is of this type, an Integer or a Boolean; one that gets a value back is a variable (6.4.1).
 #[tactic(auto, using(std::proofs::lemmas::Grind::common_steps, crate::specs::Form::expression_rules))]
-fn is_given(
+fn is_scalar_given(
     types: &[TypeDefinition],
     variables: &[Variable],
     type_wanted: ScalarType,
     actual: &Actual,
 ) -> bool
     ensures { let given = actual_form actual.now in
-        let is_typed = fits.has_type (types_in types.now) (variables_in variables.now) type_wanted (value_given given) in
-        result ≡ (is_typed && fits.is_variable given) }
+        result ≡ fits.is_scalar_given (types_in types.now) (variables_in variables.now) type_wanted given }
 {
     match actual {
         Actual::In(value) => has_type(types, variables, type_wanted, value),
         Actual::InOut(path) => {
             is_type(type_wanted, read_type(types, variables, path)) && path.selectors.is_empty()
         }
+        Actual::InNull | Actual::InAccess(_) | Actual::InOutAccess(_) => false,
     }
+}
+
+/// Whether an actual parameter is a value of this access type; one that gets a value back is a variable (6.4.1).
+fn is_access_given(
+    types: &[TypeDefinition],
+    variables: &[Variable],
+    access: usize,
+    actual: &Actual,
+) -> bool
+    ensures { let given = actual_form actual.now in
+        result ≡ fits.is_access_given (types_in types.now) (variables_in variables.now) access given }
+{
+    match actual {
+        Actual::InNull => true,
+        Actual::InAccess(path) => names_access(types, variables, access, path),
+        Actual::InOutAccess(path) => {
+            names_access(types, variables, access, path) && path.selectors.is_empty()
+        }
+        Actual::In(_) | Actual::InOut(_) => false,
+    }
+}
+
+/// Whether a path names a value of this access type, and is no borrower (3.10).
+fn names_access(
+    types: &[TypeDefinition],
+    variables: &[Variable],
+    access: usize,
+    path: &Path,
+) -> bool
+    ensures { let named = path_form path.now in
+        result ≡ fits.names_access (types_in types.now) (variables_in variables.now) access named }
+{
+    is_this(access, path_access(types, variables, path)) && !names_borrower(variables, path)
 }
 
 /// Whether each actual parameter is passed as its formal one says, in order (6.2).
@@ -142,7 +178,9 @@ fn is_passed(mode: FormalMode, actual: &Actual) -> bool
     ensures { result ≡ fits.same_mode mode (fits.mode_of (actual_form actual.now)) }
 {
     match (mode, actual) {
-        (FormalMode::In, Actual::In(_)) | (FormalMode::InOut, Actual::InOut(_)) => true,
-        (FormalMode::In, Actual::InOut(_)) | (FormalMode::InOut, Actual::In(_)) => false,
+        (FormalMode::In, Actual::In(_) | Actual::InNull | Actual::InAccess(_))
+        | (FormalMode::InOut, Actual::InOut(_) | Actual::InOutAccess(_)) => true,
+        (FormalMode::In, Actual::InOut(_) | Actual::InOutAccess(_))
+        | (FormalMode::InOut, Actual::In(_) | Actual::InNull | Actual::InAccess(_)) => false,
     }
 }

@@ -49,7 +49,7 @@ pub struct Program {
 /// A procedure that the program declares (6.1, 6.3): its variables, and what its body does.
 #[derive(Drop)]
 pub struct Procedure {
-    /// The modes of its formal parameters, in order: these are the first of its variables, Integers and Booleans.
+    /// The modes of its formal parameters, in order: these are the first of its variables.
     pub formals: Vec<FormalMode>,
     pub variables: Vec<Variable>,
     /// What is elaborated before the statements, in order (3.11).
@@ -57,6 +57,8 @@ pub struct Procedure {
     pub statements: Vec<Stmt>,
     /// What handles the exceptions that the statements raise (11.2).
     pub handlers: Vec<Handler>,
+    /// Where its last `end` stands.
+    pub end: Spot,
 }
 
 /// The mode of a formal parameter (6.2).
@@ -255,10 +257,17 @@ pub enum Stmt {
 /// An actual parameter (6.4.1).
 #[derive(Drop)]
 pub enum Actual {
-    /// The value of a formal parameter of mode `in`.
+    /// The value of a formal parameter of mode `in`, an Integer or a Boolean.
     In(Expression),
-    /// The variable for which a formal parameter of mode `in out` stands.
+    /// Null, for a formal parameter of mode `in` of an access type.
+    InNull,
+    /// The access value that a path names, for a formal parameter of mode `in`: what it names stays with its owner.
+    InAccess(Path),
+    /// The Integer or Boolean variable for which a formal parameter of mode `in out` stands.
     InOut(Path),
+    /// The variable of an access type for which a formal parameter of mode `in out` stands: what it owns goes to the formal
+    /// parameter, and comes back where the body ends normally.
+    InOutAccess(Path),
 }
 
 /// A branch of an `if` (5.3).

@@ -82,6 +82,10 @@ among_both text (x ∷ a) b =
     ap (λ (o : Option Meaning). cond (bytes_eq text x.text) (Some x.meaning) o) (among_both text a b) ∙
     first_if (bytes_eq text x.text) x.meaning (meaning_among text a) (meaning_among text b)
 
+-- what the first of them binds to nothing is bound by the other
+pub bound_behind : (text : List ℕ) (a b : List Binding) (m : Meaning) → meaning_among text a ≡ None → meaning_among text b ≡ Some m → meaning_among text (a ++ b) ≡ Some m
+bound_behind text a b m none is = among_both text a b ∙ (ap (λ (o : Option Meaning). first_bound o (meaning_among text b)) none ∙ is)
+
 stands_first : (own outer : Option Entity) (m n : Option Meaning) → Stands own m → Stands outer n → Stands (first_named own outer) (first_bound m n)
 stands_first None outer m n s t = subst (λ (o : Option Meaning). Stands outer (first_bound o n)) (sym s) t
 stands_first (Some e) outer m n s t = (s.0, s.1, ap (λ (o : Option Meaning). first_bound o n) s.2)

@@ -10,7 +10,7 @@ use Rattle.ada_tree.specs.Names.{Ident, NameTree}
 use Rattle.ada_tree.specs.Records.{RecordTree}
 use Rattle.ada_tree.specs.Declarations.{AspectTree, HeadTree}
 use Rattle.ada_resolve.specs.Procedures.{body_head_remark}
-use Rattle.ada_resolve.specs.Spots.{first_or}
+use Rattle.ada_resolve.specs.Spots.{end_of, first_or}
 use Rattle.ada_tree.specs.Expressions.{RightTree}
 use Rattle.ada_tree.specs.Statements.{DeclarationTree, exception_declaration, constant_declaration, incomplete_type, access_type, record_type, instance, body_declaration, SequenceTree, object_declaration, borrower_declaration, DeclarationsTree, no_declarations, a_declaration}
 use Rattle.ada_program.specs.declared.program.Exception.TheVariants as exception
@@ -396,7 +396,7 @@ body_back head ds body end_name at next d s c text t is =
     let k = after_types at.0 in
     let none = new_slot k head.name (first_or head.overriding head.spot) (head_new k head d.quiet) in
     let there : named text k.here.names ≡ Some (entity.Incomplete t) = ap (λ (ns : List Named). named text ns) (after_names at.0) ∙ is in
-    c text t (ap (λ (v : Known). named text v.here.names) d.known ∙ body_ended_names k d.done.1.0 head d.done.0.0 d.done.0.1 none stays.done_in text (entity.Incomplete t) there)
+    c text t (ap (λ (v : Known). named text v.here.names) d.known ∙ body_ended_names k d.done.1.0 head d.done.0.0 d.done.0.1 (end_of body) none stays.done_in text (entity.Incomplete t) there)
 
 -- and the types have ended behind it
 pub body_late : (head : HeadTree) (ds : DeclarationsTree) (body : SequenceTree) (end_name : Option Ident) (at next : At) (d : ProcedureDone head ds body end_name at next) → Sound at.0 → types_go_on next.0 ≡ false
@@ -409,7 +409,7 @@ body_late head ds body end_name at next d s = right_off (no_variable_yet next.0)
     some : no_body_yet next.0 ≡ true → ⊥
     some on =
         let stays = body_stays head ds body end_name at next d s in
-        body_ended_some (around_body (after_types at.0) head) d.done.1.0 head.name d.done.0.0 d.done.0.1 (around_sound (after_types at.0) head stays.before) stays.done_in
+        body_ended_some (around_body (after_types at.0) head) d.done.1.0 head.name d.done.0.0 d.done.0.1 (end_of body) (around_sound (after_types at.0) head stays.before) stays.done_in
         (ap (λ (v : Known). no_body_yet v) (sym d.known) ∙ on)
 
 pub complete_back : (ds : DeclarationsTree) (at after : At) → Sound at.0 → types_go_on at.0 ≡ false → declarations_told ds at ≡ gives after → Complete after.0 → Complete at.0

@@ -10,23 +10,25 @@ use Rattle.ada_tree.specs.Names.{Ident}
 use Rattle.ada_program.specs.declared.program.Exception.TheVariants as exception
 use Rattle.ada_program.specs.declared.program.FormalMode.{FormalMode}
 use Rattle.ada_program.specs.declared.program.FormalMode.TheVariants.{In, InOut}
+use Rattle.ada_program.specs.declared.program.TypeNo.{TypeNo}
 use Rattle.ada_program.specs.declared.program.VariableKind.{VariableKind}
 use Rattle.ada_program.specs.declared.program.VariableNo.{VariableNo}
 use Rattle.ada_program.specs.Form.{StmtsForm, HandlersForm}
-use Rattle.ada_program.specs.ProgramForm.{VariableForm, BodyForm}
+use Rattle.ada_program.specs.ProgramForm.{TypeForm, access_to, VariableForm, BodyForm}
 use Rattle.ada_resolve.specs.declared.fault.NameRule.TheVariants.{DeclaredTwice}
 use Rattle.ada_resolve.specs.declared.scope.Entity.{Entity}
 use Rattle.ada_resolve.specs.declared.scope.Entity.TheVariants as entity
 use Rattle.ada_resolve.specs.Known.{Known, Named, declared, entered, first_named, from_within, named, named_in, next_procedure, parts, visible}
 use Rattle.ada_resolve.specs.Procedures.{Formals, no_formals, formal_type, formal_kind, formal_mode, formal_entity, formal_type_wanted, formal_remark, formals_remark, mode_remark, with_formal, with_formals, overriding_remark, body_head_remark, with_body, behind_head, body_of, body_ended}
 use Rattle.ada_resolve.specs.Spots.{first_or}
-use Rattle.ada_resolve.specs.Naming.{Context, Place, Binding, Meaning, a_parameter, a_variable, a_procedure, a_procedure_around, meaning_among}
-use Rattle.ada_resolve.specs.Reading.{read_at, with_binding, with_new_formal, from_body, bound_outside, body_place, behind_body, in_body, IsHeadRead, IsModeRead, IsScalarNamed, AreFormalsRead}
-use Rattle.ada_resolve.proofs.WellFormed.Names.{named_entered}
+use Rattle.ada_resolve.specs.Naming.{Context, Place, Binding, Meaning, a_parameter, a_variable, a_procedure, a_procedure_around, a_type, meaning_among, IsAccessNamed}
+use Rattle.ada_resolve.specs.Reading.{read_at, with_binding, with_new_formal, from_body, bound_outside, body_place, behind_body, in_body, in_profile, IsHeadRead, IsModeRead, IsFormalNamed, AreFormalsRead}
+use Rattle.ada_resolve.proofs.WellFormed.Names.{named_entered, visible_fits}
 use Rattle.ada_resolve.proofs.WellFormed.Remarks.{Quiet, quiet_if}
 use Rattle.ada_resolve.proofs.WellFormed.Tables.{get_more, get_last}
-use Rattle.ada_resolve.proofs.Standing.{around_body, InBody, left_body, ended_is}
-use Rattle.ada_resolve.proofs.Agreeing.{bound_to, Stands, Agrees, Ahead, EntityRead, stands_among, stands_entered, stands_more, visible_read, not_predefined}
+use Rattle.ada_resolve.proofs.Standing.{Sound, around_body, InBody, left_body, ended_is}
+use Rattle.ada_resolve.proofs.Standing.Procedures.{FormalsSound, formal_sound, no_formal}
+use Rattle.ada_resolve.proofs.Agreeing.{bound_behind, bound_to, Stands, Agrees, Ahead, EntityRead, stands_among, stands_entered, stands_more, visible_read, not_predefined}
 use Rattle.ada_resolve.proofs.Elaborated.{new_there}
 
 -- what a name is bound to, seen from a body
@@ -141,13 +143,26 @@ formals_grow k [] before x v is = is
 formals_grow k (f ∷ fs) before x v is = formals_grow k fs (with_formal k f before) x v (formal_grows k f before x v is)
 
 -- the type of a formal is the one that is written
-scalar_named : (text : List ℕ) (o : Option Entity) (first : Spot) (name : Ident) → (o ≡ Some entity.Integer → text ≡ codes "INTEGER") → (o ≡ Some entity.Boolean → text ≡ codes "BOOLEAN") → Quiet (formal_type_wanted o first name) → IsScalarNamed text (formal_kind o)
-scalar_named text (Some entity.Integer) first name i b q = i refl
-scalar_named text (Some entity.Boolean) first name i b q = b refl
-scalar_named text (Some (entity.Access t)) first name i b q = absurd q
-scalar_named text (Some (entity.Record t size)) first name i b q = absurd q
-scalar_named text (Some e) first name i b q = absurd q
-scalar_named text None first name i b q = absurd q
+kind_named : (p : Context) (text : List ℕ) (o : Option Entity) (first : Spot) (name : Ident) → (o ≡ Some entity.Integer → text ≡ codes "INTEGER") → (o ≡ Some entity.Boolean → text ≡ codes "BOOLEAN") → ((t : TypeNo) → o ≡ Some (entity.Access t) → IsAccessNamed p text t.0) → Quiet (formal_type_wanted o first name) → IsFormalNamed p text (formal_kind o)
+kind_named p text (Some entity.Integer) first name i b a q = i refl
+kind_named p text (Some entity.Boolean) first name i b a q = b refl
+kind_named p text (Some (entity.Access t)) first name i b a q = a t refl
+kind_named p text (Some (entity.Record t size)) first name i b a q = absurd q
+kind_named p text (Some e) first name i b a q = absurd q
+kind_named p text None first name i b a q = absurd q
+
+-- an access type that is named for a formal is bound around the body
+access_read : (k : Known) (p : Context) (around : Place) (before : Formals) (name : Ident) (t : TypeNo) → Sound k → FormalsSound before → Agrees k around → ((text : List ℕ) → Stands (named text before.names) (meaning_among text p.place.here)) → ((n : ℕ) (form : TypeForm) → slice_get k.types n ≡ Some form → slice_get p.types n ≡ Some form) → formal_type k before name ≡ Some (entity.Access t) → IsAccessNamed (read_at (in_profile around p.place) p) name.text t.0
+access_read k p around before name t s f v here types is = by_own (named name.text before.names) refl (here name.text) is
+  where
+    by_own : (o : Option Entity) → named name.text before.names ≡ o → Stands o (meaning_among name.text p.place.here) → first_named o (visible k name.text) ≡ Some (entity.Access t) → IsAccessNamed (read_at (in_profile around p.place) p) name.text t.0
+    by_own None own none is =
+        let there = visible_fits k s.names name.text (entity.Access t) is in (
+          bound_behind name.text p.place.here (around.here ++ around.outer) (a_type t.0) none (visible_read k (read_at around p) v name.text (entity.Access t) is),
+          there.0,
+          types t.0 (access_to name.text there.0) there.1,
+        )
+    by_own (Some x) own stands is = absurd (f.names name.text (entity.Access t) (own ∙ is))
 
 -- no formal has the name of a type
 type_read : (k : Known) (p : Context) (own : Option Entity) (m : Option Meaning) (name : Ident) (e : Entity) → bound_to e ≡ None → Agrees k p.place → Stands own m → first_named own (visible k name.text) ≡ Some e → EntityRead p name.text e
@@ -170,25 +185,28 @@ no_override None q = refl
 no_override (Some spot) q = absurd q
 
 -- formals, one behind the other: they have modes that come behind those before them
-pub record FormalsRead (p : Context) (fs : List FormalTree) (before all : List FormalMode) (m : Known) : Type 0 where
+pub record FormalsRead (p : Context) (around : Place) (fs : List FormalTree) (before all : List FormalMode) (m : Known) : Type 0 where
   pub end : Place
   pub modes : List FormalMode
-  pub read : AreFormalsRead p fs modes end
+  pub read : AreFormalsRead p around fs modes end
   pub in_all : all ≡ before ++ modes
   pub agrees : Agrees m end
 
-formals_read : (k m : Known) (p o : Context) (first : Spot) (fs : List FormalTree) (before : Formals) → Agrees k o.place → Agrees (with_body before m) p.place → Quiet (formals_remark k first before fs) → ((x : ℕ) (v : VariableForm) → slice_get (with_formals k fs before).variables x ≡ Some v → slice_get p.variables x ≡ Some v) → FormalsRead p fs before.modes (with_formals k fs before).modes (with_body (with_formals k fs before) m)
+formals_read : (k m : Known) (p : Context) (around : Place) (first : Spot) (fs : List FormalTree) (before : Formals) → Sound k → FormalsSound before → Agrees k around → Agrees (with_body before m) p.place → ((n : ℕ) (form : TypeForm) → slice_get k.types n ≡ Some form → slice_get p.types n ≡ Some form) → Quiet (formals_remark k first before fs) → ((x : ℕ) (v : VariableForm) → slice_get (with_formals k fs before).variables x ≡ Some v → slice_get p.variables x ≡ Some v) → FormalsRead p around fs before.modes (with_formals k fs before).modes (with_body (with_formals k fs before) m)
 unfolding formal_remark
-formals_read k m p o first [] before v w q ahead = record { end = p.place; modes = []; read = refl; in_all = sym (append-nil before.modes); agrees = w }
-formals_read k m p o first (f ∷ fs) before v w q ahead =
+formals_read k m p around first [] before s g v w types q ahead = record { end = p.place; modes = []; read = refl; in_all = sym (append-nil before.modes); agrees = w }
+formals_read k m p around first (f ∷ fs) before s g v w types q ahead =
     let more = with_formal k f before in
     let mode = formal_mode f.input f.output in
     let next = with_new_formal mode f.name p.place in
-    let rest = formals_read k m (read_at next p) o first fs more v (formal_agrees k m p.place f before w) q.1 ahead in
+    let rest = formals_read k m (read_at next p) around first fs more s (formal_sound k f before g) v (formal_agrees k m p.place f before w) types q.1 ahead in
     let kind = formal_kind (formal_type k before f.type_name) in
     let there : slice_get p.variables (length before.variables) ≡ Some (record { name = f.name.text; spot = f.name.spot; kind = kind; borrows = false }) =
     ahead (length before.variables) (record { name = f.name.text; spot = f.name.spot; kind = kind; borrows = false })
     (formals_grow k fs more (length before.variables) (record { name = f.name.text; spot = f.name.spot; kind = kind; borrows = false }) (formal_there k f before)) in
+    let o = read_at around p in
+    let own = named f.type_name.text before.names in
+    let bound = meaning_among f.type_name.text p.place.here in
     record {
       end = rest.end;
       modes = mode ∷ rest.modes;
@@ -196,9 +214,10 @@ formals_read k m p o first (f ∷ fs) before v w q ahead =
         kind,
         (not_bound (quiet_if (is_some (named f.name.text before.names)) f.name.spot DeclaredTwice q.0.1.1.0), not_predefined f.name q.0.1.0),
         mode_read f f.input f.output refl refl q.0.1.1.1.1.0,
-        scalar_named f.type_name.text (formal_type k before f.type_name) first f.type_name
-            (λ is. type_read k o (named f.type_name.text before.names) (meaning_among f.type_name.text p.place.here) f.type_name entity.Integer refl v (w.here f.type_name.text) is)
-            (λ is. type_read k o (named f.type_name.text before.names) (meaning_among f.type_name.text p.place.here) f.type_name entity.Boolean refl v (w.here f.type_name.text) is)
+        kind_named (read_at (in_profile around p.place) p) f.type_name.text (formal_type k before f.type_name) first f.type_name
+            (λ is. type_read k o own bound f.type_name entity.Integer refl v (w.here f.type_name.text) is)
+            (λ is. type_read k o own bound f.type_name entity.Boolean refl v (w.here f.type_name.text) is)
+            (λ t is. access_read k p around before f.type_name t s g v w.here types is)
             q.0.1.1.1.1.1,
         ap (λ (n : ℕ). slice_get p.variables n) w.variables ∙ there,
         rest.read,
@@ -218,18 +237,19 @@ formals_read k m p o first (f ∷ fs) before v w q ahead =
 pub record HeadRead (p : Context) (head : HeadTree) (b : BodyForm) (m : Known) : Type 0 where
   pub end : Place
   pub head_so : IsHeadRead p head
-  pub read : AreFormalsRead (in_body head.name b p) head.formals m.here.modes end
+  pub read : AreFormalsRead (in_body head.name b p) p.place head.formals m.here.modes end
   pub agrees : Agrees m end
 
-pub head_read : (k : Known) (p : Context) (head : HeadTree) (b : BodyForm) → Agrees k p.place → Quiet (body_head_remark k head) → ((x : ℕ) (v : VariableForm) → slice_get (behind_head k head).variables x ≡ Some v → slice_get b.variables x ≡ Some v) → HeadRead p head b (behind_head k head)
+pub head_read : (k : Known) (p : Context) (head : HeadTree) (b : BodyForm) → Sound k → Agrees k p.place → Quiet (body_head_remark k head) → Ahead (behind_head k head) (in_body head.name b p) → HeadRead p head b (behind_head k head)
 unfolding body_head_remark behind_head
-head_read k p head b w q ahead =
+head_read k p head b s w q ahead =
     let first = first_or head.overriding head.spot in
-    let r = formals_read k (around_body k head) (in_body head.name b p) p first head.formals no_formals w (body_agrees k p.place head w) q.1.1.1.0 ahead in
+    let r = formals_read k (around_body k head) (in_body head.name b p) p.place first head.formals no_formals s no_formal w
+    (body_agrees k p.place head w) ahead.types q.1.1.1.0 ahead.variables in
     record {
       end = r.end;
       head_so = (new_there k p.place head.name first w q.1.1.1.1, no_override head.overriding q.1.1.0);
-      read = subst (λ (ms : List FormalMode). AreFormalsRead (in_body head.name b p) head.formals ms r.end) (sym r.in_all) r.read;
+      read = subst (λ (ms : List FormalMode). AreFormalsRead (in_body head.name b p) p.place head.formals ms r.end) (sym r.in_all) r.read;
       agrees = r.agrees;
     }
 
@@ -245,26 +265,26 @@ stands_again ns bs name a e meaning own old text =
     (ap (λ (o : Option Entity). cond (bytes_eq text name.text) (Some e) o) (named_entered ns name.text text a) ∙ twice_is (bytes_eq text name.text) e a (named text ns))))
     (stands_more (bytes_eq text name.text) e meaning (named text ns) (meaning_among text bs) own (old text))
 
-pub ended_agrees : (k z : Known) (head : HeadTree) (fs : StmtsForm) (hs : HandlersForm) (place done : Place) → InBody (around_body k head) z → Agrees k place → Agrees z done → Agrees (body_ended head.name fs hs z) (behind_body head.name place done)
-ended_agrees k z head fs hs place done f w v =
-    subst (λ (u : Known). Agrees u (behind_body head.name place done)) (sym (ended_is (around_body k head) z head.name fs hs f)) (record {
+pub ended_agrees : (k z : Known) (head : HeadTree) (fs : StmtsForm) (hs : HandlersForm) (last : Spot) (place done : Place) → InBody (around_body k head) z → Agrees k place → Agrees z done → Agrees (body_ended head.name fs hs last z) (behind_body head.name place done)
+ended_agrees k z head fs hs last place done f w v =
+    subst (λ (u : Known). Agrees u (behind_body head.name place done)) (sym (ended_is (around_body k head) z head.name fs hs last f)) (record {
       here = stands_again k.here.names place.here head.name entity.Procedure (entity.Callable (next_procedure z)) (a_procedure done.bodies)
           (ap (λ (n : ℕ). Some (a_procedure n)) (sym v.bodies)) w.here;
       outer = w.outer;
       first_type = w.first_type;
       types = v.types;
-      bodies = ap (λ (n : ℕ). n + 1) v.bodies ∙ sym (length-append z.bodies (body_of z fs hs ∷ []));
+      bodies = ap (λ (n : ℕ). n + 1) v.bodies ∙ sym (length-append z.bodies (body_of z fs hs last ∷ []));
       variables = w.variables;
       exceptions = v.exceptions;
       texts = v.texts;
     })
 
 -- the tables within a body
-pub ahead_within : (k z : Known) (head : HeadTree) (fs : StmtsForm) (hs : HandlersForm) (p : Context) → InBody (around_body k head) z → Ahead (body_ended head.name fs hs z) p → Ahead z (in_body head.name (body_of z fs hs) p)
-ahead_within k z head fs hs p f w =
-    let b = body_of z fs hs in
+pub ahead_within : (k z : Known) (head : HeadTree) (fs : StmtsForm) (hs : HandlersForm) (last : Spot) (p : Context) → InBody (around_body k head) z → Ahead (body_ended head.name fs hs last z) p → Ahead z (in_body head.name (body_of z fs hs last) p)
+ahead_within k z head fs hs last p f w =
+    let b = body_of z fs hs last in
     let v : Ahead (declared (left_body (around_body k head) z b) head.name.text (entity.Callable (next_procedure z))) p =
-    subst (λ (u : Known). Ahead u p) (ended_is (around_body k head) z head.name fs hs f) w in
+    subst (λ (u : Known). Ahead u p) (ended_is (around_body k head) z head.name fs hs last f) w in
     record {
       types = v.types;
       variables = λ x u is. is;
@@ -274,9 +294,9 @@ ahead_within k z head fs hs p f w =
     }
 
 -- the body is that of the program
-pub body_there : (k z : Known) (head : HeadTree) (fs : StmtsForm) (hs : HandlersForm) (p : Context) (done : Place) → InBody (around_body k head) z → Ahead (body_ended head.name fs hs z) p → Agrees z done → slice_get p.bodies done.bodies ≡ Some (body_of z fs hs)
-body_there k z head fs hs p done f w v =
-    let b = body_of z fs hs in
+pub body_there : (k z : Known) (head : HeadTree) (fs : StmtsForm) (hs : HandlersForm) (last : Spot) (p : Context) (done : Place) → InBody (around_body k head) z → Ahead (body_ended head.name fs hs last z) p → Agrees z done → slice_get p.bodies done.bodies ≡ Some (body_of z fs hs last)
+body_there k z head fs hs last p done f w v =
+    let b = body_of z fs hs last in
     let last : Ahead (declared (left_body (around_body k head) z b) head.name.text (entity.Callable (next_procedure z))) p =
-    subst (λ (u : Known). Ahead u p) (ended_is (around_body k head) z head.name fs hs f) w in
+    subst (λ (u : Known). Ahead u p) (ended_is (around_body k head) z head.name fs hs last f) w in
     ap (λ (n : ℕ). slice_get p.bodies n) v.bodies ∙ last.bodies (length z.bodies) b (get_last z.bodies b)

@@ -39,8 +39,8 @@ use Rattle.ada_resolve.specs.declared.selectors.Reached.TheVariants as reached
 use Rattle.ada_resolve.specs.declared.fault.NameRule.TheVariants.{UnknownName, WrongType, NotInProfile}
 use Rattle.ada_resolve.specs.Known.{Known, parts, visible, is_empty, is_with, if_with, parts_of, library_wrong, library_remark, library_found, library_path_remark, library_path_found}
 use Rattle.ada_resolve.specs.Library.{is_library_root, library_name}
-use Rattle.ada_resolve.specs.Paths.{written_wanted, component_at, component_in, component_named, component_wanted, component_within_remark, complete_behind, held_by, known_component, number_by, Meant, unknown, lent_value, null_value, access_value, integer_value, boolean_value, record_value, aggregate_value, selected_path, components_of, record_known_by, record_of_object, whole_object, designated_of, is_incomplete_type, held_in, object_in, selectors_reached, number_in, components_selected, reached_meant, variable_meant, entity_meant, path_meant, selectors_remark, record_type_wanted, variable_path_remark, value_wanted, path_remark}
-use Rattle.ada_resolve.specs.Operators.{record_value_wanted, Signature, arithmetic, ordering, equality, logical, signature_of, integer_in, boolean_in, scalar_in, asks_equal, equality_meant, binary_by, unary_meant, integer_wanted, boolean_wanted, equal_wanted, operands_by, operand_remark}
+use Rattle.ada_resolve.specs.Paths.{constant_wanted, written_wanted, component_at, component_in, component_named, component_wanted, component_within_remark, complete_behind, held_by, known_component, number_by, Meant, unknown, lent_value, null_value, access_value, integer_value, boolean_value, record_value, aggregate_value, selected_path, components_of, record_known_by, record_of_object, whole_object, designated_of, is_incomplete_type, held_in, object_in, selectors_reached, number_in, components_selected, reached_meant, variable_meant, entity_meant, path_meant, selectors_remark, record_type_wanted, variable_path_remark, value_wanted, path_remark}
+use Rattle.ada_resolve.specs.Operators.{record_value_wanted, Signature, arithmetic, ordering, equality, logical, signature_of, integer_in, boolean_in, asks_equal, equality_meant, binary_by, unary_meant, integer_wanted, boolean_wanted, equal_wanted, operands_by, operand_remark}
 use Rattle.ada_resolve.specs.Expressions.{after_items, all_items_remark, expression_meant, expression_remark, filling_of, items_remark}
 use Rattle.ada_resolve.specs.declared.library.LibraryName.{LibraryName}
 use Rattle.ada_resolve.specs.declared.library.LibraryName.TheVariants.{TextIo, PutLine, UncheckedDeallocation, RunInput, Get, EndError, OtherUnit, Unknown}
@@ -51,8 +51,8 @@ use Rattle.ada_resolve.specs.declared.calls.Callee.TheVariants as callee
 use Rattle.ada_resolve.specs.Exceptions.{exception_of_library, end_error_wanted, exception_in, exception_wanted, exception_name_remark, exception_found, raising, choice_remark, exception_or_others, choice_meant, choices_remark, choices_meant}
 use Rattle.ada_resolve.specs.Lines.{line_remark, line_found, put_line_remark, put_line_found}
 use Rattle.ada_resolve.specs.Arguments.{image_wanted, image_remark, image_value_remark}
-use Rattle.ada_resolve.specs.Naming.{Context, IsFullTypeNamed, IsExceptionNamed, IsInstanceNamed, IsProcedureNamed, IsVariableNamed, IsObjectNamed}
-use Rattle.ada_resolve.specs.Reading.{IsPutLine, IsGet, AreActualsRead, IsExpressionRead, IsCallRead, IsImage, type_behind, Way, at_value, at_object, IsBegun, IsWayRead, IsRecordTargetRead, IsCopyRead, IsAggregate, how_many, IsGiven, to_elementary, by_copy, by_aggregate, AreGiven, none_given, one_given, IsWholeRead, IsComponentNamed, AreSelectorsRead, at_end, by_all, by_value, to_value, to_record, IsPathRead, IsTargetRead, IsValueRead, read_path, read_number, read_truth, AsksEqual, null_on_right, null_on_left, IsNull, IsMoveRead, IsConditionRead, IsItemFor, at_place, by_name, further, AreItemsRead, IsAllocationRead, IsRightRead, IsSimpleRead, IsChoiceRead, AreChoicesRead}
+use Rattle.ada_resolve.specs.Naming.{Context, a_parameter, IsBound, IsFullTypeNamed, IsExceptionNamed, IsInstanceNamed, IsProcedureNamed, IsObjectNamed, IsVariableNamed}
+use Rattle.ada_resolve.specs.Reading.{IsPutLine, IsGet, AreActualsRead, IsExpressionRead, IsCallRead, IsImage, type_behind, Way, at_value, at_object, IsBegun, IsWayRead, IsRecordTargetRead, IsCopyRead, IsAggregate, how_many, IsGiven, to_elementary, by_copy, by_aggregate, AreGiven, none_given, one_given, IsWholeRead, IsComponentNamed, AreSelectorsRead, at_end, by_all, by_value, to_value, to_record, IsPathRead, IsTargetRead, IsVariableRead, MayChange, IsValueRead, read_path, read_number, read_truth, AsksEqual, null_on_right, null_on_left, IsNull, IsMoveRead, IsConditionRead, IsItemFor, at_place, by_name, further, AreItemsRead, IsAllocationRead, IsRightRead, IsSimpleRead, IsChoiceRead, AreChoicesRead}
 use Rattle.ada_resolve.specs.Allocators.{allocated_wanted, allocated_remark, aggregate_remark, allocation, aggregate_found, default_allocation, default_found, allocator_remark, allocator_found}
 use Rattle.ada_resolve.specs.Rights.{Assigned, a_value, a_whole, assigned_wanted, assigned, new_assigned, right_remark, right_found}
 use Rattle.ada_resolve.specs.Assignments.{Target, value_target, record_target, target_meant, target_found, target_wanted, target_remark, held_by_target, target_borrows, assignment_remark, assignment_of, assignment_found}
@@ -60,9 +60,9 @@ use Rattle.ada_resolve.specs.Statements.{condition_remark, condition_meant, opti
 use Rattle.ada_resolve.specs.Types.{complete_found, complete_in, complete_remark, complete_type_wanted, designates}
 use Rattle.ada_resolve.specs.Remark.{Remark, wrong, ◌also◌, wrong_if}
 use Rattle.ada_resolve.specs.Spots.{expression_spot}
-use Rattle.ada_resolve.specs.Actuals.{first_mode, given_all, given_all_remark, given_meant, given_remark, given_variable, kind_wanted, other_modes, profile, variable_wanted}
+use Rattle.ada_resolve.specs.Actuals.{alone_wanted, first_mode, given_all, given_all_remark, given_meant, given_remark, given_variable, given_value, kind_wanted, other_modes, profile, variable_wanted}
 use Rattle.ada_resolve.specs.Items.{Filling, component_for, item_meant, fits_remark, for_remark, is_alike, filled_for, filled_components, after_item, aggregate_meant, component_item_remark, first_filling, flattened, names_component, count_remark}
-use Rattle.ada_resolve.proofs.Agreeing.{Agrees, Ahead, EntityRead, Readable, visible_read, parameter_visible}
+use Rattle.ada_resolve.proofs.Agreeing.{Ahead, EntityRead, Readable, visible_read, parameter_visible}
 use Rattle.ada_resolve.proofs.WellFormed.Remarks.{Quiet, quiet_unless}
 use Rattle.ada_resolve.proofs.WellFormed.Values.{access_designates}
 use Rattle.ada_resolve.proofs.WellFormed.Names.{EntityFits, IsVariableIn, PartsFit, visible_fits, kind_there, text_same}
@@ -681,19 +681,68 @@ FoundStatement p s (Some form) = IsSimpleRead p s form
 path_of_value : (p : Context) (tree : PathTree) (path : PathForm) → IsValueRead p tree (reads path) → IsPathRead p tree path
 path_of_value p tree path (read_path r) = r
 
--- nothing is written to a loop parameter
-no_parameter : (o : Option Entity) (spot : Spot) (n : VariableNo) (kind : VariableKind) → o ≡ Some (entity.Parameter n kind) → Quiet (written_wanted o spot) → ⊥
-no_parameter None spot n kind is q = cc is
-no_parameter (Some (entity.Parameter x of)) spot n kind is q = q
-no_parameter (Some e) spot n kind is q = cc is
+-- a constant to whose path something is written is of an access type, and something is selected from it
+record Followed (kind : VariableKind) (ss : List SelectorTree) : Type 0 where
+  access : TypeNo
+  holds : kind ≡ variable.Access access
+  selects : ss ≡ [] → ⊥
 
-variable_named : (k : Known) (p : Context) (tree : PathTree) (x : ℕ) → Agrees k p.place → Quiet (written_wanted (visible k tree.root.text) tree.root.spot) → IsObjectNamed p tree.root.text x → IsVariableNamed p tree.root.text x
-variable_named k p tree x w q (inl b) = b
-variable_named k p tree x w q (inr b) =
-    let n = parameter_visible k p w tree.root.text x b in absurd (no_parameter (visible k tree.root.text) tree.root.spot n.0 n.1 n.2 q)
+constant_followed : (kind : VariableKind) (ss : List SelectorTree) (spot : Spot) → Quiet (constant_wanted kind ss spot) → Followed kind ss
+constant_followed (variable.Access t) (s ∷ ss) spot q = record { access = t; holds = refl; selects = λ e. cc e }
+constant_followed (variable.Access t) [] spot q = absurd q
+constant_followed variable.Integer ss spot q = absurd q
+constant_followed variable.Boolean ss spot q = absurd q
+constant_followed (variable.Record t) ss spot q = absurd q
 
-target_read : (k : Known) (p : Context) (tree : PathTree) (path : PathForm) → Agrees k p.place → Quiet (written_wanted (visible k tree.root.text) tree.root.spot) → IsPathRead p tree path → IsTargetRead p tree path
-target_read k p tree path w q r = (r, variable_named k p tree path.root w q r.leads.root)
+parameter_followed : (o : Option Entity) (ss : List SelectorTree) (spot : Spot) (n : VariableNo) (kind : VariableKind) → o ≡ Some (entity.Parameter n kind) → Quiet (written_wanted o ss spot) → Followed kind ss
+parameter_followed o ss spot n kind is q =
+    constant_followed kind ss spot (subst (λ (e : Option Entity). Quiet (written_wanted e ss spot)) is q)
+
+-- what is bound to a constant of a number holds what the constant holds
+constant_holds : (k : Known) (p : Context) (text : List ℕ) (x : ℕ) (n : VariableNo) (kind : VariableKind) → Readable k p → visible k text ≡ Some (entity.Parameter n kind) → IsBound p text (a_parameter x) → fits.variable_kind p.variables x ≡ Some kind
+constant_holds k p text x n kind w is b =
+    let there = visible_fits k w.fits text (entity.Parameter n kind) is in
+    let own = visible_read k p w.agrees text (entity.Parameter n kind) is in
+    let same : n.0 ≡ x = cc (own, b) in
+    rw (sym same) (rw (w.ahead.variables n.0 (record { name = text; spot = there.0.0; kind = kind; borrows = false }) there.0.1) refl)
+
+may_change : (k : Known) (p : Context) (tree : PathTree) (x : ℕ) → Readable k p → Quiet (written_wanted (visible k tree.root.text) tree.selectors tree.root.spot) → IsObjectNamed p tree.root.text x → MayChange p tree x
+may_change k p tree x w q (inl b) = inl b
+may_change k p tree x w q (inr b) =
+    let n = parameter_visible k p w.agrees tree.root.text x b in
+    let f = parameter_followed (visible k tree.root.text) tree.selectors tree.root.spot n.0 n.1 n.2 q in
+    inr (b, f.access, constant_holds k p tree.root.text x n.0 n.1 w n.2 b ∙ ap (λ (kind : VariableKind). Some kind) f.holds, f.selects)
+
+target_read : (k : Known) (p : Context) (tree : PathTree) (path : PathForm) → Readable k p → Quiet (written_wanted (visible k tree.root.text) tree.selectors tree.root.spot) → IsPathRead p tree path → IsTargetRead p tree path
+target_read k p tree path w q r = (r, may_change k p tree path.root w q r.leads.root)
+
+-- a path to a value that selects no component is a name
+object_selects : (p : Context) (t before : ℕ) (ss : List SelectorTree) (cs : List ℕ) (kind : Option VariableKind) → AreSelectorsRead p (at_object t before) ss cs (at_value kind) → cs ≡ [] → ⊥
+object_selects p t before ss cs kind (to_value named_so more) e = cc e
+object_selects p t before (component i ∷ ss) cs kind (to_record {first} {inner} named_so more) e = object_selects p inner.0 (before + first) ss cs kind more e
+
+value_alone : (p : Context) (of : Option VariableKind) (ss : List SelectorTree) (cs : List ℕ) (kind : Option VariableKind) → AreSelectorsRead p (at_value of) ss cs (at_value kind) → cs ≡ [] → ss ≡ []
+value_alone p of ss cs kind at_end e = refl
+value_alone p of (dereference spot ∷ ss) cs kind (by_all {t} behind_so more) e = absurd (object_selects p t 0 ss cs kind more e)
+value_alone p of (component i ∷ ss) cs kind (by_value {t} behind_so more) e = absurd (object_selects p t 0 (component i ∷ ss) cs kind more e)
+
+way_alone : (p : Context) (way : Way) (ss : List SelectorTree) (cs : List ℕ) (kind : Option VariableKind) → AreSelectorsRead p way ss cs (at_value kind) → cs ≡ [] → ss ≡ []
+way_alone p (at_value of) ss cs kind r e = value_alone p of ss cs kind r e
+way_alone p (at_object t before) ss cs kind r e = absurd (object_selects p t before ss cs kind r e)
+
+no_component : (cs : List ℕ) (spot : Spot) → Quiet (alone_wanted cs spot) → cs ≡ []
+no_component [] spot q = refl
+no_component (c ∷ cs) spot q = absurd q
+
+-- a variable that is given alone
+variable_alone : (p : Context) (tree : PathTree) (path : PathForm) (spot : Spot) → Quiet (alone_wanted path.selectors spot) → IsTargetRead p tree path → IsVariableRead p tree path
+variable_alone p tree path spot q r =
+    let alone : tree.selectors ≡ [] = way_alone p r.0.leads.way tree.selectors path.selectors r.0.kind r.0.leads.selectors (no_component path.selectors spot q) in
+    (alone, r.0, by_change r.1 alone)
+  where
+    by_change : MayChange p tree path.root → tree.selectors ≡ [] → IsVariableNamed p tree.root.text path.root
+    by_change (inl b) alone = b
+    by_change (inr f) alone = absurd (f.3 alone)
 
 -- what is assigned to
 abbrev FoundTarget : Context → PathTree → Option Target → Type 0
@@ -702,18 +751,18 @@ FoundTarget p target (Some (value_target path (held.Record t))) = ⊥
 FoundTarget p target (Some (value_target path kind)) = IsTargetRead p target path
 FoundTarget p target (Some (record_target path)) = IsRecordTargetRead p target path
 
-target_meant_read : (k : Known) (p : Context) (tree : PathTree) (m : Meant) (spot : Spot) → Agrees k p.place → Quiet (written_wanted (visible k tree.root.text) tree.root.spot) → IsMeant m → MeantRead p (path_expression tree) m → Quiet (target_wanted m spot) → FoundTarget p tree (target_meant m)
+target_meant_read : (k : Known) (p : Context) (tree : PathTree) (m : Meant) (spot : Spot) → Readable k p → Quiet (written_wanted (visible k tree.root.text) tree.selectors tree.root.spot) → IsMeant m → MeantRead p (path_expression tree) m → Quiet (target_wanted m spot) → FoundTarget p tree (target_meant m)
 target_meant_read k p tree (integer_value (reads path)) spot w v f r q = target_read k p tree path w v (path_of_value p tree path r)
 target_meant_read k p tree (boolean_value (reads path)) spot w v f r q = target_read k p tree path w v (path_of_value p tree path r)
 target_meant_read k p tree (access_value path t) spot w v f r q = target_read k p tree path w v r
-target_meant_read k p tree (record_value path) spot w v f r q = (r, variable_named k p tree path.object.root w v r.root)
+target_meant_read k p tree (record_value path) spot w v f r q = (r, may_change k p tree path.object.root w v r.root)
 target_meant_read k p tree unknown spot w v f r q = absurd f
 target_meant_read k p tree (lent_value u) spot w v f r q = absurd f
 target_meant_read k p tree m spot w v f r q = absurd q
 
 found_target_read : (k : Known) (p : Context) (tree : PathTree) → Readable k p → Quiet (target_remark k tree) → FoundTarget p tree (target_found k tree)
 unfolding target_remark target_found
-found_target_read k p tree w q = target_meant_read k p tree (path_meant k tree) tree.root.spot w.agrees q.1.1 (path_known k tree w.fits q.0) (path_read k p tree w q.0) q.1.0
+found_target_read k p tree w q = target_meant_read k p tree (path_meant k tree) tree.root.spot w q.1.1 (path_known k tree w.fits q.0) (path_read k p tree w q.0) q.1.0
 
 -- `X := ..;`
 value_read : (p : Context) (target : PathTree) (right : RightTree) (path : PathForm) (kind : Held) (o : Option Assigned) → FoundTarget p target (Some (value_target path kind)) → FoundRight p kind right o → FoundStatement p (assignment target right) (assignment_of (Some (value_target path kind)) o)
@@ -774,7 +823,7 @@ actual_read : (k : Known) (p : Context) (procedure : PathTree) (taker : Callee) 
 unfolding expression_remark
 actual_read k p procedure taker (expression_argument (path_expression tree)) is w q =
     taken_read p k.variables procedure tree taker (path_meant k tree) tree.root.spot is (path_known k tree w.fits q.0.1) (path_read k p tree w q.0.1)
-    (λ path r. target_read k p tree path w.agrees q.1.1 r) q.1.0
+    (λ path r. target_read k p tree path w q.1.1 r) q.1.0
 actual_read k p procedure taker argument is w q = absurd q.0
 
 taker_read : (k : Known) (p : Context) (procedure : PathTree) (taker : Callee) (called : Spot) (arguments : List ArgumentTree) → IsTaker p procedure taker → Readable k p → Quiet (taker_remark k taker called arguments) → FoundStatement p (call procedure arguments) (taker_found k taker arguments)
@@ -845,32 +894,36 @@ library_read k p n procedure arguments (Some Get) is w here q r =
 library_read k p n procedure arguments (Some other) is w here q r = absurd r
 
 -- `P (..);`, where P is a procedure
-scalar_read : (p : Context) (e : ExpressionTree) (kind : VariableKind) (m : Meant) (spot : Spot) → IsMeant m → MeantRead p e m → Quiet (kind_wanted kind m spot) → IsExpressionRead p e (scalar_in m)
-scalar_read p e variable.Integer unknown spot f r q = absurd f
-scalar_read p e variable.Integer (lent_value t) spot f r q = absurd f
-scalar_read p e variable.Integer (integer_value form) spot f r q = r
-scalar_read p e variable.Integer m spot f r q = absurd q
-scalar_read p e variable.Boolean unknown spot f r q = absurd f
-scalar_read p e variable.Boolean (lent_value t) spot f r q = absurd f
-scalar_read p e variable.Boolean (boolean_value form) spot f r q = r
-scalar_read p e variable.Boolean m spot f r q = absurd q
-scalar_read p e (variable.Access t) m spot f r q = absurd q
-scalar_read p e (variable.Record t) m spot f r q = absurd q
+value_given : (p : Context) (variables : List VariableForm) (e : ExpressionTree) (kind : VariableKind) (m : Meant) (spot : Spot) (more : List ArgumentTree) (forms : List ActualForm) → IsMeant m → MeantRead p e m → Quiet (kind_wanted variables kind m spot) → AreActualsRead p more forms → AreActualsRead p (expression_argument e ∷ more) (given_value m ∷ forms)
+value_given p variables e kind unknown spot more forms f r q rest = absurd f
+value_given p variables e kind (lent_value t) spot more forms f r q rest = absurd f
+value_given p variables e variable.Integer (integer_value form) spot more forms f r q rest = (r, rest)
+value_given p variables e variable.Integer m spot more forms f r q rest = absurd q
+value_given p variables e variable.Boolean (boolean_value form) spot more forms f r q rest = (r, rest)
+value_given p variables e variable.Boolean m spot more forms f r q rest = absurd q
+value_given p variables e (variable.Access t) null_value spot more forms f r q rest = (r, rest)
+value_given p variables e (variable.Access t) (access_value path u) spot more forms f r q rest = (r, rest)
+value_given p variables e (variable.Access t) m spot more forms f r q rest = absurd q.0
+value_given p variables e (variable.Record t) m spot more forms f r q rest = absurd q
 
 -- an actual parameter, before others that are read
-variable_given : (p : Context) (tree : PathTree) (kind : VariableKind) (m : Meant) (spot : Spot) (more : List ArgumentTree) (forms : List ActualForm) → IsMeant m → MeantRead p (path_expression tree) m → ((path : PathForm) → IsPathRead p tree path → IsTargetRead p tree path) → Quiet (variable_wanted kind m spot) → AreActualsRead p more forms → AreActualsRead p (expression_argument (path_expression tree) ∷ more) (given_variable m ∷ forms)
-variable_given p tree kind unknown spot more forms f r target q rest = absurd f
-variable_given p tree variable.Integer (integer_value (reads path)) spot more forms f r target q rest = (target path (path_of_value p tree path r), rest)
-variable_given p tree variable.Boolean (boolean_value (reads path)) spot more forms f r target q rest = (target path (path_of_value p tree path r), rest)
-variable_given p tree kind m spot more forms f r target q rest = absurd q
+variable_given : (p : Context) (variables : List VariableForm) (tree : PathTree) (kind : VariableKind) (m : Meant) (spot : Spot) (more : List ArgumentTree) (forms : List ActualForm) → IsMeant m → MeantRead p (path_expression tree) m → ((path : PathForm) → IsPathRead p tree path → IsTargetRead p tree path) → Quiet (variable_wanted variables kind m spot) → AreActualsRead p more forms → AreActualsRead p (expression_argument (path_expression tree) ∷ more) (given_variable m ∷ forms)
+variable_given p variables tree kind unknown spot more forms f r target q rest = absurd f
+variable_given p variables tree variable.Integer (integer_value (reads path)) spot more forms f r target q rest =
+    (variable_alone p tree path spot q (target path (path_of_value p tree path r)), rest)
+variable_given p variables tree variable.Boolean (boolean_value (reads path)) spot more forms f r target q rest =
+    (variable_alone p tree path spot q (target path (path_of_value p tree path r)), rest)
+variable_given p variables tree (variable.Access t) (access_value path u) spot more forms f r target q rest =
+    (variable_alone p tree path spot q.1.1 (target path r), rest)
+variable_given p variables tree kind m spot more forms f r target q rest = absurd q
 
 actual_given : (k : Known) (p : Context) (mode : FormalMode) (kind : VariableKind) (argument : ArgumentTree) (more : List ArgumentTree) (forms : List ActualForm) → Readable k p → Quiet (given_remark k mode kind argument) → AreActualsRead p more forms → AreActualsRead p (argument ∷ more) (given_meant k mode argument ∷ forms)
 unfolding expression_remark
 actual_given k p In kind (expression_argument e) more forms w q rest =
-    (scalar_read p e kind (expression_meant k e) (expression_spot e) (expression_known k e w.fits q.0) (expression_read k p e w q.0) q.1, rest)
+    value_given p k.variables e kind (expression_meant k e) (expression_spot e) more forms (expression_known k e w.fits q.0) (expression_read k p e w q.0) q.1 rest
 actual_given k p InOut kind (expression_argument (path_expression tree)) more forms w q rest =
-    variable_given p tree kind (path_meant k tree) tree.root.spot more forms (path_known k tree w.fits q.0.1) (path_read k p tree w q.0.1)
-    (λ path r. target_read k p tree path w.agrees q.1.1 r) q.1.0 rest
+    variable_given p k.variables tree kind (path_meant k tree) tree.root.spot more forms (path_known k tree w.fits q.0.1) (path_read k p tree w q.0.1)
+    (λ path r. target_read k p tree path w q.1.1 r) q.1.0 rest
 actual_given k p mode kind argument more forms w q rest = absurd q.0
 
 actuals_read : (k : Known) (p : Context) (called : Spot) (kinds : List VariableKind) (modes : List FormalMode) (arguments : List ArgumentTree) → Readable k p → Quiet (given_all_remark k called kinds modes arguments) → AreActualsRead p arguments (given_all k kinds modes arguments)

@@ -4,6 +4,7 @@ use Rattle.std.proofs.Common.{◌≡◌, map, ap, sym, ◌∙◌}
 use Rattle.ada_tree.specs.declared.statements.Sequence.{Sequence, out-Sequence, roll-out-Sequence}
 use Rattle.ada_tree.specs.Statements.{a_sequence, begin_of, handlers_from}
 use Rattle.ada_tree.specs.StatementView.{sequence_of, sequence_view, statements_of, handler_of}
+use Rattle.ada_resolve.specs.Spots.{end_of}
 
 -- a body is made of its parts
 pub body_view : (body : Sequence) → sequence_of body ≡ a_sequence (out-Sequence body).begin (statements_of (out-Sequence body).statements.items) (handlers_from (map handler_of (out-Sequence body).handlers.items)) (out-Sequence body).«end»
@@ -14,3 +15,7 @@ body_view body =
 -- where its `begin` stands
 pub begin_view : (body : Sequence) → begin_of (sequence_of body) ≡ (out-Sequence body).begin
 begin_view body = ap begin_of (body_view body)
+
+-- where its `end` stands
+pub end_view : (body : Sequence) → end_of (sequence_of body) ≡ (out-Sequence body).«end»
+end_view body = ap end_of (body_view body)

@@ -22,6 +22,7 @@ use Rattle.ada_resolve.specs.Objects.{after_types, ends_types, missing_collectio
 use Rattle.ada_resolve.specs.Procedures.{no_formals, with_formals, behind_head, body_of, body_ended}
 use Rattle.ada_resolve.specs.Statements.{bound_meant, condition_meant, text_in, simple_texts, with_texts}
 use Rattle.ada_resolve.specs.Resolution.{gives, At, LoopHead, loop_of, behind_loop, with_parameter, declarations_told, SequenceForm, sequence_told, Others, simple_told, statement_told, statements_told, branches_told, handlers_told, program_of, known_first, Resolves}
+use Rattle.ada_resolve.specs.Spots.{end_of}
 use Rattle.ada_resolve.specs.declared.library.Withs.{Withs}
 use Rattle.ada_resolve.specs.Naming.{Context, Place}
 use Rattle.ada_resolve.specs.Reading.{read_at, inside, behind, with_new_constant, IsPartRead, IsExpressionRead, IsCallRead, IsSimpleRead, behind_simple, AreChoicesRead, IsStatementRead, AreStatementsRead, AreBranchesRead, AreHandlersRead, IsSequenceRead, is_one_of, IsHeadRead, AreFormalsRead, IsNextBody, IsEndName, in_body, behind_body, first_place, first_context, IsReadAs}
@@ -264,10 +265,10 @@ record ProcedureRead (p : Context) (head : HeadTree) (inner : DeclarationsTree) 
   declared : Place
   done : Place
   head_so : IsHeadRead p head
-  formals_so : AreFormalsRead (in_body head.name b p) head.formals b.formals formals
+  formals_so : AreFormalsRead (in_body head.name b p) p.place head.formals b.formals formals
   part_so : IsPartRead (read_at formals (in_body head.name b p)) (Some []) inner b.declarations declared
   body_so : IsSequenceRead (read_at declared (in_body head.name b p)) body b.statements b.handlers done
-  next_so : IsNextBody p b formals done
+  next_so : IsNextBody p b body formals done
   end_so : IsEndName head.name.text end_name
   agrees : Agrees m (behind_body head.name p.place done)
 
@@ -283,7 +284,7 @@ inner_elaborated k head = refl
 
 inner_modes : (k : Known) (head : HeadTree) → length (behind_head k head).here.modes ≡ length (behind_head k head).variables
 unfolding behind_head
-inner_modes k head = (head_formals k.types k head.formals).modes
+inner_modes k head = (head_formals k head.formals).modes
 
 procedure_read : (p : Context) (head : HeadTree) (inner : DeclarationsTree) (body : SequenceTree) (end_name : Option Ident) (at next : At) → Begun at.0 p → Ahead next.0 p → ProcedureDone head inner body end_name at next → ReadsPart inner → ReadsSequence false body → ProcedureRead p head inner body end_name next.0
 procedure_read p head inner body end_name at next w ahead d part_so sequence_so = record {
@@ -292,13 +293,13 @@ procedure_read p head inner body end_name at next w ahead d part_so sequence_so 
   declared = part.end;
   done = sequence.end;
   head_so = first.head_so;
-  formals_so = subst (λ (ms : List FormalMode). AreFormalsRead q head.formals ms first.end) (sym same_modes) first.read;
+  formals_so = subst (λ (ms : List FormalMode). AreFormalsRead q p.place head.formals ms first.end) (sym same_modes) first.read;
   part_so = subst (λ (es : List DeclarationForm). IsPartRead (read_at first.end q) (Some []) inner es part.end) (sym elaborated) (part.read [] nothing_yet);
   body_so = sequence.read;
-  next_so = (body_there k z head d.done.0.0 d.done.0.1 p sequence.end stays.done_in next_ahead sequence.agrees, formals_count, sym sequence.agrees.variables);
+  next_so = (body_there k z head d.done.0.0 d.done.0.1 (end_of body) p sequence.end stays.done_in next_ahead sequence.agrees, formals_count, sym sequence.agrees.variables, refl);
   end_so = d.end_so;
   agrees = subst (λ v. Agrees v (behind_body head.name p.place sequence.end)) (sym d.known)
-      (ended_agrees k z head d.done.0.0 d.done.0.1 p.place sequence.end stays.done_in agrees sequence.agrees);
+      (ended_agrees k z head d.done.0.0 d.done.0.1 (end_of body) p.place sequence.end stays.done_in agrees sequence.agrees);
 }
   where
     k : Known
@@ -308,7 +309,7 @@ procedure_read p head inner body end_name at next w ahead d part_so sequence_so 
     z = d.done.1.0
 
     b : BodyForm
-    b = body_of z d.done.0.0 d.done.0.1
+    b = body_of z d.done.0.0 d.done.0.1 (end_of body)
 
     q : Context
     q = in_body head.name b p
@@ -319,11 +320,11 @@ procedure_read p head inner body end_name at next w ahead d part_so sequence_so 
     agrees : Agrees k p.place
     agrees = after_agrees at.0 p.place w.agrees
 
-    next_ahead : Ahead (body_ended head.name d.done.0.0 d.done.0.1 z) p
-    next_ahead = ahead_as next.0 (body_ended head.name d.done.0.0 d.done.0.1 z) p d.known ahead
+    next_ahead : Ahead (body_ended head.name d.done.0.0 d.done.0.1 (end_of body) z) p
+    next_ahead = ahead_as next.0 (body_ended head.name d.done.0.0 d.done.0.1 (end_of body) z) p d.known ahead
 
     z_ahead : Ahead z q
-    z_ahead = ahead_within k z head d.done.0.0 d.done.0.1 p stays.done_in next_ahead
+    z_ahead = ahead_within k z head d.done.0.0 d.done.0.1 (end_of body) p stays.done_in next_ahead
 
     behind_ahead : Ahead d.behind.0 q
     behind_ahead = ahead_before d.behind.0 q (ahead_on (after_types d.behind.0) z q stays.sequence.stays.grows z_ahead)
@@ -338,7 +339,7 @@ procedure_read p head inner body end_name at next w ahead d part_so sequence_so 
     inner_ahead = ahead_as d.inner.0 (behind_head k head) q d.inner_known (ahead_on d.inner.0 d.behind.0 q inner_grows behind_ahead)
 
     first : HeadRead p head b (behind_head k head)
-    first = head_read k p head b agrees d.quiet inner_ahead.variables
+    first = head_read k p head b stays.before agrees d.quiet inner_ahead
 
     part : PartRead (read_at first.end q) inner d.inner.0 d.behind.0
     part = part_so (read_at first.end q) d.inner d.behind
@@ -391,7 +392,7 @@ body_later p head inner body end_name ds at next after late same r on = record {
 body_elaborates : (head : HeadTree) (inner : DeclarationsTree) (body : SequenceTree) (end_name : Option Ident) (at next : At) (d : ProcedureDone head inner body end_name at next) → Sound at.0 → next.0.here.elaborated ≡ (after_types at.0).here.elaborated
 body_elaborates head inner body end_name at next d s =
     let stays = body_stays head inner body end_name at next d s in
-    ap (λ (v : Known). v.here.elaborated) (d.known ∙ ended_is (around_body (after_types at.0) head) d.done.1.0 head.name d.done.0.0 d.done.0.1 stays.done_in)
+    ap (λ (v : Known). v.here.elaborated) (d.known ∙ ended_is (around_body (after_types at.0) head) d.done.1.0 head.name d.done.0.0 d.done.0.1 (end_of body) stays.done_in)
 
 -- a loop over the values of a parameter
 range_read : (p : Context) (inside_loop : Bool) (spot : Spot) (name : Ident) (low high : ExpressionTree) (ss : StatementsTree) (last : Spot) (at : At) (done : StmtForm × At) → Here at.0 p → Ahead done.1.0 p → Stays at.0 done.1.0 → (d : LoopDone spot (for_scheme name low high) ss last at done) → ReadsStatements p true ss → StatementRead p (loop_statement spot (for_scheme name low high) ss last) done.0 done.1.0

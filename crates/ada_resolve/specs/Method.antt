@@ -9,7 +9,7 @@ use Rattle.ada_text.specs.declared.spot.Spot.{Spot}
 use Rattle.ada_tree.specs.Declarations.{formal_of, optional_aspect_of}
 use Rattle.ada_tree.specs.ExpressionView.{argument_of, expression_of, optional_right_of}
 use Rattle.ada_tree.specs.Expressions.{ExpressionTree}
-use Rattle.ada_tree.specs.Names.{Ident, ident_of, name_of, optional_ident_of}
+use Rattle.ada_tree.specs.Names.{Ident, ident_of, name_of, optional_ident_of, selector_of}
 use Rattle.ada_tree.specs.Records.{component_of, record_of, static_of}
 use Rattle.ada_tree.specs.Statements.{DeclarationTree, access_type, borrower_declaration, constant_declaration, instance, object_declaration, record_type, HandlersTree, branches_from, handlers_from}
 use Rattle.ada_tree.specs.StatementView.{branch_of, handler_of, unit_of}
@@ -20,6 +20,7 @@ use Rattle.ada_tree.specs.declared.expressions.Item.{Item as WrittenItem}
 use Rattle.ada_tree.specs.declared.expressions.Right.{Right}
 use Rattle.ada_tree.specs.declared.names.Identifier.{Identifier}
 use Rattle.ada_tree.specs.declared.names.Name.{Name}
+use Rattle.ada_tree.specs.declared.names.Path.{Path}
 use Rattle.ada_tree.specs.declared.records.ComponentDefinition.{ComponentDefinition}
 use Rattle.ada_tree.specs.declared.records.RecordDefinition.{RecordDefinition}
 use Rattle.ada_tree.specs.declared.records.StaticValue.{StaticValue}
@@ -60,6 +61,7 @@ use Rattle.ada_resolve.specs.Items.{Filling, after_item, filled_components, firs
 use Rattle.ada_resolve.specs.Kept.{composition_in, kept_with, known_type_form}
 use Rattle.ada_resolve.specs.Known.{Known, Named, Part, entered, new_name_remark, visible}
 use Rattle.ada_resolve.specs.Objects.{initial_source, record_created, variable_created}
+use Rattle.ada_resolve.specs.Paths.{written_wanted}
 use Rattle.ada_resolve.specs.Records.{Composition, further_component_remark, with_record_defined}
 use Rattle.ada_resolve.specs.Remark.{Remark, ◌also◌, noted}
 use Rattle.ada_resolve.specs.Procedures.{Formals, body_begun, body_ended, body_of, formal_remark, variables_around, with_formal, with_procedure, without_body}
@@ -78,6 +80,10 @@ known resolver = known_of resolver.entry.now
 -- What an identifier stands for in what the resolver knows (8.3).
 abbrev pub entity_of : Seen → Identifier → Option Entity
 entity_of resolver name = visible (known resolver) name.text.now
+
+-- What is wrong with a path that is written to: it is no constant, with what is selected from it.
+abbrev pub path_written_remark : Seen → Path → Remark
+path_written_remark resolver path = written_wanted (entity_of resolver path.root) (map selector_of path.selectors.items) path.root.spot
 
 -- The value of the answer means this. A call that runs out of memory answers no value.
 abbrev pub Finds : {X Y : Type 0} → (X → Y) → Result X NameFault → Y → Type 0
@@ -319,10 +325,10 @@ begun_with name formals = body_begun (ident_of name) (formals_in formals)
 abbrev pub at_work_again : Option (Vec Variable) → Known → Known
 at_work_again around known = record known { variables = variables_around (optional_variables around) }
 
--- What is known once a body has ended, whose statements and handlers these are.
-abbrev pub without_body_of : Sequence → Known → Known
-without_body_of body known = with_procedure (body_of known (statements_in body.statements) (handlers_in body.handlers)) (without_body known)
+-- What is known once a body has ended, whose statements and handlers these are, and whose last `end` stands here.
+abbrev pub without_body_of : Sequence → (last : Spot) → Known → Known
+without_body_of body last known = with_procedure (body_of known (statements_in body.statements) (handlers_in body.handlers) last) (without_body known)
 
--- What is known behind the body of a procedure of this name, whose statements and handlers these are.
-abbrev pub ended_with : Identifier → Sequence → Known → Known
-ended_with name body = body_ended (ident_of name) (statements_in body.statements) (handlers_in body.handlers)
+-- What is known behind the body of a procedure of this name, whose statements and handlers these are, and whose last `end` stands here.
+abbrev pub ended_with : Identifier → Sequence → (last : Spot) → Known → Known
+ended_with name body last = body_ended (ident_of name) (statements_in body.statements) (handlers_in body.handlers) last

@@ -339,12 +339,17 @@ abbrev pub library_is_no_value : Option LibraryName → Spot → Remark
 library_is_no_value (Some name) spot = wrong spot WrongType
 library_is_no_value None spot = fine
 
--- A loop parameter and a formal parameter of mode `in` are constants (3.3, 5.5, 6.2): nothing is written to them.
-abbrev pub written_wanted : Option Entity → Spot → Remark
-written_wanted (Some (entity.Parameter x kind)) spot = wrong spot WrongType
-written_wanted (Some (entity.Outer kind role.Constant)) spot = wrong spot WrongType
-written_wanted (Some other) spot = fine
-written_wanted None spot = fine
+-- Nothing is written to a constant that holds this (3.3); but what its access value gives access to, which is selected from it, may be (3.10).
+abbrev pub constant_wanted : VariableKind → List SelectorTree → Spot → Remark
+constant_wanted (variable.Access access) (s ∷ ss) spot = fine
+constant_wanted kind selectors spot = wrong spot WrongType
+
+-- A loop parameter and a formal parameter of mode `in` are constants (3.3, 5.5, 6.2): what is written is none of these, with what is selected from it.
+abbrev pub written_wanted : Option Entity → List SelectorTree → Spot → Remark
+written_wanted (Some (entity.Parameter x kind)) selectors spot = constant_wanted kind selectors spot
+written_wanted (Some (entity.Outer kind role.Constant)) selectors spot = constant_wanted kind selectors spot
+written_wanted (Some other) selectors spot = fine
+written_wanted None selectors spot = fine
 
 -- What is wrong with a path where a value is wanted.
 unfoldable pub path_remark : Known → PathTree → Remark

@@ -45,11 +45,11 @@ formal_mode input None = In
 formal_mode None (Some out) = In
 formal_mode (Some input) (Some out) = InOut
 
--- A type is wanted that is complete, in a body that begins at the spot: formals of access types and of record types are not in use yet.
+-- A type is wanted that is complete, in a body that begins at the spot: formals of record types are not in use yet.
 abbrev pub formal_type_wanted : Option Entity → Spot → Ident → Remark
 formal_type_wanted (Some entity.Integer) first name = fine
 formal_type_wanted (Some entity.Boolean) first name = fine
-formal_type_wanted (Some (entity.Access t)) first name = wrong first NotInProfile
+formal_type_wanted (Some (entity.Access t)) first name = fine
 formal_type_wanted (Some (entity.Record t size)) first name = wrong first NotInProfile
 formal_type_wanted (Some other) first name = wrong name.spot WrongType
 formal_type_wanted None first name = missing None name
@@ -68,6 +68,7 @@ formal_remark known first before f =
 -- What a formal of a type holds: an Integer, where something is wrong.
 abbrev pub formal_kind : Option Entity → VariableKind
 formal_kind (Some entity.Boolean) = variable.Boolean
+formal_kind (Some (entity.Access t)) = variable.Access t
 formal_kind (Some other) = variable.Integer
 formal_kind None = variable.Integer
 
@@ -143,14 +144,15 @@ abbrev pub variables_around : Option (List VariableForm) → List VariableForm
 variables_around (Some variables) = variables
 variables_around None = []
 
--- What a body is, where these are its statements and its handlers (6.3).
-abbrev pub body_of : Known → StmtsForm → HandlersForm → BodyForm
-body_of known forms handled = record {
+-- What a body is, where these are its statements and its handlers, and its last `end` stands here (6.3).
+abbrev pub body_of : Known → StmtsForm → HandlersForm → (last : Spot) → BodyForm
+body_of known forms handled last = record {
   formals = known.here.modes;
   variables = known.variables;
   declarations = known.here.elaborated;
   statements = forms;
   handlers = handled;
+  end_spot = last;
 }
 
 -- What is known once the body ends: its names are gone, and the body around is at work again.
@@ -161,7 +163,7 @@ without_body known = record (left_to known.outer known) { variables = variables_
 abbrev pub with_procedure : BodyForm → Known → Known
 with_procedure body known = record known { bodies = known.bodies ++ body ∷ [] }
 
--- Behind a body its name stands for the procedure, which may be called.
-abbrev pub body_ended : Ident → StmtsForm → HandlersForm → Known → Known
-body_ended name forms handled known =
-    declared (with_procedure (body_of known forms handled) (without_body known)) name.text (entity.Callable (next_procedure known))
+-- Behind a body, whose last `end` stands here, its name stands for the procedure, which may be called.
+abbrev pub body_ended : Ident → StmtsForm → HandlersForm → (last : Spot) → Known → Known
+body_ended name forms handled last known =
+    declared (with_procedure (body_of known forms handled last) (without_body known)) name.text (entity.Callable (next_procedure known))

@@ -19,15 +19,16 @@ use Rattle.ada_program.specs.declared.program.PartKind.TheVariants as part
 use Rattle.ada_program.specs.declared.program.TypeNo.{TypeNo}
 use Rattle.ada_program.specs.declared.program.VariableKind.{VariableKind}
 use Rattle.ada_program.specs.declared.program.VariableKind.TheVariants as variable
-use Rattle.ada_program.specs.Form.{ActualForm, in_value, in_out_path, DeclarationForm, collects, declares, declares_record, PathForm, RecordPathForm, ExpressionForm, integer, boolean, reads, is_null, applied_to, ItemForm, null_item, item_of_path, item_of_value, item_of_record, RightForm, nothing, value_of, allocates, allocates_default, computes, StmtForm, skips, assigns, assigns_record, frees, gets, writes, writes_text, chooses, repeats, counts, exits, calls, returns, raises, encloses, StmtsForm, no_stmts, a_stmt, BranchesForm, otherwise, HandlersForm}
+use Rattle.ada_program.specs.Form.{ActualForm, in_value, in_null, in_access, in_out_path, in_out_access, DeclarationForm, collects, declares, declares_record, PathForm, RecordPathForm, ExpressionForm, integer, boolean, reads, is_null, applied_to, ItemForm, null_item, item_of_path, item_of_value, item_of_record, RightForm, nothing, value_of, allocates, allocates_default, computes, StmtForm, skips, assigns, assigns_record, frees, gets, writes, writes_text, chooses, repeats, counts, exits, calls, returns, raises, encloses, StmtsForm, no_stmts, a_stmt, BranchesForm, otherwise, HandlersForm}
 use Rattle.ada_program.specs.Form as form
 use Rattle.ada_program.specs.ProgramForm.{PartForm, TypeForm, record_of, object_of, BodyForm, ProgramForm}
 use Rattle.ada_program.specs.WellFormed as fits
 use Rattle.ada_resolve.specs.Library.{library_name}
 use Rattle.ada_resolve.specs.declared.library.LibraryName.TheVariants.{PutLine, Get}
-use Rattle.ada_resolve.specs.Naming.{Context, Place, Binding, Meaning, an_incomplete_type, a_type, a_number, an_exception, an_instance, a_variable, a_parameter, a_procedure, a_procedure_around, an_outer_object, meaning_among, IsPredefined, IsExceptionNamed, IsNumberNamed, IsRecordNamed, IsVariableNamed, IsObjectNamed, IsFullRecordNamed, IsFullTypeNamed, IsStaticRead, IsTypeRead, IsInstanceRead, IsInstanceNamed, IsProcedureNamed, IsKindNamed, truth_name}
+use Rattle.ada_resolve.specs.Naming.{Context, Place, Binding, Meaning, an_incomplete_type, a_type, a_number, an_exception, an_instance, a_variable, a_parameter, a_procedure, a_procedure_around, an_outer_object, meaning_among, IsPredefined, IsExceptionNamed, IsNumberNamed, IsRecordNamed, IsVariableNamed, IsObjectNamed, IsAccessNamed, IsBound, IsFullRecordNamed, IsFullTypeNamed, IsStaticRead, IsTypeRead, IsInstanceRead, IsInstanceNamed, IsProcedureNamed, IsKindNamed, truth_name}
 use Rattle.ada_resolve.specs.Known.{parts_of}
 use Rattle.ada_resolve.specs.Operators.{joined}
+use Rattle.ada_resolve.specs.Spots.{end_of}
 use Rattle.ada_resolve.specs.Statics.{at_most_greatest, integer_of}
 
 -- The type of the objects behind a value (3.10): none, if it is no access value.
@@ -94,13 +95,27 @@ pub record IsPathRead (p : Context) (tree : PathTree) (path : PathForm) : Type 0
 abbrev pub IsRecordPathRead : Context → PathTree → RecordPathForm → Type 0
 IsRecordPathRead p tree path = IsWayRead p tree path.object (at_object path.record_type path.first)
 
--- A record that is assigned: its path begins at a variable, too.
-abbrev pub IsRecordTargetRead : Context → PathTree → RecordPathForm → Type 0
-IsRecordTargetRead p tree path = IsRecordPathRead p tree path × IsVariableNamed p tree.root.text path.object.root
+-- A path begins at a constant of an access type, and selects what the access value of that gives access to, or something of it (3.10, 4.1).
+abbrev pub FollowsConstant : Context → PathTree → (root : ℕ) → Type 0
+FollowsConstant p tree x =
+    IsBound p tree.root.text (a_parameter x) × (access : TypeNo) × (fits.variable_kind p.variables x ≡ Some (variable.Access access)) ×
+    (tree.selectors ≡ [] → ⊥)
 
--- A path whose object is assigned, read from the input or freed: it begins at a variable, since a constant keeps its value (3.3, 5.2, 6.4.1).
+-- What a path names may change: it begins at a variable, or it follows the access value of a constant, which keeps its own value (3.3, 3.10).
+abbrev pub MayChange : Context → PathTree → (root : ℕ) → Type 0
+MayChange p tree x = IsVariableNamed p tree.root.text x ⊎ FollowsConstant p tree x
+
+-- A record that is assigned: it may change (5.2).
+abbrev pub IsRecordTargetRead : Context → PathTree → RecordPathForm → Type 0
+IsRecordTargetRead p tree path = IsRecordPathRead p tree path × MayChange p tree path.object.root
+
+-- A path whose object is assigned, read from the input or freed: it may change (5.2, 6.4.1).
 abbrev pub IsTargetRead : Context → PathTree → PathForm → Type 0
-IsTargetRead p tree path = IsPathRead p tree path × IsVariableNamed p tree.root.text path.root
+IsTargetRead p tree path = IsPathRead p tree path × MayChange p tree path.root
+
+-- A variable that is given for a formal parameter of mode `in out`, by its name (6.4.1).
+abbrev pub IsVariableRead : Context → PathTree → PathForm → Type 0
+IsVariableRead p tree path = (tree.selectors ≡ []) × IsPathRead p tree path × IsVariableNamed p tree.root.text path.root
 
 -- A path where a value is wanted (4.1): a variable, a loop parameter or a component is read; a lone name may also be that of a number
 -- declaration, whose value it has (3.3.2), or True or False (3.5.3).
@@ -253,12 +268,17 @@ IsGet procedure = library_name procedure.root.text (parts_of procedure.selectors
 abbrev pub IsImage : Ident → Ident → Type 0
 IsImage prefix attribute = (prefix.text ≡ codes "INTEGER") × (attribute.text ≡ codes "IMAGE")
 
--- The actual parameters of a procedure, one for one: each is an expression, or a variable for a formal parameter of mode `in out` (6.4.1).
+-- The actual parameters of a procedure, one for one (6.4.1): each is an expression, null, an access value that a path names, or a variable for a
+-- formal parameter of mode `in out`.
 abbrev pub AreActualsRead : Context → List ArgumentTree → List ActualForm → Type 0
 AreActualsRead p [] [] = Unit {0}
 AreActualsRead p (expression_argument e ∷ arguments) (in_value form ∷ forms) = IsExpressionRead p e form × AreActualsRead p arguments forms
+AreActualsRead p (expression_argument e ∷ arguments) (in_null ∷ forms) = IsNull e × AreActualsRead p arguments forms
+AreActualsRead p (expression_argument e ∷ arguments) (in_access path ∷ forms) = IsMoveRead p e path × AreActualsRead p arguments forms
 AreActualsRead p (expression_argument (path_expression tree) ∷ arguments) (in_out_path path ∷ forms) =
-    IsTargetRead p tree path × AreActualsRead p arguments forms
+    IsVariableRead p tree path × AreActualsRead p arguments forms
+AreActualsRead p (expression_argument (path_expression tree) ∷ arguments) (in_out_access path ∷ forms) =
+    IsVariableRead p tree path × AreActualsRead p arguments forms
 AreActualsRead p arguments forms = ⊥
 
 -- A call (6.4) of an instance frees what its one actual names, by the access type that the instance is for (13.11.2); a call of Get reads a
@@ -471,11 +491,17 @@ IsRangeRead p name low high x from to =
     (slice_get p.variables x ≡ Some (record { name = name.text; spot = name.spot; kind = variable.Integer; borrows = false })) ×
     IsExpressionRead p low from × IsExpressionRead p high to
 
--- What a formal parameter holds has the name that is written (6.1): Integer or Boolean.
-abbrev pub IsScalarNamed : List ℕ → VariableKind → Type 0
-IsScalarNamed text variable.Integer = text ≡ codes "INTEGER"
-IsScalarNamed text variable.Boolean = text ≡ codes "BOOLEAN"
-IsScalarNamed text other = ⊥
+-- Where the type of a formal parameter is named, behind others (6.1): these hide what is bound around the body, where the procedure's own name is not
+-- bound yet (8.2).
+abbrev pub in_profile : (around formals : Place) → Place
+in_profile around formals = record (inside around) { here = formals.here }
+
+-- What a formal parameter holds has the name that is written (6.1): Integer, Boolean, or an access type.
+abbrev pub IsFormalNamed : Context → List ℕ → VariableKind → Type 0
+IsFormalNamed p text variable.Integer = text ≡ codes "INTEGER"
+IsFormalNamed p text variable.Boolean = text ≡ codes "BOOLEAN"
+IsFormalNamed p text (variable.Access t) = IsAccessNamed p text t.0
+IsFormalNamed p text (variable.Record object) = ⊥
 
 -- The mode that is written (6.1): `in out`, or `in`, perhaps without the word.
 abbrev pub IsModeRead : FormalTree → FormalMode → Type 0
@@ -487,15 +513,17 @@ abbrev pub with_new_formal : FormalMode → Ident → Place → Place
 with_new_formal In name place = with_new_constant name place
 with_new_formal InOut name place = with_new_variable name place
 
--- Formal parameters, up to the last (6.1): each is the next variable, of a new name, and has the mode and the type that are written.
-abbrev pub AreFormalsRead : Context → List FormalTree → List FormalMode → (end : Place) → Type 0
-AreFormalsRead p [] [] end = end ≡ p.place
-AreFormalsRead p [] (mode ∷ modes) end = ⊥
-AreFormalsRead p (f ∷ fs) [] end = ⊥
-AreFormalsRead p (f ∷ fs) (mode ∷ modes) end =
-    (kind : VariableKind) × IsNew p.place f.name × IsModeRead f mode × IsScalarNamed f.type_name.text kind ×
+-- Formal parameters of a body at a place, up to the last (6.1): each is the next variable, of a new name, and has the mode and the type that are
+-- written.
+abbrev pub AreFormalsRead : Context → (around : Place) → List FormalTree → List FormalMode → (end : Place) → Type 0
+AreFormalsRead p around [] [] end = end ≡ p.place
+AreFormalsRead p around [] (mode ∷ modes) end = ⊥
+AreFormalsRead p around (f ∷ fs) [] end = ⊥
+AreFormalsRead p around (f ∷ fs) (mode ∷ modes) end =
+    (kind : VariableKind) × IsNew p.place f.name × IsModeRead f mode ×
+    IsFormalNamed (read_at (in_profile around p.place) p) f.type_name.text kind ×
     (slice_get p.variables p.place.variables ≡ Some (record { name = f.name.text; spot = f.name.spot; kind = kind; borrows = false })) ×
-    AreFormalsRead (read_at (with_new_formal mode f.name p.place) p) fs modes end
+    AreFormalsRead (read_at (with_new_formal mode f.name p.place) p) around fs modes end
 
 -- What a name means in the body of a procedure, which means this around it: objects of the bodies around are out of reach there (the profile's).
 abbrev pub from_body : Meaning → Meaning
@@ -539,11 +567,12 @@ IsEndName text (Some name) = name.text ≡ text
 abbrev pub IsHeadRead : Context → HeadTree → Type 0
 IsHeadRead p head = IsNew p.place head.name × (head.overriding ≡ None)
 
--- The bodies of a program and what the text up to a place tells of one (6.3): it is the next one that ends, and has as many formal parameters and
--- variables.
-abbrev pub IsNextBody : Context → BodyForm → (formals end : Place) → Type 0
-IsNextBody p b formals end =
-    (slice_get p.bodies end.bodies ≡ Some b) × (length b.formals ≡ formals.variables) × (length b.variables ≡ end.variables)
+-- The bodies of a program and what the text up to a place tells of one (6.3): it is the next one that ends, has as many formal parameters and
+-- variables, and ends where its last `end` stands.
+abbrev pub IsNextBody : Context → BodyForm → SequenceTree → (formals end : Place) → Type 0
+IsNextBody p b body formals end =
+    (slice_get p.bodies end.bodies ≡ Some b) × (length b.formals ≡ formals.variables) × (length b.variables ≡ end.variables) ×
+    (b.end_spot ≡ end_of body)
 
 -- Where the types of a part end, all are completed, and the first of these declarations, up to the rest, create the collections of the access types
 -- that have none yet (7.6.1). Where they have ended before, nothing is created.
@@ -577,10 +606,10 @@ abbrev mutual
       IsPartRead (read_at (with_binding name (an_instance t) p.place) p) (Some (t ∷ made)) ds rest end
   IsPartRead p made (a_declaration (body_declaration head inner body end_name) ds) forms end =
       (b : BodyForm) × (rest : List DeclarationForm) × (formals declared done : Place) × DoTypesEnd p made forms rest × IsHeadRead p head ×
-      AreFormalsRead (in_body head.name b p) head.formals b.formals formals ×
+      AreFormalsRead (in_body head.name b p) p.place head.formals b.formals formals ×
       IsPartRead (read_at formals (in_body head.name b p)) (Some []) inner b.declarations declared ×
       IsSequenceRead (read_at declared (in_body head.name b p)) body b.statements b.handlers done ×
-      IsNextBody p b formals done × IsEndName head.name.text end_name ×
+      IsNextBody p b body formals done × IsEndName head.name.text end_name ×
       IsPartRead (read_at (behind_body head.name p.place done) p) None ds rest end
   IsPartRead p made ds forms end = (rest : List DeclarationForm) × DoTypesEnd p made forms rest × AreObjectsRead p ds rest end
 
@@ -658,7 +687,7 @@ pub record AreCounted (program : ProgramForm) (end : Place) : Type 0 where
 -- name, literal, operator and text is the one that is written. Types, exceptions and the texts of Put_Line are numbered in the order of the text,
 -- procedures in the order in which their bodies end, and the variables of each body in the order of the text; each has a number of its own. A name
 -- stands for what its innermost declaration declares; a part declares a name once (8.3), no declaration has a predefined one (A.1), a body uses no
--- object of the bodies around, and nothing is written to a loop parameter or a formal parameter (5.5, 6.2).
+-- object of the bodies around, and nothing is written to a loop parameter or a formal parameter of mode `in` (5.5, 6.2).
 pub record IsReadAs (tree : UnitTree) (program : ProgramForm) : Type 0 where
   pub own_name : IsNew first_place tree.name
   pub end_name : IsEndName tree.name.text tree.end_name

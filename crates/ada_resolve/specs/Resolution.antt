@@ -9,7 +9,7 @@ use Rattle.ada_tree.specs.Statements.{DeclarationTree, exception_declaration, co
 use Rattle.ada_program.specs.Form.{ExpressionForm, StmtForm, chooses, counts, encloses, repeats, StmtsForm, no_stmts, a_stmt, BranchesForm, otherwise, HandlersForm}
 use Rattle.ada_program.specs.Form as form
 use Rattle.ada_program.specs.declared.program.Choice.{Choice}
-use Rattle.ada_program.specs.ProgramForm.{ProgramForm}
+use Rattle.ada_program.specs.ProgramForm.{ProgramForm, nowhere}
 use Rattle.ada_program.specs.declared.program.VariableKind.TheVariants as variable
 use Rattle.ada_resolve.specs.declared.fault.NameRule.{NameRule}
 use Rattle.ada_resolve.specs.declared.fault.NameRule.TheVariants.{UnknownName, DeclaredTwice, NotInProfile, BodyMissing}
@@ -22,7 +22,7 @@ use Rattle.ada_resolve.specs.declared.scope.Entity.TheVariants as entity
 use Rattle.ada_resolve.specs.Known.{Known, Named, declared, part_from, with_part, without_part, next_variable}
 use Rattle.ada_resolve.specs.Library.{is_taken, is_primitive, library_name}
 use Rattle.ada_resolve.specs.Remark.{Remark, fine, wrong, node, ◌also◌, wrong_if, noted}
-use Rattle.ada_resolve.specs.Spots.{declaration_spot}
+use Rattle.ada_resolve.specs.Spots.{declaration_spot, end_of}
 use Rattle.ada_resolve.specs.Borrowers.{borrower_known, borrower_remark}
 use Rattle.ada_resolve.specs.Exceptions.{choices_meant, choices_remark, exception_known, exception_remark}
 use Rattle.ada_resolve.specs.Instances.{instance_known, instance_remark}
@@ -258,10 +258,10 @@ abbrev pub same_name : {X : Type 0} → List ℕ → Option Ident → X → Told
 same_name procedure (Some name) x = if bytes_eq name.text procedure then gives x else broken name.spot UnknownName
 same_name procedure None x = gives x
 
--- The body of a procedure ends behind its handlers (6.3): the part ends, and the procedure may be called.
-abbrev pub ended_body : Ident → Option Ident → Told (SequenceForm × At) → Told At
-ended_body name end_name (broken spot rule) = broken spot rule
-ended_body name end_name (gives done) = same_name name.text end_name (body_ended name done.0.0 done.0.1 done.1.0, done.1.1)
+-- The body of a procedure ends behind its handlers (6.3), where its last `end` stands: the part ends, and the procedure may be called.
+abbrev pub ended_body : Ident → (last : Spot) → Option Ident → Told (SequenceForm × At) → Told At
+ended_body name last end_name (broken spot rule) = broken spot rule
+ended_body name last end_name (gives done) = same_name name.text end_name (body_ended name done.0.0 done.0.1 last done.1.0, done.1.1)
 
 -- What is wrong with the statements of a loop or of a handler, which begins at the spot: there is one (5.1).
 abbrev pub body_remark : Spot → StatementsTree → Remark
@@ -291,7 +291,7 @@ abbrev mutual
   declaration_told (body_declaration head declarations body end_name) at =
       and_then (body_head_told head at)
       (λ inner. and_then (declarations_told declarations inner)
-      (λ behind. ended_body head.name end_name (sequence_told false body behind)))
+      (λ behind. ended_body head.name (end_of body) end_name (sequence_told false body behind)))
   declaration_told declaration at = single_told declaration at
 
   -- The declarations, in order (3.11).
@@ -362,12 +362,14 @@ abbrev pub program_of : Known → StmtsForm → HandlersForm → ProgramForm
 program_of known forms handled = record {
   types = known.types;
   bodies = known.bodies;
+  formals = [];
   variables = known.variables;
   texts = known.texts;
   exceptions = known.exceptions;
   declarations = known.here.elaborated;
   statements = forms;
   handlers = handled;
+  end_spot = nowhere;
 }
 
 -- The end of a tree whose statements and handlers are known: its name.

@@ -3,7 +3,7 @@
 use Rattle.std.specs.Prelude.{Option, Some, None}
 use Rattle.ada_text.specs.declared.spot.Spot.{Spot}
 use Rattle.ada_tree.specs.Expressions.{ExpressionTree, number_expression, null_expression, path_expression, aggregate_expression, enclosed_expression, unary_expression, binary_expression, RightTree, expression_right, allocator_right, creation_right, ArgumentTree, expression_argument, text_argument, attribute_argument}
-use Rattle.ada_tree.specs.Statements.{DeclarationTree, exception_declaration, constant_declaration, pool_declaration, object_declaration, borrower_declaration, incomplete_type, access_type, record_type, derived_type, attribute_clause, specification, body_declaration, instance, begin_of, StatementTree, null_statement, assignment, call, if_statement, loop_statement, exit_statement, return_statement, raise_statement, block, declare_block}
+use Rattle.ada_tree.specs.Statements.{DeclarationTree, exception_declaration, constant_declaration, pool_declaration, object_declaration, borrower_declaration, incomplete_type, access_type, record_type, derived_type, attribute_clause, specification, body_declaration, instance, begin_of, StatementTree, null_statement, assignment, call, if_statement, loop_statement, exit_statement, return_statement, raise_statement, block, declare_block, SequenceTree, a_sequence}
 
 -- Where an expression begins: with an operator between operands, where the left one does (4.4).
 unfoldable pub expression_spot : ExpressionTree → Spot
@@ -60,3 +60,7 @@ statement_spot (return_statement spot) = spot
 statement_spot (raise_statement spot name) = spot
 statement_spot (block body) = begin_of body
 statement_spot (declare_block spot ds body) = spot
+
+-- Where the last `end` of a sequence of statements stands (11.2).
+abbrev pub end_of : SequenceTree → Spot
+end_of (a_sequence _ _ _ last) = last

@@ -52,10 +52,9 @@ impl<'t> Resolver<'t> {
     fn target(&self, target: &Path<'t>, notes: &mut Notes) -> Result<Option<Target>, NameFault>
         ensures { Looks target_in result notes (target_look self target.now) }
     {
-        let root = target.root;
         let meant = self.path(target, notes)?;
-        let found = target_meant(meant, root.spot, notes);
-        self.written(root, notes);
+        let found = target_meant(meant, target.root.spot, notes);
+        self.written(target, notes);
         Ok(found)
     }
 }

@@ -162,7 +162,7 @@ impl<'t> Resolver<'t> {
                 notes.node(spot);
                 let meant = self.path(path, notes)?;
                 let done = taking(&self.variables, callee, meant, spot, notes);
-                self.written(path.root, notes);
+                self.written(path, notes);
                 Ok(done)
             }
             Expression::Chain { first, links } if links.is_empty() => {

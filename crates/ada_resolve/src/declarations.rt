@@ -33,7 +33,7 @@ impl<'t> Resolver<'t> {
 
     /// One declaration, with those in it.
     #[cycle(statements)]
-    #[tactic(auto, using(std::proofs::lemmas::Grind::common_steps, ada_tree::specs::StatementView::statement_rules))]
+    #[tactic(auto, using(std::proofs::lemmas::Grind::common_steps, ada_tree::specs::StatementView::statement_rules, crate::proofs::Views::end_view))]
     fn declaration(
         &mut self,
         declaration: &Declaration<'t>,
@@ -51,9 +51,9 @@ impl<'t> Resolver<'t> {
                 self.end_of_types()?;
                 self.body_head(head, notes)?;
                 self.declarations(declarations, notes)?;
-                let body = self.sequence(body, false, notes)?;
+                let made = self.sequence(body, false, notes)?;
                 same_name(head.name, *end_name)?;
-                self.end_body(head.name, body)
+                self.end_body(head.name, body.end, made)
             }
             Declaration::Exception { .. }
             | Declaration::Constant { .. }

@@ -164,15 +164,13 @@ fn formal_entity(mode: FormalMode, variable: VariableNo, kind: VariableKind) -> 
     }
 }
 
-/// A type is wanted that is complete, in a body that begins at the spot: Integer and Boolean are in use.
+/// A type is wanted that is complete, in a body that begins at the spot: record types are not in use.
 fn formal_type_wanted(found: Option<Entity>, first: Spot, name: Identifier<'_>, notes: &mut Notes)
     ensures { IsNoted notes (formal_type_wanted found first (ident_of name.entry)) }
 {
     match found {
-        Some(Entity::Integer | Entity::Boolean) => {}
-        Some(Entity::Access(_) | Entity::Record { .. }) => {
-            notes.note(first, NameRule::NotInProfile);
-        }
+        Some(Entity::Integer | Entity::Boolean | Entity::Access(_)) => {}
+        Some(Entity::Record { .. }) => notes.note(first, NameRule::NotInProfile),
         Some(_) => notes.note(name.spot, NameRule::WrongType),
         None => notes.note(name.spot, missing_rule(name.text)),
     }
@@ -184,6 +182,7 @@ fn formal_kind(found: Option<Entity>) -> VariableKind
 {
     match found {
         Some(Entity::Boolean) => VariableKind::Boolean,
+        Some(Entity::Access(access)) => VariableKind::Access(access),
         _ => VariableKind::Integer,
     }
 }

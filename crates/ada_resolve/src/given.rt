@@ -2,7 +2,8 @@
 
 ghost use Rattle.std.specs.Prelude.{◌≡◌, pos, take, IfErr};
 ghost use Rattle.ada_program.specs.Form.{actual_form, expression_form, in_value, integer, path_form};
-ghost use Rattle.ada_resolve.specs.Actuals.{alone_wanted, first_mode, given_variable, kind_wanted, other_modes, variable_wanted};
+ghost use Rattle.ada_program.specs.Kept.{variables_in};
+ghost use Rattle.ada_resolve.specs.Actuals.{alone_wanted, first_mode, given_value, given_variable, kind_wanted, other_modes, variable_wanted};
 ghost use Rattle.ada_resolve.specs.Look.{Looks, actuals_look, given_look, given_variable_look, procedure_call_look, profile_look};
 ghost use Rattle.ada_resolve.specs.Method.{each, IsNoted, Remarks, too_many_remark};
 ghost use Rattle.ada_resolve.specs.Paths.{boolean_value, integer_value};
@@ -95,7 +96,7 @@ impl<'t> Resolver<'t> {
     }
 
     /// The actual parameter for a formal one of a mode that holds this: 0 where something is wrong.
-    #[tactic(auto, using(std::proofs::lemmas::Grind::common_steps, ada_program::specs::Form::expression_rules))]
+    #[tactic(auto, using(std::proofs::lemmas::Grind::common_steps, ada_program::specs::Form::expression_rules), unfolding(crate::specs::View::known_of))]
     fn given(
         &self,
         mode: FormalMode,
@@ -108,8 +109,8 @@ impl<'t> Resolver<'t> {
         match (mode, argument) {
             (FormalMode::In, Argument::Expression(value)) => {
                 let meant = self.expression(value, notes)?;
-                kind_wanted(kind, &meant, expression_spot(value), notes);
-                Ok(Actual::In(meant.into_scalar()))
+                kind_wanted(&self.variables, kind, &meant, expression_spot(value), notes);
+                Ok(given_value(meant))
             }
             (FormalMode::InOut, Argument::Expression(value)) => {
                 self.given_variable(kind, value, notes)
@@ -137,8 +138,8 @@ impl<'t> Resolver<'t> {
                 let spot = path.root.spot;
                 notes.node(spot);
                 let meant = self.path(path, notes)?;
-                variable_wanted(kind, &meant, spot, notes);
-                self.written(path.root, notes);
+                variable_wanted(&self.variables, kind, &meant, spot, notes);
+                self.written(path, notes);
                 Ok(given_variable(meant))
             }
             Value::Chain { first, links } if links.is_empty() => {
@@ -185,12 +186,25 @@ fn no_actual() -> Actual
     Actual::In(Expression::Integer(0))
 }
 
+/// The value that a formal parameter of mode `in` gets; 0 where something is wrong.
+#[tactic(auto, using(std::proofs::lemmas::Grind::common_steps, ada_program::specs::Form::expression_rules))]
+fn given_value(meant: Meant) -> Actual
+    ensures { actual_form result ≡ given_value (meant_of meant) }
+{
+    match meant {
+        Meant::Null => Actual::InNull,
+        Meant::Access(path, _) => Actual::InAccess(path),
+        _ => Actual::In(meant.into_scalar()),
+    }
+}
+
 /// The variable for which a formal parameter of mode `in out` stands; 0 where something is wrong.
 fn given_variable(meant: Meant) -> Actual
     ensures { actual_form result ≡ given_variable (meant_of meant) }
 {
     match meant {
         Meant::Integer(value) | Meant::Boolean(value) => given_path(value),
+        Meant::Access(path, _) => Actual::InOutAccess(path),
         _ => no_actual(),
     }
 }
@@ -212,24 +226,37 @@ fn given_path(value: Expression) -> Actual
 }
 
 /// A variable is wanted that holds this, for a formal parameter of mode `in out`.
-fn variable_wanted(kind: VariableKind, meant: &Meant, spot: Spot, notes: &mut Notes)
-    ensures { IsNoted notes (variable_wanted kind (meant_of meant.now) spot) }
+fn variable_wanted(
+    variables: &[Variable],
+    kind: VariableKind,
+    meant: &Meant,
+    spot: Spot,
+    notes: &mut Notes,
+)
+    ensures { IsNoted notes (variable_wanted (variables_in variables.now) kind (meant_of meant.now) spot) }
 {
     match (kind, meant) {
         (_, Meant::Unknown) => {}
         (VariableKind::Integer, Meant::Integer(value))
-        | (VariableKind::Boolean, Meant::Boolean(value)) => path_wanted(value, spot, notes),
+        | (VariableKind::Boolean, Meant::Boolean(value)) => path_wanted(
+            variables, value, spot, notes,
+        ),
+        (VariableKind::Access(access), Meant::Access(path, _)) => {
+            meant.access_wanted(access, spot, notes);
+            meant.owner_wanted(variables, spot, notes);
+            alone_wanted(path, spot, notes);
+        }
         _ => notes.note(spot, NameRule::WrongType),
     }
 }
 
 /// The value, of the type that is wanted, is that of a variable alone.
 #[tactic(auto, using(std::proofs::lemmas::Grind::common_steps, ada_program::specs::Form::expression_rules))]
-fn path_wanted(value: &Expression, spot: Spot, notes: &mut Notes)
-    ensures integer { IsNoted notes
-        (variable_wanted VariableKind.Integer (integer_value (expression_form value.now)) spot) }
-    ensures boolean { IsNoted notes
-        (variable_wanted VariableKind.Boolean (boolean_value (expression_form value.now)) spot) }
+fn path_wanted(variables: &[Variable], value: &Expression, spot: Spot, notes: &mut Notes)
+    ensures integer { let found = integer_value (expression_form value.now) in
+        IsNoted notes (variable_wanted (variables_in variables.now) VariableKind.Integer found spot) }
+    ensures boolean { let found = boolean_value (expression_form value.now) in
+        IsNoted notes (variable_wanted (variables_in variables.now) VariableKind.Boolean found spot) }
 {
     match value {
         Expression::Path(path) => alone_wanted(path, spot, notes),
@@ -261,14 +288,22 @@ fn first_variables(variables: &[Variable], count: usize) -> &[Variable]
 }
 
 /// A value of what a formal parameter holds is wanted, where the meaning is known.
-fn kind_wanted(kind: VariableKind, meant: &Meant, spot: Spot, notes: &mut Notes)
-    ensures { IsNoted notes (kind_wanted kind (meant_of meant.now) spot) }
+fn kind_wanted(
+    variables: &[Variable],
+    kind: VariableKind,
+    meant: &Meant,
+    spot: Spot,
+    notes: &mut Notes,
+)
+    ensures { IsNoted notes (kind_wanted (variables_in variables.now) kind (meant_of meant.now) spot) }
 {
     match kind {
         VariableKind::Integer => meant.integer_wanted(spot, notes),
         VariableKind::Boolean => meant.boolean_wanted(spot, notes),
-        VariableKind::Access(_) | VariableKind::Record(_) => {
-            notes.note(spot, NameRule::NotInProfile);
+        VariableKind::Access(access) => {
+            meant.access_wanted(access, spot, notes);
+            meant.owner_wanted(variables, spot, notes);
         }
+        VariableKind::Record(_) => notes.note(spot, NameRule::NotInProfile),
     }
 }

@@ -6,8 +6,8 @@ ghost use Rattle.ada_program.specs.Form.{path_form};
 ghost use Rattle.ada_resolve.specs.Kept.{forms_in, kinds_in};
 ghost use Rattle.ada_resolve.specs.Known.{next_variable, parts_of};
 ghost use Rattle.ada_resolve.specs.Look.{Looks, library_path_look, named_look, outer_look, path_look, variable_look};
-ghost use Rattle.ada_resolve.specs.Method.{known, Finds, IsNoted, each, entity_of};
-ghost use Rattle.ada_resolve.specs.Paths.{component_named, components_of, designated_of, elementary_of, is_incomplete_type, is_record_kind, lent_by, name_of_type, reached_meant, record_of_object, variable_reached, written_wanted};
+ghost use Rattle.ada_resolve.specs.Method.{known, Finds, IsNoted, each, path_written_remark};
+ghost use Rattle.ada_resolve.specs.Paths.{component_named, constant_wanted, components_of, designated_of, elementary_of, is_incomplete_type, is_record_kind, lent_by, name_of_type, reached_meant, record_of_object, variable_reached};
 ghost use Rattle.ada_resolve.specs.View.{meant_of, optional_number, itself};
 
 use crate::components::{Components, KnownComponent, KnownType};
@@ -67,19 +67,19 @@ impl<'t> Resolver<'t> {
         }
     }
 
-    /// What is written to is no constant.
-    pub(crate) fn written(&self, name: Identifier<'t>, notes: &mut Notes)
-        ensures { IsNoted notes (written_wanted (entity_of self name.entry) name.entry.spot) }
+    /// What is written to is no constant, with what is selected from it.
+    pub(crate) fn written(&self, path: &Path<'t>, notes: &mut Notes)
+        ensures { IsNoted notes (path_written_remark self path.now) }
     {
         if let Some(
-            Entity::Parameter { .. }
+            Entity::Parameter { kind, .. }
             | Entity::Outer {
-                kind: _,
+                kind,
                 role: Role::Constant,
             },
-        ) = self.visible(name.text)
+        ) = self.visible(path.root.text)
         {
-            notes.note(name.spot, NameRule::WrongType);
+            constant_wanted(kind, &path.selectors, path.root.spot, notes);
         }
     }
 
@@ -281,6 +281,16 @@ fn reached_meant(reached: Reached, path: program::Path) -> Meant
             record: number,
         }),
         Reached::Value(VariableKind::Record(_)) | Reached::Nothing => Meant::Unknown,
+    }
+}
+
+/// Nothing is written to a constant that holds this, but to what its access value gives access to.
+fn constant_wanted(kind: VariableKind, selectors: &[Selector<'_>], spot: Spot, notes: &mut Notes)
+    ensures { IsNoted notes (constant_wanted kind (map selector_of selectors.now) spot) }
+{
+    match (kind, selectors) {
+        (VariableKind::Access(_), [_, ..]) => {}
+        _ => notes.note(spot, NameRule::WrongType),
     }
 }
 

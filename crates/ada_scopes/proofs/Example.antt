@@ -159,6 +159,7 @@ calling = record {
     declarations = vec (declaration.Collection (record { 0 = 3 }) ∷ with_nulls 0 3 (item.Null ∷ item.Null ∷ []) (omega arith) ∷ []) (omega arith);
     statements = vec (stmt.Null ∷ []) (omega arith);
     handlers = vec [] (omega arith);
+    end = record { line = 1; column = 1 };
   } ∷ []) (omega arith);
   variables = vec (of_type 1 ∷ []) (omega arith);
   texts = vec [] (omega arith);
@@ -178,6 +179,7 @@ calling_bodies = record {
   declarations = collects 3 ∷ declares 0 (allocates 3 (null_item ∷ null_item ∷ [])) ∷ [];
   statements = a_stmt skips no_stmts;
   handlers = no_handlers;
+  end_spot = record { line = 1; column = 1 };
 } ∷ []
 
 pub calling_are : stmt_forms calling ≡ calling_forms

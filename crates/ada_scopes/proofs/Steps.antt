@@ -6,7 +6,7 @@ use Rattle.std.proofs.lemmas.Bool.{eq-eqb}
 use Rattle.std.specs.List.{slice_get, list_all}
 use Rattle.ada_program.specs.declared.program.TypeDefinition.{TypeDefinition}
 use Rattle.ada_program.specs.declared.program.Exception.{Exception}
-use Rattle.ada_program.specs.Form.{ActualForm, ExpressionForm, ItemForm, RightForm, StmtForm, skips, assigns, assigns_record, frees, gets, writes, writes_text, chooses, repeats, counts, exits, calls, returns, raises, encloses, StmtsForm, no_stmts, a_stmt, BranchesForm, otherwise, a_branch, HandlersForm, no_handlers, a_handler, DeclarationForm, collects, declares, declares_record}
+use Rattle.ada_program.specs.Form.{ActualForm, in_value, in_null, in_access, in_out_path, in_out_access, ExpressionForm, ItemForm, RightForm, StmtForm, skips, assigns, assigns_record, frees, gets, writes, writes_text, chooses, repeats, counts, exits, calls, returns, raises, encloses, StmtsForm, no_stmts, a_stmt, BranchesForm, otherwise, a_branch, HandlersForm, no_handlers, a_handler, DeclarationForm, collects, declares, declares_record}
 use Rattle.ada_program.specs.Handling.{some_takes, handler_of}
 use Rattle.ada_program.specs.ProgramForm.{TypeForm, BodyForm}
 use Rattle.ada_program.specs.Typed.{reached_of, words_of, width_of}
@@ -121,7 +121,11 @@ module _ (types : List TypeForm) (callees : Callees) (bodies : List BodyForm) (n
   -- A call: its actual parameters are evaluated before its body begins, which nests where it is called.
   computing_nests : (actuals : List ActualForm) (ss : Scopes) (k : List (Frame Value)) → Nests types callees ss k → Nests types callees ss (computing named actuals k)
   computing_nests [] ss k n = n
-  computing_nests (a ∷ rest) ss k n = (tt, computing_nests rest ss k n)
+  computing_nests (in_value e ∷ rest) ss k n = (tt, computing_nests rest ss k n)
+  computing_nests (in_null ∷ rest) ss k n = (tt, computing_nests rest ss k n)
+  computing_nests (in_access path ∷ rest) ss k n = (tt, computing_nests rest ss k n)
+  computing_nests (in_out_path path ∷ rest) ss k n = (tt, computing_nests rest ss k n)
+  computing_nests (in_out_access path ∷ rest) ss k n = (tt, computing_nests rest ss k n)
 
   call_good : (procedure : ℕ) (actuals : List ActualForm) (body : Option BodyForm) (s : State) (around : List ℕ) → slice_get bodies procedure ≡ body → Alike around (all_of (scopes s.masters)) → call_nests (slice_get callees procedure) around ≡ true → Stands types callees s → Good types callees (call_next named procedure actuals body s)
   call_good procedure actuals None s around at_body alike nest h = tt

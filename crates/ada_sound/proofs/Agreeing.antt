@@ -40,7 +40,7 @@ use Rattle.ada_sound.specs.Agreement as agreement
 use Rattle.ada_sound.proofs.Items as items
 use Rattle.ada_sound.proofs.Stored.{Stored, exists_out}
 use Rattle.ada_sound.proofs.Back.{stored_before}
-use Rattle.ada_sound.proofs.Fits.{Outer, Fit, IsRelied, none_spared, hold_in, stacked, component_value, access_is}
+use Rattle.ada_sound.proofs.Fits.{Outer, Outsiders, Fit, IsRelied, none_spared, hold_in, stacked, component_value, access_is}
 use Rattle.ada_sound.proofs.Scalars.{scalars_lost}
 use Rattle.ada_sound.proofs.Invariant.{Known, Control, RunsOn, Working, Half, Resumes, outers, front, final}
 use Rattle.ada_typed.proofs.Bodies.{SeenFits, seen_fits}
@@ -93,19 +93,19 @@ kept_exists own s o object c k t stored found at (x, there, listed) =
     exists_there k x (component_access own.types object c) stored there listed (of_type ∙ ap Some (sym access))
 
 -- An owner is read as if no activation were suspended.
-read_bare : (heap : List Object) (outer : List Outer) (s : State) (holds : Holds) (p : Place) → IsOwning holds p → value_at heap s.activations p ≡ value_at heap (stacked (places s) outer) p
+read_bare : (heap : List Object) (outer : Outsiders) (s : State) (holds : Holds) (p : Place) → IsOwning holds p → value_at heap s.activations p ≡ value_at heap (stacked (places s) outer) p
 read_bare heap outer s holds (variable x) own = refl
 read_bare heap outer s holds (component o c) own = refl
 read_bare heap outer s holds (elsewhere d x) own = absurd own
 
-owns_is : (outer : List Outer) (holds : Holds) (p : Place) → IsOwning holds p → Owns (hold_in outer none_spared holds p)
-owns_is outer holds (variable x) (r, e) = rw e tt
+owns_is : (outer : Outsiders) (holds : Holds) (p : Place) → IsOwning holds p → Owns (hold_in outer none_spared holds p)
+owns_is outer holds (variable x) own = own
 owns_is outer holds (component o c) own = tt
 owns_is outer holds (elsewhere d x) own = absurd own
 
 -- Places are as they are relied on to be in a heap in which at most one component is another than it is: one that the statement sets to null, and
 -- which names what is there.
-module _ (own : ProgramForm) (outer : List Outer) (s : State) (holds : Holds) (types : typed.TypedIn own s) (stored : Stored None s.heap s.masters)
+module _ (own : ProgramForm) (outer : Outsiders) (s : State) (holds : Holds) (types : typed.TypedIn own s) (stored : Stored None s.heap s.masters)
     (lost : (x : ℕ) → variable_access own.variables x ≡ None → hold_at holds x ≡ hold.Lost)
     (heap : List Object) (same : (k : Id) → access_at heap k ≡ access_at s.heap k)
     (reads : (p : Place) → (value_at heap (stacked (places s) outer) p ≡ value_at s.heap (stacked (places s) outer) p) ⊎ (IsCleared s p × ((k : Id) → value_at s.heap (stacked (places s) outer) p ≡ Names k → IsThere s.heap k)))
@@ -124,6 +124,7 @@ module _ (own : ProgramForm) (outer : List Outer) (s : State) (holds : Holds) (t
   -- What an owner or a borrower names exists.
   relied_exists : (access : Option ℕ) (h : Hold) (o : Id) → IsRelied h → Says (access_at heap) h access o → Exists s.heap s.masters access o
   relied_exists access hold.Null o is says = absurd is
+  relied_exists access (hold.Kept r) o is says = exists_here access o says
   relied_exists access (hold.Own r) o is says = exists_here access o says
   relied_exists access (hold.Alias r) o is says = exists_here access o says
   relied_exists access hold.Lost o is says = absurd is
@@ -134,7 +135,8 @@ module _ (own : ProgramForm) (outer : List Outer) (s : State) (holds : Holds) (t
   valid_by x (Scalar n) is kept v = no_scalar x (variable_kind own.variables x) refl kept n v
 
   each_is : (x : ℕ) (h : Hold) → hold_at holds x ≡ h → IsAs s.heap s.masters (variable_access own.variables x) h (value_in s x)
-  each_is x hold.Null e = rw e at (fit.nulls x)
+  each_is x hold.Null e = rw e at (fit.said x)
+  each_is x (hold.Kept r) e = valid_by x (value_in s x) (rw e tt) (λ lost'. cc (e, lost')) refl
   each_is x (hold.Own r) e = valid_by x (value_in s x) (rw e tt) (λ lost'. cc (e, lost')) refl
   each_is x (hold.Alias r) e = valid_by x (value_in s x) (rw e tt) (λ lost'. cc (e, lost')) refl
   each_is x hold.Lost e = tt
@@ -154,9 +156,9 @@ module _ (own : ProgramForm) (outer : List Outer) (s : State) (holds : Holds) (t
   component_holds o object c (Names k) found listed at = named_is o object c k found listed at
   component_holds o object c (Scalar n) found listed at = tt
 
-  variables_apart : (x y : ℕ) (q r : Region) (o : Id) → x ≢ y → hold_at holds x ≡ hold.Own q → hold_at holds y ≡ hold.Own r → value_in s x ≡ Names o → value_in s y ≡ Names o → ⊥
-  variables_apart x y q r o ne a b c d =
-      let one : variable x ≡ variable y = fit.owners.fit.apart (variable x) (variable y) o (rw a tt) (rw b tt) c d in
+  variables_apart : (x y : ℕ) (o : Id) → x ≢ y → Owns (hold_at holds x) → Owns (hold_at holds y) → value_in s x ≡ Names o → value_in s y ≡ Names o → ⊥
+  variables_apart x y o ne a b c d =
+      let one : variable x ≡ variable y = fit.owners.fit.apart (variable x) (variable y) o a b c d in
       ne (cc one)
 
   owners_apart : (p q : Place) (o : Id) → IsOwning holds p → IsOwning holds q → value_at s.heap s.activations p ≡ Names o → value_at s.heap s.activations q ≡ Names o → (p ≡ q) ⊎ (IsCleared s p ⊎ IsCleared s q)

@@ -87,6 +87,7 @@ moved_kept : (b : Bool) (cs : List ℕ) (h : Hold) (spot : Spot) → moved_behin
 moved_kept b [] h spot e = refl
 moved_kept true (c ∷ cs) h spot e = e
 moved_kept false (c ∷ cs) hold.Null spot e = absurd (cc e)
+moved_kept false (c ∷ cs) (hold.Kept r) spot e = absurd (cc e)
 moved_kept false (c ∷ cs) (hold.Own r) spot e = absurd (cc e)
 moved_kept false (c ∷ cs) (hold.Alias r) spot e = absurd (cc e)
 moved_kept false (c ∷ cs) hold.Lost spot e = absurd (cc e)

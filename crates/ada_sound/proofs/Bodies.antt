@@ -5,7 +5,7 @@ use Rattle.std.specs.Prelude.{Option, Some, None, if◌then◌else◌}
 use Rattle.std.specs.List.{slice_get}
 use Rattle.ada_program.specs.ProgramForm.{TypeForm, BodyForm, ProgramForm, main_body, seen_by, seen_in}
 use Rattle.ada_effects.specs.Effects.{Effect, effect_of, effects_from, effects_of}
-use Rattle.ada_flow.specs.Flow.{Holds, Outcome, faults, goes, body_flow, first_fault, bodies_flow, flow_of, is_left_of}
+use Rattle.ada_flow.specs.Flow.{Keeping, keeping_from, keeping_of, body_keeps, Holds, Outcome, faults, goes, body_flow, first_fault, bodies_flow, flow_of, is_left_of}
 use Rattle.ada_sound.proofs.Objects.{get_more, get_new}
 
 -- What is among the first of a list is in the list, and what stands before it is the same.
@@ -66,20 +66,24 @@ module _ (types : List TypeForm) where
       go true f = absurd (cc f.2)
       go false f = absurd (cc f.2)
 
-  main_fine : (bs : List BodyForm) (done : List Effect) (main : BodyForm) → IsFine (bodies_flow types done bs main) → IsFine (body_flow types (effects_from types done bs) main)
-  main_fine [] done main f = f
-  main_fine (b ∷ bs) done main f =
-      main_fine bs (done ++ effect_of types done b ∷ []) main (second_of_two (body_flow types done b) (bodies_flow types (done ++ effect_of types done b ∷ []) bs main) f)
+  main_fine : (bs : List BodyForm) (done : List Effect) (kept : List Keeping) (main : BodyForm) → IsFine (bodies_flow types done kept bs main) → IsFine (body_flow types (effects_from types done bs) (keeping_from types done kept bs) main)
+  main_fine [] done kept main f = f
+  main_fine (b ∷ bs) done kept main f =
+      let more = done ++ effect_of types done b ∷ [] in
+      let keeping = kept ++ body_keeps types done kept b ∷ [] in
+      main_fine bs more keeping main (second_of_two (body_flow types done kept b) (bodies_flow types more keeping bs main) f)
 
-  body_fine : (bs : List BodyForm) (done : List Effect) (main : BodyForm) (k : ℕ) (b : BodyForm) → slice_get bs k ≡ Some b → IsFine (bodies_flow types done bs main) → IsFine (body_flow types (effects_from types done (take k bs)) b)
-  body_fine [] done main k b e f = absurd (cc e)
-  body_fine (c ∷ bs) done main zero b e f =
-      rw (← some_same c b e) (first_of_two (body_flow types done c) (bodies_flow types (done ++ effect_of types done c ∷ []) bs main) f)
+  body_fine : (bs : List BodyForm) (done : List Effect) (kept : List Keeping) (main : BodyForm) (k : ℕ) (b : BodyForm) → slice_get bs k ≡ Some b → IsFine (bodies_flow types done kept bs main) → IsFine (body_flow types (effects_from types done (take k bs)) (keeping_from types done kept (take k bs)) b)
+  body_fine [] done kept main k b e f = absurd (cc e)
+  body_fine (c ∷ bs) done kept main zero b e f =
+      rw (← some_same c b e) (first_of_two (body_flow types done kept c) (bodies_flow types (done ++ effect_of types done c ∷ []) (kept ++ body_keeps types done kept c ∷ []) bs main) f)
     where
       some_same : (c b : BodyForm) → Some c ≡ Some b → c ≡ b
       some_same c b e = cc e
-  body_fine (c ∷ bs) done main (suc k) b e f =
-      body_fine bs (done ++ effect_of types done c ∷ []) main k b e (second_of_two (body_flow types done c) (bodies_flow types (done ++ effect_of types done c ∷ []) bs main) f)
+  body_fine (c ∷ bs) done kept main (suc k) b e f =
+      let more = done ++ effect_of types done c ∷ [] in
+      let keeping = kept ++ body_keeps types done kept c ∷ [] in
+      body_fine bs more keeping main k b e (second_of_two (body_flow types done kept c) (bodies_flow types more keeping bs main) f)
 
 -- The body of a program as one of its bodies sees it: the main one, or a procedure's that is there.
 abbrev pub IsBody : ProgramForm → (procedure : Option ℕ) → Type 0
@@ -91,10 +95,10 @@ pub seen_is : (p : ProgramForm) (number : ℕ) (b : BodyForm) → slice_get p.bo
 seen_is p number b e = rw e refl
 
 -- Each body breaks no rule.
-pub obeys_in : (p : ProgramForm) (procedure : Option ℕ) → IsBody p procedure → IsFine p.types (flow_of p) → IsFine p.types (body_flow p.types (effects_of (seen_in procedure p)) (main_body (seen_in procedure p)))
-obeys_in p None is f = main_fine p.types p.bodies [] (main_body p) f
+pub obeys_in : (p : ProgramForm) (procedure : Option ℕ) → IsBody p procedure → IsFine p.types (flow_of p) → IsFine p.types (body_flow p.types (effects_of (seen_in procedure p)) (keeping_of (seen_in procedure p)) (main_body (seen_in procedure p)))
+obeys_in p None is f = main_fine p.types p.bodies [] [] (main_body p) f
 obeys_in p (Some number) (b, e) f =
-    rw (seen_is p number b e) (body_fine p.types p.bodies [] (main_body p) number b e f)
+    rw (seen_is p number b e) (body_fine p.types p.bodies [] [] (main_body p) number b e f)
 
 -- A procedure that a body may call is one of the program, and sees what it sees by that body's view.
 pub callee_get : (p : ProgramForm) (procedure : Option ℕ) (number : ℕ) (b : BodyForm) → IsBody p procedure → slice_get (seen_in procedure p).bodies number ≡ Some b → slice_get p.bodies number ≡ Some b

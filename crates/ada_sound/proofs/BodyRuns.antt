@@ -1,24 +1,28 @@
--- A body runs from where nothing is known of its variables: it breaks no rule, and ends as its caller waits for it.
+-- A body runs from where its call has given it its formal parameters: it breaks no rule, and ends as its caller waits for it.
 
-use Rattle.std.proofs.Common.{◌≡◌, ℕ, zero, suc, Bool, true, false, ◌||◌, List, [], ◌∷◌, refl}
+use Rattle.std.proofs.Common.{◌≡◌, ◌≢◌, ℕ, zero, suc, ◌+◌, Bool, true, false, ◌||◌, List, [], ◌∷◌, ◌⊎◌, inl, inr, refl, arith}
 use Rattle.std.specs.Prelude.{Option, Some, None}
 use Rattle.ada_program.specs.declared.program.Exception.{Exception}
 use Rattle.ada_program.specs.declared.program.Program.{Program}
 use Rattle.ada_program.specs.Handling.{is_same}
-use Rattle.ada_program.specs.ProgramForm.{VariableForm, ProgramForm, main_body}
-use Rattle.ada_effects.specs.Effects.{Effect, untaken, declarations_raise, stmts_raise, handlers_raise, stmts_free, handlers_free, call_frees, body_frees, effects_of}
+use Rattle.ada_program.specs.declared.program.FormalMode.{FormalMode}
+use Rattle.ada_program.specs.Form.{ActualForm, in_value, in_null, in_access, in_out_path, in_out_access}
+use Rattle.ada_program.specs.ProgramForm.{TypeForm, VariableForm, BodyForm, ProgramForm, main_body}
+use Rattle.ada_effects.specs.Effects.{Effect, untaken, declarations_raise, stmts_raise, handlers_raise, stmts_free, handlers_free, call_frees, body_frees, effects_of, passes}
 use Rattle.ada_flow.specs.declared.rule.Hold.{Hold}
 use Rattle.ada_flow.specs.declared.rule.Hold.TheVariants as hold
-use Rattle.ada_flow.specs.Flow.{Holds, hold_at, variable_access, without_alias, without_freed, left_by_call, left, gone_with, nothing_gone, collected, have_exit, handlers_have_exit, body_flow, first_holds}
+use Rattle.ada_flow.specs.Flow.{Holds, hold_at, variable_access, Outcome, then_flow, declarations_flow, stmts_flow, handlers_flow, handled, leaves_block, Keeping, keeping_of, body_keeps, kept_from, is_kept, all_give_back, first_kept, others_kept, unless_kept, left_unkept, left_by_move, without_alias, without_freed, left_by_call, left, gone_with, nothing_gone, collected, have_exit, handlers_have_exit, body_flow, first_holds}
+use Rattle.ada_meaning.specs.declared.state.Value.{Value}
 use Rattle.ada_meaning.specs.Frame.{Elaborates}
 use Rattle.ada_owners.specs.Reliance.{Borrows}
-use Rattle.ada_sound.proofs.Fits.{Outer, NoOuterAlias}
-use Rattle.ada_sound.proofs.Outcomes.{goes_map, to_here}
+use Rattle.ada_sound.proofs.Fits.{Outer, Outsiders, NoOuterAlias}
+use Rattle.ada_sound.proofs.Outcomes.{goes_map, to_here, block_goes, body_goes}
+use Rattle.ada_sound.proofs.Values.{read_same, read_other, same_or_not}
 use Rattle.ada_sound.proofs.Leavings.{all_among}
 use Rattle.ada_sound.proofs.Raising.{or_left, or_right}
 use Rattle.ada_sound.proofs.Nestings.{part_from}
 use Rattle.ada_sound.proofs.Bodies.{IsFine}
-use Rattle.ada_sound.proofs.Invariant.{Known, Goes, GoesBy, To, Ways, Raised, Outside, RunsOn, Spares, Where, body_among, ways}
+use Rattle.ada_sound.proofs.Invariant.{Known, Goes, GoesBy, To, Ways, Raised, Outside, RunsOn, Spares, Where, owed_in, around_at, body_among, is_kept_at, KeepsAll, ways}
 use Rattle.ada_sound.proofs.Callers.{Suspension, rest_of, known_in}
 
 -- What obeys the rules breaks none.
@@ -26,9 +30,23 @@ pub goes_anywhere : (normal : Option Holds) → GoesBy normal (λ holds. Unit {0
 goes_anywhere None = tt
 goes_anywhere (Some holds) = tt
 
--- At first a body is in no loop and in no block.
-abbrev nowhere_yet : Where
-nowhere_yet = record { start = None; inside = nothing_gone }
+-- What is kept, by what is held where an exception leaves a body, is kept there.
+kept_there : (holds : Holds) (n : ℕ) (modes : List FormalMode) (x : ℕ) → is_kept_at (kept_from (Some holds) n modes) x ≡ true → is_kept (hold_at holds (n + x)) ≡ true
+kept_there holds n [] x kept = absurd (cc kept)
+kept_there holds n (m ∷ ms) zero kept =
+    let at : n + zero ≡ n = omega arith in
+    rw at kept
+kept_there holds n (m ∷ ms) (suc x) kept =
+    let at : (n + 1) + x ≡ n + suc x = omega arith in
+    rw at at (kept_there holds (n + 1) ms x kept)
+
+-- Where a body breaks no rule, formal parameters give back what they owe at its end, and are kept where an exception leaves it.
+pub gives_and_keeps : (types : List TypeForm) (effects : List Effect) (kept : List Keeping) (b : BodyForm) → IsFine types (body_flow types effects kept b) → Goes (body_flow types effects kept b) (λ holds. Unit {0}) (KeepsAll (body_keeps types effects kept b))
+gives_and_keeps types effects kept b (normal, raising, is) = rw is (goes_anywhere normal, keeps raising)
+  where
+    keeps : (raising : Option Holds) → GoesBy raising (KeepsAll (kept_from raising 0 b.formals))
+    keeps None = tt
+    keeps (Some holds) = λ x e. let at : 0 + x ≡ x = omega arith in rw at at (kept_there holds 0 b.formals x e)
 
 module _ (program : Program) (procedure : Option ℕ) (gs : List Suspension) where
   abbrev known : Known
@@ -41,43 +59,72 @@ module _ (program : Program) (procedure : Option ℕ) (gs : List Suspension) whe
   abbrev behind : Ways
   behind = ways known (rest_of gs) []
 
-  ends : (gs : List Suspension) (holds : Holds) → (ways (known_in program procedure gs) (rest_of gs) []).normal holds
-  ends [] holds = tt
-  ends (g ∷ gs) holds = (refl, refl)
+  -- At first a body is in no loop, and in no block but itself.
+  abbrev nowhere_yet : Where
+  nowhere_yet = record { start = None; inside = nothing_gone; within = gone_with p.declarations }
 
-  raises : (gs : List Suspension) (e : Exception) (holds : Holds) → body_among p e ≡ true → (ways (known_in program procedure gs) (rest_of gs) []).raised e holds
-  raises [] e holds may = tt
-  raises (g ∷ gs) e holds may = (may, refl)
+  -- What the body keeps, by its outcome.
+  abbrev kept : Keeping
+  kept = body_keeps p.types (effects_of p) (keeping_of p) (main_body p)
 
-  returns : (gs : List Suspension) (holds : Holds) → (ways (known_in program procedure gs) (rest_of gs) []).returned holds
-  returns [] holds = tt
-  returns (g ∷ gs) holds = (refl, refl)
+  -- The body's caller waits for what it keeps.
+  abbrev pub KeepsFor : List Suspension → Type 0
+  KeepsFor [] = Unit {0}
+  KeepsFor (g ∷ gs) = g.kept ≡ kept
+
+  ends : (gs : List Suspension) (holds : Holds) → all_give_back (owed_in p) holds ≡ true → (ways (known_in program procedure gs) (rest_of gs) []).normal holds
+  ends [] holds gives = tt
+  ends (g ∷ gs) holds gives = (refl, refl, gives)
+
+  raises : (gs : List Suspension) → KeepsFor gs → (e : Exception) (holds : Holds) → body_among p e ≡ true → KeepsAll kept holds → (ways (known_in program procedure gs) (rest_of gs) []).raised e holds
+  raises [] same e holds may keeps = tt
+  raises (g ∷ gs) same e holds may keeps = (may, refl, rw same keeps)
+
+  returns : (gs : List Suspension) (holds : Holds) → all_give_back (owed_in p) holds ≡ true → (ways (known_in program procedure gs) (rest_of gs) []).returned holds
+  returns [] holds gives = tt
+  returns (g ∷ gs) holds gives = (refl, refl, gives)
 
   abbrev outside : Ways
   outside = Outside p.variables (gone_with p.declarations) behind
 
-  -- It runs, if it breaks no rule, no exit leads out of it, and no suspended activation has an alias of what it may free.
-  pub body_runs : IsFine p.types (body_flow p.types (effects_of p) (main_body p)) → have_exit p.statements ≡ false → handlers_have_exit p.handlers ≡ false → Spares known (body_frees p.types (effects_of p) (main_body p)) → RunsOn known (Elaborates p.declarations p.statements p.handlers ∷ rest_of gs) (gone_with p.declarations ∷ []) (first_holds p.variables)
-  body_runs (normal, raising, is) none_out none_on spares =
-      let gone = gone_with p.declarations in
-      let all : Goes (body_flow p.types (effects_of p) (main_body p)) (λ holds. Unit {0}) (λ holds. Unit {0}) = rw is (goes_anywhere normal, goes_anywhere raising) in (
-        all_among (collected p.declarations),
-        part_from known nowhere_yet (rest_of gs) p.declarations p.statements p.handlers outside (body_among p) (first_holds p.variables)
-            (record {
-              by_declarations = λ e i. or_left (declarations_raise (is_same e) p.declarations || stmts_raise (effects_of p) (untaken p.handlers (is_same e)) p.statements) (handlers_raise (effects_of p) (is_same e) p.handlers) (or_left (declarations_raise (is_same e) p.declarations) (stmts_raise (effects_of p) (untaken p.handlers (is_same e)) p.statements) i);
-              by_statements = λ e i. or_left (declarations_raise (is_same e) p.declarations || stmts_raise (effects_of p) (untaken p.handlers (is_same e)) p.statements) (handlers_raise (effects_of p) (is_same e) p.handlers) (or_right (declarations_raise (is_same e) p.declarations) (stmts_raise (effects_of p) (untaken p.handlers (is_same e)) p.statements) i);
-              by_handlers = λ e i. or_right (declarations_raise (is_same e) p.declarations || stmts_raise (effects_of p) (untaken p.handlers (is_same e)) p.statements) (handlers_raise (effects_of p) (is_same e) p.handlers) i;
-            })
-            (λ way place at comes. (way, comes))
-            (goes_map (body_flow p.types (effects_of p) (main_body p)) (λ holds. Unit {0}) (λ holds. Unit {0}) (To outside.normal) (Raised (body_among p) outside)
-            (λ h u. to_here outside.normal h (to_here behind.normal (left p.variables gone h) (ends gs (left p.variables gone h))))
-            (λ h u. λ e i. to_here (outside.raised e) h (to_here (behind.raised e) (left p.variables gone h) (raises gs e (left p.variables gone h) i))) all)
-            (λ one h may. absurd (cc (one, none_out)))
-            (λ one h may. absurd (cc (one, none_on)))
-            (λ h. to_here behind.returned (left p.variables gone h) (returns gs (left p.variables gone h)))
-            (λ t i. spares t (or_left (stmts_free p.types p.variables (effects_of p) t p.statements) (handlers_free p.types p.variables (effects_of p) t p.handlers) i))
-            (λ t i. spares t (or_right (stmts_free p.types p.variables (effects_of p) t p.statements) (handlers_free p.types p.variables (effects_of p) t p.handlers) i)),
-      )
+  -- Its part: its declarations, its statements and its handlers, before the body is left.
+  abbrev part : Outcome
+  part =
+      then_flow (declarations_flow p.types p.variables p.declarations (first_holds p.formals p.variables))
+      (λ at. handled (passes (effects_of p) p.statements p.handlers)
+      (handlers_flow p.types p.variables (around_at known nowhere_yet) p.handlers)
+      (stmts_flow p.types p.variables (around_at known nowhere_yet) p.statements at))
+
+  abbrev left_there : Holds → Holds
+  left_there holds = left p.variables (gone_with p.declarations) holds
+
+  part_goes : IsFine p.types (body_flow p.types (effects_of p) (keeping_of p) (main_body p)) → Goes part (λ h. all_give_back (owed_in p) (left_there h) ≡ true) (λ h. KeepsAll kept (left_there h))
+  part_goes fine =
+      block_goes p.variables (gone_with p.declarations) part (λ h. all_give_back (owed_in p) h ≡ true) (KeepsAll kept)
+      (body_goes (owed_in p) p.end_spot (leaves_block p.variables (gone_with p.declarations) part) (λ h. Unit {0}) (KeepsAll kept)
+      (gives_and_keeps p.types (effects_of p) (keeping_of p) (main_body p) fine))
+
+  -- It runs, if it breaks no rule, no exit leads out of it, no suspended activation has an alias of what it may free, and its caller waits for what it
+  -- keeps.
+  pub body_runs : IsFine p.types (body_flow p.types (effects_of p) (keeping_of p) (main_body p)) → have_exit p.statements ≡ false → handlers_have_exit p.handlers ≡ false → Spares known (body_frees p.types (effects_of p) (main_body p)) → KeepsFor gs → RunsOn known (Elaborates p.declarations p.statements p.handlers ∷ rest_of gs) (gone_with p.declarations ∷ []) (first_holds p.formals p.variables)
+  body_runs fine none_out none_on spares same = (
+    all_among (collected p.declarations),
+    part_from known nowhere_yet (rest_of gs) p.declarations p.statements p.handlers outside (body_among p) (first_holds p.formals p.variables)
+        (record {
+          by_declarations = λ e i. or_left (declarations_raise (is_same e) p.declarations || stmts_raise (effects_of p) (untaken p.handlers (is_same e)) p.statements) (handlers_raise (effects_of p) (is_same e) p.handlers) (or_left (declarations_raise (is_same e) p.declarations) (stmts_raise (effects_of p) (untaken p.handlers (is_same e)) p.statements) i);
+          by_statements = λ e i. or_left (declarations_raise (is_same e) p.declarations || stmts_raise (effects_of p) (untaken p.handlers (is_same e)) p.statements) (handlers_raise (effects_of p) (is_same e) p.handlers) (or_right (declarations_raise (is_same e) p.declarations) (stmts_raise (effects_of p) (untaken p.handlers (is_same e)) p.statements) i);
+          by_handlers = λ e i. or_right (declarations_raise (is_same e) p.declarations || stmts_raise (effects_of p) (untaken p.handlers (is_same e)) p.statements) (handlers_raise (effects_of p) (is_same e) p.handlers) i;
+        })
+        (λ way place at comes. (way, comes))
+        (goes_map part (λ h. all_give_back (owed_in p) (left_there h) ≡ true) (λ h. KeepsAll kept (left_there h)) (To outside.normal) (Raised (body_among p) outside)
+        (λ h gives. to_here outside.normal h (to_here behind.normal (left_there h) (ends gs (left_there h) gives)))
+        (λ h keeps. λ e i. to_here (outside.raised e) h (to_here (behind.raised e) (left_there h) (raises gs same e (left_there h) i keeps))) (part_goes fine))
+        (λ one h may. absurd (cc (one, none_out)))
+        (λ one h may. absurd (cc (one, none_on)))
+        (λ h gives. to_here behind.returned (left_there h) (returns gs (left_there h) gives))
+        (λ t i. spares t (or_left (stmts_free p.types p.variables (effects_of p) t p.statements) (handlers_free p.types p.variables (effects_of p) t p.handlers) i))
+        (λ t i. spares t (or_right (stmts_free p.types p.variables (effects_of p) t p.statements) (handlers_free p.types p.variables (effects_of p) t p.handlers) i)),
+  )
 
 -- The main body has no caller, so no suspended activation has an alias.
 pub none_suspended : (program : Program) (procedure : Option ℕ) (may : ℕ → Bool) → Spares (known_in program procedure []) may
@@ -86,6 +133,7 @@ none_suspended program procedure may t is d x e b = cc e
 -- Behind a call no alias is left of what its procedure may free.
 no_alias : (h : Hold) → Borrows (without_alias true h) → ⊥
 no_alias hold.Null b = b
+no_alias (hold.Kept r) b = b
 no_alias (hold.Own r) b = b
 no_alias (hold.Alias r) b = b
 no_alias hold.Lost b = b
@@ -96,7 +144,34 @@ freed_aliases (v ∷ vs) may [] x t of is b = b
 freed_aliases (v ∷ vs) may (h ∷ holds) zero t of is b = no_alias h (rw (of, is) at b)
 freed_aliases (v ∷ vs) may (h ∷ holds) (suc x) t of is b = freed_aliases vs may holds x t of is b
 
-pub call_spares : (variables : List VariableForm) (effect : Option Effect) (places : List _) (holds : Holds) (outer : List Outer) (t : ℕ) → call_frees effect t ≡ true → NoOuterAlias outer t → NoOuterAlias (record { variables = variables; places = places; holds = left_by_call variables effect holds } ∷ outer) t
-call_spares variables None places holds outer t is none d x of b = cc is
-call_spares variables (Some effect) places holds outer t is none zero x of b = freed_aliases variables effect.frees holds x t of is b
-call_spares variables (Some effect) places holds outer t is none (suc d) x of b = none d x of b
+-- Nor is one among what is handed over.
+moved_borrows : (h : Hold) → Borrows (left_by_move h) → Borrows h
+moved_borrows hold.Null b = b
+moved_borrows (hold.Kept r) b = absurd b
+moved_borrows (hold.Own r) b = absurd b
+moved_borrows (hold.Alias r) b = b
+moved_borrows hold.Lost b = b
+
+unless_borrows : (keeps : Bool) (y : ℕ) (holds : Holds) (x : ℕ) → Borrows (hold_at (unless_kept keeps y holds) x) → Borrows (hold_at holds x)
+unless_borrows true y holds x b = b
+unless_borrows false y holds x b = go (same_or_not x y)
+  where
+    go : (x ≡ y) ⊎ (x ≢ y) → Borrows (hold_at holds x)
+    go (inl e) = rw e (elim (read_same holds y (left_by_move (hold_at holds y)) hold.Lost) [ inl at ↦ moved_borrows (hold_at holds y) (rw (e, at) at b) | inr at ↦ absurd (rw (e, at) at b) ])
+    go (inr ne) = rw (read_other holds y x (left_by_move (hold_at holds y)) hold.Lost ne) at b
+
+pub unkept_borrows : (keeping : Keeping) (actuals : List ActualForm) (holds : Holds) (x : ℕ) → Borrows (hold_at (left_unkept keeping actuals holds) x) → Borrows (hold_at holds x)
+unkept_borrows keeping [] holds x b = b
+unkept_borrows keeping (in_value e ∷ rest) holds x b = unkept_borrows (others_kept keeping) rest holds x b
+unkept_borrows keeping (in_null ∷ rest) holds x b = unkept_borrows (others_kept keeping) rest holds x b
+unkept_borrows keeping (in_access path ∷ rest) holds x b = unkept_borrows (others_kept keeping) rest holds x b
+unkept_borrows keeping (in_out_path path ∷ rest) holds x b = unkept_borrows (others_kept keeping) rest holds x b
+unkept_borrows keeping (in_out_access path ∷ rest) holds x b =
+    unless_borrows (first_kept keeping) path.root holds x (unkept_borrows (others_kept keeping) rest (unless_kept (first_kept keeping) path.root holds) x b)
+
+-- Neither has a caller that waits, nor those before it.
+pub call_spares : (variables : List VariableForm) (effect : Option Effect) (actuals : List ActualForm) (places given : List Value) (holds : Holds) (outer : Outsiders) (t : ℕ) → call_frees effect t ≡ true → NoOuterAlias outer t → NoOuterAlias (record { given = given; suspended = record { variables = variables; places = places; holds = left_unkept [] actuals (left_by_call variables effect holds) } ∷ outer.suspended }) t
+call_spares variables None actuals places given holds outer t is none d x of b = cc is
+call_spares variables (Some effect) actuals places given holds outer t is none zero x of b =
+    freed_aliases variables effect.frees holds x t of is (unkept_borrows [] actuals (without_freed variables effect.frees holds) x b)
+call_spares variables (Some effect) actuals places given holds outer t is none (suc d) x of b = none d x of b

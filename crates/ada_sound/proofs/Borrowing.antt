@@ -15,6 +15,7 @@ use Rattle.ada_flow.specs.Flow.{Holds, hold_at, faults, goes, declared_at, moved
 use Rattle.ada_sound.specs.Owners.{DeclaredBorrowersMoveNothing, DeclaredBorrowersOwnNothing, BorrowersMoveNothing, BorrowersOwnNothing, LostIsNotBorrowed}
 use Rattle.ada_sound.proofs.Values.{read_other}
 use Rattle.ada_sound.proofs.Moves.{set_nothing, borrows_at, borrows_is, assigned, assigns_as}
+use Rattle.ada_owners.specs.Reliance.{Owns}
 
 -- What suits a borrower moves nothing, and gives it nothing to own.
 moves_none : (variables : List VariableForm) (right : RightForm) → lends_to variables true right ≡ true → moved_by_right true right ≡ []
@@ -24,18 +25,19 @@ moves_none variables (allocates access items) suits = absurd (cc suits)
 moves_none variables (allocates_default access) suits = refl
 moves_none variables (computes e) suits = refl
 
-borrowed_no_owner : (h : Hold) (r : Region) → borrowed_hold h ≢ hold.Own r
-borrowed_no_owner hold.Null r e = cc e
-borrowed_no_owner (hold.Own q) r e = cc e
-borrowed_no_owner (hold.Alias q) r e = cc e
-borrowed_no_owner hold.Lost r e = cc e
+borrowed_no_owner : (h : Hold) → Owns (borrowed_hold h) → ⊥
+borrowed_no_owner hold.Null own = own
+borrowed_no_owner (hold.Kept q) own = own
+borrowed_no_owner (hold.Own q) own = own
+borrowed_no_owner (hold.Alias q) own = own
+borrowed_no_owner hold.Lost own = own
 
-lends_no_owner : (variables : List VariableForm) (right : RightForm) (holds : Holds) (r : Region) → lends_to variables true right ≡ true → right_hold true right holds ≢ hold.Own r
-lends_no_owner variables nothing holds r suits e = cc e
-lends_no_owner variables (value_of path) holds r suits e = borrowed_no_owner (hold_at holds path.root) r e
-lends_no_owner variables (allocates access items) holds r suits e = absurd (cc suits)
-lends_no_owner variables (allocates_default access) holds r suits e = absurd (cc suits)
-lends_no_owner variables (computes f) holds r suits e = cc e
+lends_no_owner : (variables : List VariableForm) (right : RightForm) (holds : Holds) → lends_to variables true right ≡ true → Owns (right_hold true right holds) → ⊥
+lends_no_owner variables nothing holds suits own = own
+lends_no_owner variables (value_of path) holds suits own = borrowed_no_owner (hold_at holds path.root) own
+lends_no_owner variables (allocates access items) holds suits own = absurd (cc suits)
+lends_no_owner variables (allocates_default access) holds suits own = absurd (cc suits)
+lends_no_owner variables (computes f) holds suits own = own
 
 -- A variable that is a borrower and gets what suits it changes what it holds, and nothing else changes.
 lent_variable : (types : List TypeForm) (variables : List VariableForm) (here : Spot) (cleared : Bool) (b : ℕ) (right : RightForm) (holds after : Holds) (raising : Option Holds) → is_borrower variables b ≡ true → lends_to variables true right ≡ true → gives types variables here cleared b right holds ≡ goes (Some after) raising → slice_set holds b (right_hold true right holds) ≡ after
@@ -60,7 +62,7 @@ borrowers_move_nothing types variables target right holds after is suits ends x 
 pub borrowers_own_nothing : BorrowersOwnNothing
 borrowers_own_nothing types variables target right holds after is suits ends =
     rw (← lent types variables ends.1 target right holds after ends.2 is suits ends.3)
-    (set_nothing holds target.root (right_hold true right holds) (λ r. lends_no_owner variables right holds r suits))
+    (set_nothing holds target.root (right_hold true right holds) (lends_no_owner variables right holds suits))
 
 -- A borrower that is declared.
 pub declared_borrowers_move_nothing : DeclaredBorrowersMoveNothing
@@ -70,7 +72,7 @@ declared_borrowers_move_nothing types variables b right holds after raising is s
 pub declared_borrowers_own_nothing : DeclaredBorrowersOwnNothing
 declared_borrowers_own_nothing types variables b right holds after raising is suits ends =
     rw (← lent_variable types variables (declared_at variables b) false b right holds after raising is suits ends)
-    (set_nothing holds b (right_hold true right holds) (λ r. lends_no_owner variables right holds r suits))
+    (set_nothing holds b (right_hold true right holds) (lends_no_owner variables right holds suits))
 
 -- What is lost is not lent.
 not_lent : (types : List TypeForm) (variables : List VariableForm) (cleared : Bool) (cs : List ℕ) (target path : PathForm) (holds : Holds) → borrows_at variables cs target.root ≡ true → hold_at holds path.root ≡ hold.Lost → gives_path types variables cleared cs target (value_of path) holds ≡ faults path.spot LostValue

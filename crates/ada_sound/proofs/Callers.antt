@@ -5,7 +5,7 @@ use Rattle.std.specs.Prelude.{Option}
 use Rattle.ada_program.specs.declared.program.Program.{Program}
 use Rattle.ada_program.specs.Form.{ActualForm}
 use Rattle.ada_program.specs.ProgramForm.{program_form, seen_in}
-use Rattle.ada_flow.specs.Flow.{Holds}
+use Rattle.ada_flow.specs.Flow.{Holds, Keeping}
 use Rattle.ada_meaning.specs.declared.state.Value.{Value}
 use Rattle.ada_meaning.specs.Frame.{Returns}
 use Rattle.ada_meaning.specs.State.{Activation, Master}
@@ -15,16 +15,19 @@ use Rattle.ada_sound.specs.Agreement.{Turning, IsFlowAt, IsBehind, running_proce
 use Rattle.ada_sound.proofs.Bodies.{IsBody}
 use Rattle.ada_sound.proofs.Invariant.{Control, Rooms, Caller, Known, Standing}
 
--- A suspended activation: of which body it is, what its call gives, what is left to do once that has come to its end, the masters that are entered then, and
--- their rooms; what its variables hold, and what is known of them behind the call.
+-- A suspended activation: of which body it is, the actual parameters of its call, their values, and what the procedure keeps of them; what is left to do once
+-- the call has come to its end, the masters that are entered then, and their rooms; what its variables hold, and what is known of them behind the call, as
+-- if nothing were handed over.
 pub record Suspension : Type 0 where
   pub procedure : Option ℕ
   pub actuals : List ActualForm
+  pub passed : List Value
+  pub kept : Keeping
   pub control : Control
   pub masters : List Master
   pub rooms : Rooms
   pub places : List Value
-  pub holds : Holds
+  pub before : Holds
 
 -- What is left to do behind a body, by the activation that called it.
 abbrev pub rest_of : List Suspension → Control
@@ -41,11 +44,13 @@ caller_of program g gs = record {
   program = seen_in g.procedure (program_form program);
   At = Reaches program g.procedure (rest_of gs);
   actuals = g.actuals;
+  passed = g.passed;
+  kept = g.kept;
   control = g.control;
   masters = g.masters;
   rooms = g.rooms;
   places = g.places;
-  holds = g.holds;
+  before = g.before;
 }
 
 abbrev pub callers_of : Program → List Suspension → List Caller

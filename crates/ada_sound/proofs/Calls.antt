@@ -1,78 +1,45 @@
 -- The body of a procedure begins: what its caller knows waits for the end of the call.
 
-use Rattle.std.proofs.Common.{◌≡◌, ℕ, zero, suc, ◌≤◌, Bool, true, false, List, [], ◌∷◌, length, refl, sym, ◌∙◌, subst, arith}
+use Rattle.std.proofs.Common.{◌≡◌, ◌≢◌, ℕ, suc, ◌≤◌, Bool, true, false, List, [], ◌∷◌, length, take, drop, reverse, refl, sym, ap, ◌∙◌, inl, inr, subst, arith}
 use Rattle.std.specs.Prelude.{Option, Some, None}
 use Rattle.std.specs.List.{slice_get}
-use Rattle.std.proofs.Math.ListN.{replicate}
+use Rattle.std.proofs.lemmas.Bool.{and_parts}
 use Rattle.ada_program.specs.declared.program.Exception.{Exception}
 use Rattle.ada_program.specs.declared.program.Program.{Program}
 use Rattle.ada_program.specs.Handling.{is_same}
 use Rattle.ada_program.specs.Form.{ActualForm}
-use Rattle.ada_program.specs.ProgramForm.{TypeForm, VariableForm, BodyForm, program_form, main_body}
-use Rattle.ada_effects.specs.Effects.{Effect, call_raises, call_frees, body_frees, effects_of}
+use Rattle.ada_program.specs.ProgramForm.{BodyForm, ProgramForm, program_form, main_body, seen_by}
+use Rattle.ada_effects.specs.Effects.{call_raises, call_frees, body_frees, effects_of}
 use Rattle.ada_flow.specs.declared.rule.Hold.{Hold}
 use Rattle.ada_flow.specs.declared.rule.Hold.TheVariants as hold
-use Rattle.ada_flow.specs.declared.rule.Region.TheVariants.{Whole}
-use Rattle.ada_flow.specs.Flow.{Holds, hold_at, is_as_good, without_alias, without_freed, left_by_call, first_holds, gone_with, is_freed}
-use Rattle.ada_program.specs.WellFormed.{access_of}
+use Rattle.ada_flow.specs.Flow.{Holds, hold_at, variable_access, left_unkept, handed_back, gives_back, first_holds, gone_with}
+use Rattle.ada_program.specs.WellFormed.{actuals_fit, modes_fit, formal_kinds}
 use Rattle.ada_meaning.specs.declared.state.Id.{Id}
 use Rattle.ada_meaning.specs.declared.state.Value.{Value}
-use Rattle.ada_meaning.specs.declared.state.Value.TheVariants.{Names}
+use Rattle.ada_meaning.specs.declared.state.Value.TheVariants.{Null, Names}
 use Rattle.ada_meaning.specs.declared.state.Mode.TheVariants.{Running}
 use Rattle.ada_meaning.specs.Event.{Quiet}
 use Rattle.ada_meaning.specs.Frame.{Elaborates, Returns}
 use Rattle.ada_meaning.specs.State.{Activation, Master, height}
-use Rattle.ada_meaning.specs.Step.{begun, given_places}
+use Rattle.ada_meaning.specs.Step.{begun, blanks, given_places}
 use Rattle.ada_meaning.specs.Law.{items_of}
 use Rattle.ada_meaning.specs.Named.{Object, State, named, object_at}
 use Rattle.ada_owners.specs.Places.{variable, access_at}
-use Rattle.ada_owners.specs.Reliance.{Says, IsOf}
+use Rattle.ada_owners.specs.Reliance.{Says, IsOf, Owns}
 use Rattle.ada_owners.specs.Keeping.{IsThere}
-use Rattle.ada_owners.proofs.Reliances.{good_lost}
-use Rattle.ada_sound.proofs.Fits.{none_spared, Fit, IsRelied, place_at, weaker_fit, there_by}
+use Rattle.ada_sound.proofs.Fits.{none_spared, Fit, IsSaid, IsRelied, is_object, place_at, weaker_fit, there_by}
+use Rattle.ada_sound.proofs.Orderings.{AsGood, called_good}
 use Rattle.ada_sound.proofs.Items.{item_below, height_is}
 use Rattle.ada_sound.proofs.Stored.{Stored, Sane, stored_entered}
-use Rattle.ada_sound.proofs.Activations.{called_fit}
+use Rattle.ada_sound.proofs.Activations.{HandedOver, called_fit}
+use Rattle.ada_sound.proofs.Handings.{path_names, Handing, IsFormal, formal_at, formal_object, stands_at, handed_over_once, handed_owes, left_owner, waiting_owns, unkept_less, waiting_lost, passed_in_order}
 use Rattle.ada_sound.proofs.GivenBack.{get_less}
 use Rattle.ada_sound.proofs.Outcomes.{to_here}
 use Rattle.ada_sound.proofs.Ready.{stays}
 use Rattle.ada_sound.proofs.Bodies.{effect_at, callee_get, callee_sees}
-use Rattle.ada_sound.proofs.Invariant.{Known, Control, Rooms, RunsOn, Working, CallsOn, Waits, body_among, outers, outer_of}
+use Rattle.ada_sound.proofs.Invariant.{Known, Control, Rooms, RunsOn, Working, CallsOn, ArePassed, handed_at, Hands, Waits, body_among, effect_in, kept_in, left_in, outers, outer_of}
 use Rattle.ada_sound.proofs.Callers.{Suspension, caller_of, callers_of, known_in, Stands}
-use Rattle.ada_sound.proofs.Returns.{Crosses, same_types}
-
--- Nothing is known of the variables of a body that begins.
-pub lost_at : (n x : ℕ) → hold_at (replicate n hold.Lost) x ≡ hold.Lost
-lost_at zero x = refl
-lost_at (suc n) zero = refl
-lost_at (suc n) (suc x) = lost_at n x
-
--- Behind a call no more is known than before it.
-alias_good : (b : Bool) (h : Hold) → is_as_good h (without_alias b h) ≡ true
-alias_good false hold.Null = refl
-alias_good false (hold.Own Whole) = refl
-alias_good false (hold.Alias Whole) = refl
-alias_good false hold.Lost = refl
-alias_good true hold.Null = refl
-alias_good true (hold.Own Whole) = refl
-alias_good true (hold.Alias Whole) = refl
-alias_good true hold.Lost = refl
-
-freed_good : (variables : List VariableForm) (may : ℕ → Bool) (holds : Holds) (x : ℕ) → is_as_good (hold_at holds x) (hold_at (without_freed variables may holds) x) ≡ true
-freed_good [] may holds x = good_lost (hold_at holds x)
-freed_good (v ∷ vs) may [] x = refl
-freed_good (v ∷ vs) may (h ∷ holds) zero = alias_good (is_freed may (access_of (Some v.kind))) h
-freed_good (v ∷ vs) may (h ∷ holds) (suc x) = freed_good vs may holds x
-
-call_good : (variables : List VariableForm) (effect : Option Effect) (holds : Holds) (x : ℕ) → is_as_good (hold_at holds x) (hold_at (left_by_call variables effect holds) x) ≡ true
-call_good variables None holds x = same_good (hold_at holds x)
-  where
-    same_good : (h : Hold) → is_as_good h h ≡ true
-    same_good hold.Null = refl
-    same_good (hold.Own Whole) = refl
-    same_good (hold.Alias Whole) = refl
-    same_good hold.Lost = refl
-call_good variables (Some effect) holds x = freed_good variables effect.frees holds x
+use Rattle.ada_sound.proofs.Returns.{Crosses}
 
 -- What a variable is relied on to name is there, and its home is an item of a master that is entered.
 home_low : (heap : List Object) (masters : List Master) (o : Id) → Stored None heap masters → IsThere heap o → (object : Object) × (object_at heap o ≡ Some object) × (suc object.cell.home.item ≤ height masters)
@@ -89,24 +56,46 @@ home_low heap masters o stored (object, found, listed) =
 
 relied_says : (heap : List Object) (h : Hold) (kind : Option ℕ) (o : Id) → IsRelied h → Says (access_at heap) h kind o → IsOf (access_at heap) kind o
 relied_says heap hold.Null kind o relied s = absurd relied
+relied_says heap (hold.Kept r) kind o relied s = s
 relied_says heap (hold.Own r) kind o relied s = s
 relied_says heap (hold.Alias r) kind o relied s = s
 relied_says heap hold.Lost kind o relied s = absurd relied
 
+-- What gives something back owns what it names.
+gives_owns : (heap : List Object) (h : Hold) (kind : Option ℕ) (o : Id) → gives_back h ≡ true → Says (access_at heap) h kind o → Owns h
+gives_owns heap hold.Null kind o gives s = absurd s
+gives_owns heap (hold.Kept r) kind o gives s = tt
+gives_owns heap (hold.Own r) kind o gives s = tt
+gives_owns heap (hold.Alias r) kind o gives s = absurd (cc gives)
+gives_owns heap hold.Lost kind o gives s = absurd (cc gives)
+
+gives_says : (heap : List Object) (h : Hold) (kind : Option ℕ) (o : Id) → gives_back h ≡ true → Says (access_at heap) h kind o → IsOf (access_at heap) kind o
+gives_says heap hold.Null kind o gives s = absurd s
+gives_says heap (hold.Kept r) kind o gives s = s
+gives_says heap (hold.Own r) kind o gives s = s
+gives_says heap (hold.Alias r) kind o gives s = absurd (cc gives)
+gives_says heap hold.Lost kind o gives s = absurd (cc gives)
+
 module _ (program : Program) (number : ℕ) (b : BodyForm) (given : List ActualForm) (k : Control) (a : Activation Value) (rest : List (Activation Value)) (gs : List Suspension) (s : State) where
   abbrev pub caller : Known
   caller = known_in program a.procedure gs
+
+  -- The values of the actual parameters.
+  abbrev pub values : List Value
+  values = reverse (take (length given) a.operands)
 
   -- What the caller's variables hold, and what is known of them behind the call.
   abbrev pub suspended : Rooms → Holds → Suspension
   suspended rooms holds = record {
     procedure = a.procedure;
     actuals = given;
+    passed = values;
+    kept = kept_in caller number;
     control = k;
     masters = s.masters;
     rooms = rooms;
     places = a.places;
-    holds = left_by_call caller.program.variables (slice_get (effects_of caller.program) number) holds;
+    before = left_in caller number holds;
   }
 
   -- What is known of the caller's variables, once no more is relied on than behind the call.
@@ -117,70 +106,168 @@ module _ (program : Program) (number : ℕ) (b : BodyForm) (given : List ActualF
     abbrev pub callee : Known
     callee = known_in program (Some number) (waiting ∷ gs)
 
-    caller_fit : Fit caller.program.types caller.program.variables (outers caller) none_spared s.heap a.places waiting.holds
-    caller_fit = weaker_fit waiting.holds (call_good caller.program.variables (slice_get (effects_of caller.program) number) w.holds) w.fit
+    caller_fit : Fit caller.program.types caller.program.variables (outers caller) none_spared s.heap a.places waiting.before
+    caller_fit = weaker_fit waiting.before (called_good caller.program.variables (effect_in caller number) w.holds) w.fit
 
-    same_here : caller.program.types ≡ callee.program.types
-    same_here = same_types a.procedure (program_form program) ∙ sym (same_types (Some number) (program_form program))
+    waits_by : AsGood waiting.before (left_unkept [] given waiting.before)
+    waits_by = unkept_less [] given waiting.before
 
-    callee_fit : (places : List Value) → Fit callee.program.types callee.program.variables (outers callee) none_spared s.heap places (first_holds b.variables)
-    callee_fit places =
-        called_fit callee.program.types (outers caller) (outer_of (caller_of program waiting gs)) none_spared s.heap callee.program.variables places (first_holds b.variables) (lost_at (length b.variables))
-        (subst (λ (types : List TypeForm). Fit types caller.program.variables (outers caller) none_spared s.heap a.places waiting.holds) same_here caller_fit)
+    -- What the formal parameters of the body are given.
+    module _ (passed : ArePassed s.heap a.places (reverse given) a.operands) where
+      order : ArePassed s.heap a.places given values
+      order = passed_in_order s.heap a.places given a.operands passed
+
+      abbrev begins : List Value
+      begins = given_places named values b.variables
+
+      suits : (actuals_fit caller.program.types caller.program.variables (formal_kinds b) given ≡ true) × (modes_fit b.formals given ≡ true)
+      suits = and_parts (actuals_fit caller.program.types caller.program.variables (formal_kinds b) given) (modes_fit b.formals given) w.rest.5
+
+      abbrev Given : ℕ → Type 0
+      Given i = IsFormal caller.program.types caller.program.variables s.heap a.places w.holds (handed_at given i) (hold_at (first_holds b.formals b.variables) i) (variable_access b.variables i) (place_at begins i)
+
+      formal : (i : ℕ) → Given i
+      formal i = formal_at caller.program.types caller.program.variables s.heap a.places w.holds (drop (length values) (blanks named b.variables)) b.formals b.variables given values [] suits.0 suits.1 order w.rest.6 i
+
+      abbrev HandedAt : ℕ → ℕ → Type 0
+      HandedAt i x = Handing caller.program.types caller.program.variables s.heap a.places w.holds (Some x) (variable_access b.variables i) (place_at begins i)
+
+      handing : (i x : ℕ) → handed_at given i ≡ Some x → HandedAt i x
+      handing i x is = go (formal i)
+        where
+          go : Given i → HandedAt i x
+          go (inl none) = let e = none.0 in absurd (cc (is, e))
+          go (inr (inl none)) = let e = none.0 in absurd (cc (is, e))
+          go (inr (inr h)) = rw is at (h.1)
+
+      -- What a formal parameter owns a variable owned.
+      owner_left : (x : ℕ) → variable_access caller.program.variables x ≢ None → gives_back (hold_at w.holds x) ≡ true → gives_back (hold_at waiting.before x) ≡ true
+      owner_left x there gives = left_owner caller.program.variables (effect_in caller number) w.holds x there gives
+
+      abbrev Over : ℕ → Type 0
+      Over i = HandedOver caller.program.types (outers caller) (outer_of (caller_of program waiting gs)) values none_spared s.heap b.variables begins (first_holds b.formals b.variables) waiting.before i
+
+      abbrev over_by : (i : ℕ) → Given i → Owns (hold_at (first_holds b.formals b.variables) i) → Over i
+      over_by i (inl none) own = let e = none.1 in absurd (rw e at own)
+      over_by i (inr (inl none)) own = let e = none.1 in absurd (rw e at own)
+      over_by i (inr (inr h)) own = record {
+        x = h.1.x;
+        value = h.1.value;
+        owner = λ o names. gives_owns s.heap (hold_at waiting.before h.1.x) (variable_access caller.program.variables h.1.x) o (owner_left h.1.x h.1.there h.1.owner) (caller_fit.owners.fit.relied (variable h.1.x) o names);
+        lost = λ own'. waiting_lost given waiting.before i h.1.x h.1.is own';
+      }
+
+      over_is : (i : ℕ) (g : Given i) (own : Owns (hold_at (first_holds b.formals b.variables) i)) → handed_at given i ≡ Some (over_by i g own).x
+      over_is i (inl none) own = let e = none.1 in absurd (rw e at own)
+      over_is i (inr (inl none)) own = let e = none.1 in absurd (rw e at own)
+      over_is i (inr (inr h)) own = h.1.is
+
+      abbrev over : (i : ℕ) → Owns (hold_at (first_holds b.formals b.variables) i) → Over i
+      over i own = over_by i (formal i) own
+
+      over_once : (i j : ℕ) (x : Owns (hold_at (first_holds b.formals b.variables) i)) (y : Owns (hold_at (first_holds b.formals b.variables) j)) → (over i x).x ≡ (over j y).x → i ≡ j
+      over_once i j x y same = handed_over_once caller.program.types caller.program.variables s.heap a.places w.holds [] given w.rest.6 i j (over i x).x (over_is i (formal i) x) (over_is j (formal j) y ∙ ap Some (sym same))
+
+      -- What a formal parameter is relied on to name is there.
+      right_by : (i : ℕ) (o : Id) → place_at begins i ≡ Names o → Given i → Says (access_at s.heap) (hold_at (first_holds b.formals b.variables) i) (variable_access b.variables i) o
+      right_by i o names (inl none) = let e = none.1 in rw e tt
+      right_by i o names (inr (inl (none, e, inl null))) = absurd (cc (names, null))
+      right_by i o names (inr (inl (none, e, inr l))) =
+          rw (e, l.of) (path_names (λ p x found listed. (w.stored.sane p x found).listed_exists listed) l.path l.access (place_at begins i) o l.names l.kept l.found names w.fit)
+      right_by i o names (inr (inr h)) =
+          rw (h.0, h.1.of) (gives_says s.heap (hold_at waiting.before h.1.x) (variable_access caller.program.variables h.1.x) o (owner_left h.1.x h.1.there h.1.owner) (caller_fit.owners.fit.relied (variable h.1.x) o (sym h.1.value ∙ names)))
+
+      said_by : (i : ℕ) → Given i → IsSaid (place_at values i) (hold_at (first_holds b.formals b.variables) i) (place_at begins i)
+      said_by i (inl none) = let e = none.1 in rw e tt
+      said_by i (inr (inl none)) = let e = none.1 in rw e tt
+      said_by i (inr (inr h)) = rw (h.0) (stands_at caller.program.types caller.program.variables s.heap a.places w.holds (drop (length values) (blanks named b.variables)) given values order i h.1.x h.1.is)
+
+      object_by : (i : ℕ) → is_object b.variables i ≡ true → hold_at (first_holds b.formals b.variables) i ≢ hold.Lost → place_at begins i ≢ Null
+      object_by i is ne = absurd (ne (formal_object caller.program.types caller.program.variables s.heap a.places w.holds b.formals b.variables i is))
+
+      begun_fit : Fit caller.program.types b.variables (outers callee) none_spared s.heap begins (first_holds b.formals b.variables)
+      begun_fit =
+          called_fit caller.program.types (outers caller) (outer_of (caller_of program waiting gs)) values none_spared s.heap b.variables begins (first_holds b.formals b.variables) waiting.before caller_fit waits_by
+          (λ x own. waiting_owns given waiting.before x own) over over_once (λ i o names. right_by i o names (formal i)) (λ i. said_by i (formal i)) object_by
+
+      module _ (stands : Stands program gs (record s { activations = a ∷ rest })) where
+        sees : seen_by number b caller.program ≡ callee.program
+        sees = callee_sees (program_form program) a.procedure number b stands.body w.rest.0
+
+        callee_fit : Fit callee.program.types callee.program.variables (outers callee) none_spared s.heap begins (first_holds b.formals b.variables)
+        callee_fit = subst (λ (p : ProgramForm). Fit p.types p.variables (outers callee) none_spared s.heap begins (first_holds b.formals b.variables)) sees begun_fit
+
+        -- What may be raised by the body may be raised by the call.
+        raised_by_call : (e : Exception) → body_among callee.program e ≡ true → call_raises (effect_in caller number) (is_same e) ≡ true
+        raised_by_call e may =
+            let effect = effect_at caller.program.types caller.program.bodies number b w.rest.0 in
+            rw effect (rw (← sees) at may)
+
+        -- What is handed over.
+        hands_before : Hands (seen_by number b caller.program) caller.program given waiting.before
+        hands_before = record {
+          alike = λ i x is. let h = handing i x is in let same : h.x ≡ x = cc (h.is) in h.of ∙ ap (λ (y : ℕ). variable_access caller.program.variables y) same;
+          once = handed_over_once caller.program.types caller.program.variables s.heap a.places w.holds [] given w.rest.6;
+          owned = λ i x is. let h = handing i x is in let same : h.x ≡ x = cc (h.is) in subst (λ (y : ℕ). gives_back (hold_at waiting.before y) ≡ true) same (owner_left h.x h.there h.owner);
+          plain = λ i x is. let h = handing i x is in let same : h.x ≡ x = cc (h.is) in subst (λ (y : ℕ). is_object caller.program.variables y ≡ false) same h.plain;
+          owes = handed_owes caller.program.types caller.program.variables s.heap a.places w.holds b.formals b.variables given suits.0 suits.1;
+        }
+
+        -- The caller waits.
+        caller_waits : Waits callee.program (caller_of program waiting gs) (callers_of program gs)
+        caller_waits = record {
+          goes_on = to_here (RunsOn caller k w.rooms) (handed_back given waiting.before) w.rest.1;
+          raises = λ e may. w.rest.2 e (raised_by_call e may);
+          roomed = w.roomed;
+          said = caller_fit.said;
+          objects = caller_fit.objects;
+          lost = get_less given w.holds waiting.before (called_good caller.program.variables (effect_in caller number) w.holds) w.rest.4;
+          hands = subst (λ (p : ProgramForm). Hands p caller.program given waiting.before) sees hands_before;
+          passes = passes_by;
+        }
+          where
+            passes_by : (i x : ℕ) → handed_at given i ≡ Some x → place_at values i ≡ place_at a.places x
+            passes_by i x is =
+                let h = handing i x is in
+                let same : h.x ≡ x = cc (h.is) in
+                sym (stands_at caller.program.types caller.program.variables s.heap a.places w.holds (drop (length values) (blanks named b.variables)) given values order i x is) ∙ (h.value ∙ ap (λ (y : ℕ). place_at a.places y) same)
+
+        caller_low : (x : ℕ) (o : Id) → IsRelied (hold_at (left_unkept [] given waiting.before) x) → place_at a.places x ≡ Names o → (object : Object) × (object_at s.heap o ≡ Some object) × (suc object.cell.home.item ≤ height s.masters)
+        caller_low x o relied names =
+            let waits = weaker_fit (left_unkept [] given waiting.before) waits_by caller_fit in
+            home_low s.heap s.masters o w.stored (there_by s.heap _ o (relied_says s.heap (hold_at (left_unkept [] given waiting.before) x) _ o relied (waits.owners.fit.relied (variable x) o names)))
+
+        -- The body begins, if it runs from where its formal parameters are relied on to be what the call gave them.
+        pub calls_fine : RunsOn callee (Elaborates b.declarations b.statements b.handlers ∷ Returns given ∷ k) (gone_with b.declarations ∷ []) (first_holds b.formals b.variables) → Crosses program s.heap Quiet (begun named number b given values (record s { activations = a ∷ rest; control = k; mode = Running }))
+        calls_fine runs = record {
+          suspensions = waiting ∷ gs;
+          stepped = stays callee Quiet (begun named number b given values (record s { activations = a ∷ rest; control = k; mode = Running })) (
+            tt,
+            record {
+              rooms = gone_with b.declarations ∷ [];
+              holds = first_holds b.formals b.variables;
+              stored = stored_entered s.next w.stored;
+              roomed = (tt, refl);
+              fit = callee_fit;
+              rest = runs;
+            },
+          ) tt;
+          stands = record {
+            body = (b, callee_get (program_form program) a.procedure number b stands.body w.rest.0);
+            behind = (given, k, refl);
+            bodies = (refl, stands.body, stands.behind, stands.bodies);
+            standing = record {
+              suspended = (refl, refl, stands.standing.suspended);
+              waiting = (caller_waits, stands.standing.waiting);
+              low = (caller_low, stands.standing.low);
+            };
+          };
+        }
 
     module _ (stands : Stands program gs (record s { activations = a ∷ rest })) where
-      -- What may be raised by the body may be raised by the call.
-      raised_by_call : (e : Exception) → body_among callee.program e ≡ true → call_raises (slice_get (effects_of caller.program) number) (is_same e) ≡ true
-      raised_by_call e may =
-          let effect = effect_at caller.program.types caller.program.bodies number b w.rest.0 in
-          let sees = callee_sees (program_form program) a.procedure number b stands.body w.rest.0 in
-          rw effect (rw (← sees) at may)
-
       -- What may be freed by the body may be freed by the call.
       pub freed_by_call : (t : ℕ) → body_frees callee.program.types (effects_of callee.program) (main_body callee.program) t ≡ true → call_frees (slice_get (effects_of caller.program) number) t ≡ true
       freed_by_call t may =
           let effect = effect_at caller.program.types caller.program.bodies number b w.rest.0 in
           let sees = callee_sees (program_form program) a.procedure number b stands.body w.rest.0 in
           rw effect (rw (← sees) at may)
-
-      -- The caller waits.
-      caller_waits : Waits callee.program (caller_of program waiting gs) (callers_of program gs)
-      caller_waits = record {
-        goes_on = to_here (RunsOn caller k w.rooms) waiting.holds w.rest.1;
-        raises = λ e may. w.rest.2 e (raised_by_call e may);
-        roomed = w.roomed;
-        nulls = caller_fit.nulls;
-        objects = caller_fit.objects;
-        lost = get_less given w.holds waiting.holds (call_good caller.program.variables (slice_get (effects_of caller.program) number) w.holds) w.rest.4;
-      }
-
-      caller_low : (x : ℕ) (o : Id) → IsRelied (hold_at waiting.holds x) → place_at a.places x ≡ Names o → (object : Object) × (object_at s.heap o ≡ Some object) × (suc object.cell.home.item ≤ height s.masters)
-      caller_low x o relied names =
-          home_low s.heap s.masters o w.stored (there_by s.heap _ o (relied_says s.heap (hold_at waiting.holds x) _ o relied (caller_fit.owners.fit.relied (variable x) o names)))
-
-      -- The body begins, if it runs from where nothing is known of its variables.
-      pub calls_fine : RunsOn callee (Elaborates b.declarations b.statements b.handlers ∷ Returns given ∷ k) (gone_with b.declarations ∷ []) (first_holds b.variables) → (actuals : List Value) → Crosses program s.heap Quiet (begun named number b given actuals (record s { activations = a ∷ rest; control = k; mode = Running }))
-      calls_fine runs actuals = record {
-        suspensions = waiting ∷ gs;
-        stepped = stays callee Quiet (begun named number b given actuals (record s { activations = a ∷ rest; control = k; mode = Running })) (
-          tt,
-          record {
-            rooms = gone_with b.declarations ∷ [];
-            holds = first_holds b.variables;
-            stored = stored_entered s.next w.stored;
-            roomed = (tt, refl);
-            fit = callee_fit (given_places named actuals b.variables);
-            rest = runs;
-          },
-        ) tt;
-        stands = record {
-          body = (b, callee_get (program_form program) a.procedure number b stands.body w.rest.0);
-          behind = (given, k, refl);
-          bodies = (refl, stands.body, stands.behind, stands.bodies);
-          standing = record {
-            suspended = (refl, refl, stands.standing.suspended);
-            waiting = (caller_waits, stands.standing.waiting);
-            low = (caller_low, stands.standing.low);
-          };
-        };
-      }

@@ -7,12 +7,12 @@ use Rattle.std.proofs.lemmas.Bool.{and_parts, ltb-true}
 use Rattle.ada_text.specs.declared.spot.Spot.{Spot}
 use Rattle.ada_program.specs.declared.program.Program.{Program}
 use Rattle.ada_program.specs.Form.{StmtsForm, HandlersForm, declaration_forms, stmt_forms, handler_forms}
-use Rattle.ada_program.specs.ProgramForm.{BodyForm, ProgramForm, body_forms, program_form}
+use Rattle.ada_program.specs.ProgramForm.{BodyForm, ProgramForm, main_body, body_forms, program_form}
 use Rattle.ada_program.specs.WellFormed.{type_fits, variable_fits, creations, creates_from, collections_first, collection_fits, has_collections, initial_fits, stmts_fit, handlers_fit, bodies_fit, all_creations, callable_in, IsWellFormed}
 use Rattle.ada_program.specs.Nested.{collected, part_nests, statements_nest, handlers_nest, callees_of, CollectionsNest}
 use Rattle.ada_effects.specs.Effects.{effects_of}
 use Rattle.ada_flow.specs.declared.rule.Rule.{Rule}
-use Rattle.ada_flow.specs.Flow.{Holds, Outcome, goes, faults, stmts_flow, handlers_flow, declarations_flow, outermost, types_of, variables_of, first_holds, flow_of, program_flow}
+use Rattle.ada_flow.specs.Flow.{Holds, Outcome, Around, goes, faults, stmts_flow, handlers_flow, declarations_flow, keeping_of, body_around, types_of, variables_of, first_holds, flow_of, program_flow}
 use Rattle.ada_meaning.specs.declared.event.Halt.{Halt}
 use Rattle.ada_meaning.specs.Frame as frame
 use Rattle.ada_meaning.specs.Event.{Quiet}
@@ -115,6 +115,11 @@ last program input bodies fs hs cs = last_of (first_with program input fs hs) (c
 abbrev pub form_with : Program → List BodyForm → StmtsForm → HandlersForm → ProgramForm
 form_with program bodies fs hs = record (program_form program) { bodies = bodies; statements = fs; handlers = hs }
 
+-- Where its statements stand.
+abbrev pub around_with : Program → List BodyForm → StmtsForm → HandlersForm → Around
+around_with program bodies fs hs =
+    body_around (effects_of (form_with program bodies fs hs)) (keeping_of (form_with program bodies fs hs)) (main_body (form_with program bodies fs hs))
+
 -- What flow says of it.
 abbrev pub flow_with : Program → List BodyForm → StmtsForm → HandlersForm → Outcome
 flow_with program bodies fs hs = flow_of (form_with program bodies fs hs)
@@ -192,9 +197,9 @@ module _ (program : Program) (bodies : List BodyForm) (fs : StmtsForm) (hs : Han
 
   -- Its parts, where its handlers would be fine at the ends of its statements.
   pub fine_at_ends_in : (holds : Holds) (before within normal raising : Option Holds)
-      → declarations_flow (types_of program) (variables_of program) (declaration_forms program) (first_holds (variables_of program)) ≡ goes (Some holds) before
-      → stmts_flow (types_of program) (variables_of program) (outermost (effects_of (form_with program bodies fs hs))) fs holds ≡ goes (Some holds) within
-      → handlers_flow (types_of program) (variables_of program) (outermost (effects_of (form_with program bodies fs hs))) hs holds ≡ goes normal raising
+      → declarations_flow (types_of program) (variables_of program) (declaration_forms program) (first_holds [] (variables_of program)) ≡ goes (Some holds) before
+      → stmts_flow (types_of program) (variables_of program) (around_with program bodies fs hs) fs holds ≡ goes (Some holds) within
+      → handlers_flow (types_of program) (variables_of program) (around_with program bodies fs hs) hs holds ≡ goes normal raising
       → IsFineAtEnds holds program
   fine_at_ends_in holds before within normal raising d e g = (before, within, normal, raising, d, rw same (rw is e), rw same (rw has g))
 
@@ -256,9 +261,9 @@ module _ (program : Program) (fs : StmtsForm) (hs : HandlersForm) (is : stmt_for
 
   -- The same of its parts.
   pub fine_at_ends_by : (holds : Holds) (before within normal raising : Option Holds)
-      → declarations_flow (types_of program) (variables_of program) (declaration_forms program) (first_holds (variables_of program)) ≡ goes (Some holds) before
-      → stmts_flow (types_of program) (variables_of program) (outermost (effects_of whole)) fs holds ≡ goes (Some holds) within
-      → handlers_flow (types_of program) (variables_of program) (outermost (effects_of whole)) hs holds ≡ goes normal raising → IsFineAtEnds holds program
+      → declarations_flow (types_of program) (variables_of program) (declaration_forms program) (first_holds [] (variables_of program)) ≡ goes (Some holds) before
+      → stmts_flow (types_of program) (variables_of program) (around_with program (body_forms program) fs hs) fs holds ≡ goes (Some holds) within
+      → handlers_flow (types_of program) (variables_of program) (around_with program (body_forms program) fs hs) hs holds ≡ goes normal raising → IsFineAtEnds holds program
   fine_at_ends_by holds before within normal raising d e g =
       fine_at_ends_in program (body_forms program) fs hs refl is has holds before within normal raising d e g
 

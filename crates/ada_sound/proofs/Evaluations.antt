@@ -17,7 +17,7 @@ use Rattle.ada_effects.specs.Effects.{expression_raises, items_raise, path_raise
 use Rattle.ada_flow.specs.declared.rule.Hold.{Hold}
 use Rattle.ada_flow.specs.declared.rule.Hold.TheVariants as hold
 use Rattle.ada_flow.specs.declared.rule.Region.TheVariants.{Whole}
-use Rattle.ada_flow.specs.Flow.{Holds, hold_at, variable_access, uses_in, uses_in_items, uses_in_target, gives_component, lost_by, without_values, moved_by_items, value_hold, borrowed_hold, ends_with, gives, same_selectors, same_path, clears}
+use Rattle.ada_flow.specs.Flow.{Holds, hold_at, variable_access, uses_in, uses_in_items, uses_in_target, gives_component, lost_by, without_values, moved_by_items, value_hold, borrowed_hold, ends_with, gives, same_selectors, same_path, clears, touched_hold}
 use Rattle.ada_meaning.specs.declared.state.Id.{Id}
 use Rattle.ada_meaning.specs.declared.state.Value.{Value}
 use Rattle.ada_meaning.specs.declared.state.Value.TheVariants.{Null, Names, Scalar}
@@ -41,9 +41,10 @@ use Rattle.ada_sound.proofs.Defaults.{defaults_fit, defaults_raise, defaults_mov
 use Rattle.ada_sound.proofs.Values.{read_other}
 use Rattle.ada_sound.proofs.Stored.{Stored, exists_out, stored_owning}
 use Rattle.ada_sound.proofs.Fits.{Fit, MayFollow, names_object, is_object, component_value, component_access, none_spared, place_at, put_null, put_alias, component_is, root_follows, component_follows, take_variable, take_component}
-use Rattle.ada_sound.proofs.Invariant.{outers, below, HasRoom, Known, Control, Rooms, Roomed, Accepts, LeadsTo, GoesInto, Allocating, Clearing, component_among, StoringIn, Pairs, IsAlone, IsOne, Half, HalfBy, IsCleared, front, final, WalksOn, Goes, Raised, RunsOn, NoneBroken, To, MayRaise, RaisesAt, FillsIn, IsHolder, Takes, Computing, Working, Resumes, EvaluatesTo, Awaits, FindsFor, MovesOn, FillsOn, FollowsFor, HalfFollows, ReadyIn, Stepped, Fine, ways}
+use Rattle.ada_sound.proofs.Invariant.{outers, below, HasRoom, Known, Control, Rooms, Roomed, Accepts, LeadsTo, GoesInto, Allocating, Clearing, component_among, StoringIn, Pairs, IsAlone, IsOne, Half, HalfBy, IsCleared, front, final, WalksOn, Goes, Raised, RunsOn, NoneBroken, To, MayRaise, RaisesAt, FillsIn, IsHolder, Takes, Computing, Working, Resumes, EvaluatesTo, Awaits, FindsFor, MovesOn, FillsOn, PassesOn, PassesTo, FollowsFor, HalfFollows, ReadyIn, Stepped, Fine, ways}
 use Rattle.ada_sound.proofs.Ready.{running, at_work, stays, ready_on, runs_on, resumes_on, jumps_less}
-use Rattle.ada_sound.proofs.Walks.{finds_fine, fills_fine, half_fine}
+use Rattle.ada_sound.proofs.Walks.{finds_fine, fills_fine, passed_fine, half_fine}
+use Rattle.ada_sound.proofs.Passed.{raises_behind, passes_fine}
 use Rattle.ada_sound.proofs.Rooms.{roomed_declares}
 use Rattle.ada_sound.proofs.Outcomes.{using_goes, ends_goes}
 use Rattle.ada_sound.proofs.Followings.{kept_apart}
@@ -114,7 +115,7 @@ module _ (known : Known) (k : Control) (a : Activation Value) (rest : List (Acti
               let h = value_gives known.program.types known.program.variables here cleared x whole root [] spot holds (RunsOn known k' rooms) (Raised (λ e. right_raises (is_same e) (value_of (at_path whole root [] spot))) (ways known k' rooms)) is g in
               record {
                 rooms = rooms;
-                holds = slice_set (without_values (root ∷ []) holds) x (hold_at holds root);
+                holds = slice_set (without_values (root ∷ []) holds) x (touched_hold (hold_at holds root));
                 stored = stored;
                 roomed = roomed;
                 fit = move_by fit root spot x (hold_at holds root) none refl same h.0;
@@ -174,6 +175,7 @@ module _ (known : Known) (k : Control) (a : Activation Value) (rest : List (Acti
     -- The value of a component is lent to a borrower.
     borrow_component_by : {holds : Holds} (x d : ℕ) (ds : List ℕ) (h : Hold) → is_object known.program.variables x ≡ false → hold_at holds root ≡ h → lost_by h spot ≡ None → (f : Fit known.program.types known.program.variables (outers known) none_spared s.heap a.places holds) → WalksOn s.heap a.places (at_path whole root (d ∷ ds) spot) (Names o) (c ∷ []) → variable_access known.program.variables x ≡ component_access known.program.types object c → Fit known.program.types known.program.variables (outers known) none_spared s.heap (slice_set a.places x v) (slice_set holds x (borrowed_hold h))
     borrow_component_by x d ds hold.Null none is kept f walks same = absurd (no_walk (place_at a.places root) d ds (null_place f root spot is) walks.0)
+    borrow_component_by x d ds (hold.Kept r) none is kept f walks same = put_alias x v r none (rw same (λ p e. component_is o object c v p refl found listed at e f)) f
     borrow_component_by x d ds (hold.Own r) none is kept f walks same = put_alias x v r none (rw same (λ p e. component_is o object c v p refl found listed at e f)) f
     borrow_component_by x d ds (hold.Alias r) none is kept f walks same = put_alias x v r none (rw same (λ p e. component_is o object c v p refl found listed at e f)) f
     borrow_component_by x d ds hold.Lost none is kept f walks same = absurd (cc kept)
@@ -186,6 +188,11 @@ module _ (known : Known) (k : Control) (a : Activation Value) (rest : List (Acti
     take_variable_by : (x d : ℕ) (ds : List ℕ) (k' : Control) (rooms : Rooms) (holds : Holds) (h : Hold) → is_object known.program.variables x ≡ false → hold_at holds root ≡ h → lost_by h spot ≡ None → Stored None s.heap s.masters → Roomed (below known) s.masters rooms → (f : Fit known.program.types known.program.variables (outers known) none_spared s.heap a.places holds) → x ≢ root → IsCleared (at_path whole root (d ∷ ds) spot) k' → WalksOn s.heap a.places (at_path whole root (d ∷ ds) spot) (Names o) (c ∷ []) → variable_access known.program.variables x ≡ component_access known.program.types object c → RunsOn known k' rooms (slice_set holds x (value_hold (d ∷ ds) h)) → HalfBy known k' s.heap (slice_set a.places x v) s.masters
     take_variable_by x d ds k' rooms holds hold.Null none is kept stored roomed f ne cleared walks same more = absurd (no_walk (place_at a.places root) d ds (null_place f root spot is) walks.0)
     take_variable_by x d ds k' rooms holds hold.Lost none is kept stored roomed f ne cleared walks same more = absurd (cc kept)
+    take_variable_by x d ds k' rooms holds (hold.Kept r) none is kept stored roomed f ne cleared walks same more =
+        half_behind s.heap (slice_set a.places x v) whole root (d ∷ ds) spot k' o c cleared walks.1
+        (ap (λ u. walk s.heap u (front (d ∷ ds))) (read_other a.places x root v Null (λ e. ne (sym e))) ∙ walks.0) (object, found, listed)
+        (λ p e. named_there f p (sym (component_value s.heap [] o object c v found listed at) ∙ e))
+        (record { rooms = rooms; holds = slice_set holds x (hold.Own r); stored = stored_after s.heap o c Null stored; roomed = roomed; fit = take_variable x r none o object c v found listed at same f; rest = more })
     take_variable_by x d ds k' rooms holds (hold.Own r) none is kept stored roomed f ne cleared walks same more =
         half_behind s.heap (slice_set a.places x v) whole root (d ∷ ds) spot k' o c cleared walks.1
         (ap (λ u. walk s.heap u (front (d ∷ ds))) (read_other a.places x root v Null (λ e. ne (sym e))) ∙ walks.0) (object, found, listed)
@@ -445,7 +452,7 @@ module _ (known : Known) (k : Control) (a : Activation Value) (rest : List (Acti
       (record { done = []; spot = record { line = 0; column = 0 }; target = h.0; into = h.1; filled = tt; before = tt; behind = defaults_keep known.program.types (record { line = 0; column = 0 }) h.0 w.holds [] kinds; leads = h.2; counted = (let one : kinds ≡ h.2.components = let mine = d.reached in let its = h.2.reached in cc (mine, its) in ap length one) }))))
 
   -- What is assigned is evaluated.
-  pub right_fine : (types : List TypeDefinition) → Reaches known types → (right : RightForm) (kinds : List VariableKind) → typed.Fits known.program (cells_of s.heap) kinds (Evaluates right ∷ k) → EvaluatesTo known right k s.heap a.places s.masters → Fine known s.heap s.masters (right_next named types right (running k a rest s))
+  right_fine : (types : List TypeDefinition) → Reaches known types → (right : RightForm) (kinds : List VariableKind) → typed.Fits known.program (cells_of s.heap) kinds (Evaluates right ∷ k) → EvaluatesTo known right k s.heap a.places s.masters → Fine known s.heap s.masters (right_next named types right (running k a rest s))
   right_fine types reaches nothing kinds (kind, takes, fits) e = ready_on known k a rest s (Null ∷ a.operands) (nothing_ready kind kinds (takes_none known.program.types known.program.variables kind nothing takes) fits e)
   right_fine types reaches (value_of path) kinds fits w = value_fine path.of_record path.root path.selectors path.spot kinds fits w
   right_fine types reaches (allocates access items) kinds (kind, takes, fits) w =
@@ -458,6 +465,11 @@ module _ (known : Known) (k : Control) (a : Activation Value) (rest : List (Acti
       default_ready types access kind d w (reaches.0 access) h
   right_fine types reaches (computes e) kinds (kind, takes, fits) w =
       ready_on known (Computes e ∷ k) a rest s a.operands (at_work w (computing e kind kinds takes fits w.rooms w.holds w.rest))
+
+  -- What is assigned is evaluated, or what is passed.
+  pub evaluates_fine : (types : List TypeDefinition) → Reaches known types → (right : RightForm) (kinds : List VariableKind) → typed.Fits known.program (cells_of s.heap) kinds (Evaluates right ∷ k) → EvaluatesTo known right k s.heap a.places s.masters ⊎ Working known s.heap a.places s.masters (PassesTo known s.heap a.places a.operands (Evaluates right ∷ k)) → Fine known s.heap s.masters (right_next named types right (running k a rest s))
+  evaluates_fine types reaches right kinds fits (inl e) = right_fine types reaches right kinds fits e
+  evaluates_fine types reaches right kinds (kind, takes, fits) (inr w) = passes_fine known k a rest s types kind right takes w
 
   -- What typing says of a value that is followed on.
   followed_kind : (kinds : List VariableKind) (cs : List ℕ) (v : Value) (below : List Value) → typed.Fits known.program (cells_of s.heap) kinds (Follows cs ∷ k) → AreComputed (cells_of s.heap) kinds (v ∷ below) → (from : VariableKind) × (to : VariableKind) × (ks : List VariableKind) × ((o : Id) (object : Object) → v ≡ Names o → object_at s.heap o ≡ Some object → access_of (Some from) ≡ Some object.cell.access) × (selectors_kind known.program.types (Some from) cs ≡ Some to) × typed.Fits known.program (cells_of s.heap) (to ∷ ks) k
@@ -482,11 +494,12 @@ module _ (known : Known) (k : Control) (a : Activation Value) (rest : List (Acti
       may_read [] raise = tt
       may_read (d ∷ ds) raise = (w.rest.0, raises_all known v k w.rooms w.holds ds raise)
 
-      go : (FindsFor known s.heap a.places v below cs k w.rooms w.holds ⊎ (MayRaise known true ConstraintError k w.rooms w.holds × (Awaits known s.heap a.places below k w.rooms w.holds ⊎ (MovesOn known s.heap a.places v cs k w.rooms w.holds ⊎ FillsOn known s.heap a.places v below cs k w.rooms w.holds)))) → Fine known s.heap s.masters (path_next named cs v (running k (record a { operands = below }) rest s))
+      go : (FindsFor known s.heap a.places v below cs k w.rooms w.holds ⊎ (MayRaise known true ConstraintError k w.rooms w.holds × (Awaits known s.heap a.places below k w.rooms w.holds ⊎ (MovesOn known s.heap a.places v cs k w.rooms w.holds ⊎ (FillsOn known s.heap a.places v below cs k w.rooms w.holds ⊎ PassesOn known s.heap a.places v below cs k w.rooms w.holds))))) → Fine known s.heap s.masters (path_next named cs v (running k (record a { operands = below }) rest s))
       go (inl for) = finds_fine known a rest s below k cs v (at_work w for) w.rest.0
       go (inr (raise, inl awaits)) = reads_fine known k a rest s below cs v (at_work w awaits) (may_read cs (raise refl))
       go (inr (raise, inr (inl moves))) = moving cs v below kinds fits computed w.rest.0 (at_work w moves) raise
-      go (inr (raise, inr (inr fills))) = filling known a rest s below k cs v w.rest.0 (at_work w fills) raise
+      go (inr (raise, inr (inr (inl fills)))) = filling known a rest s below k cs v w.rest.0 (at_work w fills) raise
+      go (inr (raise, inr (inr (inr passes)))) = passed_fine known a rest s below k cs v (at_work w passes) w.rest.0 (raises_behind known v k w.rooms w.holds cs raise)
 
   -- A value is stored, a variable is created, a line is written.
   pub stores_fine : (x : ℕ) (v : Value) (vs : List Value) → Resumes known s.heap (slice_set a.places x v) s.masters k → Stepped known s.heap Quiet (running k (record a { places = slice_set a.places x v; operands = vs }) rest s)

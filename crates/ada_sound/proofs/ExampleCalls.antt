@@ -4,7 +4,9 @@ use Rattle.std.proofs.Common.{◌≡◌, ◌≤◌, ℕ, true, false, List, [], 
 use Rattle.std.specs.Prelude.{None, pos}
 use Rattle.ada_values.specs.declared.operator.BinaryOperator.TheVariants as binary
 use Rattle.ada_values.specs.Outcome.{outcome_of}
+use Rattle.ada_program.specs.declared.program.Actual.{Actual}
 use Rattle.ada_program.specs.declared.program.Actual.TheVariants as actual
+use Rattle.ada_program.specs.declared.program.FormalMode.{FormalMode}
 use Rattle.ada_program.specs.declared.program.FormalMode.TheVariants.{In, InOut}
 use Rattle.ada_program.specs.declared.program.Expression.{Expression, Integer, Path as Reads}
 use Rattle.ada_program.specs.declared.program.Item.TheVariants as item
@@ -22,16 +24,16 @@ use Rattle.ada_program.specs.declared.program.Program.{Program}
 use Rattle.ada_program.specs.Form.{expression_form, stmt_forms, handler_forms, no_handlers, statement_rules, expression_rules}
 use Rattle.ada_program.specs.ProgramForm.{body_forms}
 use Rattle.ada_flow.specs.declared.rule.Hold.TheVariants as hold
-use Rattle.ada_flow.specs.declared.rule.Rule.TheVariants.{LostValue}
+use Rattle.ada_flow.specs.declared.rule.Rule.TheVariants.{LostValue, AliasMoved, UnsafePath, FormalNotOwned}
 use Rattle.ada_flow.specs.Flow.{uses_in}
 use Rattle.ada_meaning.specs.declared.event.Halt.TheVariants.{Finished, Erroneous}
-use Rattle.ada_meaning.specs.declared.event.Why.TheVariants.{FollowsGone}
+use Rattle.ada_meaning.specs.declared.event.Why.TheVariants.{FollowsGone, EndsTwice}
 use Rattle.ada_meaning.specs.Named.{next}
 use Rattle.ada_meaning.specs.Run.{grants, takes}
 use Rattle.ada_sound.specs.Always.{IsChecked, FinishesAfter, Breaks, IsFineAtEnds, HaltsAfter}
 use Rattle.ada_sound.specs.Examples.{full, raising_handlers}
 use Rattle.ada_sound.specs.BorrowerExamples.{HasBorrower}
-use Rattle.ada_sound.specs.CallExamples.{showing_body, calling_bodies, calling_stmts, calling_handlers, calling_events, relending_stmts, relending_events, giving_bodies, giving_stmts, giving_handlers, giving_events, stopping_bodies, stopping_stmts, stopping_events}
+use Rattle.ada_sound.specs.CallExamples.{showing_body, calling_bodies, calling_stmts, calling_handlers, calling_events, relending_stmts, relending_events, giving_bodies, giving_stmts, giving_handlers, giving_events, stopping_bodies, stopping_stmts, stopping_events, bumping_bodies, bumping_stmts, bumping_events, renewing_bodies, renewing_stmts, renewing_events, dropping_bodies, dropping_stmts, dropping_events, sharing_bodies, sharing_stmts, sharing_events, spoiling_bodies, spoiling_stmts, spoiling_events, cutting_bodies, cutting_stmts, cutting_events, claiming_bodies, claiming_stmts, claiming_events}
 use Rattle.ada_sound.proofs.Choices.{accepted_in, breaks_in, fine_at_ends_in, halts_after_in}
 use Rattle.ada_sound.proofs.Example.{steps, vec, no_name, spot, types, link, exceptions, declarations, with_number, x, y, n, n_declared, value_of_x, value_of_y, x_is_seven, y_is_x}
 
@@ -72,6 +74,7 @@ showing = record {
   declarations = vec (declaration.Variable (record { 0 = 1 }) None ∷ []) (omega arith);
   statements = vec showing_all (omega arith);
   handlers = vec [] (omega arith);
+  end = spot;
 }
 
 -- procedure Show_Two (N : Integer) is begin Show (N); Show (N + 1); end Show_Two;
@@ -82,6 +85,7 @@ showing_two = record {
   declarations = vec [] (omega arith);
   statements = vec (calls 0 (Reads x) ∷ calls 0 (with_number binary.Add 1 (Reads x)) ∷ []) (omega arith);
   handlers = vec [] (omega arith);
+  end = spot;
 }
 
 -- when Full => Put_Line (Integer'Image (X.Value)); Free (X);
@@ -188,6 +192,7 @@ incrementing = record {
   declarations = vec [] (omega arith);
   statements = vec (stmt.Assign x (right.Value (with_number binary.Add 1 (Reads x))) ∷ []) (omega arith);
   handlers = vec [] (omega arith);
+  end = spot;
 }
 
 -- A call of such a procedure.
@@ -202,6 +207,7 @@ failing = record {
   declarations = vec [] (omega arith);
   statements = vec (gives_to 0 x ∷ stmt.PutImage (Reads x) ∷ stmt.Raise full ∷ []) (omega arith);
   handlers = vec [] (omega arith);
+  end = spot;
 }
 
 -- when Full => Put_Line (Integer'Image (N));
@@ -251,6 +257,7 @@ stopping_procedure = record {
   declarations = vec [] (omega arith);
   statements = vec (stmt.Raise full ∷ []) (omega arith);
   handlers = vec [] (omega arith);
+  end = spot;
 }
 
 -- X := new Cell'(Value => 7); Y := X; Free (Y); Stop; X := null;
@@ -295,3 +302,255 @@ unfolding next
 stops =
     halts_after_in stopping stopping_bodies stopping_stmts raising_handlers stopping_declares stopping_form stopping_handles []
     (steps 13 ++ grants true ∷ steps 20) stopping_events (Erroneous FollowsGone) refl refl refl
+
+-- A procedure with one formal parameter of this mode, L : Link.
+abbrev with_link : FormalMode → (statements : List Stmt) → length statements ≤ 8 → Procedure
+with_link mode statements le = record {
+  formals = vec (mode ∷ []) (omega arith);
+  variables = vec (link ∷ []) (omega arith);
+  declarations = vec [] (omega arith);
+  statements = vec statements le;
+  handlers = vec [] (omega arith);
+  end = spot;
+}
+
+-- procedure Bump (L : Link) is begin L.Value := L.Value + 1; end Bump;
+abbrev bump : Procedure
+bump = with_link In (stmt.Assign value_of_x (right.Value (with_number binary.Add 1 (Reads value_of_x))) ∷ []) (omega arith)
+
+-- A call that lends a variable to such a procedure.
+abbrev lends_to : ℕ → Path → Stmt
+lends_to procedure path = stmt.Call (record { 0 = procedure }) (vec (actual.InAccess path ∷ []) (omega arith))
+
+-- Free (X);
+abbrev free_x : Stmt
+free_x = stmt.Free (record { 0 = 1 }) x
+
+-- X := new Cell'(Value => 7); Bump (X); Put_Line (Integer'Image (X.Value)); Free (X);
+abbrev bumping_all : List Stmt
+bumping_all = x_is_seven ∷ lends_to 0 x ∷ stmt.PutImage (Reads value_of_x) ∷ free_x ∷ []
+
+abbrev pub bumping : Program
+bumping = program_with (bump ∷ []) (omega arith) bumping_all (omega arith) [] (omega arith)
+
+pub bumping_declares : body_forms bumping ≡ bumping_bodies
+bumping_declares = simp (statement_rules, expression_rules)
+
+pub bumping_form : stmt_forms bumping ≡ bumping_stmts
+bumping_form = simp (statement_rules, expression_rules)
+
+pub bumping_accepted : IsChecked bumping
+unfolding uses_in
+bumping_accepted = accepted_in bumping bumping_bodies bumping_stmts no_handlers bumping_declares bumping_form refl _ _ refl refl refl
+
+-- The variable still owns what the procedure has changed.
+pub bumps : FinishesAfter bumping_events bumping
+unfolding next outcome_of expression_form
+bumps =
+    halts_after_in bumping bumping_bodies bumping_stmts no_handlers bumping_declares bumping_form refl []
+    (steps 13 ++ grants true ∷ steps 34) bumping_events Finished refl refl refl
+
+-- A call that hands a variable over to a procedure.
+abbrev hands_to : ℕ → Path → Stmt
+hands_to procedure path = stmt.Call (record { 0 = procedure }) (vec (actual.InOutAccess path ∷ []) (omega arith))
+
+-- procedure Renew (L : in out Link) is begin Free (L); L := new Cell'(Value => 9); end Renew;
+abbrev renew : Procedure
+renew =
+    with_link InOut
+    (free_x ∷ stmt.Assign x (right.Allocator (record { 0 = 1 }) (vec (item.Value (Integer (pos 9)) ∷ []) (omega arith))) ∷ [])
+    (omega arith)
+
+-- X := new Cell'(Value => 7); Renew (X); Put_Line (Integer'Image (X.Value));
+abbrev renewing_all : List Stmt
+renewing_all = x_is_seven ∷ hands_to 0 x ∷ stmt.PutImage (Reads value_of_x) ∷ []
+
+abbrev pub renewing : Program
+renewing = program_with (renew ∷ []) (omega arith) renewing_all (omega arith) [] (omega arith)
+
+pub renewing_declares : body_forms renewing ≡ renewing_bodies
+renewing_declares = simp (statement_rules, expression_rules)
+
+pub renewing_form : stmt_forms renewing ≡ renewing_stmts
+renewing_form = simp (statement_rules, expression_rules)
+
+pub renewing_accepted : IsChecked renewing
+unfolding uses_in
+renewing_accepted = accepted_in renewing renewing_bodies renewing_stmts no_handlers renewing_declares renewing_form refl _ _ refl refl refl
+
+-- The variable owns what comes back.
+pub renews : FinishesAfter renewing_events renewing
+unfolding next
+renews =
+    halts_after_in renewing renewing_bodies renewing_stmts no_handlers renewing_declares renewing_form refl []
+    (steps 13 ++ grants true ∷ steps 14 ++ grants true ∷ steps 14 ++ takes 0 ∷ steps 4) renewing_events Finished refl refl refl
+
+-- procedure Drop (L : in out Link) is begin if L.Value = 7 then raise Full; end if; Free (L); end Drop;
+abbrev seven_is_full : Stmt
+seven_is_full =
+    stmt.If
+    (vec (record { condition = with_number binary.Equal 7 (Reads value_of_x); statements = vec (stmt.Raise full ∷ []) (omega arith) } ∷ []) (omega arith))
+    (vec [] (omega arith))
+
+abbrev drop : Procedure
+drop = with_link InOut (seven_is_full ∷ free_x ∷ []) (omega arith)
+
+-- X := new Cell'(Value => 7); Drop (X);
+abbrev pub dropping : Program
+dropping = program_with (drop ∷ []) (omega arith) (x_is_seven ∷ hands_to 0 x ∷ []) (omega arith) (freeing_handler ∷ []) (omega arith)
+
+pub dropping_declares : body_forms dropping ≡ dropping_bodies
+dropping_declares = simp (statement_rules, expression_rules)
+
+pub dropping_form : stmt_forms dropping ≡ dropping_stmts
+dropping_form = simp (statement_rules, expression_rules)
+
+pub dropping_handles : handler_forms dropping ≡ calling_handlers
+dropping_handles = simp (statement_rules, expression_rules)
+
+pub dropping_accepted : IsChecked dropping
+unfolding uses_in
+dropping_accepted = accepted_in dropping dropping_bodies dropping_stmts calling_handlers dropping_declares dropping_form dropping_handles _ _ refl refl refl
+
+-- The procedure keeps its formal parameter: the handler follows and frees what the variable owns.
+pub drops : FinishesAfter dropping_events dropping
+unfolding next outcome_of
+drops =
+    halts_after_in dropping dropping_bodies dropping_stmts calling_handlers dropping_declares dropping_form dropping_handles []
+    (steps 13 ++ grants true ∷ steps 35) dropping_events Finished refl refl refl
+
+-- A procedure with two formal parameters of these modes, L : Link and K : Link.
+abbrev with_links : (first second : FormalMode) → (statements : List Stmt) → length statements ≤ 8 → Procedure
+with_links first second statements le = record {
+  formals = vec (first ∷ second ∷ []) (omega arith);
+  variables = vec (link ∷ link ∷ []) (omega arith);
+  declarations = vec [] (omega arith);
+  statements = vec statements le;
+  handlers = vec [] (omega arith);
+  end = spot;
+}
+
+-- A call of such a procedure.
+abbrev calls_with : ℕ → (first second : Actual) → Stmt
+calls_with procedure first second = stmt.Call (record { 0 = procedure }) (vec (first ∷ second ∷ []) (omega arith))
+
+-- L := K;
+abbrev x_is_y : Stmt
+x_is_y = stmt.Assign x (right.Path y)
+
+-- Free (Y);
+abbrev free_y : Stmt
+free_y = stmt.Free (record { 0 = 1 }) y
+
+-- procedure Share (L : in out Link; K : in out Link) is begin L := K; end Share;
+abbrev share : Procedure
+share = with_links InOut InOut (x_is_y ∷ []) (omega arith)
+
+-- X := new Cell'(Value => 7); Share (Y, X); Free (Y); Free (X);
+abbrev sharing_all : List Stmt
+sharing_all = x_is_seven ∷ calls_with 0 (actual.InOutAccess y) (actual.InOutAccess x) ∷ free_y ∷ free_x ∷ []
+
+abbrev pub sharing : Program
+sharing = program_with (share ∷ []) (omega arith) sharing_all (omega arith) [] (omega arith)
+
+pub sharing_declares : body_forms sharing ≡ sharing_bodies
+sharing_declares = simp statement_rules
+
+pub sharing_form : stmt_forms sharing ≡ sharing_stmts
+sharing_form = simp (statement_rules, expression_rules)
+
+pub sharing_breaks : Breaks FormalNotOwned sharing
+unfolding uses_in
+sharing_breaks = breaks_in sharing sharing_bodies sharing_stmts no_handlers sharing_declares sharing_form refl FormalNotOwned spot refl refl refl
+
+-- What comes back to both variables is freed by each.
+pub shares : HaltsAfter sharing_events (Erroneous EndsTwice) sharing
+unfolding next
+shares =
+    halts_after_in sharing sharing_bodies sharing_stmts no_handlers sharing_declares sharing_form refl []
+    (steps 13 ++ grants true ∷ steps 18) sharing_events (Erroneous EndsTwice) refl refl refl
+
+-- procedure Spoil (L : in out Link) is begin Free (L); raise Full; end Spoil;
+abbrev spoil : Procedure
+spoil = with_link InOut (free_x ∷ stmt.Raise full ∷ []) (omega arith)
+
+-- X := new Cell'(Value => 7); Spoil (X);
+abbrev pub spoiling : Program
+spoiling = program_with (spoil ∷ []) (omega arith) (x_is_seven ∷ hands_to 0 x ∷ []) (omega arith) (following_handler ∷ []) (omega arith)
+
+pub spoiling_declares : body_forms spoiling ≡ spoiling_bodies
+spoiling_declares = simp statement_rules
+
+pub spoiling_form : stmt_forms spoiling ≡ spoiling_stmts
+spoiling_form = simp (statement_rules, expression_rules)
+
+pub spoiling_handles : handler_forms spoiling ≡ raising_handlers
+spoiling_handles = simp (statement_rules, expression_rules)
+
+pub spoiling_breaks : Breaks LostValue spoiling
+unfolding uses_in
+spoiling_breaks =
+    breaks_in spoiling spoiling_bodies spoiling_stmts raising_handlers spoiling_declares spoiling_form spoiling_handles LostValue spot refl refl refl
+
+-- The exception gives nothing back, and the handler follows what is gone.
+pub spoils : HaltsAfter spoiling_events (Erroneous FollowsGone) spoiling
+unfolding next
+spoils =
+    halts_after_in spoiling spoiling_bodies spoiling_stmts raising_handlers spoiling_declares spoiling_form spoiling_handles []
+    (steps 13 ++ grants true ∷ steps 18) spoiling_events (Erroneous FollowsGone) refl refl refl
+
+-- procedure Cut (L : in out Link; K : in out Link) is begin Free (L); Put_Line (Integer'Image (K.Value)); end Cut;
+abbrev cut : Procedure
+cut = with_links InOut InOut (free_x ∷ stmt.PutImage (Reads value_of_y) ∷ []) (omega arith)
+
+-- X := new Cell'(Value => 7); Cut (X, X);
+abbrev cutting_all : List Stmt
+cutting_all = x_is_seven ∷ calls_with 0 (actual.InOutAccess x) (actual.InOutAccess x) ∷ []
+
+abbrev pub cutting : Program
+cutting = program_with (cut ∷ []) (omega arith) cutting_all (omega arith) [] (omega arith)
+
+pub cutting_declares : body_forms cutting ≡ cutting_bodies
+cutting_declares = simp (statement_rules, expression_rules)
+
+pub cutting_form : stmt_forms cutting ≡ cutting_stmts
+cutting_form = simp (statement_rules, expression_rules)
+
+pub cutting_breaks : Breaks UnsafePath cutting
+unfolding uses_in
+cutting_breaks = breaks_in cutting cutting_bodies cutting_stmts no_handlers cutting_declares cutting_form refl UnsafePath spot refl refl refl
+
+-- What is freed by way of the one formal parameter is followed by way of the other.
+pub cuts : HaltsAfter cutting_events (Erroneous FollowsGone) cutting
+unfolding next
+cuts =
+    halts_after_in cutting cutting_bodies cutting_stmts no_handlers cutting_declares cutting_form refl []
+    (steps 13 ++ grants true ∷ steps 11) cutting_events (Erroneous FollowsGone) refl refl refl
+
+-- procedure Claim (L : in out Link; K : Link) is begin L := K; end Claim;
+abbrev claim : Procedure
+claim = with_links InOut In (x_is_y ∷ []) (omega arith)
+
+-- X := new Cell'(Value => 7); Claim (Y, X); Free (Y); Free (X);
+abbrev claiming_all : List Stmt
+claiming_all = x_is_seven ∷ calls_with 0 (actual.InOutAccess y) (actual.InAccess x) ∷ free_y ∷ free_x ∷ []
+
+abbrev pub claiming : Program
+claiming = program_with (claim ∷ []) (omega arith) claiming_all (omega arith) [] (omega arith)
+
+pub claiming_declares : body_forms claiming ≡ claiming_bodies
+claiming_declares = simp statement_rules
+
+pub claiming_form : stmt_forms claiming ≡ claiming_stmts
+claiming_form = simp (statement_rules, expression_rules)
+
+pub claiming_breaks : Breaks AliasMoved claiming
+unfolding uses_in
+claiming_breaks = breaks_in claiming claiming_bodies claiming_stmts no_handlers claiming_declares claiming_form refl AliasMoved spot refl refl refl
+
+-- What the one variable only lends, the other one frees; then its owner does.
+pub claims : HaltsAfter claiming_events (Erroneous EndsTwice) claiming
+unfolding next
+claims =
+    halts_after_in claiming claiming_bodies claiming_stmts no_handlers claiming_declares claiming_form refl []
+    (steps 13 ++ grants true ∷ steps 18) claiming_events (Erroneous EndsTwice) refl refl refl

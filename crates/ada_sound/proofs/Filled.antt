@@ -28,7 +28,7 @@ use Rattle.ada_owners.proofs.Kernel as kernel
 use Rattle.ada_owners.proofs.Kernel.{same_or_not}
 use Rattle.ada_owners.proofs.Objects.{read_other, listed_at}
 use Rattle.ada_typed.specs.Holding.{HasKind, HaveKinds, cells_of}
-use Rattle.ada_sound.proofs.Fits.{Outer, Fit, IsBlank, IsOwn, kinds_of, stacked, none_spared, hold_in, place_at}
+use Rattle.ada_sound.proofs.Fits.{Outer, Outsiders, Fit, IsSaid, IsOwn, kinds_of, stacked, none_spared, hold_in, place_at}
 use Rattle.ada_sound.proofs.Assigned.{kind_names}
 use Rattle.ada_sound.proofs.Taken.{selectors_are}
 use Rattle.ada_sound.proofs.Invariant.{NoneBroken, back_onto, named_of, ItemsKeep, DoneKeep, FilledBy, Filled}
@@ -45,6 +45,7 @@ moved_here (h ∷ hs) (suc x) = moved_here hs x
 -- What was moved twice holds no less than what was moved once.
 moved_twice : (h : Hold) → left_by_move (left_by_move h) ≡ left_by_move h
 moved_twice hold.Null = refl
+moved_twice (hold.Kept r) = refl
 moved_twice (hold.Own r) = refl
 moved_twice (hold.Alias r) = refl
 moved_twice hold.Lost = refl
@@ -124,14 +125,16 @@ or_right true b e = refl
 or_right false b e = e
 
 -- What names an object, and is not blank, is moved out of an owner.
-owner_by : (h : Hold) (spot : Spot) (v : Value) (o : Id) → moved_by h spot ≡ None → IsBlank h v → v ≡ Names o → IsOwn h
-owner_by hold.Null spot v o kept blank is = absurd (cc (blank, is))
-owner_by (hold.Own r) spot v o kept blank is = tt
-owner_by (hold.Alias r) spot v o kept blank is = absurd (cc kept)
-owner_by hold.Lost spot v o kept blank is = absurd (cc kept)
+owner_by : (given : Value) (h : Hold) (spot : Spot) (v : Value) (o : Id) → moved_by h spot ≡ None → IsSaid given h v → v ≡ Names o → IsOwn h
+owner_by given hold.Null spot v o kept blank is = absurd (cc (blank, is))
+owner_by given (hold.Kept r) spot v o kept blank is = tt
+owner_by given (hold.Own r) spot v o kept blank is = tt
+owner_by given (hold.Alias r) spot v o kept blank is = absurd (cc kept)
+owner_by given hold.Lost spot v o kept blank is = absurd (cc kept)
 
 -- An owner is relied on to own.
 owns_by : (h : Hold) → IsOwn h → Owns h
+owns_by (hold.Kept r) own = tt
 owns_by (hold.Own r) own = tt
 owns_by h own = absurd own
 
@@ -139,6 +142,7 @@ owns_by h own = absurd own
 taken_target : (b : Bool) (h : Hold) (spot : Spot) → taken_by b h spot ≡ None → b ≡ true
 taken_target true h spot e = refl
 taken_target false hold.Null spot e = absurd (cc e)
+taken_target false (hold.Kept r) spot e = absurd (cc e)
 taken_target false (hold.Own r) spot e = absurd (cc e)
 taken_target false (hold.Alias r) spot e = absurd (cc e)
 taken_target false hold.Lost spot e = absurd (cc e)
@@ -209,7 +213,7 @@ filled_length types variables heap places components done operands filled fits =
 
 -- What is relied on while a new object is made, once its items are moved: no more than before; nothing of the variables that are moved; and where an
 -- item is the target, the component that it leads to is the one that the object goes to, on which nothing relies.
-pub record Lends (outer : List Outer) (heap : List Object) (places : List Value) (holds : Holds) (target : Option PathForm) (xs : List ℕ) (after : Place → Hold) : Type 0 where
+pub record Lends (outer : Outsiders) (heap : List Object) (places : List Value) (holds : Holds) (target : Option PathForm) (xs : List ℕ) (after : Place → Hold) : Type 0 where
   pub h : Id
   pub d : ℕ
   pub worse : (q : Place) → Owns (after q) → Owns (hold_in outer none_spared holds q)
@@ -219,7 +223,7 @@ pub record Lends (outer : List Outer) (heap : List Object) (places : List Value)
       → value_at heap (stacked places outer) (component h d) ≡ Names o
 
 -- An item whose value names an object moves the place that its path names, which owns the object.
-pub record Moves (outer : List Outer) (heap : List Object) (places : List Value) (holds : Holds) (target : Option PathForm) (h : Id) (d : ℕ) (earlier named : List PathForm) (moved : List ℕ) (o : Id) : Type 0 where
+pub record Moves (outer : Outsiders) (heap : List Object) (places : List Value) (holds : Holds) (target : Option PathForm) (h : Id) (d : ℕ) (earlier named : List PathForm) (moved : List ℕ) (o : Id) : Type 0 where
   pub path : PathForm
   pub place : Place
   pub is : named ≡ path ∷ []
@@ -247,7 +251,7 @@ named_parts (p ∷ ps) qs path e =
 named_twice : (named : List PathForm) (p q : PathForm) → named ≡ p ∷ [] → same_path p q ≡ true → is_named named q ≡ false → ⊥
 named_twice named p q is same once = let one : is_named (p ∷ []) q ≡ true = rw same refl in cc (is, one, once)
 
-module _ (types : List TypeForm) (variables : List VariableForm) (outer : List Outer) (heap : List Object) (places : List Value) (holds : Holds) (spot : Spot) (target : Option PathForm) (xs : List ℕ) (after : Place → Hold) (fit : Fit types variables outer none_spared heap places holds) (lends : Lends outer heap places holds target xs after) where
+module _ (types : List TypeForm) (variables : List VariableForm) (outer : Outsiders) (heap : List Object) (places : List Value) (holds : Holds) (spot : Spot) (target : Option PathForm) (xs : List ℕ) (after : Place → Hold) (fit : Fit types variables outer none_spared heap places holds) (lends : Lends outer heap places holds target xs after) where
   path_moves : (earlier : List PathForm) (path : PathForm) (cs : List ℕ) (v : Value) (o : Id) → path.selectors ≡ cs → is_named earlier path ≡ false → moved_behind (is_target target path) cs (hold_at holds path.root) path.spot ≡ None → walk heap (place_at places path.root) cs ≡ finds v → v ≡ Names o → Moves outer heap places holds target lends.h lends.d earlier (path ∷ []) (variable_of cs path.root) o
   path_moves earlier path [] v o whole once kept is names =
       let same : place_at places path.root ≡ v = cc is in
@@ -258,7 +262,7 @@ module _ (types : List TypeForm) (variables : List VariableForm) (outer : List O
         is = refl;
         once = once;
         is_place = inl (whole, refl);
-        own = owns_by (hold_at holds path.root) (owner_by (hold_at holds path.root) path.spot (place_at places path.root) o kept (fit.nulls path.root) held);
+        own = owns_by (hold_at holds path.root) (owner_by (place_at outer.given path.root) (hold_at holds path.root) path.spot (place_at places path.root) o kept (fit.said path.root) held);
         names = held;
         of_moved = λ x e. let same : path.root ≡ x = cc e in ap (λ (y : ℕ). y ∷ []) same;
       }

@@ -40,6 +40,11 @@ pub record Outer : Type 0 where
   pub places : List Value
   pub holds : Holds
 
+-- What is outside of the running activation: what its call gave its formal parameters, and the suspended activations, the nearest one first.
+pub record Outsiders : Type 0 where
+  pub given : List Value
+  pub suspended : List Outer
+
 -- The access type of a variable of a suspended activation, and what it is relied on for.
 abbrev pub outer_access : Option Outer → ℕ → Option ℕ
 outer_access None x = None
@@ -53,18 +58,18 @@ abbrev pub outer_hold : Option Outer → ℕ → Hold
 outer_hold w x = hold_at (outer_holds w) x
 
 -- No suspended activation has an alias of an access type; or of the one that there is, if there is one.
-abbrev pub NoOuterAlias : List Outer → (access : ℕ) → Type 0
-NoOuterAlias outer t = (d x : ℕ) → outer_access (slice_get outer d) x ≡ Some t → Borrows (outer_hold (slice_get outer d) x) → ⊥
+abbrev pub NoOuterAlias : Outsiders → (access : ℕ) → Type 0
+NoOuterAlias outer t = (d x : ℕ) → outer_access (slice_get outer.suspended d) x ≡ Some t → Borrows (outer_hold (slice_get outer.suspended d) x) → ⊥
 
-abbrev pub NoOuterAliases : List Outer → (kind : Option ℕ) → Type 0
+abbrev pub NoOuterAliases : Outsiders → (kind : Option ℕ) → Type 0
 NoOuterAliases outer kind = (t : ℕ) → kind ≡ Some t → NoOuterAlias outer t
 
 -- The access types of components, of variables, and of those of suspended activations, the nearest one first.
-abbrev pub kinds_of : List TypeForm → List VariableForm → List Outer → Kinds
+abbrev pub kinds_of : List TypeForm → List VariableForm → Outsiders → Kinds
 kinds_of types variables outer = record {
   components = λ t c. access_of (kind_among (reached_components types t) c);
   variables = variable_access variables;
-  outer = λ d x. outer_access (slice_get outer d) x;
+  outer = λ d x. outer_access (slice_get outer.suspended d) x;
 }
 
 -- Activations with these variables, and no operands.
@@ -74,8 +79,8 @@ bare places = record { procedure = None; places = places; operands = [] }
 abbrev pub bare_outer : Outer → Activation Value
 bare_outer w = bare w.places
 
-abbrev pub stacked : List Value → List Outer → List (Activation Value)
-stacked places outer = bare places ∷ map bare_outer outer
+abbrev pub stacked : List Value → Outsiders → List (Activation Value)
+stacked places outer = bare places ∷ map bare_outer outer.suspended
 
 -- Nothing relies on the components of some objects: of none; or of those whose home is one of these items.
 abbrev pub none_spared : Id → Bool
@@ -89,17 +94,18 @@ abbrev pub going : List Object → List Item → Id → Bool
 going heap items o = lies_among (object_at heap o) items
 
 -- What a place is relied on for.
-abbrev pub hold_in : List Outer → (spared : Id → Bool) → Holds → Place → Hold
+abbrev pub hold_in : Outsiders → (spared : Id → Bool) → Holds → Place → Hold
 hold_in outer spared holds (variable x) = hold_at holds x
 hold_in outer spared holds (component o c) = component_hold (spared o)
-hold_in outer spared holds (elsewhere d x) = outer_hold (slice_get outer d) x
+hold_in outer spared holds (elsewhere d x) = outer_hold (slice_get outer.suspended d) x
 
--- A variable that is called null is null.
-abbrev pub IsBlank : Hold → Value → Type 0
-IsBlank hold.Null v = v ≡ Null
-IsBlank (hold.Own r) v = Unit {0}
-IsBlank (hold.Alias r) v = Unit {0}
-IsBlank hold.Lost v = Unit {0}
+-- A variable that is called null is null, and one that is kept holds what was given.
+abbrev pub IsSaid : (given : Value) → Hold → Value → Type 0
+IsSaid given hold.Null v = v ≡ Null
+IsSaid given (hold.Kept r) v = v ≡ given
+IsSaid given (hold.Own r) v = Unit {0}
+IsSaid given (hold.Alias r) v = Unit {0}
+IsSaid given hold.Lost v = Unit {0}
 
 abbrev pub place_at : List Value → ℕ → Value
 place_at places x = slice_index_or places x Null
@@ -109,11 +115,14 @@ abbrev pub outer_value : Option Outer → ℕ → Value
 outer_value None x = Null
 outer_value (Some w) x = place_at w.places x
 
-pub outer_value_at : (heap : List Object) (places : List Value) (outer : List Outer) (d x : ℕ) → value_at heap (stacked places outer) (elsewhere d x) ≡ outer_value (slice_get outer d) x
-outer_value_at heap places [] zero x = refl
-outer_value_at heap places [] (suc d) x = refl
-outer_value_at heap places (w ∷ ws) zero x = refl
-outer_value_at heap places (w ∷ ws) (suc d) x = outer_value_at heap w.places ws d x
+suspended_value_at : (heap : List Object) (places : List Value) (ws : List Outer) (d x : ℕ) → value_at heap (bare places ∷ map bare_outer ws) (elsewhere d x) ≡ outer_value (slice_get ws d) x
+suspended_value_at heap places [] zero x = refl
+suspended_value_at heap places [] (suc d) x = refl
+suspended_value_at heap places (w ∷ ws) zero x = refl
+suspended_value_at heap places (w ∷ ws) (suc d) x = suspended_value_at heap w.places ws d x
+
+pub outer_value_at : (heap : List Object) (places : List Value) (outer : Outsiders) (d x : ℕ) → value_at heap (stacked places outer) (elsewhere d x) ≡ outer_value (slice_get outer.suspended d) x
+outer_value_at heap places outer d x = suspended_value_at heap places outer.suspended d x
 
 -- A variable is a record object.
 abbrev pub names_object : Option VariableKind → Bool
@@ -127,18 +136,19 @@ abbrev pub is_object : List VariableForm → ℕ → Bool
 is_object variables x = names_object (variable_kind variables x)
 
 -- All places are as they are relied on to be; and a record object that is not lost is there.
-pub record Fit (types : List TypeForm) (variables : List VariableForm) (outer : List Outer) (spared : Id → Bool) (heap : List Object) (places : List Value) (holds : Holds) : Type 0 where
+pub record Fit (types : List TypeForm) (variables : List VariableForm) (outer : Outsiders) (spared : Id → Bool) (heap : List Object) (places : List Value) (holds : Holds) : Type 0 where
   pub owners : Fits (kinds_of types variables outer) heap (stacked places outer) (hold_in outer spared holds)
-  pub nulls : (x : ℕ) → IsBlank (hold_at holds x) (place_at places x)
+  pub said : (x : ℕ) → IsSaid (place_at outer.given x) (hold_at holds x) (place_at places x)
   pub objects : (x : ℕ) → is_object variables x ≡ true → hold_at holds x ≢ hold.Lost → place_at places x ≢ Null
 
 -- A value is in hand: no place owns what it names.
-abbrev pub Hand : List TypeForm → List VariableForm → List Outer → (spared : Id → Bool) → List Object → List Value → Holds → (kind : Option ℕ) → Value → Type 0
+abbrev pub Hand : List TypeForm → List VariableForm → Outsiders → (spared : Id → Bool) → List Object → List Value → Holds → (kind : Option ℕ) → Value → Type 0
 Hand types variables outer spared heap places holds kind v = IsInHand heap (stacked places outer) (hold_in outer spared holds) kind v
 
 -- It owns what is there.
 abbrev pub IsOwn : Hold → Type 0
 IsOwn hold.Null = ⊥
+IsOwn (hold.Kept r) = Unit {0}
 IsOwn (hold.Own r) = Unit {0}
 IsOwn (hold.Alias r) = ⊥
 IsOwn hold.Lost = ⊥
@@ -146,6 +156,7 @@ IsOwn hold.Lost = ⊥
 -- It is relied on to name what is there.
 abbrev pub IsRelied : Hold → Type 0
 IsRelied hold.Null = ⊥
+IsRelied (hold.Kept r) = Unit {0}
 IsRelied (hold.Own r) = Unit {0}
 IsRelied (hold.Alias r) = Unit {0}
 IsRelied hold.Lost = ⊥
@@ -165,31 +176,33 @@ abbrev pub component_access : List TypeForm → Object → (c : ℕ) → Option 
 component_access types x c = access_of (kind_among (reached_components types x.cell.access) c)
 
 -- What is called null by less was called so before.
-blank_good : (g h : Hold) (v : Value) → is_as_good g h ≡ true → IsBlank g v → IsBlank h v
-blank_good g (hold.Own r) v e is = tt
-blank_good g (hold.Alias r) v e is = tt
-blank_good g hold.Lost v e is = tt
-blank_good hold.Null hold.Null v e is = is
-blank_good g h v e is = absurd (cc e)
+said_good : (given : Value) (g h : Hold) (v : Value) → is_as_good g h ≡ true → IsSaid given g v → IsSaid given h v
+said_good given g (hold.Own r) v e is = tt
+said_good given g (hold.Alias r) v e is = tt
+said_good given g hold.Lost v e is = tt
+said_good given hold.Null hold.Null v e is = is
+said_good given (hold.Kept q) (hold.Kept r) v e is = is
+said_good given g h v e is = absurd (cc e)
 
 -- What is not lost by less was not lost before.
 lost_stays : (g h : Hold) → is_as_good g h ≡ true → h ≢ hold.Lost → g ≢ hold.Lost
 lost_stays g hold.Null e ne is = absurd (cc (is, e))
+lost_stays g (hold.Kept r) e ne is = absurd (cc (is, e))
 lost_stays g (hold.Own r) e ne is = absurd (cc (is, e))
 lost_stays g (hold.Alias r) e ne is = absurd (cc (is, e))
 lost_stays g hold.Lost e ne is = ne refl
 
 -- What is relied on is as good everywhere, if it is so for variables.
-weaker_holds : (outer : List Outer) → (spared : Id → Bool) (holds less : Holds) → ((x : ℕ) → is_as_good (hold_at holds x) (hold_at less x) ≡ true) → (p : Place) → is_as_good (hold_in outer spared holds p) (hold_in outer spared less p) ≡ true
+weaker_holds : (outer : Outsiders) → (spared : Id → Bool) (holds less : Holds) → ((x : ℕ) → is_as_good (hold_at holds x) (hold_at less x) ≡ true) → (p : Place) → is_as_good (hold_in outer spared holds p) (hold_in outer spared less p) ≡ true
 weaker_holds outer spared holds less good (variable x) = good x
 weaker_holds outer spared holds less good (component o c) = good_same (component_hold (spared o))
-weaker_holds outer spared holds less good (elsewhere d x) = good_same (outer_hold (slice_get outer d) x)
+weaker_holds outer spared holds less good (elsewhere d x) = good_same (outer_hold (slice_get outer.suspended d) x)
 
 -- Less is known.
-pub weaker_fit : {types : List TypeForm} {variables : List VariableForm} {outer : List Outer} {spared : Id → Bool} {heap : List Object} {places : List Value} {holds : Holds} (less : Holds) → ((x : ℕ) → is_as_good (hold_at holds x) (hold_at less x) ≡ true) → Fit types variables outer spared heap places holds → Fit types variables outer spared heap places less
+pub weaker_fit : {types : List TypeForm} {variables : List VariableForm} {outer : Outsiders} {spared : Id → Bool} {heap : List Object} {places : List Value} {holds : Holds} (less : Holds) → ((x : ℕ) → is_as_good (hold_at holds x) (hold_at less x) ≡ true) → Fit types variables outer spared heap places holds → Fit types variables outer spared heap places less
 weaker_fit {outer = outer} {spared = spared} {places = places} {holds = holds} less good f = record {
   owners = weaken (hold_in outer spared less) (weaker_holds outer spared holds less good) f.owners;
-  nulls = λ x. blank_good (hold_at holds x) (hold_at less x) (place_at places x) (good x) (f.nulls x);
+  said = λ x. said_good (place_at outer.given x) (hold_at holds x) (hold_at less x) (place_at places x) (good x) (f.said x);
   objects = λ x is ne. f.objects x is (lost_stays (hold_at holds x) (hold_at less x) (good x) ne);
 }
 
@@ -198,16 +211,16 @@ spared_good : (b : Bool) → is_as_good (hold.Own Whole) (component_hold b) ≡ 
 spared_good true = refl
 spared_good false = refl
 
-spared_holds : (outer : List Outer) → (spared : Id → Bool) (holds : Holds) (p : Place) → is_as_good (hold_in outer none_spared holds p) (hold_in outer spared holds p) ≡ true
+spared_holds : (outer : Outsiders) → (spared : Id → Bool) (holds : Holds) (p : Place) → is_as_good (hold_in outer none_spared holds p) (hold_in outer spared holds p) ≡ true
 spared_holds outer spared holds (variable x) = good_same (hold_at holds x)
 spared_holds outer spared holds (component o c) = spared_good (spared o)
-spared_holds outer spared holds (elsewhere d x) = good_same (outer_hold (slice_get outer d) x)
+spared_holds outer spared holds (elsewhere d x) = good_same (outer_hold (slice_get outer.suspended d) x)
 
 -- Nothing relies on components of some objects any more.
-pub spare_fit : {types : List TypeForm} {variables : List VariableForm} {outer : List Outer} {heap : List Object} {places : List Value} {holds : Holds} (spared : Id → Bool) → Fit types variables outer none_spared heap places holds → Fit types variables outer spared heap places holds
+pub spare_fit : {types : List TypeForm} {variables : List VariableForm} {outer : Outsiders} {heap : List Object} {places : List Value} {holds : Holds} (spared : Id → Bool) → Fit types variables outer none_spared heap places holds → Fit types variables outer spared heap places holds
 spare_fit {outer = outer} {holds = holds} spared f = record {
   owners = weaken (hold_in outer spared holds) (spared_holds outer spared holds) f.owners;
-  nulls = f.nulls;
+  said = f.said;
   objects = f.objects;
 }
 
@@ -222,29 +235,30 @@ set_good holds y h good x = go (same_or_not x y) (read_same holds y h hold.Lost)
 
 moved_good : (h : Hold) → is_as_good h (left_by_move h) ≡ true
 moved_good hold.Null = refl
+moved_good (hold.Kept Whole) = refl
 moved_good (hold.Own Whole) = refl
 moved_good (hold.Alias Whole) = refl
 moved_good hold.Lost = refl
 
 -- A variable loses what it holds; variables that were moved do.
-pub lose : {types : List TypeForm} {variables : List VariableForm} {outer : List Outer} {spared : Id → Bool} {heap : List Object} {places : List Value} {holds : Holds} (y : ℕ) → Fit types variables outer spared heap places holds → Fit types variables outer spared heap places (slice_set holds y hold.Lost)
+pub lose : {types : List TypeForm} {variables : List VariableForm} {outer : Outsiders} {spared : Id → Bool} {heap : List Object} {places : List Value} {holds : Holds} (y : ℕ) → Fit types variables outer spared heap places holds → Fit types variables outer spared heap places (slice_set holds y hold.Lost)
 lose {outer = outer} {holds = holds} y f = weaker_fit (slice_set holds y hold.Lost) (set_good holds y hold.Lost (good_lost (hold_at holds y))) f
 
-pub lose_all : {types : List TypeForm} {variables : List VariableForm} {outer : List Outer} {spared : Id → Bool} {heap : List Object} {places : List Value} {holds : Holds} (ys : List ℕ) → Fit types variables outer spared heap places holds → Fit types variables outer spared heap places (without_values ys holds)
+pub lose_all : {types : List TypeForm} {variables : List VariableForm} {outer : Outsiders} {spared : Id → Bool} {heap : List Object} {places : List Value} {holds : Holds} (ys : List ℕ) → Fit types variables outer spared heap places holds → Fit types variables outer spared heap places (without_values ys holds)
 lose_all {outer = outer} [] f = f
 lose_all {outer = outer} {holds = holds} (y ∷ ys) f =
     lose_all ys (weaker_fit (without_value y holds) (set_good holds y (left_by_move (hold_at holds y)) (moved_good (hold_at holds y))) f)
 
 -- A variable has another hold: it is relied on for that, or lost, and other places are relied on as before.
-set_here : (outer : List Outer) → (spared : Id → Bool) (holds : Holds) (x : ℕ) (h : Hold) → (hold_in outer spared (slice_set holds x h) (variable x) ≡ h) ⊎ (hold_in outer spared (slice_set holds x h) (variable x) ≡ hold.Lost)
+set_here : (outer : Outsiders) → (spared : Id → Bool) (holds : Holds) (x : ℕ) (h : Hold) → (hold_in outer spared (slice_set holds x h) (variable x) ≡ h) ⊎ (hold_in outer spared (slice_set holds x h) (variable x) ≡ hold.Lost)
 set_here outer spared holds x h = read_same holds x h hold.Lost
 
-set_others : (outer : List Outer) → (spared : Id → Bool) (holds : Holds) (x : ℕ) (h : Hold) (q : Place) → q ≢ variable x → hold_in outer spared (slice_set holds x h) q ≡ hold_in outer spared holds q
+set_others : (outer : Outsiders) → (spared : Id → Bool) (holds : Holds) (x : ℕ) (h : Hold) (q : Place) → q ≢ variable x → hold_in outer spared (slice_set holds x h) q ≡ hold_in outer spared holds q
 set_others outer spared holds x h (variable y) ne = read_other holds x y h hold.Lost (λ e. ne (ap variable e))
 set_others outer spared holds x h (component o c) ne = refl
 set_others outer spared holds x h (elsewhere d y) ne = refl
 
-set_lost : (outer : List Outer) → (spared : Id → Bool) (holds : Holds) (x : ℕ) → hold_in outer spared (slice_set holds x hold.Lost) (variable x) ≡ hold.Lost
+set_lost : (outer : Outsiders) → (spared : Id → Bool) (holds : Holds) (x : ℕ) → hold_in outer spared (slice_set holds x hold.Lost) (variable x) ≡ hold.Lost
 set_lost outer spared holds x = elim (set_here outer spared holds x hold.Lost) [ inl e ↦ e | inr e ↦ e ]
 
 some_by : (g : Hold) (r : Region) → (g ≡ hold.Own r) ⊎ (g ≡ hold.Lost) → g ≢ hold.Null
@@ -252,19 +266,19 @@ some_by g r (inl e) n = cc (e, n)
 some_by g r (inr e) n = cc (e, n)
 
 -- What is called null then is null.
-blank_by : (g h : Hold) (v : Value) → (g ≡ h) ⊎ (g ≡ hold.Lost) → IsBlank h v → IsBlank g v
-blank_by g h v (inl e) is = rw e is
-blank_by g h v (inr e) is = rw e tt
+said_by : (given : Value) (g h : Hold) (v : Value) → (g ≡ h) ⊎ (g ≡ hold.Lost) → IsSaid given h v → IsSaid given g v
+said_by given g h v (inl e) is = rw e is
+said_by given g h v (inr e) is = rw e tt
 
-set_nulls : (holds : Holds) (places after : List Value) (x : ℕ) (h : Hold) → ((y : ℕ) → y ≢ x → place_at after y ≡ place_at places y) → IsBlank h (place_at after x) → ((y : ℕ) → IsBlank (hold_at holds y) (place_at places y)) → (y : ℕ) → IsBlank (hold_at (slice_set holds x h) y) (place_at after y)
-set_nulls holds places after x h others here blank y = go (same_or_not y x)
+set_said : (given : List Value) (holds : Holds) (places after : List Value) (x : ℕ) (h : Hold) → ((y : ℕ) → y ≢ x → place_at after y ≡ place_at places y) → IsSaid (place_at given x) h (place_at after x) → ((y : ℕ) → IsSaid (place_at given y) (hold_at holds y) (place_at places y)) → (y : ℕ) → IsSaid (place_at given y) (hold_at (slice_set holds x h) y) (place_at after y)
+set_said given holds places after x h others here said y = go (same_or_not y x)
   where
-    go : (y ≡ x) ⊎ (y ≢ x) → IsBlank (hold_at (slice_set holds x h) y) (place_at after y)
-    go (inl e) = rw e (blank_by (hold_at (slice_set holds x h) x) h (place_at after x) (read_same holds x h hold.Lost) here)
-    go (inr ne) = rw (read_other holds x y h hold.Lost ne, others y ne) (blank y)
+    go : (y ≡ x) ⊎ (y ≢ x) → IsSaid (place_at given y) (hold_at (slice_set holds x h) y) (place_at after y)
+    go (inl e) = rw e (said_by (place_at given x) (hold_at (slice_set holds x h) x) h (place_at after x) (read_same holds x h hold.Lost) here)
+    go (inr ne) = rw (read_other holds x y h hold.Lost ne, others y ne) (said y)
 
-put_nulls : (holds : Holds) (places : List Value) (x : ℕ) (v : Value) (h : Hold) → IsBlank h (place_at (slice_set places x v) x) → ((y : ℕ) → IsBlank (hold_at holds y) (place_at places y)) → (y : ℕ) → IsBlank (hold_at (slice_set holds x h) y) (place_at (slice_set places x v) y)
-put_nulls holds places x v h here blank = set_nulls holds places (slice_set places x v) x h (λ y ne. read_other places x y v Null ne) here blank
+put_said : (given : List Value) (holds : Holds) (places : List Value) (x : ℕ) (v : Value) (h : Hold) → IsSaid (place_at given x) h (place_at (slice_set places x v) x) → ((y : ℕ) → IsSaid (place_at given y) (hold_at holds y) (place_at places y)) → (y : ℕ) → IsSaid (place_at given y) (hold_at (slice_set holds x h) y) (place_at (slice_set places x v) y)
+put_said given holds places x v h here said = set_said given holds places (slice_set places x v) x h (λ y ne. read_other places x y v Null ne) here said
 
 -- What is a record object, and not lost, is there still.
 set_objects : (variables : List VariableForm) (holds : Holds) (places after : List Value) (x : ℕ) (h : Hold) → ((y : ℕ) → y ≢ x → place_at after y ≡ place_at places y) → (is_object variables x ≡ true → h ≢ hold.Lost → place_at after x ≢ Null) → ((y : ℕ) → is_object variables y ≡ true → hold_at holds y ≢ hold.Lost → place_at places y ≢ Null) → (y : ℕ) → is_object variables y ≡ true → hold_at (slice_set holds x h) y ≢ hold.Lost → place_at after y ≢ Null
@@ -289,34 +303,34 @@ object_by : (b : Bool) → (b ≡ true → ⊥) → b ≡ false
 object_by true none = absurd (none refl)
 object_by false none = refl
 
-pub null_object : {types : List TypeForm} {variables : List VariableForm} {outer : List Outer} {spared : Id → Bool} {heap : List Object} {places : List Value} {holds : Holds} (x : ℕ) → hold_at holds x ≢ hold.Lost → place_at places x ≡ Null → Fit types variables outer spared heap places holds → is_object variables x ≡ false
+pub null_object : {types : List TypeForm} {variables : List VariableForm} {outer : Outsiders} {spared : Id → Bool} {heap : List Object} {places : List Value} {holds : Holds} (x : ℕ) → hold_at holds x ≢ hold.Lost → place_at places x ≡ Null → Fit types variables outer spared heap places holds → is_object variables x ≡ false
 null_object {variables = variables} {outer = outer} x ne null f = object_by (is_object variables x) (λ is. f.objects x is ne null)
 
 null_put : (places : List Value) (x : ℕ) → place_at (slice_set places x Null) x ≡ Null
 null_put places x = elim (read_same places x Null Null) [ inl e ↦ e | inr e ↦ e ]
 
 -- A variable gets any value, on which nothing relies; null; or what is in hand.
-pub put_lost : {types : List TypeForm} {variables : List VariableForm} {outer : List Outer} {spared : Id → Bool} {heap : List Object} {places : List Value} {holds : Holds} (x : ℕ) (v : Value) → Fit types variables outer spared heap places holds → Fit types variables outer spared heap (slice_set places x v) (slice_set holds x hold.Lost)
+pub put_lost : {types : List TypeForm} {variables : List VariableForm} {outer : Outsiders} {spared : Id → Bool} {heap : List Object} {places : List Value} {holds : Holds} (x : ℕ) (v : Value) → Fit types variables outer spared heap places holds → Fit types variables outer spared heap (slice_set places x v) (slice_set holds x hold.Lost)
 put_lost {variables = variables} {outer = outer} {spared = spared} {places = places} {holds = holds} x v f = record {
   owners = put_fits x v (hold_in outer spared (slice_set holds x hold.Lost)) (set_others outer spared holds x hold.Lost) f.owners
       (λ o e. rw (set_lost outer spared holds x) tt)
       (λ o own. absurd (lost_owns (hold_in outer spared (slice_set holds x hold.Lost) (variable x)) (set_lost outer spared holds x) own));
-  nulls = put_nulls holds places x v hold.Lost tt f.nulls;
+  said = put_said outer.given holds places x v hold.Lost tt f.said;
   objects = put_objects variables holds places x v hold.Lost (λ is ne. absurd (ne refl)) f.objects;
 }
 
-pub put_null : {types : List TypeForm} {variables : List VariableForm} {outer : List Outer} {spared : Id → Bool} {heap : List Object} {places : List Value} {holds : Holds} (x : ℕ) → is_object variables x ≡ false → Fit types variables outer spared heap places holds → Fit types variables outer spared heap (slice_set places x Null) (slice_set holds x hold.Null)
+pub put_null : {types : List TypeForm} {variables : List VariableForm} {outer : Outsiders} {spared : Id → Bool} {heap : List Object} {places : List Value} {holds : Holds} (x : ℕ) → is_object variables x ≡ false → Fit types variables outer spared heap places holds → Fit types variables outer spared heap (slice_set places x Null) (slice_set holds x hold.Null)
 put_null {variables = variables} {outer = outer} {spared = spared} {places = places} {holds = holds} x none f = record {
   owners = put_blank x Null (hold_in outer spared (slice_set holds x hold.Null)) (set_others outer spared holds x hold.Null) f.owners (λ o e. cc e);
-  nulls = put_nulls holds places x Null hold.Null (null_put places x) f.nulls;
+  said = put_said outer.given holds places x Null hold.Null (null_put places x) f.said;
   objects = put_objects variables holds places x Null hold.Null (λ is. no_object variables x none is) f.objects;
 }
 
-pub put_owner : {types : List TypeForm} {variables : List VariableForm} {outer : List Outer} {spared : Id → Bool} {heap : List Object} {places : List Value} {holds : Holds} (x : ℕ) (v : Value) (r : Region) → (is_object variables x ≡ true → place_at (slice_set places x v) x ≢ Null) → Hand types variables outer spared heap places holds (variable_access variables x) v → Fit types variables outer spared heap places holds → Fit types variables outer spared heap (slice_set places x v) (slice_set holds x (hold.Own r))
+pub put_owner : {types : List TypeForm} {variables : List VariableForm} {outer : Outsiders} {spared : Id → Bool} {heap : List Object} {places : List Value} {holds : Holds} (x : ℕ) (v : Value) (r : Region) → (is_object variables x ≡ true → place_at (slice_set places x v) x ≢ Null) → Hand types variables outer spared heap places holds (variable_access variables x) v → Fit types variables outer spared heap places holds → Fit types variables outer spared heap (slice_set places x v) (slice_set holds x (hold.Own r))
 put_owner {variables = variables} {outer = outer} {spared = spared} {places = places} {holds = holds} x v r there hand f = record {
   owners = put_hand x v (hold_in outer spared (slice_set holds x (hold.Own r))) (set_others outer spared holds x (hold.Own r)) f.owners
       (some_by (hold_in outer spared (slice_set holds x (hold.Own r)) (variable x)) r (set_here outer spared holds x (hold.Own r))) hand;
-  nulls = put_nulls holds places x v (hold.Own r) tt f.nulls;
+  said = put_said outer.given holds places x v (hold.Own r) tt f.said;
   objects = put_objects variables holds places x v (hold.Own r) (λ is ne. there is) f.objects;
 }
 
@@ -329,36 +343,37 @@ alias_owns : (g : Hold) (r : Region) → (g ≡ hold.Alias r) ⊎ (g ≡ hold.Lo
 alias_owns g r (inl e) own = rw e at own
 alias_owns g r (inr e) own = rw e at own
 
-pub put_alias : {types : List TypeForm} {variables : List VariableForm} {outer : List Outer} {spared : Id → Bool} {heap : List Object} {places : List Value} {holds : Holds} (x : ℕ) (v : Value) (r : Region) → is_object variables x ≡ false → MayName heap (variable_access variables x) v → Fit types variables outer spared heap places holds → Fit types variables outer spared heap (slice_set places x v) (slice_set holds x (hold.Alias r))
+pub put_alias : {types : List TypeForm} {variables : List VariableForm} {outer : Outsiders} {spared : Id → Bool} {heap : List Object} {places : List Value} {holds : Holds} (x : ℕ) (v : Value) (r : Region) → is_object variables x ≡ false → MayName heap (variable_access variables x) v → Fit types variables outer spared heap places holds → Fit types variables outer spared heap (slice_set places x v) (slice_set holds x (hold.Alias r))
 put_alias {variables = variables} {outer = outer} {spared = spared} {heap = heap} {places = places} {holds = holds} x v r none may f = record {
   owners = put_fits x v (hold_in outer spared (slice_set holds x (hold.Alias r))) (set_others outer spared holds x (hold.Alias r)) f.owners
       (λ o e. says_alias heap (hold_in outer spared (slice_set holds x (hold.Alias r)) (variable x)) r (variable_access variables x) o (set_here outer spared holds x (hold.Alias r)) (may o e))
       (λ o own. absurd (alias_owns (hold_in outer spared (slice_set holds x (hold.Alias r)) (variable x)) r (set_here outer spared holds x (hold.Alias r)) own));
-  nulls = put_nulls holds places x v (hold.Alias r) tt f.nulls;
+  said = put_said outer.given holds places x v (hold.Alias r) tt f.said;
   objects = put_objects variables holds places x v (hold.Alias r) (λ is. no_object variables x none is) f.objects;
 }
 
 -- A variable that is null may be called so.
-pub null_fit : {types : List TypeForm} {variables : List VariableForm} {outer : List Outer} {spared : Id → Bool} {heap : List Object} {places : List Value} {holds : Holds} (y : ℕ) → is_object variables y ≡ false → place_at places y ≡ Null → Fit types variables outer spared heap places holds → Fit types variables outer spared heap places (slice_set holds y hold.Null)
+pub null_fit : {types : List TypeForm} {variables : List VariableForm} {outer : Outsiders} {spared : Id → Bool} {heap : List Object} {places : List Value} {holds : Holds} (y : ℕ) → is_object variables y ≡ false → place_at places y ≡ Null → Fit types variables outer spared heap places holds → Fit types variables outer spared heap places (slice_set holds y hold.Null)
 null_fit {variables = variables} {outer = outer} {spared = spared} {places = places} {holds = holds} y none is f = record {
   owners = nulls (variable y) (hold_in outer spared (slice_set holds y hold.Null)) (set_others outer spared holds y hold.Null) (λ o e. cc (is, e)) f.owners;
-  nulls = set_nulls holds places places y hold.Null (λ x ne. refl) is f.nulls;
+  said = set_said outer.given holds places places y hold.Null (λ x ne. refl) is f.said;
   objects = set_objects variables holds places places y hold.Null (λ x ne. refl) (λ object. no_object variables y none object) f.objects;
 }
 
 -- What owns is relied on to own.
 own_owns : (h : Hold) → IsOwn h → Owns h
+own_owns (hold.Kept r) own = tt
 own_owns (hold.Own r) own = tt
 own_owns h own = absurd own
 
 -- The value of an owner is in hand once the owner is lost.
-pub hand_of : {types : List TypeForm} {variables : List VariableForm} {outer : List Outer} {spared : Id → Bool} {heap : List Object} {places : List Value} {holds : Holds} (y : ℕ) → IsOwn (hold_at holds y) → Fit types variables outer spared heap places holds → Hand types variables outer spared heap places (slice_set holds y hold.Lost) (variable_access variables y) (place_at places y)
+pub hand_of : {types : List TypeForm} {variables : List VariableForm} {outer : Outsiders} {spared : Id → Bool} {heap : List Object} {places : List Value} {holds : Holds} (y : ℕ) → IsOwn (hold_at holds y) → Fit types variables outer spared heap places holds → Hand types variables outer spared heap places (slice_set holds y hold.Lost) (variable_access variables y) (place_at places y)
 hand_of {outer = outer} {spared = spared} {holds = holds} y own f =
     taken (variable y) (hold_in outer spared (slice_set holds y hold.Lost)) (own_owns (hold_at holds y) own)
     (λ a. lost_owns (hold_in outer spared (slice_set holds y hold.Lost) (variable y)) (set_lost outer spared holds y) a) (set_others outer spared holds y hold.Lost) f.owners
 
 -- X := Y, where Y is an owner of X's access type: also where X is Y.
-pub move_fit : {types : List TypeForm} {variables : List VariableForm} {outer : List Outer} {spared : Id → Bool} {heap : List Object} {places : List Value} {holds : Holds} (x y : ℕ) (r : Region) → is_object variables x ≡ false → IsOwn (hold_at holds y) → variable_access variables x ≡ variable_access variables y → Fit types variables outer spared heap places holds → Fit types variables outer spared heap (slice_set places x (place_at places y)) (slice_set (slice_set holds y hold.Lost) x (hold.Own r))
+pub move_fit : {types : List TypeForm} {variables : List VariableForm} {outer : Outsiders} {spared : Id → Bool} {heap : List Object} {places : List Value} {holds : Holds} (x y : ℕ) (r : Region) → is_object variables x ≡ false → IsOwn (hold_at holds y) → variable_access variables x ≡ variable_access variables y → Fit types variables outer spared heap places holds → Fit types variables outer spared heap (slice_set places x (place_at places y)) (slice_set (slice_set holds y hold.Lost) x (hold.Own r))
 move_fit {variables = variables} {outer = outer} {places = places} x y r none own same f = put_owner x (place_at places y) r (λ is. no_object variables x none is) (rw same (hand_of y own f)) (lose y f)
 
 -- What is relied on to name an object names one that is there.
@@ -368,6 +383,7 @@ there_by heap (Some t) o s = let h = listed_at heap o t s in (h.object, h.found,
 
 says_there : (heap : List Object) (h : Hold) (spot : Spot) (kind : Option ℕ) (o : Id) → lost_by h spot ≡ None → Says (access_at heap) h kind o → IsThere heap o
 says_there heap hold.Null spot kind o kept s = absurd s
+says_there heap (hold.Kept r) spot kind o kept s = there_by heap kind o s
 says_there heap (hold.Own r) spot kind o kept s = there_by heap kind o s
 says_there heap (hold.Alias r) spot kind o kept s = there_by heap kind o s
 says_there heap hold.Lost spot kind o kept s = absurd (cc kept)
@@ -391,129 +407,130 @@ pub access_is : (heap : List Object) (o : Id) (object : Object) → object_at he
 access_is heap o object found listed = rw (found, listed) refl
 
 -- What a variable holds that is not lost may be followed, and so may what a component holds.
-pub root_follows : {types : List TypeForm} {variables : List VariableForm} {outer : List Outer} {spared : Id → Bool} {heap : List Object} {places : List Value} {holds : Holds} (x : ℕ) (spot : Spot) → lost_by (hold_at holds x) spot ≡ None → Fit types variables outer spared heap places holds → MayFollow heap (place_at places x)
+pub root_follows : {types : List TypeForm} {variables : List VariableForm} {outer : Outsiders} {spared : Id → Bool} {heap : List Object} {places : List Value} {holds : Holds} (x : ℕ) (spot : Spot) → lost_by (hold_at holds x) spot ≡ None → Fit types variables outer spared heap places holds → MayFollow heap (place_at places x)
 root_follows {variables = variables} {outer = outer} {heap = heap} {places = places} {holds = holds} x spot kept f =
     follows_by heap (place_at places x) (λ o e. says_there heap (hold_at holds x) spot (variable_access variables x) o kept (f.owners.fit.relied (variable x) o e))
 
-pub component_is : {types : List TypeForm} {variables : List VariableForm} {outer : List Outer} {spared : Id → Bool} {heap : List Object} {places : List Value} {holds : Holds} (o : Id) (object : Object) (c : ℕ) (v : Value) (p : Id) → spared o ≡ false → object_at heap o ≡ Some object → object.listed ≡ true → slice_get object.cell.values c ≡ Some v → v ≡ Names p → Fit types variables outer spared heap places holds → IsOf (access_at heap) (component_access types object c) p
+pub component_is : {types : List TypeForm} {variables : List VariableForm} {outer : Outsiders} {spared : Id → Bool} {heap : List Object} {places : List Value} {holds : Holds} (o : Id) (object : Object) (c : ℕ) (v : Value) (p : Id) → spared o ≡ false → object_at heap o ≡ Some object → object.listed ≡ true → slice_get object.cell.values c ≡ Some v → v ≡ Names p → Fit types variables outer spared heap places holds → IsOf (access_at heap) (component_access types object c) p
 component_is {outer = outer} {spared = spared} {heap = heap} {places = places} o object c v p kept found listed at is f =
     let own : Owns (component_hold (spared o)) = rw kept tt in
     let names = component_value heap (stacked places outer) o object c v found listed at ∙ is in
     rw (access_is heap o object found listed) at (kernel.owned_at f.owners.fit (component o c) own p names)
 
-pub component_follows : {types : List TypeForm} {variables : List VariableForm} {outer : List Outer} {spared : Id → Bool} {heap : List Object} {places : List Value} {holds : Holds} (o : Id) (object : Object) (c : ℕ) (v : Value) → spared o ≡ false → object_at heap o ≡ Some object → object.listed ≡ true → slice_get object.cell.values c ≡ Some v → Fit types variables outer spared heap places holds → MayFollow heap v
+pub component_follows : {types : List TypeForm} {variables : List VariableForm} {outer : Outsiders} {spared : Id → Bool} {heap : List Object} {places : List Value} {holds : Holds} (o : Id) (object : Object) (c : ℕ) (v : Value) → spared o ≡ false → object_at heap o ≡ Some object → object.listed ≡ true → slice_get object.cell.values c ≡ Some v → Fit types variables outer spared heap places holds → MayFollow heap v
 component_follows {types = types} {outer = outer} {heap = heap} o object c v kept found listed at f =
     follows_by heap v (λ p is. there_by heap (component_access types object c) p (component_is o object c v p kept found listed at is f))
 
 -- A component gets what names nothing, or what is in hand.
-pub store_blank : {types : List TypeForm} {variables : List VariableForm} {outer : List Outer} {spared : Id → Bool} {heap : List Object} {places : List Value} {holds : Holds} (o : Id) (object : Object) (c : ℕ) (v : Value) → object_at heap o ≡ Some object → ((p : Id) → v ≡ Names p → ⊥) → Fit types variables outer spared heap places holds → Fit types variables outer spared (store heap (Names o) c v) places holds
+pub store_blank : {types : List TypeForm} {variables : List VariableForm} {outer : Outsiders} {spared : Id → Bool} {heap : List Object} {places : List Value} {holds : Holds} (o : Id) (object : Object) (c : ℕ) (v : Value) → object_at heap o ≡ Some object → ((p : Id) → v ≡ Names p → ⊥) → Fit types variables outer spared heap places holds → Fit types variables outer spared (store heap (Names o) c v) places holds
 store_blank {outer = outer} {spared = spared} {heap = heap} {holds = holds} o object c v found none f = record {
   owners = changes.store_blank heap o object found c v (hold_in outer spared holds) (λ q ne. refl) f.owners none;
-  nulls = f.nulls;
+  said = f.said;
   objects = f.objects;
 }
 
-pub store_owner : {types : List TypeForm} {variables : List VariableForm} {outer : List Outer} {heap : List Object} {places : List Value} {holds : Holds} (o : Id) (object : Object) (c : ℕ) (v : Value) → object_at heap o ≡ Some object → object.listed ≡ true → Hand types variables outer none_spared heap places holds (component_access types object c) v → Fit types variables outer none_spared heap places holds → Fit types variables outer none_spared (store heap (Names o) c v) places holds
+pub store_owner : {types : List TypeForm} {variables : List VariableForm} {outer : Outsiders} {heap : List Object} {places : List Value} {holds : Holds} (o : Id) (object : Object) (c : ℕ) (v : Value) → object_at heap o ≡ Some object → object.listed ≡ true → Hand types variables outer none_spared heap places holds (component_access types object c) v → Fit types variables outer none_spared heap places holds → Fit types variables outer none_spared (store heap (Names o) c v) places holds
 store_owner {outer = outer} {heap = heap} {holds = holds} o object c v found listed hand f = record {
   owners = store_hand heap o object found c v (hold_in outer none_spared holds) (λ q ne. refl) f.owners (λ e. cc e) (rw (access_is heap o object found listed) hand);
-  nulls = f.nulls;
+  said = f.said;
   objects = f.objects;
 }
 
 -- What a variable that is not lost names is of its access type; so is what a component of an object in its collection names.
 says_kind : (heap : List Object) (h : Hold) (spot : Spot) (kind : Option ℕ) (o : Id) → lost_by h spot ≡ None → Says (access_at heap) h kind o → IsOf (access_at heap) kind o
 says_kind heap hold.Null spot kind o kept s = absurd s
+says_kind heap (hold.Kept r) spot kind o kept s = s
 says_kind heap (hold.Own r) spot kind o kept s = s
 says_kind heap (hold.Alias r) spot kind o kept s = s
 says_kind heap hold.Lost spot kind o kept s = absurd (cc kept)
 
-pub root_names : {types : List TypeForm} {variables : List VariableForm} {outer : List Outer} {spared : Id → Bool} {heap : List Object} {places : List Value} {holds : Holds} (x : ℕ) (spot : Spot) → lost_by (hold_at holds x) spot ≡ None → Fit types variables outer spared heap places holds → MayName heap (variable_access variables x) (place_at places x)
+pub root_names : {types : List TypeForm} {variables : List VariableForm} {outer : Outsiders} {spared : Id → Bool} {heap : List Object} {places : List Value} {holds : Holds} (x : ℕ) (spot : Spot) → lost_by (hold_at holds x) spot ≡ None → Fit types variables outer spared heap places holds → MayName heap (variable_access variables x) (place_at places x)
 root_names {variables = variables} {outer = outer} {heap = heap} {holds = holds} x spot kept f o e =
     says_kind heap (hold_at holds x) spot (variable_access variables x) o kept (f.owners.fit.relied (variable x) o e)
 
 -- What is relied on, in the form that the laws of owners take: no component is lent.
-abbrev pub as_reliance : List Outer → Holds → Reliance
-as_reliance outer holds = record { holds = holds; outer = λ d. outer_holds (slice_get outer d); lent = [] }
+abbrev pub as_reliance : Outsiders → Holds → Reliance
+as_reliance outer holds = record { holds = holds; outer = λ d. outer_holds (slice_get outer.suspended d); lent = [] }
 
-same_reliance : (outer : List Outer) → (holds : Holds) (p : Place) → hold_of (as_reliance outer holds) p ≡ hold_in outer none_spared holds p
+same_reliance : (outer : Outsiders) → (holds : Holds) (p : Place) → hold_of (as_reliance outer holds) p ≡ hold_in outer none_spared holds p
 same_reliance outer holds (variable x) = refl
 same_reliance outer holds (component o c) = refl
 same_reliance outer holds (elsewhere d x) = refl
 
-to_reliance : (outer : List Outer) → {kinds : Kinds} {heap : List Object} {activations : List (Activation Value)} (holds : Holds) → Fits kinds heap activations (hold_in outer none_spared holds) → Fits kinds heap activations (hold_of (as_reliance outer holds))
+to_reliance : (outer : Outsiders) → {kinds : Kinds} {heap : List Object} {activations : List (Activation Value)} (holds : Holds) → Fits kinds heap activations (hold_in outer none_spared holds) → Fits kinds heap activations (hold_of (as_reliance outer holds))
 to_reliance outer holds f = record { fit = kernel.held_same f.fit (hold_of (as_reliance outer holds)) (λ p o e. same_reliance outer holds p) }
 
-from_reliance : (outer : List Outer) → {kinds : Kinds} {heap : List Object} {activations : List (Activation Value)} (holds : Holds) → Fits kinds heap activations (hold_of (as_reliance outer holds)) → Fits kinds heap activations (hold_in outer none_spared holds)
+from_reliance : (outer : Outsiders) → {kinds : Kinds} {heap : List Object} {activations : List (Activation Value)} (holds : Holds) → Fits kinds heap activations (hold_of (as_reliance outer holds)) → Fits kinds heap activations (hold_in outer none_spared holds)
 from_reliance outer holds f = record { fit = kernel.held_same f.fit (hold_in outer none_spared holds) (λ p o e. sym (same_reliance outer holds p)) }
 
-from_reliance_with : (outer : List Outer) → {kinds : Kinds} {heap : List Object} {activations : List (Activation Value)} (holds : Holds) (x : ℕ) (r : Region) → Fits kinds heap activations (hold_of (with_hold x (hold.Own Whole) (as_reliance outer holds))) → Fits kinds heap activations (hold_in outer none_spared (slice_set holds x (hold.Own r)))
+from_reliance_with : (outer : Outsiders) → {kinds : Kinds} {heap : List Object} {activations : List (Activation Value)} (holds : Holds) (x : ℕ) (r : Region) → Fits kinds heap activations (hold_of (with_hold x (hold.Own Whole) (as_reliance outer holds))) → Fits kinds heap activations (hold_in outer none_spared (slice_set holds x (hold.Own r)))
 from_reliance_with outer holds x Whole f = from_reliance outer (slice_set holds x (hold.Own Whole)) f
 
 -- A take pair, T := O.C; O.C := null;, with another variable for T, or with a component.
-pub take_variable : {types : List TypeForm} {variables : List VariableForm} {outer : List Outer} {heap : List Object} {places : List Value} {holds : Holds} (x : ℕ) (r : Region) → is_object variables x ≡ false → (o : Id) (object : Object) (c : ℕ) (v : Value) → object_at heap o ≡ Some object → object.listed ≡ true → slice_get object.cell.values c ≡ Some v → variable_access variables x ≡ component_access types object c → Fit types variables outer none_spared heap places holds → Fit types variables outer none_spared (store heap (Names o) c Null) (slice_set places x v) (slice_set holds x (hold.Own r))
+pub take_variable : {types : List TypeForm} {variables : List VariableForm} {outer : Outsiders} {heap : List Object} {places : List Value} {holds : Holds} (x : ℕ) (r : Region) → is_object variables x ≡ false → (o : Id) (object : Object) (c : ℕ) (v : Value) → object_at heap o ≡ Some object → object.listed ≡ true → slice_get object.cell.values c ≡ Some v → variable_access variables x ≡ component_access types object c → Fit types variables outer none_spared heap places holds → Fit types variables outer none_spared (store heap (Names o) c Null) (slice_set places x v) (slice_set holds x (hold.Own r))
 take_variable {types = types} {variables = variables} {outer = outer} {heap = heap} {places = places} {holds = holds} x r none o object c v found listed at same f =
     let t = object.cell.access in
     let at_t = access_is heap o object found listed in
     let pair = take_pairs_keep (kinds_of types variables outer) heap (stacked places outer) (as_reliance outer holds) (to_reliance outer holds f.owners) x o c t at_t (sym same) refl in
     record {
       owners = from_reliance_with outer holds x r (rw (component_value heap (stacked places outer) o object c v found listed at) at pair);
-      nulls = put_nulls holds places x v (hold.Own r) tt f.nulls;
+      said = put_said outer.given holds places x v (hold.Own r) tt f.said;
       objects = put_objects variables holds places x v (hold.Own r) (λ is. no_object variables x none is) f.objects;
     }
 
-pub take_component : {types : List TypeForm} {variables : List VariableForm} {outer : List Outer} {heap : List Object} {places : List Value} {holds : Holds} (k : Id) (holder : Object) (d : ℕ) (o : Id) (object : Object) (c : ℕ) (v : Value) → object_at heap k ≡ Some holder → holder.listed ≡ true → object_at heap o ≡ Some object → object.listed ≡ true → slice_get object.cell.values c ≡ Some v → component_access types holder d ≡ component_access types object c → Fit types variables outer none_spared heap places holds → Fit types variables outer none_spared (store (store heap (Names k) d v) (Names o) c Null) places holds
+pub take_component : {types : List TypeForm} {variables : List VariableForm} {outer : Outsiders} {heap : List Object} {places : List Value} {holds : Holds} (k : Id) (holder : Object) (d : ℕ) (o : Id) (object : Object) (c : ℕ) (v : Value) → object_at heap k ≡ Some holder → holder.listed ≡ true → object_at heap o ≡ Some object → object.listed ≡ true → slice_get object.cell.values c ≡ Some v → component_access types holder d ≡ component_access types object c → Fit types variables outer none_spared heap places holds → Fit types variables outer none_spared (store (store heap (Names k) d v) (Names o) c Null) places holds
 take_component {types = types} {variables = variables} {outer = outer} {heap = heap} {places = places} {holds = holds} k holder d o object c v at_k listed_k found listed at same f =
     let u = holder.cell.access in
     let t = object.cell.access in
     let at_u = access_is heap k holder at_k listed_k in
     let at_t = access_is heap o object found listed in
     let pair = component_pairs_keep (kinds_of types variables outer) heap (stacked places outer) (as_reliance outer holds) (to_reliance outer holds f.owners) k o d c u t at_u at_t same refl in
-    record { owners = from_reliance outer holds (rw (component_value heap (stacked places outer) o object c v found listed at) at pair); nulls = f.nulls; objects = f.objects }
+    record { owners = from_reliance outer holds (rw (component_value heap (stacked places outer) o object c v found listed at) at pair); said = f.said; objects = f.objects }
 
 -- A new object, whose items were in hand: its name is in hand.
-pub create_fit : {types : List TypeForm} {variables : List VariableForm} {outer : List Outer} {heap : List Object} {places : List Value} {holds : Holds} (words : ℕ) (cell : Cell Value) → AreInHand heap (stacked places outer) (hold_in outer none_spared holds) (λ c. access_of (kind_among (reached_components types cell.access) c)) 0 cell.values → Fit types variables outer none_spared heap places holds → Fit types variables outer none_spared (create heap words cell) places holds × Hand types variables outer none_spared (create heap words cell) places holds (Some cell.access) (created heap words)
+pub create_fit : {types : List TypeForm} {variables : List VariableForm} {outer : Outsiders} {heap : List Object} {places : List Value} {holds : Holds} (words : ℕ) (cell : Cell Value) → AreInHand heap (stacked places outer) (hold_in outer none_spared holds) (λ c. access_of (kind_among (reached_components types cell.access) c)) 0 cell.values → Fit types variables outer none_spared heap places holds → Fit types variables outer none_spared (create heap words cell) places holds × Hand types variables outer none_spared (create heap words cell) places holds (Some cell.access) (created heap words)
 create_fit {outer = outer} {heap = heap} words cell items f =
-    (record { owners = create_fits heap words cell (λ c e. cc e) f.owners items; nulls = f.nulls; objects = f.objects }, created_hand heap words cell f.owners items)
+    (record { owners = create_fits heap words cell (λ c e. cc e) f.owners items; said = f.said; objects = f.objects }, created_hand heap words cell f.owners items)
 
 -- What is relied on says no less than the same once a component is lent.
-lent_good : (outer : List Outer) → (holds : Holds) (o : Id) (c : ℕ) (p : Place) → is_as_good (hold_in outer none_spared holds p) (hold_of (with_lent o c (as_reliance outer holds)) p) ≡ true
+lent_good : (outer : Outsiders) → (holds : Holds) (o : Id) (c : ℕ) (p : Place) → is_as_good (hold_in outer none_spared holds p) (hold_of (with_lent o c (as_reliance outer holds)) p) ≡ true
 lent_good outer holds o c (variable x) = good_same (hold_at holds x)
 lent_good outer holds o c (component k d) = spared_good (is_lent (component o c ∷ []) k d)
-lent_good outer holds o c (elsewhere d x) = good_same (outer_hold (slice_get outer d) x)
+lent_good outer holds o c (elsewhere d x) = good_same (outer_hold (slice_get outer.suspended d) x)
 
 -- A new object, whose items were in hand as long as a component is lent, goes into that component.
-pub insert_fit : {types : List TypeForm} {variables : List VariableForm} {outer : List Outer} {heap : List Object} {places : List Value} {holds : Holds} (words : ℕ) (cell : Cell Value) (o : Id) (object : Object) (c : ℕ) → object_at heap o ≡ Some object → object.listed ≡ true → component_access types object c ≡ Some cell.access → AreInHand heap (stacked places outer) (hold_of (with_lent o c (as_reliance outer holds))) (λ d. access_of (kind_among (reached_components types cell.access) d)) 0 cell.values → Fit types variables outer none_spared heap places holds → Fit types variables outer none_spared (store (create heap words cell) (Names o) c (created heap words)) places holds
+pub insert_fit : {types : List TypeForm} {variables : List VariableForm} {outer : Outsiders} {heap : List Object} {places : List Value} {holds : Holds} (words : ℕ) (cell : Cell Value) (o : Id) (object : Object) (c : ℕ) → object_at heap o ≡ Some object → object.listed ≡ true → component_access types object c ≡ Some cell.access → AreInHand heap (stacked places outer) (hold_of (with_lent o c (as_reliance outer holds))) (λ d. access_of (kind_among (reached_components types cell.access) d)) 0 cell.values → Fit types variables outer none_spared heap places holds → Fit types variables outer none_spared (store (create heap words cell) (Names o) c (created heap words)) places holds
 insert_fit {types = types} {variables = variables} {outer = outer} {heap = heap} {places = places} {holds = holds} words cell o object c found listed same items f =
     let lent = weaken (hold_of (with_lent o c (as_reliance outer holds))) (lent_good outer holds o c) f.owners in
     let kept = insertions_keep (kinds_of types variables outer) heap (stacked places outer) (as_reliance outer holds) o c object.cell.access words cell lent (access_is heap o object found listed) same items in
-    record { owners = from_reliance outer holds kept; nulls = f.nulls; objects = f.objects }
+    record { owners = from_reliance outer holds kept; said = f.said; objects = f.objects }
 
 -- Of what is in hand no place is an owner.
-pub hand_is_unnamed : (outer : List Outer) → (types : List TypeForm) (variables : List VariableForm) (spared : Id → Bool) (heap : List Object) (places : List Value) (holds : Holds) (kind : Option ℕ) (o : Id) → Hand types variables outer spared heap places holds kind (Names o) → ((q : Place) → Borrows (hold_in outer spared holds q) → value_at heap (stacked places outer) q ≡ Names o → ⊥) → IsUnnamed heap (stacked places outer) (hold_in outer spared holds) o
+pub hand_is_unnamed : (outer : Outsiders) → (types : List TypeForm) (variables : List VariableForm) (spared : Id → Bool) (heap : List Object) (places : List Value) (holds : Holds) (kind : Option ℕ) (o : Id) → Hand types variables outer spared heap places holds kind (Names o) → ((q : Place) → Borrows (hold_in outer spared holds q) → value_at heap (stacked places outer) q ≡ Names o → ⊥) → IsUnnamed heap (stacked places outer) (hold_in outer spared holds) o
 hand_is_unnamed outer types variables spared heap places holds kind o hand none = record {
   unowned = λ q a b. hand.hand.free o refl q a b;
   unborrowed = none;
 }
 
 -- An object that no owner names leaves its collection; then it ceases to exist, and its words go back.
-pub part_fit : {types : List TypeForm} {variables : List VariableForm} {outer : List Outer} {spared : Id → Bool} {heap : List Object} {places : List Value} {holds : Holds} (o : Id) (x : Object) → object_at heap o ≡ Some x → IsUnnamed heap (stacked places outer) (hold_in outer spared holds) o → Fit types variables outer spared heap places holds → Fit types variables outer spared (slice_set heap o.0 (parted x)) places holds
+pub part_fit : {types : List TypeForm} {variables : List VariableForm} {outer : Outsiders} {spared : Id → Bool} {heap : List Object} {places : List Value} {holds : Holds} (o : Id) (x : Object) → object_at heap o ≡ Some x → IsUnnamed heap (stacked places outer) (hold_in outer spared holds) o → Fit types variables outer spared heap places holds → Fit types variables outer spared (slice_set heap o.0 (parted x)) places holds
 part_fit {outer = outer} {heap = heap} o x found none f = record {
   owners = rw (changed_is heap o x found (parted x) parted refl) at (part_fits heap o x found f.owners none);
-  nulls = f.nulls;
+  said = f.said;
   objects = f.objects;
 }
 
-pub finish_fit : {types : List TypeForm} {variables : List VariableForm} {outer : List Outer} {spared : Id → Bool} {heap : List Object} {places : List Value} {holds : Holds} (o : Id) (x : Object) → object_at heap o ≡ Some x → x.listed ≡ false → Fit types variables outer spared heap places holds → Fit types variables outer spared (slice_set heap o.0 (finished x)) places holds
+pub finish_fit : {types : List TypeForm} {variables : List VariableForm} {outer : Outsiders} {spared : Id → Bool} {heap : List Object} {places : List Value} {holds : Holds} (o : Id) (x : Object) → object_at heap o ≡ Some x → x.listed ≡ false → Fit types variables outer spared heap places holds → Fit types variables outer spared (slice_set heap o.0 (finished x)) places holds
 finish_fit {outer = outer} {heap = heap} o x found off f = record {
   owners = rw (changed_is heap o x found (finished x) finished refl) at (finish_parted heap o x found off f.owners);
-  nulls = f.nulls;
+  said = f.said;
   objects = f.objects;
 }
 
-pub back_fit : {types : List TypeForm} {variables : List VariableForm} {outer : List Outer} {spared : Id → Bool} {heap : List Object} {places : List Value} {holds : Holds} (o : Id) (x : Object) → object_at heap o ≡ Some x → Fit types variables outer spared heap places holds → Fit types variables outer spared (slice_set heap o.0 (returned x)) places holds
+pub back_fit : {types : List TypeForm} {variables : List VariableForm} {outer : Outsiders} {spared : Id → Bool} {heap : List Object} {places : List Value} {holds : Holds} (o : Id) (x : Object) → object_at heap o ≡ Some x → Fit types variables outer spared heap places holds → Fit types variables outer spared (slice_set heap o.0 (returned x)) places holds
 back_fit {outer = outer} {heap = heap} o x found f = record {
   owners = rw (changed_is heap o x found (returned x) returned refl) at (back_fits heap o x found f.owners);
-  nulls = f.nulls;
+  said = f.said;
   objects = f.objects;
 }
 
@@ -522,14 +539,14 @@ pub behind_good : (variables : List VariableForm) (kind : Option ℕ) (holds : H
 behind_good variables None holds x = good_same (hold_at holds x)
 behind_good variables (Some t) holds x = forget_good variables t holds x
 
-pub behind_fit : {types : List TypeForm} {variables : List VariableForm} {outer : List Outer} {spared : Id → Bool} {heap : List Object} {places : List Value} {holds : Holds} (kind : Option ℕ) → Fit types variables outer spared heap places holds → Fit types variables outer spared heap places (behind_end variables kind holds)
+pub behind_fit : {types : List TypeForm} {variables : List VariableForm} {outer : Outsiders} {spared : Id → Bool} {heap : List Object} {places : List Value} {holds : Holds} (kind : Option ℕ) → Fit types variables outer spared heap places holds → Fit types variables outer spared heap places (behind_end variables kind holds)
 behind_fit {variables = variables} {outer = outer} {holds = holds} kind f = weaker_fit (behind_end variables kind holds) (behind_good variables kind holds) f
 
 behind_owner : (variables : List VariableForm) (kind : Option ℕ) (holds : Holds) (x : ℕ) → Owns (hold_at (behind_end variables kind holds) x) → Owns (hold_at holds x)
 behind_owner variables None holds x a = a
 behind_owner variables (Some t) holds x a = forget_owner variables t holds x a
 
-behind_owns : (outer : List Outer) → (variables : List VariableForm) (spared : Id → Bool) (kind : Option ℕ) (holds : Holds) (q : Place) → Owns (hold_in outer spared (behind_end variables kind holds) q) → Owns (hold_in outer spared holds q)
+behind_owns : (outer : Outsiders) → (variables : List VariableForm) (spared : Id → Bool) (kind : Option ℕ) (holds : Holds) (q : Place) → Owns (hold_in outer spared (behind_end variables kind holds) q) → Owns (hold_in outer spared holds q)
 behind_owns outer variables spared kind holds (variable x) a = behind_owner variables kind holds x a
 behind_owns outer variables spared kind holds (component o c) a = a
 behind_owns outer variables spared kind holds (elsewhere d x) a = a
@@ -539,11 +556,11 @@ component_borrows true b = b
 component_borrows false b = b
 
 -- Where an object of an access type ends that is there, no alias names it behind its end.
-behind_borrows : {types : List TypeForm} {variables : List VariableForm} {outer : List Outer} {spared : Id → Bool} {heap : List Object} {places : List Value} {holds : Holds} (kind : Option ℕ) (o : Id) → NoOuterAliases outer kind → IsOf (access_at heap) kind o → Fit types variables outer spared heap places holds → (q : Place) → Borrows (hold_in outer spared (behind_end variables kind holds) q) → value_at heap (stacked places outer) q ≡ Names o → ⊥
+behind_borrows : {types : List TypeForm} {variables : List VariableForm} {outer : Outsiders} {spared : Id → Bool} {heap : List Object} {places : List Value} {holds : Holds} (kind : Option ℕ) (o : Id) → NoOuterAliases outer kind → IsOf (access_at heap) kind o → Fit types variables outer spared heap places holds → (q : Place) → Borrows (hold_in outer spared (behind_end variables kind holds) q) → value_at heap (stacked places outer) q ≡ Names o → ⊥
 behind_borrows None o none of f q b names = of
 behind_borrows {spared = spared} (Some t) o none of f (component k c) b names = component_borrows (spared k) b
 behind_borrows {outer = outer} {heap = heap} (Some t) o none of f (elsewhere d x) b names =
-    let w = slice_get outer d in
+    let w = slice_get outer.suspended d in
     none t refl d x (kind_is (access_at heap) (outer_hold w x) (outer_access w x) o t b of (f.owners.fit.relied (elsewhere d x) o names)) b
 behind_borrows {variables = variables} {outer = outer} {heap = heap} {holds = holds} (Some t) o none of f (variable x) b names =
     let after = behind_fit (Some t) f in
@@ -551,7 +568,7 @@ behind_borrows {variables = variables} {outer = outer} {heap = heap} {holds = ho
     forget_borrows variables t holds x b same
 
 -- Free (X), where X owns: X is null then, its object has no owner, and no alias names it.
-pub freed_unnamed : {types : List TypeForm} {variables : List VariableForm} {outer : List Outer} {spared : Id → Bool} {heap : List Object} {places : List Value} {holds : Holds} (x : ℕ) (o : Id) → NoOuterAliases outer (variable_access variables x) → is_object variables x ≡ false → IsOwn (hold_at holds x) → place_at places x ≡ Names o → Fit types variables outer spared heap places holds → Fit types variables outer spared heap (slice_set places x Null) (freed variables x holds) × IsUnnamed heap (stacked (slice_set places x Null) outer) (hold_in outer spared (freed variables x holds)) o × IsThere heap o
+pub freed_unnamed : {types : List TypeForm} {variables : List VariableForm} {outer : Outsiders} {spared : Id → Bool} {heap : List Object} {places : List Value} {holds : Holds} (x : ℕ) (o : Id) → NoOuterAliases outer (variable_access variables x) → is_object variables x ≡ false → IsOwn (hold_at holds x) → place_at places x ≡ Names o → Fit types variables outer spared heap places holds → Fit types variables outer spared heap (slice_set places x Null) (freed variables x holds) × IsUnnamed heap (stacked (slice_set places x Null) outer) (hold_in outer spared (freed variables x holds)) o × IsThere heap o
 freed_unnamed {variables = variables} {outer = outer} {spared = spared} {heap = heap} {places = places} {holds = holds} x o spares none_object own is f =
     let owns = own_owns (hold_at holds x) own in
     let of = kernel.owned_at f.owners.fit (variable x) owns o is in
@@ -577,7 +594,7 @@ freed_unnamed {variables = variables} {outer = outer} {spared = spared} {heap = 
         (sym (put_reads heap (stacked places outer) x Null q ne) ∙ b)
 
 -- Free (O.C): C is null then, its object has no owner, and no alias names it.
-pub component_unnamed : {types : List TypeForm} {variables : List VariableForm} {outer : List Outer} {heap : List Object} {places : List Value} {holds : Holds} (o : Id) (object : Object) (c : ℕ) (p : Id) (kind : Option ℕ) → NoOuterAliases outer kind → object_at heap o ≡ Some object → object.listed ≡ true → slice_get object.cell.values c ≡ Some (Names p) → IsOf (access_at heap) kind p → Fit types variables outer none_spared heap places holds → Fit types variables outer none_spared (store heap (Names o) c Null) places (behind_end variables kind holds) × IsUnnamed (store heap (Names o) c Null) (stacked places outer) (hold_in outer none_spared (behind_end variables kind holds)) p
+pub component_unnamed : {types : List TypeForm} {variables : List VariableForm} {outer : Outsiders} {heap : List Object} {places : List Value} {holds : Holds} (o : Id) (object : Object) (c : ℕ) (p : Id) (kind : Option ℕ) → NoOuterAliases outer kind → object_at heap o ≡ Some object → object.listed ≡ true → slice_get object.cell.values c ≡ Some (Names p) → IsOf (access_at heap) kind p → Fit types variables outer none_spared heap places holds → Fit types variables outer none_spared (store heap (Names o) c Null) places (behind_end variables kind holds) × IsUnnamed (store heap (Names o) c Null) (stacked places outer) (hold_in outer none_spared (behind_end variables kind holds)) p
 component_unnamed {variables = variables} {outer = outer} {heap = heap} {places = places} {holds = holds} o object c p kind spares found listed at of f = (
   store_blank o object c Null found (λ k e. cc e) (behind_fit kind f),
   record {
@@ -604,10 +621,10 @@ component_unnamed {variables = variables} {outer = outer} {heap = heap} {places 
     unborrowed q (inr ne) a b = behind_borrows kind p spares of f q a (before q ne b)
 
 -- Components of other objects are spared, none of which names anything.
-respare : {types : List TypeForm} {variables : List VariableForm} {outer : List Outer} {heap : List Object} {places : List Value} {holds : Holds} (spared to : Id → Bool) → ((o : Id) (c : ℕ) (k : Id) → component_in (object_at heap o) c ≡ Names k → to o ≡ spared o) → Fit types variables outer spared heap places holds → Fit types variables outer to heap places holds
+respare : {types : List TypeForm} {variables : List VariableForm} {outer : Outsiders} {heap : List Object} {places : List Value} {holds : Holds} (spared to : Id → Bool) → ((o : Id) (c : ℕ) (k : Id) → component_in (object_at heap o) c ≡ Names k → to o ≡ spared o) → Fit types variables outer spared heap places holds → Fit types variables outer to heap places holds
 respare {outer = outer} {heap = heap} {places = places} {holds = holds} spared to same f = record {
   owners = record { fit = kernel.held_same f.owners.fit (hold_in outer to holds) go };
-  nulls = f.nulls;
+  said = f.said;
   objects = f.objects;
 }
   where
@@ -644,31 +661,35 @@ lies_nowhere None = refl
 lies_nowhere (Some x) = refl
 
 -- While a master is left, homes stay as they are; an item goes whose collection is empty; and where none is left, all is relied on again.
-pub going_set : (outer : List Outer) → {types : List TypeForm} {variables : List VariableForm} {places : List Value} {holds : Holds} (heap : List Object) (items : List Item) (o : Id) (x y : Object) → object_at heap o ≡ Some x → y.cell.home ≡ x.cell.home → Fit types variables outer (going heap items) (slice_set heap o.0 y) places holds → Fit types variables outer (going (slice_set heap o.0 y) items) (slice_set heap o.0 y) places holds
+pub going_set : (outer : Outsiders) → {types : List TypeForm} {variables : List VariableForm} {places : List Value} {holds : Holds} (heap : List Object) (items : List Item) (o : Id) (x y : Object) → object_at heap o ≡ Some x → y.cell.home ≡ x.cell.home → Fit types variables outer (going heap items) (slice_set heap o.0 y) places holds → Fit types variables outer (going (slice_set heap o.0 y) items) (slice_set heap o.0 y) places holds
 going_set outer heap items o x y found same f =
     respare (going heap items) (going (slice_set heap o.0 y) items) (λ k c n e. going_stays heap items o x y found same k) f
 
-pub going_shorter : {types : List TypeForm} {variables : List VariableForm} {outer : List Outer} {heap : List Object} {places : List Value} {holds : Holds} (item : Item) (items : List Item) → ((o : Id) (x : Object) → object_at heap o ≡ Some x → x.listed ≡ true → x.cell.home.item ≡ item.number → ⊥) → Fit types variables outer (going heap (item ∷ items)) heap places holds → Fit types variables outer (going heap items) heap places holds
+pub going_shorter : {types : List TypeForm} {variables : List VariableForm} {outer : Outsiders} {heap : List Object} {places : List Value} {holds : Holds} (item : Item) (items : List Item) → ((o : Id) (x : Object) → object_at heap o ≡ Some x → x.listed ≡ true → x.cell.home.item ≡ item.number → ⊥) → Fit types variables outer (going heap (item ∷ items)) heap places holds → Fit types variables outer (going heap items) heap places holds
 going_shorter {outer = outer} {heap = heap} item items none f =
     respare (going heap (item ∷ items)) (going heap items) (λ o c k e. shorter_stays item items (object_at heap o) c k (none o) e) f
 
-pub going_left : {types : List TypeForm} {variables : List VariableForm} {outer : List Outer} {heap : List Object} {places : List Value} {holds : Holds} → Fit types variables outer (going heap []) heap places holds → Fit types variables outer none_spared heap places holds
+pub going_left : {types : List TypeForm} {variables : List VariableForm} {outer : Outsiders} {heap : List Object} {places : List Value} {holds : Holds} → Fit types variables outer (going heap []) heap places holds → Fit types variables outer none_spared heap places holds
 going_left {outer = outer} {heap = heap} f = respare (going heap []) none_spared (λ o c k e. lies_nowhere (object_at heap o)) f
 
+-- Nothing is outside of the main body.
+abbrev pub no_outsiders : Outsiders
+no_outsiders = record { given = []; suspended = [] }
+
 -- Before anything is allocated, all variables are lost.
-pub first_fit : (types : List TypeForm) (variables : List VariableForm) (places : List Value) (holds : Holds) → ((x : ℕ) → hold_at holds x ≡ hold.Lost) → Fit types variables [] none_spared [] places holds
+pub first_fit : (types : List TypeForm) (variables : List VariableForm) (places : List Value) (holds : Holds) → ((x : ℕ) → hold_at holds x ≡ hold.Lost) → Fit types variables no_outsiders none_spared [] places holds
 first_fit types variables places holds lost = record {
   owners = record { fit = record { relied = relied_first; apart = λ p q o a b c d. absurd (none_owns p o a c) } };
-  nulls = λ x. rw (lost x) tt;
+  said = λ x. rw (lost x) tt;
   objects = λ x is ne. absurd (ne (lost x));
 }
   where
-    relied_first : (p : Place) (o : Id) → value_at [] (stacked places []) p ≡ Names o → Says (access_at []) (hold_in [] none_spared holds p) (kind_of (kinds_of types variables []) (access_at []) p) o
+    relied_first : (p : Place) (o : Id) → value_at [] (stacked places no_outsiders) p ≡ Names o → Says (access_at []) (hold_in no_outsiders none_spared holds p) (kind_of (kinds_of types variables no_outsiders) (access_at []) p) o
     relied_first (variable x) o e = rw (lost x) tt
     relied_first (component k c) o e = absurd (cc e)
     relied_first (elsewhere d x) o e = tt
 
-    none_owns : (p : Place) (o : Id) → Owns (hold_in [] none_spared holds p) → value_at [] (stacked places []) p ≡ Names o → ⊥
+    none_owns : (p : Place) (o : Id) → Owns (hold_in no_outsiders none_spared holds p) → value_at [] (stacked places no_outsiders) p ≡ Names o → ⊥
     none_owns (variable x) o own e = lost_owns (hold_at holds x) (lost x) own
     none_owns (component k c) o own e = cc e
     none_owns (elsewhere d x) o own e = own

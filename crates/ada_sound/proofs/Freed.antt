@@ -24,6 +24,7 @@ use Rattle.ada_sound.proofs.Moves.{set_nothing}
 -- Free (X): only an owner frees.
 freed_owner : (variables : List VariableForm) (x : ℕ) (spot : Spot) (holds : Holds) (normal raising : Option Holds) (h : Hold) → released variables x spot holds h ≡ goes normal raising → IsOwner h
 freed_owner variables x spot holds normal raising hold.Null e = tt
+freed_owner variables x spot holds normal raising (hold.Kept r) e = tt
 freed_owner variables x spot holds normal raising (hold.Own r) e = tt
 freed_owner variables x spot holds normal raising (hold.Alias r) e = absurd (cc e)
 freed_owner variables x spot holds normal raising hold.Lost e = absurd (cc e)
@@ -38,6 +39,7 @@ only_owners_freed types variables access path holds is kept = path_owner types v
 -- What it comes to its end with; it raises no exception.
 freed_goes : (variables : List VariableForm) (x : ℕ) (spot : Spot) (holds : Holds) (normal raising : Option Holds) (h : Hold) → released variables x spot holds h ≡ goes normal raising → (normal ≡ Some (freed variables x holds)) × (raising ≡ None)
 freed_goes variables x spot holds normal raising hold.Null e = (cc e, cc e)
+freed_goes variables x spot holds normal raising (hold.Kept r) e = (cc e, cc e)
 freed_goes variables x spot holds normal raising (hold.Own r) e = (cc e, cc e)
 freed_goes variables x spot holds normal raising (hold.Alias r) e = absurd (cc e)
 freed_goes variables x spot holds normal raising hold.Lost e = absurd (cc e)
@@ -67,7 +69,7 @@ path_nothing : (types : List TypeForm) (variables : List VariableForm) (cs : Lis
 path_nothing types variables [] path holds after raising is e =
     let x = path.root in
     let same : freed variables x holds ≡ after = cc ((freed_goes variables x path.spot holds (Some after) raising (hold_at holds x) e).0) in
-    rw (← same) (set_nothing (behind_end variables (variable_access variables x) holds) x hold.Null (λ r e'. cc e'))
+    rw (← same) (set_nothing (behind_end variables (variable_access variables x) holds) x hold.Null (λ own. own))
 path_nothing types variables (c ∷ cs) path holds after raising is e = absurd (cc is)
 
 pub freed_owns_nothing : FreedOwnsNothing
@@ -76,6 +78,7 @@ freed_owns_nothing types variables access path holds after is ends = path_nothin
 -- Behind it aliases of its access type are lost.
 lost_alias : (h : Hold) (r : Region) → without_alias true h ≢ hold.Alias r
 lost_alias hold.Null r e = cc e
+lost_alias (hold.Kept q) r e = cc e
 lost_alias (hold.Own q) r e = cc e
 lost_alias (hold.Alias q) r e = cc e
 lost_alias hold.Lost r e = cc e
@@ -135,6 +138,7 @@ raised_free_leaves_no_alias types variables access t path holds raised raises ow
 passes_none : (passes : Bool) (h : Hold) (spot : Spot) → freed_behind passes h spot ≡ None → passes ≡ false
 passes_none false h spot e = refl
 passes_none true hold.Null spot e = absurd (cc e)
+passes_none true (hold.Kept r) spot e = absurd (cc e)
 passes_none true (hold.Own r) spot e = absurd (cc e)
 passes_none true (hold.Alias r) spot e = absurd (cc e)
 passes_none true hold.Lost spot e = absurd (cc e)

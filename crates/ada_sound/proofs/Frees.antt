@@ -15,7 +15,7 @@ use Rattle.ada_meaning.specs.Event.{Quiet}
 use Rattle.ada_meaning.specs.State.{Activation}
 use Rattle.ada_meaning.specs.Step.{free_next}
 use Rattle.ada_meaning.specs.Named.{State, look, named, parted}
-use Rattle.ada_sound.proofs.Fits.{NoOuterAlias, is_object, IsOwn, IsBlank, place_at, null_fit, behind_fit, freed_unnamed, part_fit}
+use Rattle.ada_sound.proofs.Fits.{NoOuterAlias, is_object, IsOwn, IsSaid, place_at, null_fit, behind_fit, freed_unnamed, part_fit}
 use Rattle.ada_sound.proofs.Objects.{set_here}
 use Rattle.ada_sound.proofs.Stored.{stored_part}
 use Rattle.ada_sound.proofs.Alters.{alters_set}
@@ -26,6 +26,7 @@ use Rattle.ada_sound.proofs.Ready.{running, runs_on}
 -- An owner is not lost.
 own_kept : (h : Hold) (spot : Spot) → IsOwn h → lost_by h spot ≡ None
 own_kept hold.Null spot own = absurd own
+own_kept (hold.Kept r) spot own = refl
 own_kept (hold.Own r) spot own = refl
 own_kept (hold.Alias r) spot own = absurd own
 own_kept hold.Lost spot own = absurd own
@@ -72,11 +73,12 @@ module _ (known : Known) (a : Activation Value) (rest : List (Activation Value))
       }))
   free_value (Scalar n) is own more = tt
 
-  free_hold : (h : Hold) → hold_at w.holds x ≡ h → Goes (released known.program.variables x spot w.holds h) (RunsOn known (Does fs ∷ k) w.rooms) (raised w.rooms) → IsBlank h (place_at a.places x) → Fine known s.heap s.masters (free_next named access x (place_at a.places x) (look s.heap (place_at a.places x)) (running (Does fs ∷ k) a rest s))
+  free_hold : (h : Hold) → hold_at w.holds x ≡ h → Goes (released known.program.variables x spot w.holds h) (RunsOn known (Does fs ∷ k) w.rooms) (raised w.rooms) → IsSaid (place_at (outers known).given x) h (place_at a.places x) → Fine known s.heap s.masters (free_next named access x (place_at a.places x) (look s.heap (place_at a.places x)) (running (Does fs ∷ k) a rest s))
   free_hold hold.Null own more blank = rw blank (free_null blank more.0)
+  free_hold (hold.Kept r) own more blank = free_value (place_at a.places x) refl (rw own tt) more.0
   free_hold (hold.Own r) own more blank = free_value (place_at a.places x) refl (rw own tt) more.0
   free_hold (hold.Alias r) own more blank = absurd more
   free_hold hold.Lost own more blank = absurd more
 
   pub free_fine : Fine known s.heap s.masters (free_next named access x (place_at a.places x) (look s.heap (place_at a.places x)) (running (Does fs ∷ k) a rest s))
-  free_fine = free_hold (hold_at w.holds x) refl w.rest (w.fit.nulls x)
+  free_fine = free_hold (hold_at w.holds x) refl w.rest (w.fit.said x)

@@ -1,21 +1,21 @@
 -- What every step keeps: control typed by its flow, places that fit, objects that are stored.
 
-use Rattle.std.proofs.Common.{◌≡◌, ◌≢◌, ℕ, suc, ◌≤◌, Bool, true, false, ◌&&◌, ◌||◌, List, [], ◌∷◌, ◌++◌, length, take, drop, ◌⊎◌}
+use Rattle.std.proofs.Common.{◌≡◌, ◌≢◌, ℕ, zero, suc, ◌≤◌, Bool, true, false, ◌&&◌, ◌||◌, List, [], ◌∷◌, ◌++◌, length, take, drop, reverse, ◌⊎◌}
 use Rattle.std.specs.Prelude.{ℤ, Option, Some, None}
 use Rattle.ada_text.specs.declared.spot.Spot.{Spot}
-use Rattle.std.specs.List.{list_any, slice_get, slice_set}
+use Rattle.std.specs.List.{list_any, slice_get, slice_index_or, slice_set}
 use Rattle.ada_program.specs.declared.program.Exception.{Exception}
 use Rattle.ada_program.specs.declared.program.Exception.TheVariants.{ConstraintError, StorageError, EndError}
-use Rattle.ada_program.specs.Form.{ActualForm, PathForm, ExpressionForm, ItemForm, null_item, item_of_path, item_of_value, item_of_record, RightForm, nothing, value_of, allocates, allocates_default, computes, assigns, StmtsForm, a_stmt, BranchesForm, HandlersForm, DeclarationForm}
+use Rattle.ada_program.specs.Form.{ActualForm, in_value, in_null, in_access, in_out_path, in_out_access, PathForm, ExpressionForm, ItemForm, null_item, item_of_path, item_of_value, item_of_record, RightForm, nothing, value_of, allocates, allocates_default, computes, assigns, StmtsForm, a_stmt, BranchesForm, HandlersForm, DeclarationForm}
 use Rattle.ada_program.specs.declared.program.ComponentKind.{ComponentKind}
 use Rattle.ada_program.specs.ProgramForm.{TypeForm, VariableForm, BodyForm, ProgramForm, main_body}
 use Rattle.ada_program.specs.declared.program.VariableKind.{VariableKind}
-use Rattle.ada_program.specs.WellFormed.{is_access, access_of, selectors_kind, variable_kind, record_components, reached_components, items_fit, is_record_object}
+use Rattle.ada_program.specs.WellFormed.{is_access, access_of, selectors_kind, variable_kind, record_components, reached_components, items_fit, is_record_object, profile_of, suits_profile}
 use Rattle.ada_program.specs.Handling.{is_same, handler_of}
-use Rattle.ada_effects.specs.Effects.{expression_raises, links_raise, items_raise, path_raises, condition_raises, unary_raises, binary_raises, right_raises, declaration_raises, stmts_raise, branches_raise, handlers_raise, call_raises, body_raises, stmts_free, branches_free, handlers_free, call_frees, effects_of}
+use Rattle.ada_effects.specs.Effects.{expression_raises, links_raise, items_raise, path_raises, condition_raises, unary_raises, binary_raises, right_raises, declaration_raises, stmts_raise, branches_raise, handlers_raise, Effect, call_raises, body_raises, stmts_free, branches_free, handlers_free, call_frees, effects_of}
 use Rattle.ada_flow.specs.declared.rule.Hold.TheVariants as hold
 use Rattle.ada_flow.specs.declared.rule.Region.TheVariants.{Whole}
-use Rattle.ada_flow.specs.Flow.{Holds, hold_at, variable_access, Outcome, faults, goes, Use, uses_in, uses_in_links, uses_in_item, named_by_item, is_owning, is_owning_record, owns_at_first, broken_among, without_values, moved_by_items, passes_type, behind_end, gives, gives_component, clears, are_as_good, have_exit, branches_have_exit, handlers_have_exit, is_left, condition_flow, stmts_flow, branches_flow, handlers_flow, declaration_flow, Gone as GoneWith, collected, is_among, left, left_by_call, nothing_gone, Around}
+use Rattle.ada_flow.specs.Flow.{Holds, hold_at, variable_access, Outcome, faults, goes, Use, uses_in, uses_in_links, uses_in_item, named_by_item, is_owning, is_owning_record, owns_at_first, broken_among, without_values, moved_by_items, passes_type, behind_end, gives, gives_component, clears, compares_it, uses_in_actuals, Keeping, keeping_of, kept_at, is_kept, handed_back, left_unkept, owed_from, gives_back, all_give_back, are_as_good, have_exit, branches_have_exit, handlers_have_exit, is_left, condition_flow, stmts_flow, branches_flow, handlers_flow, declaration_flow, Gone as GoneWith, collected, is_among, left, left_by_call, nothing_gone, Around}
 use Rattle.ada_meaning.specs.declared.state.Id.{Id}
 use Rattle.ada_meaning.specs.declared.state.Value.{Value}
 use Rattle.ada_meaning.specs.declared.state.Value.TheVariants.{Null, Names, Scalar}
@@ -28,7 +28,6 @@ use Rattle.ada_meaning.specs.declared.event.Halt.{Halt}
 use Rattle.ada_meaning.specs.declared.event.Halt.TheVariants.{Finished, Unhandled, Erroneous, Stuck, Memory}
 use Rattle.ada_meaning.specs.Frame.{Frame, Elaborates, Does, Decides, Repeats, Turns, Ranges, Counts, Exits, Handles, Closes, Leaves, Calls, Returns, Evaluates, Computes, Follows, TestsNull, Continues, Applies, AppliesAlone, Fills, Copies, Creates, Stores, Targets, StoresIn, TargetsRecord, StoresRecord, Receives, FreesIn, Declares, DeclaresRecord, Writes, Ends, GivesBack, Clears, ClearsIn}
 use Rattle.ada_meaning.specs.Event.{Born, Finalized, Back, Followed, Left, Line, Quiet}
-use Rattle.ada_meaning.specs.Calls.{IsGiven}
 use Rattle.ada_meaning.specs.State.{Activation, Owned, declared, collection, record_object, Item, Master, height}
 use Rattle.ada_meaning.specs.Heap.{Home, finds}
 use Rattle.ada_meaning.specs.Step.{halts, moves, tells, asks, picks, first_or, older, in_front, before_last, last_of, places, operands}
@@ -41,7 +40,7 @@ use Rattle.ada_sound.proofs.Stored.{Stored}
 use Rattle.ada_owners.specs.Keeping.{IsThere}
 use Rattle.ada_owners.specs.Places.{component_in}
 use Rattle.ada_owners.specs.Walks.{walk}
-use Rattle.ada_sound.proofs.Fits.{Outer, NoOuterAlias, IsBlank, place_at, Fit, IsRelied, MayFollow, component_access, is_object, none_spared, going}
+use Rattle.ada_sound.proofs.Fits.{Outer, Outsiders, NoOuterAlias, IsSaid, place_at, Fit, IsRelied, MayFollow, component_access, is_object, none_spared, going}
 use Rattle.ada_sound.proofs.Orderings.{AsGood}
 use Rattle.ada_sound.proofs.Alters.{BackIn, Alters}
 
@@ -68,18 +67,24 @@ Roomed below ms [] = ms ≡ below
 Roomed below [] (gone ∷ rooms) = ⊥
 Roomed below (m ∷ ms) (gone ∷ rooms) = ItemsAmong m.items gone.types × Roomed below ms rooms
 
--- A caller, whose activation is suspended: the program as its body sees it, and what is known where flow comes to a place in it; what its call gives, what is
--- left to do once that has come to its end, the masters that are entered then, and their rooms; what its variables hold, and what is known of them behind
--- the call.
+-- A caller, whose activation is suspended: the program as its body sees it, and what is known where flow comes to a place in it; the actual parameters of
+-- its call, their values, and what the procedure keeps of them; what is left to do once the call has come to its end, the masters that are entered then,
+-- and their rooms; what its variables hold, and what is known of them behind the call, as if nothing were handed over.
 pub record Caller : Type 1 where
   pub program : ProgramForm
   pub At : Control → Holds → Type 0
   pub actuals : List ActualForm
+  pub passed : List Value
+  pub kept : Keeping
   pub control : Control
   pub masters : List Master
   pub rooms : Rooms
   pub places : List Value
-  pub holds : Holds
+  pub before : Holds
+
+-- What a caller's variables are relied on for during the call: what was handed over is not.
+abbrev pub waiting_holds : Caller → Holds
+waiting_holds w = left_unkept [] w.actuals w.before
 
 -- The program as the running body sees it, what is known where flow comes to a place in it, and its callers, the nearest one first.
 pub record Known : Type 1 where
@@ -88,15 +93,20 @@ pub record Known : Type 1 where
   pub callers : List Caller
 
 abbrev pub outer_of : Caller → Outer
-outer_of w = record { variables = w.program.variables; places = w.places; holds = w.holds }
+outer_of w = record { variables = w.program.variables; places = w.places; holds = waiting_holds w }
 
 -- What the variables of suspended activations hold, and are relied on for.
 abbrev pub outer_in : List Caller → List Outer
 outer_in [] = []
 outer_in (w ∷ ws) = outer_of w ∷ outer_in ws
 
-abbrev pub outers : Known → List Outer
-outers known = outer_in known.callers
+-- What the call of a body gave its formal parameters: nothing, where it is the main one.
+abbrev pub given_in : List Caller → List Value
+given_in [] = []
+given_in (w ∷ ws) = w.passed
+
+abbrev pub outers : Known → Outsiders
+outers known = record { given = given_in known.callers; suspended = outer_in known.callers }
 
 -- The masters that the callers have entered.
 abbrev pub below_callers : List Caller → List Master
@@ -155,32 +165,48 @@ MayExit variables (Some start) inside holds = are_as_good (left variables inside
 abbrev pub OnExit : List VariableForm → Bool → Around → (Holds → Type 0) → Type 0
 OnExit variables has_one around exited = has_one ≡ true → (holds : Holds) → MayExit variables around.start around.inside holds → exited holds
 
--- A return asks for nothing.
-abbrev pub OnReturn : Ways → Type 0
-OnReturn w = (holds : Holds) → w.returned holds
+-- What leaves a body by a return, through blocks with which this goes, gives back what these formal parameters owe.
+abbrev pub MayReturn : List VariableForm → (owed : List ℕ) → (within : GoneWith) → Holds → Type 0
+MayReturn variables owed within holds = all_give_back owed (left variables within holds) ≡ true
+
+abbrev pub OnReturn : List VariableForm → Around → (Holds → Type 0) → Type 0
+OnReturn variables around returned = (holds : Holds) → MayReturn variables around.owed around.within holds → returned holds
 
 -- Objects may be freed only of access types of which no suspended activation has an alias.
 abbrev pub Spares : Known → (may : ℕ → Bool) → Type 0
 Spares known may = (t : ℕ) → may t ≡ true → NoOuterAlias (outers known) t
 
--- Where a statement of the running body stands: the start of the innermost loop around it, if there is one, and what goes with the blocks since.
+-- Where a statement of the running body stands: the start of the innermost loop around it, if there is one, what goes with the blocks since, and with all
+-- blocks around it and the body.
 pub record Where : Type 0 where
   pub start : Option Holds
   pub inside : GoneWith
+  pub within : GoneWith
+
+-- The formal parameters of the running body that owe something at its normal end.
+abbrev pub owed_in : ProgramForm → List ℕ
+owed_in p = owed_from 0 p.formals p.variables
 
 abbrev pub around_at : Known → Where → Around
-around_at known at = record { effects = effects_of known.program; start = at.start; inside = at.inside }
+around_at known at = record {
+  effects = effects_of known.program;
+  kept = keeping_of known.program;
+  owed = owed_in known.program;
+  start = at.start;
+  inside = at.inside;
+  within = at.within;
+}
 
 -- In a turn of a loop with this start.
-abbrev pub in_turn : Holds → Where
-in_turn start = record { start = Some start; inside = nothing_gone }
+abbrev pub in_turn : Holds → (within : GoneWith) → Where
+in_turn start within = record { start = Some start; inside = nothing_gone; within = within }
 
 -- Statements before a control run from these holds, and end in these ways.
 abbrev pub Doing : Known → StmtsForm → Control → Ways → Holds → Type 0
 Doing known fs k w holds =
     (at : Where) × From known (around_at known at) k fs holds
     × Goes (stmts_flow known.program.types known.program.variables (around_at known at) fs holds) (To w.normal) (Raised (λ e. stmts_raise (effects_of known.program) (is_same e) fs) w)
-    × OnExit known.program.variables (have_exit fs) (around_at known at) w.exited × OnReturn w
+    × OnExit known.program.variables (have_exit fs) (around_at known at) w.exited × OnReturn known.program.variables (around_at known at) w.returned
     × Spares known (λ t. stmts_free known.program.types known.program.variables (effects_of known.program) t fs)
 
 -- The same of branches, and of handlers.
@@ -188,21 +214,21 @@ abbrev pub Choosing : Known → BranchesForm → Control → Ways → Holds → 
 Choosing known branches k w holds =
     (at : Where) × FromBy known (around_at known at) k branches holds
     × Goes (branches_flow known.program.types known.program.variables (around_at known at) branches holds) (To w.normal) (Raised (λ e. branches_raise (effects_of known.program) (is_same e) branches) w)
-    × OnExit known.program.variables (branches_have_exit branches) (around_at known at) w.exited × OnReturn w
+    × OnExit known.program.variables (branches_have_exit branches) (around_at known at) w.exited × OnReturn known.program.variables (around_at known at) w.returned
     × Spares known (λ t. branches_free known.program.types known.program.variables (effects_of known.program) t branches)
 
 abbrev pub Handling : Known → HandlersForm → Control → Ways → Holds → Type 0
 Handling known hs k w holds =
     (at : Where) × FromTo known (around_at known at) k hs holds
     × Goes (handlers_flow known.program.types known.program.variables (around_at known at) hs holds) (To w.normal) (Raised (λ e. handlers_raise (effects_of known.program) (is_same e) hs) w)
-    × OnExit known.program.variables (handlers_have_exit hs) (around_at known at) w.exited × OnReturn w
+    × OnExit known.program.variables (handlers_have_exit hs) (around_at known at) w.exited × OnReturn known.program.variables (around_at known at) w.returned
     × Spares known (λ t. handlers_free known.program.types known.program.variables (effects_of known.program) t hs)
 
 -- A turn of a loop: it leads back to the start with no less known.
-abbrev pub TurnsTo : Known → StmtsForm → Control → Ways → (start mid : Holds) → Type 0
-TurnsTo known body k w start mid =
-    From known (around_at known (in_turn start)) k body mid
-    × Goes (stmts_flow known.program.types known.program.variables (around_at known (in_turn start)) body mid) (λ after. AsGood after start) (Raised (λ e. stmts_raise (effects_of known.program) (is_same e) body) w)
+abbrev pub TurnsTo : Known → StmtsForm → Control → Ways → (within : GoneWith) → (start mid : Holds) → Type 0
+TurnsTo known body k w within start mid =
+    From known (around_at known (in_turn start within)) k body mid
+    × Goes (stmts_flow known.program.types known.program.variables (around_at known (in_turn start within)) body mid) (λ after. AsGood after start) (Raised (λ e. stmts_raise (effects_of known.program) (is_same e) body) w)
     × Spares known (λ t. stmts_free known.program.types known.program.variables (effects_of known.program) t body)
 
 -- The condition of a loop may raise an exception.
@@ -213,15 +239,18 @@ condition_among condition e = is_same e ConstraintError && condition_raises cond
 abbrev pub Repeating : Known → Option ExpressionForm → StmtsForm → Control → Ways → Holds → Type 0
 Repeating known condition body k w holds =
     (start : Holds) × AsGood holds start
-    × Goes (condition_flow condition start) (TurnsTo known body (Repeats condition body ∷ k) w start) (Raised (condition_among condition) w)
-    × (is_left condition body ≡ true → To w.normal start) × OnReturn w
+    × ((within : GoneWith)
+    × Goes (condition_flow condition start) (TurnsTo known body (Repeats condition body ∷ k) w within start) (Raised (condition_among condition) w)
+    × OnReturn known.program.variables (around_at known (in_turn start within)) w.returned)
+    × (is_left condition body ≡ true → To w.normal start)
 
 -- So does a `for` loop: nothing relies on its parameter.
 abbrev pub Counting : Known → (parameter : ℕ) → StmtsForm → Control → Ways → Holds → Type 0
 Counting known x body k w holds =
     (start : Holds) × AsGood holds start × (hold_at start x ≡ hold.Lost)
-    × ((next last : ℤ) → TurnsTo known body (Counts x next last body ∷ k) w start start)
-    × To w.normal start × OnReturn w
+    × ((within : GoneWith) × ((next last : ℤ) → TurnsTo known body (Counts x next last body ∷ k) w within start start)
+    × OnReturn known.program.variables (around_at known (in_turn start within)) w.returned)
+    × To w.normal start
 
 -- An exception is taken by a handler, or passes them.
 abbrev pub TakenBy : Known → Control → Ways → Exception → Option StmtsForm → Holds → Type 0
@@ -276,14 +305,23 @@ at_end (w ∷ ws) = nowhere
 abbrev pub body_among : ProgramForm → Exception → Bool
 body_among p e = body_raises (effects_of p) (main_body p) (is_same e)
 
--- The body of a call comes to its end: its caller goes on with what it was to do.
+-- Is the formal parameter of a number kept?
+abbrev pub is_kept_at : Keeping → (formal : ℕ) → Bool
+is_kept_at kept x = slice_index_or kept x false
+
+-- Each formal parameter that is kept holds what the call gave it.
+abbrev pub KeepsAll : Keeping → Holds → Type 0
+KeepsAll kept holds = (x : ℕ) → is_kept_at kept x ≡ true → is_kept (hold_at holds x) ≡ true
+
+-- The body of a call comes to its end: its caller goes on with what it was to do. At a normal end formal parameters give back what they owe, and where an
+-- exception leaves the body, they hold what is kept.
 abbrev pub returning : ProgramForm → List Caller → List ActualForm → Control → Ways
 returning p [] actuals k = nowhere
 returning p (w ∷ ws) actuals k = record {
-  normal = λ holds. (actuals ≡ w.actuals) × (k ≡ w.control);
-  raised = λ e holds. (body_among p e ≡ true) × (k ≡ w.control);
+  normal = λ holds. (actuals ≡ w.actuals) × (k ≡ w.control) × (all_give_back (owed_in p) holds ≡ true);
+  raised = λ e holds. (body_among p e ≡ true) × (k ≡ w.control) × KeepsAll w.kept holds;
   exited = λ holds. ⊥;
-  returned = λ holds. (actuals ≡ w.actuals) × (k ≡ w.control);
+  returned = λ holds. (actuals ≡ w.actuals) × (k ≡ w.control) × (all_give_back (owed_in p) holds ≡ true);
 }
 
 -- What is left to do, by the mode that it is come to in. A form that waits for a value is passed by a jump alone.
@@ -595,19 +633,79 @@ TurningOn known e body k rooms holds =
 abbrev pub ExitingTo : Known → Control → Rooms → Holds → Type 0
 ExitingTo known k rooms holds = RunsOn known k rooms holds × (ways known k rooms).exited holds
 
--- Nothing relies on the variables that get back what formal parameters hold.
+-- Nothing relies on the Integers and Booleans that get back what formal parameters hold.
 abbrev pub GetLost : List ActualForm → Holds → Type 0
-GetLost actuals holds = (x : ℕ) → IsGiven x actuals → hold_at holds x ≡ hold.Lost
+GetLost [] holds = Unit {0}
+GetLost (in_value e ∷ rest) holds = GetLost rest holds
+GetLost (in_null ∷ rest) holds = GetLost rest holds
+GetLost (in_access path ∷ rest) holds = GetLost rest holds
+GetLost (in_out_path path ∷ rest) holds = (hold_at holds path.root ≡ hold.Lost) × GetLost rest holds
+GetLost (in_out_access path ∷ rest) holds = GetLost rest holds
 
--- A call is next (6.4): of a procedure that the running body may call. Behind it, and where it raises an exception, aliases of what it frees are lost.
+-- What is known of the calls of a procedure of the running body, and what it keeps.
+abbrev pub effect_in : Known → (procedure : ℕ) → Option Effect
+effect_in known procedure = slice_get (effects_of known.program) procedure
+
+abbrev pub kept_in : Known → (procedure : ℕ) → Keeping
+kept_in known procedure = kept_at (keeping_of known.program) procedure
+
+-- What is left by a call, as if nothing were handed over.
+abbrev pub left_in : Known → (procedure : ℕ) → Holds → Holds
+left_in known procedure holds = left_by_call known.program.variables (effect_in known procedure) holds
+
+-- A call is next (6.4): of a procedure that the running body may call, and which the actual parameters suit. They break no rule. Behind it what is handed
+-- over is owned again, and where it raises an exception, it is lost unless it is kept.
 abbrev pub CallsOn : Known → (procedure : ℕ) → BodyForm → List ActualForm → Control → Rooms → Holds → Type 0
 CallsOn known procedure b actuals k rooms holds =
     (slice_get known.program.bodies procedure ≡ Some b)
-    × RunsOn known k rooms (left_by_call known.program.variables (slice_get (effects_of known.program) procedure) holds)
-    × ((e : Exception) → call_raises (slice_get (effects_of known.program) procedure) (is_same e) ≡ true
-    → To ((ways known k rooms).raised e) (left_by_call known.program.variables (slice_get (effects_of known.program) procedure) holds))
-    × Spares known (call_frees (slice_get (effects_of known.program) procedure))
+    × RunsOn known k rooms (handed_back actuals (left_in known procedure holds))
+    × ((e : Exception) → call_raises (effect_in known procedure) (is_same e) ≡ true
+    → To ((ways known k rooms).raised e) (left_unkept (kept_in known procedure) actuals (left_in known procedure holds)))
+    × Spares known (call_frees (effect_in known procedure))
     × GetLost actuals holds
+    × (suits_profile known.program.types known.program.variables (Some (profile_of b)) actuals ≡ true)
+    × NoneBroken holds (uses_in_actuals [] actuals)
+
+-- The value of an actual parameter of an access type: null, or what the path leads to. Nothing is known of an Integer or a Boolean.
+abbrev pub PassedBy : List Object → List Value → ActualForm → Value → Type 0
+PassedBy heap places (in_value e) v = Unit {0}
+PassedBy heap places in_null v = v ≡ Null
+PassedBy heap places (in_access path) v = walk heap (place_at places path.root) path.selectors ≡ finds v
+PassedBy heap places (in_out_path path) v = Unit {0}
+PassedBy heap places (in_out_access path) v = walk heap (place_at places path.root) path.selectors ≡ finds v
+
+-- The newest operands are the values of actual parameters, newest first.
+abbrev pub ArePassed : List Object → List Value → List ActualForm → List Value → Type 0
+ArePassed heap places [] operands = Unit {0}
+ArePassed heap places (d ∷ done) [] = ⊥
+ArePassed heap places (d ∷ done) (v ∷ vs) = PassedBy heap places d v × ArePassed heap places done vs
+
+-- An access value that is passed breaks no rule, and it is known what it raises; and this is its value.
+abbrev pub PassesBy : Known → RightForm → Control → Rooms → Holds → Type 0
+PassesBy known nothing k rooms holds = Unit {0}
+PassesBy known (value_of path) k rooms holds = NoneBroken holds (compares_it path ∷ []) × MayRaise known (path_raises path) ConstraintError k rooms holds
+PassesBy known (allocates access items) k rooms holds = ⊥
+PassesBy known (allocates_default access) k rooms holds = ⊥
+PassesBy known (computes e) k rooms holds = ⊥
+
+abbrev pub RightIs : List Object → List Value → RightForm → Value → Type 0
+RightIs heap places nothing v = v ≡ Null
+RightIs heap places (value_of path) v = walk heap (place_at places path.root) path.selectors ≡ finds v
+RightIs heap places (allocates access items) v = ⊥
+RightIs heap places (allocates_default access) v = ⊥
+RightIs heap places (computes e) v = ⊥
+
+-- Actual parameters are evaluated next, with these operands, and then comes the call.
+abbrev pub PassesTo : Known → List Object → List Value → (operands : List Value) → Control → Rooms → Holds → Type 0
+PassesTo known heap places operands [] rooms holds = ⊥
+PassesTo known heap places operands (Computes e ∷ k) rooms holds =
+    NoneBroken holds (uses_in e) × MayRaise known (expression_raises e) ConstraintError k rooms holds
+    × ((v : Value) → PassesTo known heap places (v ∷ operands) k rooms holds)
+PassesTo known heap places operands (Evaluates right ∷ k) rooms holds =
+    PassesBy known right k rooms holds × ((v : Value) → RightIs heap places right v → PassesTo known heap places (v ∷ operands) k rooms holds)
+PassesTo known heap places operands (Calls procedure b actuals ∷ k) rooms holds =
+    CallsOn known procedure b actuals k rooms holds × ArePassed heap places (reverse actuals) operands
+PassesTo known heap places operands (f ∷ k) rooms holds = ⊥
 
 -- What is left of an expression, or of an allocator's items, breaks no rule; and nothing relies on an expression's value. These are the operands
 -- below the one that is awaited.
@@ -630,7 +728,10 @@ Awaits known heap places below (AppliesAlone operator ∷ k) rooms holds =
 Awaits known heap places below (Fills items ∷ k) rooms holds = (v : Value) → FillsTo known heap places items k (v ∷ below) rooms holds
 Awaits known heap places below (Stores x ∷ k) rooms holds = RunsOn known k rooms (slice_set holds x hold.Lost)
 Awaits known heap places below (Declares x ∷ k) rooms holds = HasRoom rooms × RunsOn known k rooms (slice_set holds x hold.Lost)
-Awaits known heap places below (Calls procedure b actuals ∷ k) rooms holds = CallsOn known procedure b actuals k rooms holds
+Awaits known heap places below (Calls procedure b actuals ∷ k) rooms holds =
+    (v : Value) → PassesTo known heap places (v ∷ below) (Calls procedure b actuals ∷ k) rooms holds
+Awaits known heap places below (Evaluates right ∷ k) rooms holds =
+    (v : Value) → PassesTo known heap places (v ∷ below) (Evaluates right ∷ k) rooms holds
 Awaits known heap places below (StoresIn o c ∷ k) rooms holds = Accepts known heap o c None × RunsOn known k rooms holds
 Awaits known heap places below (Writes ∷ k) rooms holds = RunsOn known k rooms holds
 Awaits known heap places below (f ∷ k) rooms holds = ⊥
@@ -797,12 +898,16 @@ FillsOn known heap places w below cs [] rooms holds = ⊥
 FillsOn known heap places w below cs (Fills items ∷ k) rooms holds = (v : Value) → walk heap w cs ≡ finds v → FillsTo known heap places items k (v ∷ below) rooms holds
 FillsOn known heap places w below cs (f ∷ k) rooms holds = ⊥
 
+abbrev pub PassesOn : Known → List Object → List Value → Value → (below : List Value) → List ℕ → Control → Rooms → Holds → Type 0
+PassesOn known heap places w below cs k rooms holds = (v : Value) → walk heap w cs ≡ finds v → PassesTo known heap places (v ∷ below) k rooms holds
+
 abbrev pub FollowsFor : Known → List Object → List Value → Value → (below : List Value) → List ℕ → Control → Rooms → Holds → Type 0
 FollowsFor known heap places w below cs k rooms holds =
     MayFollow heap w
     × (FindsFor known heap places w below cs k rooms holds
     ⊎ (MayRaise known true ConstraintError k rooms holds
-    × (Awaits known heap places below k rooms holds ⊎ (MovesOn known heap places w cs k rooms holds ⊎ FillsOn known heap places w below cs k rooms holds))))
+    × (Awaits known heap places below k rooms holds ⊎ (MovesOn known heap places w cs k rooms holds
+    ⊎ (FillsOn known heap places w below cs k rooms holds ⊎ PassesOn known heap places w below cs k rooms holds)))))
 
 -- The path of the second half of a take pair is followed: it leads to an object that is there.
 abbrev pub HalfFollows : Known → Value → List ℕ → Control → List Object → List Value → List Master → Type 0
@@ -823,10 +928,12 @@ ReadyBy known (Counts x next last body) k heap places operands masters = Working
 ReadyBy known Exits k heap places operands masters = Working known heap places masters (ExitingTo known k)
 ReadyBy known (Handles hs) k heap places operands masters = Working known heap places masters (RunsOn known (Handles hs ∷ k))
 ReadyBy known Closes k heap places operands masters = Working known heap places masters (RunsOn known (Closes ∷ k))
-ReadyBy known (Calls procedure b actuals) k heap places operands masters = Working known heap places masters (CallsOn known procedure b actuals k)
+ReadyBy known (Calls procedure b actuals) k heap places operands masters =
+    Working known heap places masters (PassesTo known heap places operands (Calls procedure b actuals ∷ k))
 ReadyBy known (Returns actuals) k heap places operands masters = Working known heap places masters (RunsOn known (Returns actuals ∷ k))
 ReadyBy known (Leaves mode) k heap places operands masters = Parting known heap places masters (RunsOn known (Leaves mode ∷ k))
-ReadyBy known (Evaluates right) k heap places operands masters = EvaluatesTo known right k heap places masters
+ReadyBy known (Evaluates right) k heap places operands masters =
+    EvaluatesTo known right k heap places masters ⊎ Working known heap places masters (PassesTo known heap places operands (Evaluates right ∷ k))
 ReadyBy known (Computes e) k heap places operands masters = Working known heap places masters (Computing known heap places operands e k)
 ReadyBy known (Follows cs) k heap places operands masters =
     Working known heap places masters (FollowsFor known heap places (first_or Null operands) (older operands) cs k)
@@ -879,15 +986,41 @@ Ready known s = IsActive s.activations × ReadyIn known s.mode s.control s.heap 
 abbrev pub known_of : Caller → List Caller → Known
 known_of w ws = record { program = w.program; At = w.At; callers = ws }
 
+-- The variable that an actual parameter hands over to a formal one of mode `in out` of an access type, if it does; and that of a formal parameter, by its
+-- number.
+abbrev pub handed : ActualForm → Option ℕ
+handed (in_value e) = None
+handed in_null = None
+handed (in_access path) = None
+handed (in_out_path path) = None
+handed (in_out_access path) = Some path.root
+
+abbrev pub handed_at : List ActualForm → (formal : ℕ) → Option ℕ
+handed_at [] i = None
+handed_at (a ∷ rest) zero = handed a
+handed_at (a ∷ rest) (suc i) = handed_at rest i
+
+-- What is handed over to a body: each variable once, to a formal parameter of its access type, which owes something at a normal end. It is an owner or
+-- null, and no record object.
+pub record Hands (body own : ProgramForm) (actuals : List ActualForm) (holds : Holds) : Type 0 where
+  pub alike : (i x : ℕ) → handed_at actuals i ≡ Some x → variable_access body.variables i ≡ variable_access own.variables x
+  pub once : (i j x : ℕ) → handed_at actuals i ≡ Some x → handed_at actuals j ≡ Some x → i ≡ j
+  pub owned : (i x : ℕ) → handed_at actuals i ≡ Some x → gives_back (hold_at holds x) ≡ true
+  pub plain : (i x : ℕ) → handed_at actuals i ≡ Some x → is_object own.variables x ≡ false
+  pub owes : (i x : ℕ) → handed_at actuals i ≡ Some x → (after : Holds) → all_give_back (owed_in body) after ≡ true → gives_back (hold_at after i) ≡ true
+
 -- A caller waits for a body: it goes on with what is known of its variables, behind the call and where the body raises an exception; its masters have their
--- rooms; what is called null is null, and a record object that is not lost is there; and nothing relies on the variables that get something back.
+-- rooms; what is called null is null, what is kept holds what was given, and a record object that is not lost is there; nothing relies on the Integers and
+-- Booleans that get something back; and what is handed over is what the formal parameters were given.
 pub record Waits (body : ProgramForm) (w : Caller) (ws : List Caller) : Type 0 where
-  pub goes_on : To (RunsOn (known_of w ws) w.control w.rooms) w.holds
-  pub raises : (e : Exception) → body_among body e ≡ true → To ((ways (known_of w ws) w.control w.rooms).raised e) w.holds
+  pub goes_on : To (RunsOn (known_of w ws) w.control w.rooms) (handed_back w.actuals w.before)
+  pub raises : (e : Exception) → body_among body e ≡ true → To ((ways (known_of w ws) w.control w.rooms).raised e) (left_unkept w.kept w.actuals w.before)
   pub roomed : Roomed (below_callers ws) w.masters w.rooms
-  pub nulls : (x : ℕ) → IsBlank (hold_at w.holds x) (place_at w.places x)
-  pub objects : (x : ℕ) → is_object w.program.variables x ≡ true → hold_at w.holds x ≢ hold.Lost → place_at w.places x ≢ Null
-  pub lost : GetLost w.actuals w.holds
+  pub said : (x : ℕ) → IsSaid (place_at (given_in ws) x) (hold_at w.before x) (place_at w.places x)
+  pub objects : (x : ℕ) → is_object w.program.variables x ≡ true → hold_at w.before x ≢ hold.Lost → place_at w.places x ≢ Null
+  pub lost : GetLost w.actuals w.before
+  pub hands : Hands body w.program w.actuals w.before
+  pub passes : (i x : ℕ) → handed_at w.actuals i ≡ Some x → place_at w.passed i ≡ place_at w.places x
 
 -- So does each caller, for the body that it called.
 abbrev pub AllWait : ProgramForm → List Caller → Type 0
@@ -905,7 +1038,7 @@ AreSuspended (a ∷ rest) (w ∷ ws) = (a.places ≡ w.places) × (a.operands �
 abbrev pub LieBelow : List Object → List Caller → Type 0
 LieBelow heap [] = Unit {0}
 LieBelow heap (w ∷ ws) =
-    ((x : ℕ) (o : Id) → IsRelied (hold_at w.holds x) → place_at w.places x ≡ Names o
+    ((x : ℕ) (o : Id) → IsRelied (hold_at (waiting_holds w) x) → place_at w.places x ≡ Names o
     → (object : Object) × (object_at heap o ≡ Some object) × (suc object.cell.home.item ≤ height w.masters))
     × LieBelow heap ws
 

@@ -18,7 +18,7 @@ use Rattle.ada_scopes.specs.Scopes.{is_innermost, Holds as HoldsName}
 use Rattle.ada_owners.specs.Places.{Place, variable, component, elsewhere, component_in, value_at, access_at}
 use Rattle.ada_owners.specs.Reliance.{IsOf, Says, Owns, Borrows, component_hold}
 use Rattle.ada_owners.proofs.Ends.{IsUnnamed}
-use Rattle.ada_sound.proofs.Fits.{Outer, Fit, IsRelied, outer_hold, hold_in, stacked, outer_value, outer_value_at, place_at, going, lies_among, hand_is_unnamed}
+use Rattle.ada_sound.proofs.Fits.{Outer, Outsiders, Fit, IsRelied, outer_hold, hold_in, stacked, outer_value, outer_value_at, place_at, going, lies_among, hand_is_unnamed}
 use Rattle.ada_sound.proofs.Orderings.{AsGood, good_here, good_lost}
 use Rattle.ada_sound.proofs.Values.{read_other, same_or_not, lost_here}
 use Rattle.ada_sound.proofs.Invariant.{AllAmong, NamesNone}
@@ -153,18 +153,21 @@ listed_names false v o e = absurd (cc e)
 -- What owns, and what borrows, is relied on.
 owns_relied : (h : Hold) → Owns h → IsRelied h
 owns_relied hold.Null a = a
+owns_relied (hold.Kept r) a = a
 owns_relied (hold.Own r) a = a
 owns_relied (hold.Alias r) a = tt
 owns_relied hold.Lost a = a
 
 borrows_relied : (h : Hold) → Borrows h → IsRelied h
 borrows_relied hold.Null a = a
+borrows_relied (hold.Kept r) a = tt
 borrows_relied (hold.Own r) a = tt
 borrows_relied (hold.Alias r) a = a
 borrows_relied hold.Lost a = a
 
 says_of : (heap : List Object) (h : Hold) (kind : Option ℕ) (o : Id) → IsRelied h → Says (access_at heap) h kind o → IsOf (access_at heap) kind o
 says_of heap hold.Null kind o a s = absurd a
+says_of heap (hold.Kept r) kind o a s = s
 says_of heap (hold.Own r) kind o a s = s
 says_of heap (hold.Alias r) kind o a s = s
 says_of heap hold.Lost kind o a s = absurd a
@@ -174,14 +177,14 @@ component_borrows true b = b
 component_borrows false b = b
 
 -- What a variable of a suspended activation is relied on to name has no home in the innermost master.
-abbrev pub NamedBelow : List Outer → List Object → List Master → Type 0
+abbrev pub NamedBelow : Outsiders → List Object → List Master → Type 0
 NamedBelow outer heap ms =
-    (d x : ℕ) (o : Id) (object : Object) → IsRelied (outer_hold (slice_get outer d) x) → outer_value (slice_get outer d) x ≡ Names o
+    (d x : ℕ) (o : Id) (object : Object) → IsRelied (outer_hold (slice_get outer.suspended d) x) → outer_value (slice_get outer.suspended d) x ≡ Names o
     → object_at heap o ≡ Some object → is_innermost ms object.cell.home.item ≡ true → ⊥
 
 -- A member of the newest collection of the innermost master, of a type of which no variable is relied on to name an object, is in hand where nothing relies on the
 -- components of that master's objects.
-module _ (types : List TypeForm) (variables : List VariableForm) (outer : List Outer) (heap : List Object) (places : List Value) (holds : Holds) (number : ℕ) (item : Item) (items : List Item) (ms : List Master) (gone : List ℕ) (fit : Fit types variables outer (going heap (item ∷ items)) heap places holds) (none : NamesNone variables gone holds) (held : HeldIn heap (record { number = number; items = item ∷ items } ∷ ms)) (below : NamedBelow outer heap (record { number = number; items = item ∷ items } ∷ ms)) (o : Id) (x : Object) (found : object_at heap o ≡ Some x) (listed : x.listed ≡ true) (home : x.cell.home.item ≡ item.number) (among : is_among gone (Some x.cell.access) ≡ true) where
+module _ (types : List TypeForm) (variables : List VariableForm) (outer : Outsiders) (heap : List Object) (places : List Value) (holds : Holds) (number : ℕ) (item : Item) (items : List Item) (ms : List Master) (gone : List ℕ) (fit : Fit types variables outer (going heap (item ∷ items)) heap places holds) (none : NamesNone variables gone holds) (held : HeldIn heap (record { number = number; items = item ∷ items } ∷ ms)) (below : NamedBelow outer heap (record { number = number; items = item ∷ items } ∷ ms)) (o : Id) (x : Object) (found : object_at heap o ≡ Some x) (listed : x.listed ≡ true) (home : x.cell.home.item ≡ item.number) (among : is_among gone (Some x.cell.access) ≡ true) where
   access_here : access_at heap o ≡ Some x.cell.access
   access_here = rw (found, listed) refl
 
@@ -206,19 +209,19 @@ module _ (types : List TypeForm) (variables : List VariableForm) (outer : List O
       (says_of heap (hold_at holds y) (variable_access variables y) o is (fit.owners.fit.relied (variable y) o names))
 
   -- Nor does a suspended activation's variable name it.
-  no_elsewhere : (d y : ℕ) → IsRelied (outer_hold (slice_get outer d) y) → value_at heap (stacked places outer) (elsewhere d y) ≡ Names o → ⊥
+  no_elsewhere : (d y : ℕ) → IsRelied (outer_hold (slice_get outer.suspended d) y) → value_at heap (stacked places outer) (elsewhere d y) ≡ Names o → ⊥
   no_elsewhere d y is names =
       below d y o x is (sym (outer_value_at heap places outer d y) ∙ names) found (rw (eq-eqb item.number x.cell.home.item (sym home)) refl)
 
   no_borrower : (q : Place) → Borrows (hold_in outer (going heap (item ∷ items)) holds q) → value_at heap (stacked places outer) q ≡ Names o → ⊥
   no_borrower (variable y) b names = no_name y (borrows_relied (hold_at holds y) b) names
   no_borrower (component p c) b names = component_borrows (lies_among (object_at heap p) (item ∷ items)) b
-  no_borrower (elsewhere d y) b names = no_elsewhere d y (borrows_relied (outer_hold (slice_get outer d) y) b) names
+  no_borrower (elsewhere d y) b names = no_elsewhere d y (borrows_relied (outer_hold (slice_get outer.suspended d) y) b) names
 
   no_owner : (q : Place) → Owns (hold_in outer (going heap (item ∷ items)) holds q) → value_at heap (stacked places outer) q ≡ Names o → ⊥
   no_owner (variable y) own names = no_name y (owns_relied (hold_at holds y) own) names
   no_owner (component p c) own names = no_component p c (object_at heap p) refl own names
-  no_owner (elsewhere d y) own names = no_elsewhere d y (owns_relied (outer_hold (slice_get outer d) y) own) names
+  no_owner (elsewhere d y) own names = no_elsewhere d y (owns_relied (outer_hold (slice_get outer.suspended d) y) own) names
 
   pub taken_unnamed : IsUnnamed heap (stacked places outer) (hold_in outer (going heap (item ∷ items)) holds) o
   taken_unnamed = hand_is_unnamed outer types variables (going heap (item ∷ items)) heap places holds (Some x.cell.access) o (record {

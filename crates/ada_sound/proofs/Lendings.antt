@@ -19,7 +19,7 @@ use Rattle.ada_meaning.specs.Named.{Object, object_at}
 use Rattle.ada_owners.specs.Places.{Place, variable, component, elsewhere, value_at}
 use Rattle.ada_owners.specs.Reliance.{Owns, component_hold, hold_of, with_lent}
 use Rattle.ada_owners.specs.Walks.{then_found, behind, walk}
-use Rattle.ada_sound.proofs.Fits.{Outer, stacked, none_spared, hold_in, place_at, as_reliance, component_value}
+use Rattle.ada_sound.proofs.Fits.{Outer, Outsiders, stacked, none_spared, hold_in, place_at, as_reliance, component_value}
 use Rattle.ada_sound.proofs.Invariant.{front, final, LeadsTo}
 use Rattle.ada_sound.proofs.Filled.{Lends, hold_left, without_is, target_is, paths_are}
 use Rattle.ada_sound.proofs.Walks.{passes}
@@ -56,6 +56,7 @@ component_found heap places path (c ∷ cs) o object d v whole found listed lead
 left_owns : (b : Bool) (h : Hold) → Owns (hold_left b h) → (b ≡ false) × Owns h
 left_owns false h own = (refl, own)
 left_owns true hold.Null own = absurd own
+left_owns true (hold.Kept r) own = absurd own
 left_owns true (hold.Own r) own = absurd own
 left_owns true (hold.Alias r) own = absurd own
 left_owns true hold.Lost own = absurd own
@@ -67,7 +68,7 @@ variable_gone : (xs : List ℕ) (holds : Holds) (x : ℕ) → is_one_of xs x ≡
 variable_gone xs holds x is own = let before = (variable_before xs holds x own).0 in cc (is, before)
 
 -- Where a variable gets the object, no component is an item.
-pub lends_none : (outer : List Outer) (heap : List Object) (places : List Value) (holds : Holds) (target : Option PathForm) (xs : List ℕ) → target ≡ None → Lends outer heap places holds target xs (hold_in outer none_spared (without_values xs holds))
+pub lends_none : (outer : Outsiders) (heap : List Object) (places : List Value) (holds : Holds) (target : Option PathForm) (xs : List ℕ) → target ≡ None → Lends outer heap places holds target xs (hold_in outer none_spared (without_values xs holds))
 lends_none outer heap places holds target xs none = record {
   h = record { 0 = 0 };
   d = 0;
@@ -89,7 +90,7 @@ lends_none outer heap places holds target xs none = record {
 lent_owns : (o : Id) (d : ℕ) → Owns (component_hold ((((o.0 == o.0) && (d == d)) || false))) → ⊥
 lent_owns o d own = rw (eq-eqb o.0 o.0 refl, eq-eqb d d refl) at own
 
-pub lends_some : (outer : List Outer) (heap : List Object) (places : List Value) (holds : Holds) (target : Option PathForm) (xs : List ℕ) (o : Id) (object : Object) (d : ℕ) → object_at heap o ≡ Some object → object.listed ≡ true → ((path : PathForm) → target ≡ Some path → LeadsTo heap places (Names o) [] d path) → Lends outer heap places holds target xs (hold_of (with_lent o d (as_reliance outer (without_values xs holds))))
+pub lends_some : (outer : Outsiders) (heap : List Object) (places : List Value) (holds : Holds) (target : Option PathForm) (xs : List ℕ) (o : Id) (object : Object) (d : ℕ) → object_at heap o ≡ Some object → object.listed ≡ true → ((path : PathForm) → target ≡ Some path → LeadsTo heap places (Names o) [] d path) → Lends outer heap places holds target xs (hold_of (with_lent o d (as_reliance outer (without_values xs holds))))
 lends_some outer heap places holds target xs o object d found listed into = record {
   h = o;
   d = d;

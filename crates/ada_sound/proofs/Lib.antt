@@ -8,6 +8,8 @@ pub mod Items
 pub mod Activations
 -- procedures, and what is known of their calls
 pub mod Bodies
+-- what procedures keep
+pub mod Keepings
 -- objects and their homes
 pub mod Stored
 -- back from a heap in which a component was written
@@ -34,6 +36,10 @@ pub mod Outcomes
 pub mod Raising
 -- what is known behind a block
 pub mod Leavings
+-- what a call gives to formal parameters
+pub mod Handings
+-- actual parameters of access types
+pub mod Passed
 -- what a path begins with, and where it may raise an exception
 pub mod Roots
 -- expressions

@@ -11,7 +11,6 @@ use Rattle.ada_effects.specs.Effects.{path_raises}
 use Rattle.ada_program.specs.WellFormed.{is_borrower, names_borrower}
 use Rattle.ada_flow.specs.declared.rule.Hold.{Hold}
 use Rattle.ada_flow.specs.declared.rule.Hold.TheVariants as hold
-use Rattle.ada_flow.specs.declared.rule.Region.{Region}
 use Rattle.ada_program.specs.Nested.{is_one_of}
 use Rattle.ada_flow.specs.Flow.{Holds, hold_at, Outcome, faults, goes, then_flow, raising_if, ends_with, Use, moves_it, variable_of, uses_in_right, uses_in_target, Breach, moved_by, moved_behind, broken_among, unless_broken, using_paths, left_by_move, without_value, without_values, moved_by_right, right_hold, evaluation_raises, gives_path, same_selectors, same_path, leaves_path, clears, begins_pair}
 use Rattle.ada_sound.specs.Agreement.{IsOwner}
@@ -21,13 +20,15 @@ use Rattle.ada_sound.proofs.Values.{read_same, read_other, same_or_not}
 use Rattle.ada_sound.proofs.Invariant.{NoneBroken}
 use Rattle.ada_sound.proofs.Followings.{first_kept, kept_apart}
 use Rattle.ada_sound.proofs.Taken.{cleared_is, selectors_are}
+use Rattle.ada_owners.specs.Reliance.{Owns}
+use Rattle.ada_owners.proofs.Kernel.{lost_owns}
 
 -- A variable has another hold.
-pub set_nothing : (holds : Holds) (x : ℕ) (h : Hold) → ((r : Region) → h ≢ hold.Own r) → OwnsNothing (slice_set holds x h) x
-set_nothing holds x h none r e = elim (read_same holds x h hold.Lost) [ inl is ↦ none r (sym is ∙ e) | inr is ↦ cc (is, e) ]
+pub set_nothing : (holds : Holds) (x : ℕ) (h : Hold) → (Owns h → ⊥) → OwnsNothing (slice_set holds x h) x
+set_nothing holds x h none own = elim (read_same holds x h hold.Lost) [ inl is ↦ none (rw is at own) | inr is ↦ lost_owns (hold_at (slice_set holds x h) x) is own ]
 
 pub set_elsewhere : (holds : Holds) (y x : ℕ) (h : Hold) → x ≢ y → OwnsNothing holds x → OwnsNothing (slice_set holds y h) x
-set_elsewhere holds y x h ne none r e = none r (rw (read_other holds y x h hold.Lost ne) at e)
+set_elsewhere holds y x h ne none own = none (rw (read_other holds y x h hold.Lost ne) at own)
 
 -- Whether what is assigned to is a borrower.
 abbrev pub borrows_at : List VariableForm → List ℕ → (x : ℕ) → Bool
@@ -101,6 +102,7 @@ assigns_by types variables borrows cleared target right holds normal raising is 
 -- Only an owner, or null, is moved.
 pub moved_owner : (h : Hold) (spot : Spot) → moved_by h spot ≡ None → IsOwner h
 moved_owner hold.Null spot e = tt
+moved_owner (hold.Kept r) spot e = tt
 moved_owner (hold.Own r) spot e = tt
 moved_owner (hold.Alias r) spot e = absurd (cc e)
 moved_owner hold.Lost spot e = absurd (cc e)
@@ -119,11 +121,12 @@ only_owners_moved types variables target path holds owns is kept =
     behind_owner kept.1 path.selectors (hold_at holds path.root) path.spot is (first_kept holds (moves_it kept.1 path) [] all.kept).0
 
 -- What was moved owns nothing.
-left_nothing : (h : Hold) (r : Region) → left_by_move h ≢ hold.Own r
-left_nothing hold.Null r e = cc e
-left_nothing (hold.Own q) r e = cc e
-left_nothing (hold.Alias q) r e = cc e
-left_nothing hold.Lost r e = cc e
+pub left_nothing : (h : Hold) → Owns (left_by_move h) → ⊥
+left_nothing hold.Null own = own
+left_nothing (hold.Kept q) own = own
+left_nothing (hold.Own q) own = own
+left_nothing (hold.Alias q) own = own
+left_nothing hold.Lost own = own
 
 without_nothing : (holds : Holds) (y x : ℕ) → OwnsNothing holds x → OwnsNothing (without_value y holds) x
 without_nothing holds y x none = go (same_or_not x y)

@@ -13,7 +13,7 @@ use Rattle.ada_meaning.specs.Frame.{Does, Repeats, Counts, Handles, Closes}
 use Rattle.ada_sound.specs.Agreement.{Turning, past, into, counting, behind, in_branches, in_body, in_count, in_enclosed, in_others, in_this, in_next, to_this, to_next, ComesInside, in_statements, in_handlers}
 use Rattle.ada_sound.proofs.Orderings.{AsGood, as_good_then, good_each, all_good, good_to_lost}
 use Rattle.ada_sound.proofs.Values.{lost_here}
-use Rattle.ada_sound.proofs.Invariant.{Known, Where, around_at, in_turn, Spares, Control, Goes, To, Ways, Raised, From, MayExit, OnExit, OnReturn, Doing, Choosing, Handling, TurnsTo, condition_among, Repeating, Counting, TakenBy, Handled, Outside, Elaborating, NoneBroken}
+use Rattle.ada_sound.proofs.Invariant.{Known, Where, around_at, in_turn, Spares, Control, Goes, To, Ways, Raised, From, MayExit, OnExit, MayReturn, OnReturn, owed_in, Doing, Choosing, Handling, TurnsTo, condition_among, Repeating, Counting, TakenBy, Handled, Outside, Elaborating, NoneBroken}
 use Rattle.ada_sound.proofs.Outcomes.{goes_map, goes_with, to_here, to_before, raised_before, raised_less, then_goes, either_goes, computed_goes, worse_goes, turn_goes, left_goes, block_goes, handled_goes}
 use Rattle.ada_sound.proofs.Raising.{or_left, or_right, raises_untaken, raises_past}
 use Rattle.ada_sound.proofs.Leavings.{left_good, left_twice}
@@ -48,7 +48,7 @@ module _ (known : Known) where
   Starting here f fs k w holds =
       From known (around_at known here) k (a_stmt f fs) holds
       × Goes (stmt_flow known.program.types known.program.variables (around_at known here) (begins_pair f fs) f holds) (Doing known fs k w) (Raised (λ e. stmt_raises effects (is_same e) f) w)
-      × OnExit known.program.variables (has_exit f) (around_at known here) w.exited × OnReturn w
+      × OnExit known.program.variables (has_exit f) (around_at known here) w.exited × OnReturn known.program.variables (around_at known here) w.returned
       × Spares known (λ t. stmt_may t f)
 
   -- Behind the first statement come the others, where it comes to its end.
@@ -125,21 +125,24 @@ module _ (known : Known) where
       let v = known.program.variables in
       let first = opened_by_all v body holds in
       let among : Exception → Bool = λ x. stmt_raises effects (is_same x) (repeats condition body end_spot) in
-      let left = left_goes (is_left condition body) first (then_flow (condition_flow condition first) (λ hs. ends_turn first end_spot (stmts_flow known.program.types v (around_at known (in_turn first)) body hs))) (Doing known fs k w) (Raised among w) g in (
+      let left = left_goes (is_left condition body) first (then_flow (condition_flow condition first) (λ hs. ends_turn first end_spot (stmts_flow known.program.types v (around_at known (in_turn first here.within)) body hs))) (Doing known fs k w) (Raised among w) g in (
         first,
         all_good v body holds,
-        goes_with (condition_flow condition first) (λ h. Goes (ends_turn first end_spot (stmts_flow known.program.types v (around_at known (in_turn first)) body h)) (λ after. Unit {0}) (Raised among w)) (Raised among w) (TurnsTo known body (Repeats condition body ∷ Does fs ∷ k) (Then fs k w) first) (Raised (condition_among condition) w)
-            (λ mid raising is m. (
-              (λ way place at c. from (into ∷ way) place at (in_body mid is c)),
-              goes_map (stmts_flow known.program.types v (around_at known (in_turn first)) body mid) (λ after. AsGood after first) (Raised among w) (λ after. AsGood after first) (Raised (λ x. stmts_raise effects (is_same x) body) w) (λ h n. n)
-                  (λ h r. raised_less among (λ x. stmts_raise effects (is_same x) body) w (λ x i. or_right (condition_among condition x) (stmts_raise effects (is_same x) body) i) h r)
-                  (turn_goes first end_spot (stmts_flow known.program.types v (around_at known (in_turn first)) body mid) (λ after. Unit {0}) (Raised among w) m),
-              spares,
-            ))
-            (λ normal h is r. raised_less among (condition_among condition) w (λ x i. or_left (condition_among condition x) (stmts_raise effects (is_same x) body) i) h r)
-            (then_goes (condition_flow condition first) (λ h. ends_turn first end_spot (stmts_flow known.program.types v (around_at known (in_turn first)) body h)) (λ after. Unit {0}) (Raised among w) (raised_before among w) left.0),
+        (
+          here.within,
+          goes_with (condition_flow condition first) (λ h. Goes (ends_turn first end_spot (stmts_flow known.program.types v (around_at known (in_turn first here.within)) body h)) (λ after. Unit {0}) (Raised among w)) (Raised among w) (TurnsTo known body (Repeats condition body ∷ Does fs ∷ k) (Then fs k w) here.within first) (Raised (condition_among condition) w)
+              (λ mid raising is m. (
+                (λ way place at c. from (into ∷ way) place at (in_body mid is c)),
+                goes_map (stmts_flow known.program.types v (around_at known (in_turn first here.within)) body mid) (λ after. AsGood after first) (Raised among w) (λ after. AsGood after first) (Raised (λ x. stmts_raise effects (is_same x) body) w) (λ h n. n)
+                    (λ h r. raised_less among (λ x. stmts_raise effects (is_same x) body) w (λ x i. or_right (condition_among condition x) (stmts_raise effects (is_same x) body) i) h r)
+                    (turn_goes first end_spot (stmts_flow known.program.types v (around_at known (in_turn first here.within)) body mid) (λ after. Unit {0}) (Raised among w) m),
+                spares,
+              ))
+              (λ normal h is r. raised_less among (condition_among condition) w (λ x i. or_left (condition_among condition x) (stmts_raise effects (is_same x) body) i) h r)
+              (then_goes (condition_flow condition first) (λ h. ends_turn first end_spot (stmts_flow known.program.types v (around_at known (in_turn first here.within)) body h)) (λ after. Unit {0}) (Raised among w) (raised_before among w) left.0),
+          returns',
+        ),
         (λ e. to_here (Doing known fs k w) first (left.1 e)),
-        returns',
       )
 
   -- What may leave a loop is known behind it.
@@ -150,13 +153,13 @@ module _ (known : Known) where
   abbrev pub Again : Option ExpressionForm → StmtsForm → Control → Ways → Ways
   Again condition body k w = record w { normal = λ holds. Repeating known condition body k w holds; exited = λ holds. To w.normal holds }
 
-  pub turn_runs : (condition : Option ExpressionForm) (body : StmtsForm) (k : Control) (w : Ways) (holds : Holds) (r : Repeating known condition body k w holds) → TurnsTo known body (Repeats condition body ∷ k) w r.0 r.0 → Doing known body (Repeats condition body ∷ k) (Again condition body k w) r.0
-  turn_runs condition body k w holds (start, good', turns, left, returns') t = (
-    in_turn start,
+  pub turn_runs : (condition : Option ExpressionForm) (body : StmtsForm) (k : Control) (w : Ways) (holds : Holds) (r : Repeating known condition body k w holds) → TurnsTo known body (Repeats condition body ∷ k) w r.2.0 r.0 r.0 → Doing known body (Repeats condition body ∷ k) (Again condition body k w) r.0
+  turn_runs condition body k w holds (start, good', (within, turns, returns'), behind') t = (
+    in_turn start within,
     t.0,
-    goes_map (stmts_flow known.program.types known.program.variables (around_at known (in_turn start)) body start) (λ after. AsGood after start) (Raised (λ e. stmts_raise effects (is_same e) body) w) (To (Again condition body k w).normal) (Raised (λ e. stmts_raise effects (is_same e) body) w)
-        (λ after good. to_here (Again condition body k w).normal after (start, good, turns, left, returns')) (λ h r. r) t.1,
-    (λ has_one holds may. exits_loop start w (left (exit_leaves condition body has_one)) holds may),
+    goes_map (stmts_flow known.program.types known.program.variables (around_at known (in_turn start within)) body start) (λ after. AsGood after start) (Raised (λ e. stmts_raise effects (is_same e) body) w) (To (Again condition body k w).normal) (Raised (λ e. stmts_raise effects (is_same e) body) w)
+        (λ after good. to_here (Again condition body k w).normal after (start, good, (within, turns, returns'), behind')) (λ h r. r) t.1,
+    (λ has_one holds may. exits_loop start w (behind' (exit_leaves condition body has_one)) holds may),
     returns',
     t.2,
   )
@@ -167,7 +170,7 @@ module _ (known : Known) where
       let v = known.program.variables in
       let among : Exception → Bool = λ y. stmt_raises effects (is_same y) (counts x low high body end_spot) in
       let stmt_loop : Holds → Outcome = λ hs. loop_flow None true end_spot (λ start h. stmts_flow known.program.types v (in_loop start (around_at known here)) body h) (counting_start v x body hs) in
-      let turn : Holds → Holds → Outcome = λ first h. ends_turn first end_spot (stmts_flow known.program.types v (around_at known (in_turn first)) body h) in
+      let turn : Holds → Holds → Outcome = λ first h. ends_turn first end_spot (stmts_flow known.program.types v (around_at known (in_turn first here.within)) body h) in
       goes_with (bounds_flow low high holds) (λ hs. Goes (stmt_loop hs) (Doing known fs k w) (Raised among w)) (Raised among w) (Counting known x body (Does fs ∷ k) (Then fs k w)) (Raised (λ e. is_same e ConstraintError && (expression_raises low || expression_raises high)) w)
       (λ hs raising is m.
       let first = counting_start v x body hs in
@@ -176,15 +179,18 @@ module _ (known : Known) where
         first,
         good_to_lost x hs (opened_by_all v body hs) (all_good v body hs),
         lost_here (opened_by_all v body hs) x,
-        (λ next last. (
-          (λ way place at c. from (counting next last ∷ way) place at (in_count hs is c)),
-          goes_map (stmts_flow known.program.types v (around_at known (in_turn first)) body first) (λ after. AsGood after first) (Raised among w) (λ after. AsGood after first) (Raised (λ y. stmts_raise effects (is_same y) body) w) (λ h n. n)
-              (λ h r. raised_less among (λ y. stmts_raise effects (is_same y) body) w (λ y i. or_right (is_same y ConstraintError && (expression_raises low || expression_raises high)) (stmts_raise effects (is_same y) body) i) h r)
-              (turn_goes first end_spot (stmts_flow known.program.types v (around_at known (in_turn first)) body first) (λ after. Unit {0}) (Raised among w) turns.0),
-          spares,
-        )),
+        (
+          here.within,
+          (λ next last. (
+            (λ way place at c. from (counting next last ∷ way) place at (in_count hs is c)),
+            goes_map (stmts_flow known.program.types v (around_at known (in_turn first here.within)) body first) (λ after. AsGood after first) (Raised among w) (λ after. AsGood after first) (Raised (λ y. stmts_raise effects (is_same y) body) w) (λ h n. n)
+                (λ h r. raised_less among (λ y. stmts_raise effects (is_same y) body) w (λ y i. or_right (is_same y ConstraintError && (expression_raises low || expression_raises high)) (stmts_raise effects (is_same y) body) i) h r)
+                (turn_goes first end_spot (stmts_flow known.program.types v (around_at known (in_turn first here.within)) body first) (λ after. Unit {0}) (Raised among w) turns.0),
+            spares,
+          )),
+          returns',
+        ),
         to_here (Doing known fs k w) first (left.1 refl),
-        returns',
       ))
       (λ normal h is r. raised_less among (λ y. is_same y ConstraintError && (expression_raises low || expression_raises high)) w (λ y i. or_left (is_same y ConstraintError && (expression_raises low || expression_raises high)) (stmts_raise effects (is_same y) body) i) h r)
       (then_goes (bounds_flow low high holds) stmt_loop (Doing known fs k w) (Raised among w) (raised_before among w) g)
@@ -194,11 +200,11 @@ module _ (known : Known) where
   Next x body k w = record w { normal = λ holds. Counting known x body k w holds; exited = λ holds. To w.normal holds }
 
   pub count_runs : (x : ℕ) (next last : ℤ) (body : StmtsForm) (k : Control) (w : Ways) (holds : Holds) (c : Counting known x body k w holds) → Doing known body (Counts x next last body ∷ k) (Next x body k w) c.0
-  count_runs x next last body k w holds (start, good', lost, turns, behind', returns') = (
-    in_turn start,
+  count_runs x next last body k w holds (start, good', lost, (within, turns, returns'), behind') = (
+    in_turn start within,
     (turns next last).0,
-    goes_map (stmts_flow known.program.types known.program.variables (around_at known (in_turn start)) body start) (λ after. AsGood after start) (Raised (λ e. stmts_raise effects (is_same e) body) w) (To (Next x body k w).normal) (Raised (λ e. stmts_raise effects (is_same e) body) w)
-        (λ after good. to_here (Next x body k w).normal after (start, good, lost, turns, behind', returns')) (λ h r. r) (turns next last).1,
+    goes_map (stmts_flow known.program.types known.program.variables (around_at known (in_turn start within)) body start) (λ after. AsGood after start) (Raised (λ e. stmts_raise effects (is_same e) body) w) (To (Next x body k w).normal) (Raised (λ e. stmts_raise effects (is_same e) body) w)
+        (λ after good. to_here (Next x body k w).normal after (start, good, lost, (within, turns, returns'), behind')) (λ h r. r) (turns next last).1,
     (λ has_one holds may. exits_loop start w behind' holds may),
     returns',
     (turns next last).2,
@@ -259,7 +265,7 @@ module _ (known : Known) where
   pub part_from : (inner : Where) (k : Control) (ds : List DeclarationForm) (fs : StmtsForm) (hs : HandlersForm) (o : Ways) (among : Exception → Bool) (holds : Holds) → PartRaises ds fs hs among
       → ((way : List Turning) (place : Control) (at : Holds) → ComesInside known.program.types known.program.variables (around_at known inner) k ds fs hs holds way place at → known.At place at)
       → Goes (then_flow (declarations_flow known.program.types known.program.variables ds holds) (λ at. handled (passes effects fs hs) (handlers_flow known.program.types known.program.variables (around_at known inner) hs) (stmts_flow known.program.types known.program.variables (around_at known inner) fs at))) (To o.normal) (Raised among o)
-      → OnExit known.program.variables (have_exit fs) (around_at known inner) o.exited → OnExit known.program.variables (handlers_have_exit hs) (around_at known inner) o.exited → OnReturn o
+      → OnExit known.program.variables (have_exit fs) (around_at known inner) o.exited → OnExit known.program.variables (handlers_have_exit hs) (around_at known inner) o.exited → OnReturn known.program.variables (around_at known inner) o.returned
       → Spares known (λ t. stmts_may t fs) → Spares known (λ t. handlers_may t hs)
       → Elaborating known ds (Doing known fs (Handles hs ∷ Closes ∷ k) (Handled known hs (Closes ∷ k) o)) o holds
   part_from inner k ds fs hs o among holds p from g exits' exits'' returns' spares' spares'' =
@@ -293,13 +299,17 @@ module _ (known : Known) where
   exits_block gone inside None holds may = tt
   exits_block gone inside (Some start) holds may = rw (← left_twice known.program.variables gone inside holds) may
 
+  -- What leaves it by a return leaves the blocks around it, too.
+  returns_block : (gone within : Gone) (owed : List ℕ) (holds : Holds) → MayReturn known.program.variables owed (gone_with_both gone within) holds → MayReturn known.program.variables owed within (left known.program.variables gone holds)
+  returns_block gone within owed holds may = rw (← left_twice known.program.variables gone within holds) may
+
   -- A block begins with its declarations (5.6).
   pub encloses_from : (here : Where) (ds : List DeclarationForm) (body : StmtsForm) (hs : HandlersForm) (fs : StmtsForm) (k : Control) (w : Ways) (holds : Holds) → Starting here (encloses ds body hs) fs k w holds
       → Elaborating known ds (Doing known body (Handles hs ∷ Closes ∷ Does fs ∷ k) (Handled known hs (Closes ∷ Does fs ∷ k) (Outside known.program.variables (gone_with ds) (Then fs k w)))) (Outside known.program.variables (gone_with ds) (Then fs k w)) holds
   encloses_from here ds body hs fs k w holds (from, g, out, returns', spares) =
       let v = known.program.variables in
       let gone = gone_with ds in
-      let inner : Where = record { start = here.start; inside = gone_with_both (gone_with ds) here.inside } in
+      let inner : Where = record { start = here.start; inside = gone_with_both (gone_with ds) here.inside; within = gone_with_both (gone_with ds) here.within } in
       let o : Ways = Outside v (gone_with ds) (Then fs k w) in
       let among : Exception → Bool = λ e. stmt_raises effects (is_same e) (encloses ds body hs) in
       let flow : Outcome = then_flow (declarations_flow known.program.types v ds holds) (λ at. handled (passes effects body hs) (handlers_flow known.program.types v (around_at known inner) hs) (stmts_flow known.program.types v (around_at known inner) body at)) in
@@ -315,6 +325,6 @@ module _ (known : Known) where
       (block_goes v gone flow (Doing known fs k w) (Raised among w) g))
       (λ one h may. to_here w.exited (left v gone h) (out (or_left (have_exit body) (handlers_have_exit hs) one) (left v gone h) (exits_block gone here.inside here.start h may)))
       (λ one h may. to_here w.exited (left v gone h) (out (or_right (have_exit body) (handlers_have_exit hs) one) (left v gone h) (exits_block gone here.inside here.start h may)))
-      (λ h. to_here w.returned (left v gone h) (returns' (left v gone h)))
+      (λ h may. to_here w.returned (left v gone h) (returns' (left v gone h) (returns_block gone here.within (owed_in known.program) h may)))
       (λ t i. spares t (or_left (stmts_may t body) (handlers_may t hs) i))
       (λ t i. spares t (or_right (stmts_may t body) (handlers_may t hs) i))

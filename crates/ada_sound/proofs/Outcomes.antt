@@ -1,16 +1,16 @@
 -- What an outcome that breaks no rule says of its parts.
 
-use Rattle.std.proofs.Common.{◌≡◌, Bool, true, false, List, refl}
+use Rattle.std.proofs.Common.{◌≡◌, ℕ, Bool, true, false, List, refl}
 use Rattle.std.specs.Prelude.{if◌then◌else◌, Option, Some, None}
 use Rattle.ada_text.specs.declared.spot.Spot.{Spot}
 use Rattle.ada_program.specs.declared.program.Exception.{Exception}
 use Rattle.ada_program.specs.Form.{ExpressionForm}
 use Rattle.ada_program.specs.ProgramForm.{VariableForm}
 use Rattle.ada_effects.specs.Effects.{expression_raises}
-use Rattle.ada_flow.specs.declared.rule.Rule.TheVariants.{LoopState}
-use Rattle.ada_flow.specs.Flow.{Holds, Outcome, faults, goes, Breach, join, join_option, also_raises, then_flow, raising_if, ends_with, unless_broken, using_paths, uses_in, broken_among, computed, either_of, are_as_good, unless_worse, ends_turn, left_with, Gone, left, left_option, leaves_block, handled}
+use Rattle.ada_flow.specs.declared.rule.Rule.TheVariants.{LoopState, FormalNotOwned}
+use Rattle.ada_flow.specs.Flow.{Holds, Outcome, faults, goes, Breach, join, join_option, also_raises, then_flow, raising_if, ends_with, unless_broken, using_paths, uses_in, broken_among, computed, either_of, are_as_good, unless_worse, ends_turn, left_with, Gone, left, left_option, leaves_block, handled, all_give_back, ends_body, return_flow}
 use Rattle.ada_sound.proofs.Orderings.{AsGood, as_good, as_good_then, good_each, join_left, join_right}
-use Rattle.ada_sound.proofs.Invariant.{GoesBy, Goes, To, Ways, Raised, NoneBroken}
+use Rattle.ada_sound.proofs.Invariant.{GoesBy, Goes, To, Ways, Raised, MayReturn, NoneBroken}
 
 -- What holds with less known holds with more.
 abbrev pub Down : (Holds → Type 0) → Type 0
@@ -128,6 +128,27 @@ block_some variables gone (Some h) more g = g
 pub block_goes : (variables : List VariableForm) (gone : Gone) (o : Outcome) (more raised : Holds → Type 0) → Goes (leaves_block variables gone o) more raised → Goes o (λ h. more (left variables gone h)) (λ h. raised (left variables gone h))
 block_goes variables gone (faults spot rule) more raised g = g
 block_goes variables gone (goes normal raising) more raised g = (block_some variables gone normal more g.0, block_some variables gone raising raised g.1)
+
+-- The end of a body: there formal parameters give back what they owe.
+owed_goes : (owed : List ℕ) (spot : Spot) (holds : Holds) (raising : Option Holds) (more raised : Holds → Type 0) → Goes (ends_body owed spot (goes (Some holds) raising)) more raised → (more holds × (all_give_back owed holds ≡ true)) × GoesBy raising raised
+owed_goes owed spot holds raising more raised g = go (all_give_back owed holds) refl g
+  where
+    go : (b : Bool) → all_give_back owed holds ≡ b → Goes (if b then goes (Some holds) raising else faults spot FormalNotOwned) more raised → (more holds × (all_give_back owed holds ≡ true)) × GoesBy raising raised
+    go true is m = ((m.0, is), m.1)
+    go false is m = absurd m
+
+pub body_goes : (owed : List ℕ) (spot : Spot) (o : Outcome) (more raised : Holds → Type 0) → Goes (ends_body owed spot o) more raised → Goes o (λ h. all_give_back owed h ≡ true) raised
+body_goes owed spot (faults other rule) more raised g = g
+body_goes owed spot (goes None raising) more raised g = g
+body_goes owed spot (goes (Some h) raising) more raised g = let e = owed_goes owed spot h raising more raised g in (e.0.1, e.1)
+
+-- A return: there they do, too.
+pub return_goes : (variables : List VariableForm) (owed : List ℕ) (within : Gone) (spot : Spot) (holds : Holds) (more raised : Holds → Type 0) → Goes (return_flow variables owed within spot holds) more raised → MayReturn variables owed within holds
+return_goes variables owed within spot holds more raised g = go (all_give_back owed (left variables within holds)) refl g
+  where
+    go : (b : Bool) → all_give_back owed (left variables within holds) ≡ b → Goes (if b then goes None None else faults spot FormalNotOwned) more raised → MayReturn variables owed within holds
+    go true is m = is
+    go false is m = absurd m
 
 -- Statements with handlers: what is raised comes to these, or passes them.
 pub handled_goes : (passes : Bool) (handlers : Holds → Outcome) (o : Outcome) (more raised : Holds → Type 0) → Down more → Down raised → Goes (handled passes handlers o) more raised → Goes o more (λ h. (passes ≡ true → raised h) × Goes (handlers h) more raised)

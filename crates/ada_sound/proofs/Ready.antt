@@ -5,9 +5,10 @@ use Rattle.std.specs.List.{slice_set}
 use Rattle.ada_flow.specs.declared.rule.Hold.TheVariants as hold
 use Rattle.ada_flow.specs.Flow.{Holds}
 use Rattle.ada_meaning.specs.declared.state.Value.{Value}
+use Rattle.ada_meaning.specs.declared.state.Value.TheVariants.{Null}
 use Rattle.ada_meaning.specs.declared.state.Mode.{Mode}
 use Rattle.ada_meaning.specs.declared.state.Mode.TheVariants.{Running, Raising, Exiting, Returning}
-use Rattle.ada_meaning.specs.Frame.{Elaborates, Does, Decides, Repeats, Turns, Ranges, Counts, Exits, Handles, Closes, Leaves, Calls, Returns, Computes, TestsNull, Continues, Applies, AppliesAlone, Fills, Stores, StoresIn, Declares, Writes}
+use Rattle.ada_meaning.specs.Frame.{Elaborates, Does, Decides, Repeats, Turns, Ranges, Counts, Exits, Handles, Closes, Leaves, Calls, Returns, Evaluates, Computes, TestsNull, Continues, Applies, AppliesAlone, Fills, Stores, StoresIn, Declares, Writes}
 use Rattle.ada_meaning.specs.Event.{Quiet}
 use Rattle.ada_meaning.specs.State.{Activation, Master}
 use Rattle.ada_meaning.specs.Step.{jumping}
@@ -17,7 +18,7 @@ use Rattle.ada_sound.proofs.Items.{NoMaster}
 use Rattle.ada_sound.proofs.Fits.{weaker_fit, spare_fit, put_lost, going}
 use Rattle.ada_sound.proofs.Orderings.{AsGood}
 use Rattle.ada_sound.proofs.Alters.{alters_same}
-use Rattle.ada_sound.proofs.Invariant.{Caller, below_callers, below, at_end, nowhere, Known, Control, Rooms, Roomed, To, RunsOn, GoesOn, Awaits, Working, Parting, HalfBy, Resumes, ReadyIn, Ready, Says, Stepped, By, innermost, ways}
+use Rattle.ada_sound.proofs.Invariant.{Caller, below_callers, below, at_end, nowhere, Known, Control, Rooms, Roomed, To, RunsOn, GoesOn, PassesTo, Awaits, Working, Parting, HalfBy, Resumes, ReadyIn, Ready, Says, Stepped, By, innermost, ways}
 
 -- The state at work on something, with a running activation; and in another mode.
 abbrev pub running : Control → Activation Value → List (Activation Value) → State → State
@@ -120,9 +121,27 @@ module _ (known : Known) where
     fit = put_lost x v w.fit;
     rest = w.rest;
   }
-  awaits_ready (Calls procedure b actuals ∷ k) heap places v below ms w = w
+  awaits_ready (Calls procedure b actuals ∷ k) heap places v below ms w = at_work w (w.rest v)
+  awaits_ready (Evaluates right ∷ k) heap places v below ms w = inr (at_work w (w.rest v))
   awaits_ready (Writes ∷ k) heap places v below ms w = w
   awaits_ready (f ∷ k) heap places v below ms w = absurd (w.rest)
+
+  -- What the value of an actual parameter is awaited by goes on with any one; and actual parameters that are left are ready.
+  pub awaits_passes : (heap : List Object) (places : List Value) (k : Control) (below : List Value) (rooms : Rooms) (holds : Holds) → ((v : Value) → PassesTo known heap places (v ∷ below) k rooms holds) → Awaits known heap places below k rooms holds
+  awaits_passes heap places [] below rooms holds f = absurd (f Null)
+  awaits_passes heap places (Computes e ∷ k) below rooms holds f =
+      let now = f Null in
+      (now.0, now.1, λ v. let later = f v in awaits_passes heap places k (v ∷ below) rooms holds later.2)
+  awaits_passes heap places (Evaluates right ∷ k) below rooms holds f = f
+  awaits_passes heap places (Calls procedure b actuals ∷ k) below rooms holds f = f
+  awaits_passes heap places (f' ∷ k) below rooms holds f = absurd (f Null)
+
+  pub passes_ready : (k : Control) (heap : List Object) (places operands : List Value) (ms : List Master) → Working known heap places ms (PassesTo known heap places operands k) → ReadyIn known Running k heap places operands ms
+  passes_ready [] heap places operands ms w = absurd (w.rest)
+  passes_ready (Computes e ∷ k) heap places operands ms w = at_work w (w.rest.0, w.rest.1, awaits_passes heap places k operands w.rooms w.holds w.rest.2)
+  passes_ready (Evaluates right ∷ k) heap places operands ms w = inr w
+  passes_ready (Calls procedure b actuals ∷ k) heap places operands ms w = w
+  passes_ready (f ∷ k) heap places operands ms w = absurd (w.rest)
 
   module _ (k : Control) (a : Activation Value) (rest : List (Activation Value)) (s : State) where
     -- What awaits a value goes on with one.

@@ -37,7 +37,7 @@ use Rattle.ada_sound.proofs.Stored.{stored_new, stored_owning}
 use Rattle.ada_typed.specs.Holding.{Cells, HasKind, HaveKinds, cells_of}
 use Rattle.ada_typed.proofs.Values.{AreComputed, AreHeld, active_placed}
 use Rattle.ada_typed.proofs.Control as typed
-use Rattle.ada_sound.proofs.Fits.{Outer, bare, stacked, none_spared, place_at, hold_in, put_owner, create_fit}
+use Rattle.ada_sound.proofs.Fits.{Outer, Outsiders, bare, stacked, none_spared, place_at, hold_in, put_owner, create_fit}
 use Rattle.ada_sound.proofs.Alters.{alters_new}
 use Rattle.ada_sound.proofs.Invariant.{outers, below, Known, Control, Rooms, Roomed, Raised, Doing, Handled, Outside, Elaborating, Giving, MayOwn, Recording, RunsOn, Working, Stepped, Fine, ways}
 use Rattle.ada_sound.proofs.Ready.{running, at_work, runs_ready, ready_on}
@@ -52,12 +52,12 @@ first_blank (component.Integer initial) o e = cc e
 first_blank (component.Boolean initial) o e = cc e
 first_blank (component.Access access) o e = cc e
 
-blanks_in_hand : (outer : List Outer) (heap : List Object) (places : List Value) (holding : Place → Hold) (kind : ℕ → Option ℕ) (c : ℕ) (kinds : List ComponentKind) → AreInHand heap (stacked places outer) holding kind c (map (initial_value named) kinds)
+blanks_in_hand : (outer : Outsiders) (heap : List Object) (places : List Value) (holding : Place → Hold) (kind : ℕ → Option ℕ) (c : ℕ) (kinds : List ComponentKind) → AreInHand heap (stacked places outer) holding kind c (map (initial_value named) kinds)
 blanks_in_hand outer heap places holding kind c [] = tt
 blanks_in_hand outer heap places holding kind c (one ∷ kinds) =
     (record { hand = blank (first_blank one) }, (λ o i e f. first_blank one o e), blanks_in_hand outer heap places holding kind (suc c) kinds)
 
-initials_in_hand : (outer : List Outer) (heap : List Object) (places : List Value) (holding : Place → Hold) (kind : ℕ → Option ℕ) (found : Option (List ComponentKind)) → AreInHand heap (stacked places outer) holding kind 0 (initial_values named found)
+initials_in_hand : (outer : Outsiders) (heap : List Object) (places : List Value) (holding : Place → Hold) (kind : ℕ → Option ℕ) (found : Option (List ComponentKind)) → AreInHand heap (stacked places outer) holding kind 0 (initial_values named found)
 initials_in_hand outer heap places holding kind None = tt
 initials_in_hand outer heap places holding kind (Some kinds) = blanks_in_hand outer heap places holding kind 0 kinds
 
@@ -96,7 +96,7 @@ plain_names_nothing cells (kind ∷ kinds) (v ∷ vs) plain have =
     let two = neither (is_owning kind) (list_any is_owning kinds) plain in
     (plain_blank cells kind v two.0 have.0, plain_names_nothing cells kinds vs two.1 have.1)
 
-nothing_in_hand : (outer : List Outer) (heap : List Object) (places : List Value) (holding : Place → Hold) (kind : ℕ → Option ℕ) (c : ℕ) (vs : List Value) → NameNothing vs → AreInHand heap (stacked places outer) holding kind c vs
+nothing_in_hand : (outer : Outsiders) (heap : List Object) (places : List Value) (holding : Place → Hold) (kind : ℕ → Option ℕ) (c : ℕ) (vs : List Value) → NameNothing vs → AreInHand heap (stacked places outer) holding kind c vs
 nothing_in_hand outer heap places holding kind c [] none = tt
 nothing_in_hand outer heap places holding kind c (v ∷ vs) none =
     (record { hand = blank none.0 }, (λ o i e f. none.0 o e), nothing_in_hand outer heap places holding kind (suc c) vs none.1)

@@ -63,6 +63,7 @@ released_goes types variables path holds access more raised g = go (freed_behind
 freed_kept : (b : Bool) (h : Hold) (spot : Spot) → freed_behind b h spot ≡ None → (lost_by h spot ≡ None) × (b ≡ false)
 freed_kept false h spot e = (e, refl)
 freed_kept true hold.Null spot e = absurd (cc e)
+freed_kept true (hold.Kept r) spot e = absurd (cc e)
 freed_kept true (hold.Own r) spot e = absurd (cc e)
 freed_kept true (hold.Alias r) spot e = absurd (cc e)
 freed_kept true hold.Lost spot e = absurd (cc e)

@@ -1,13 +1,13 @@
 -- The body of a call comes to its end, by a return or by an exception: its caller goes on.
 
-use Rattle.std.proofs.Common.{◌≡◌, ℕ, List, [], ◌∷◌, refl, sym, ◌∙◌, subst}
+use Rattle.std.proofs.Common.{◌≡◌, ℕ, true, List, [], ◌∷◌, refl, sym, ◌∙◌, subst}
 use Rattle.std.specs.Prelude.{Option, Some, None}
 use Rattle.std.specs.List.{slice_get}
 use Rattle.ada_program.specs.declared.program.Exception.{Exception}
 use Rattle.ada_program.specs.declared.program.Program.{Program}
 use Rattle.ada_program.specs.Form.{ActualForm}
 use Rattle.ada_program.specs.ProgramForm.{TypeForm, BodyForm, ProgramForm, program_form, seen_at, seen_in}
-use Rattle.ada_flow.specs.Flow.{Holds}
+use Rattle.ada_flow.specs.Flow.{Holds, handed_back, left_unkept, all_give_back}
 use Rattle.ada_meaning.specs.declared.state.Value.{Value}
 use Rattle.ada_meaning.specs.declared.state.Mode.{Mode}
 use Rattle.ada_meaning.specs.declared.state.Mode.TheVariants.{Running, Raising, Exiting, Returning}
@@ -21,9 +21,9 @@ use Rattle.ada_sound.specs.Agreement.{running_procedure}
 use Rattle.ada_sound.proofs.Fits.{none_spared, Fit}
 use Rattle.ada_sound.proofs.Stored.{Stored}
 use Rattle.ada_sound.proofs.Activations.{returned_fit}
-use Rattle.ada_sound.proofs.GivenBack.{copied_fit}
+use Rattle.ada_sound.proofs.GivenBack.{ArePlaced, since_back, said_back, objects_back, since_left, said_left, objects_left}
 use Rattle.ada_sound.proofs.Ready.{at_less, goes_ready, stays}
-use Rattle.ada_sound.proofs.Invariant.{Known, Control, Rooms, Roomed, GoesOn, Working, Stepped, Waits, AllWait, below, outers, outer_of}
+use Rattle.ada_sound.proofs.Invariant.{Known, Control, Rooms, Roomed, GoesOn, Working, Stepped, Waits, AllWait, KeepsAll, below, outers, outer_of, owed_in, handed_at}
 use Rattle.ada_sound.proofs.Callers.{Suspension, caller_of, callers_of, known_in, Stands}
 
 -- What a step from one body to another keeps: it is known what it leads to, and so are the callers.
@@ -56,16 +56,38 @@ module _ (program : Program) (procedure : Option ℕ) (g : Suspension) (gs : Lis
   same_here = same_types procedure (program_form program) ∙ sym (same_types g.procedure (program_form program))
 
   module _ (heap : List Object) (places : List Value) (masters : List Master) where
-    caller_fit : (holds : Holds) → WaitsForIt → Fit callee.program.types callee.program.variables (outers callee) none_spared heap places holds → Fit caller.program.types caller.program.variables (outers caller) none_spared heap g.places g.holds
-    caller_fit holds waits f =
-        returned_fit caller.program.types (outers caller) (outer_of (caller_of program g gs)) none_spared heap callee.program.variables places holds waits.nulls waits.objects
-        (subst (λ (types : List TypeForm). Fit types callee.program.variables (outers callee) none_spared heap places holds) same_here f)
+    -- The places of the caller's variables once they get something back, and what is known of them then.
+    abbrev given_back : List Value
+    given_back = copied_back g.actuals places g.places
+
+    abbrev FitsHere : Holds → Type 0
+    FitsHere holds = Fit callee.program.types callee.program.variables (outers callee) none_spared heap places holds
+
+    fit_there : (holds : Holds) → FitsHere holds → Fit caller.program.types callee.program.variables (outers callee) none_spared heap places holds
+    fit_there holds f = subst (λ (types : List TypeForm). Fit types callee.program.variables (outers callee) none_spared heap places holds) same_here f
+
+    -- At a normal end, and where the body raises an exception.
+    back_fit : (holds : Holds) (waits : WaitsForIt) → ArePlaced callee.program.variables places → all_give_back (owed_in callee.program) holds ≡ true → FitsHere holds → Fit caller.program.types caller.program.variables (outers caller) none_spared heap given_back (handed_back g.actuals g.before)
+    back_fit holds waits placed gave f =
+        let w = caller_of program g gs in
+        let ws = callers_of program gs in
+        returned_fit (outer_of w) callee.program.variables places holds (handed_at g.actuals) given_back (handed_back g.actuals g.before) caller.program.types (outers caller) g.passed none_spared heap
+        (since_back callee.program w ws waits places holds placed gave) (fit_there holds f)
+        (said_back callee.program w ws waits places holds placed gave) (objects_back callee.program w ws waits places holds placed gave)
+
+    left_fit : (holds : Holds) (waits : WaitsForIt) → KeepsAll g.kept holds → FitsHere holds → Fit caller.program.types caller.program.variables (outers caller) none_spared heap g.places (left_unkept g.kept g.actuals g.before)
+    left_fit holds waits keeps f =
+        let w = caller_of program g gs in
+        let ws = callers_of program gs in
+        returned_fit (outer_of w) callee.program.variables places holds (handed_at g.actuals) g.places (left_unkept g.kept g.actuals g.before) caller.program.types (outers caller) g.passed none_spared heap
+        (since_left callee.program w ws waits places holds keeps f.said) (fit_there holds f)
+        (said_left callee.program w ws waits places holds keeps f.said) (objects_left callee.program w ws waits places holds keeps f.said)
 
     -- The caller at work, once its masters are the innermost ones: with what it held, or with what it gets back.
-    abbrev caller_works : (held : List Value) → Stored None heap masters → WaitsForIt → masters ≡ g.masters → Fit caller.program.types caller.program.variables (outers caller) none_spared heap held g.holds → Working caller heap held masters (λ rooms known. Unit {0})
-    caller_works held stored waits same fit = record {
+    abbrev caller_works : (held : List Value) (after : Holds) → Stored None heap masters → WaitsForIt → masters ≡ g.masters → Fit caller.program.types caller.program.variables (outers caller) none_spared heap held after → Working caller heap held masters (λ rooms known. Unit {0})
+    caller_works held after stored waits same fit = record {
       rooms = g.rooms;
-      holds = g.holds;
+      holds = after;
       stored = stored;
       roomed = rw same waits.roomed;
       fit = fit;
@@ -73,24 +95,21 @@ module _ (program : Program) (procedure : Option ℕ) (g : Suspension) (gs : Lis
     }
 
     module _ (actuals : List ActualForm) (k : Control) (waits : WaitsForIt) where
-      -- What the caller has then.
-      abbrev given_back : List Value
-      given_back = copied_back actuals places g.places
+      gets_back : (holds : Holds) → Stored None heap masters → masters ≡ g.masters → ArePlaced callee.program.variables places → FitsHere holds → (actuals ≡ g.actuals) × (k ≡ g.control) × (all_give_back (owed_in callee.program) holds ≡ true) → Working caller heap (copied_back actuals places g.places) masters (GoesOn caller Running k)
+      gets_back holds stored same placed f (given, is, gave) =
+          rw (given, is) (at_less (caller_works given_back (handed_back g.actuals g.before) stored waits same (back_fit holds waits placed gave f)) waits.goes_on)
 
-      gets_back : (holds : Holds) → Stored None heap masters → masters ≡ g.masters → Fit callee.program.types callee.program.variables (outers callee) none_spared heap places holds → (actuals ≡ g.actuals) × (k ≡ g.control) → Working caller heap given_back masters (GoesOn caller Running k)
-      gets_back holds stored same f (given, is) =
-          rw is (at_less (caller_works given_back stored waits same (copied_fit actuals places g.places (rw given waits.lost) (caller_fit holds waits f))) waits.goes_on)
+      returns_by : (rooms : Rooms) (holds : Holds) → Stored None heap masters → Roomed (below callee) masters rooms → ArePlaced callee.program.variables places → FitsHere holds → GoesOn callee Running (Returns actuals ∷ k) rooms holds → Working caller heap (copied_back actuals places g.places) masters (GoesOn caller Running k)
+      returns_by [] holds stored roomed placed fit is = gets_back holds stored roomed placed fit is
+      returns_by (gone ∷ rooms) holds stored roomed placed fit is = absurd is
 
-      returns_by : (rooms : Rooms) (holds : Holds) → Stored None heap masters → Roomed (below callee) masters rooms → Fit callee.program.types callee.program.variables (outers callee) none_spared heap places holds → GoesOn callee Running (Returns actuals ∷ k) rooms holds → Working caller heap given_back masters (GoesOn caller Running k)
-      returns_by [] holds stored roomed fit is = gets_back holds stored roomed fit is
-      returns_by (gone ∷ rooms) holds stored roomed fit is = absurd is
+      returning_by : (rooms : Rooms) (holds : Holds) → Stored None heap masters → Roomed (below callee) masters rooms → ArePlaced callee.program.variables places → FitsHere holds → GoesOn callee Returning (Returns actuals ∷ k) rooms holds → Working caller heap (copied_back actuals places g.places) masters (GoesOn caller Running k)
+      returning_by [] holds stored roomed placed fit is = gets_back holds stored roomed placed fit is
+      returning_by (gone ∷ rooms) holds stored roomed placed fit is = absurd is
 
-      returning_by : (rooms : Rooms) (holds : Holds) → Stored None heap masters → Roomed (below callee) masters rooms → Fit callee.program.types callee.program.variables (outers callee) none_spared heap places holds → GoesOn callee Returning (Returns actuals ∷ k) rooms holds → Working caller heap given_back masters (GoesOn caller Running k)
-      returning_by [] holds stored roomed fit is = gets_back holds stored roomed fit is
-      returning_by (gone ∷ rooms) holds stored roomed fit is = absurd is
-
-      raising_by : (e : Exception) (rooms : Rooms) (holds : Holds) → Stored None heap masters → Roomed (below callee) masters rooms → Fit callee.program.types callee.program.variables (outers callee) none_spared heap places holds → GoesOn callee (Raising e) (Returns actuals ∷ k) rooms holds → Working caller heap g.places masters (GoesOn caller (Raising e) k)
-      raising_by e [] holds stored roomed fit (may, is) = rw is (at_less (caller_works g.places stored waits roomed (caller_fit holds waits fit)) (waits.raises e may))
+      raising_by : (e : Exception) (rooms : Rooms) (holds : Holds) → Stored None heap masters → Roomed (below callee) masters rooms → FitsHere holds → GoesOn callee (Raising e) (Returns actuals ∷ k) rooms holds → Working caller heap g.places masters (GoesOn caller (Raising e) k)
+      raising_by e [] holds stored roomed fit (may, is, keeps) =
+          rw is (at_less (caller_works g.places (left_unkept g.kept g.actuals g.before) stored waits roomed (left_fit holds waits keeps fit)) (waits.raises e may))
       raising_by e (gone ∷ rooms) holds stored roomed fit is = absurd is
 
       exiting_by : (rooms : Rooms) (holds : Holds) → GoesOn callee Exiting (Returns actuals ∷ k) rooms holds → ⊥
@@ -163,15 +182,15 @@ module _ (program : Program) (a : Activation Value) (actuals : List ActualForm) 
       let places = stands.standing.suspended.0 in
       resumes Running (copied_back actuals a.places b.places) b rest g gs stands (rw places w)
 
-  -- A body is left, in whatever mode: its caller goes on.
-  pub left_fine : (mode : Mode) (rest : List (Activation Value)) (gs : List Suspension) → Stands program gs (record s { activations = a ∷ rest }) → Working (known_in program a.procedure gs) s.heap a.places s.masters (GoesOn (known_in program a.procedure gs) mode (Returns actuals ∷ k)) → Crosses program s.heap Quiet (resumed_in (behind_call mode) k (behind_body mode actuals a.places rest) s)
-  left_fine mode [] [] stands w = absurd (no_caller program a.procedure mode actuals k w.rooms w.holds w.rest)
-  left_fine mode [] (g ∷ gs) stands w = absurd stands.bodies
-  left_fine mode (b ∷ rest) [] stands w = absurd stands.bodies
-  left_fine Running (b ∷ rest) (g ∷ gs) stands w =
-      gets_on b rest g gs stands (returns_by program a.procedure g gs s.heap a.places s.masters actuals k stands.standing.waiting.0 w.rooms w.holds w.stored w.roomed w.fit w.rest)
-  left_fine (Raising e) (b ∷ rest) (g ∷ gs) stands w =
+  -- A body is left, in whatever mode: its caller goes on. Each variable of the body has a place, from which it gives something back.
+  pub left_fine : (mode : Mode) (rest : List (Activation Value)) (gs : List Suspension) → Stands program gs (record s { activations = a ∷ rest }) → ArePlaced (seen_in a.procedure (program_form program)).variables a.places → Working (known_in program a.procedure gs) s.heap a.places s.masters (GoesOn (known_in program a.procedure gs) mode (Returns actuals ∷ k)) → Crosses program s.heap Quiet (resumed_in (behind_call mode) k (behind_body mode actuals a.places rest) s)
+  left_fine mode [] [] stands placed w = absurd (no_caller program a.procedure mode actuals k w.rooms w.holds w.rest)
+  left_fine mode [] (g ∷ gs) stands placed w = absurd stands.bodies
+  left_fine mode (b ∷ rest) [] stands placed w = absurd stands.bodies
+  left_fine Running (b ∷ rest) (g ∷ gs) stands placed w =
+      gets_on b rest g gs stands (returns_by program a.procedure g gs s.heap a.places s.masters actuals k stands.standing.waiting.0 w.rooms w.holds w.stored w.roomed placed w.fit w.rest)
+  left_fine (Raising e) (b ∷ rest) (g ∷ gs) stands placed w =
       goes_back (Raising e) b rest g gs stands (raising_by program a.procedure g gs s.heap a.places s.masters actuals k stands.standing.waiting.0 e w.rooms w.holds w.stored w.roomed w.fit w.rest)
-  left_fine Exiting (b ∷ rest) (g ∷ gs) stands w = absurd (exiting_by program a.procedure g gs s.heap a.places s.masters actuals k stands.standing.waiting.0 w.rooms w.holds w.rest)
-  left_fine Returning (b ∷ rest) (g ∷ gs) stands w =
-      gets_on b rest g gs stands (returning_by program a.procedure g gs s.heap a.places s.masters actuals k stands.standing.waiting.0 w.rooms w.holds w.stored w.roomed w.fit w.rest)
+  left_fine Exiting (b ∷ rest) (g ∷ gs) stands placed w = absurd (exiting_by program a.procedure g gs s.heap a.places s.masters actuals k stands.standing.waiting.0 w.rooms w.holds w.rest)
+  left_fine Returning (b ∷ rest) (g ∷ gs) stands placed w =
+      gets_on b rest g gs stands (returning_by program a.procedure g gs s.heap a.places s.masters actuals k stands.standing.waiting.0 w.rooms w.holds w.stored w.roomed placed w.fit w.rest)

@@ -22,7 +22,7 @@ use Rattle.ada_meaning.specs.declared.state.Value.{Value}
 use Rattle.ada_meaning.specs.declared.state.Value.TheVariants.{Null}
 use Rattle.ada_meaning.specs.Named.{Object}
 use Rattle.ada_meaning.specs.Step.{before_last}
-use Rattle.ada_sound.proofs.Fits.{Outer, Fit, names_object, is_object, place_at}
+use Rattle.ada_sound.proofs.Fits.{Outsiders, Fit, names_object, is_object, place_at}
 use Rattle.ada_sound.proofs.Invariant.{Known, Control, Rooms, To, MayRaise, RaisesAt, ways}
 
 -- Nothing is selected behind nothing.
@@ -113,13 +113,14 @@ pub takes_object : (types : List TypeForm) (variables : List VariableForm) (kind
 takes_object types variables kind path takes whole = let h = takes_leads types variables kind path takes in root_object types variables path h.0 h.1 whole
 
 -- A record object that is not lost is there.
-kept_hold : (h : Hold) (spot : Spot) → lost_by h spot ≡ None → h ≢ hold.Lost
+pub kept_hold : (h : Hold) (spot : Spot) → lost_by h spot ≡ None → h ≢ hold.Lost
 kept_hold hold.Null spot e is = cc is
+kept_hold (hold.Kept r) spot e is = cc is
 kept_hold (hold.Own r) spot e is = cc is
 kept_hold (hold.Alias r) spot e is = cc is
 kept_hold hold.Lost spot e is = absurd (cc e)
 
-pub object_there : {types : List TypeForm} {variables : List VariableForm} {outer : List Outer} {spared : Id → Bool} {heap : List Object} {places : List Value} {holds : Holds} (x : ℕ) (spot : Spot) → lost_by (hold_at holds x) spot ≡ None → is_object variables x ≡ true → Fit types variables outer spared heap places holds → place_at places x ≢ Null
+pub object_there : {types : List TypeForm} {variables : List VariableForm} {outer : Outsiders} {spared : Id → Bool} {heap : List Object} {places : List Value} {holds : Holds} (x : ℕ) (spot : Spot) → lost_by (hold_at holds x) spot ≡ None → is_object variables x ≡ true → Fit types variables outer spared heap places holds → place_at places x ≢ Null
 object_there {holds = holds} x spot kept is f = f.objects x is (kept_hold (hold_at holds x) spot kept)
 
 -- Where a path may raise Constraint_Error.

@@ -32,7 +32,8 @@ use Rattle.ada_meaning.specs.Named.{Object, State, Next, named, object_at, next}
 use Rattle.ada_meaning.specs.Run.{Event, Choice, settled, grants, takes, Leads, Step, Run, here, there, Halts}
 use Rattle.ada_meaning.specs.Law.{named_by, back_of, followed_of, finalized_of, Differ, BackTwoObjects, FinalizedTwoValues, FollowedBeforeBack, leaving_by, IsBackHome, GoesHome, GivesBackOf, Happened, IsBack, HasEnded, items_of}
 use Rattle.ada_typed.specs.Holding.{cells_of}
-use Rattle.ada_typed.proofs.Values.{AreFilled, filled_at}
+use Rattle.ada_typed.proofs.Values.{AreFilled, filled_at, active_placed}
+use Rattle.ada_sound.proofs.GivenBack.{ArePlaced}
 use Rattle.ada_typed.proofs.Control as typed
 use Rattle.ada_typed.proofs.Evaluations as typing
 use Rattle.ada_typed.proofs.Bodies.{seen_fits, sees}
@@ -50,7 +51,9 @@ use Rattle.ada_sound.proofs.Invariant.{Known, Control, Caller, AreSuspended, Wor
 use Rattle.ada_sound.proofs.Callers.{Suspension, rest_of, callers_of, known_in, AreOf, Stands}
 use Rattle.ada_sound.proofs.Bodies.{IsBody, seen_is, callee_get}
 use Rattle.ada_sound.proofs.Returns.{Crosses, same_types, left_fine}
-use Rattle.ada_sound.proofs.Calls.{callee, waiting, freed_by_call, calls_fine}
+use Rattle.ada_sound.proofs.Calls.{callee, values, waiting, freed_by_call, calls_fine}
+use Rattle.ada_sound.proofs.Keepings.{callee_keeps}
+use Rattle.ada_sound.proofs.Ready.{at_work}
 use Rattle.ada_sound.proofs.BodyRuns.{body_runs, call_spares}
 use Rattle.ada_sound.proofs.Below.{named_below}
 use Rattle.ada_sound.proofs.Scalars.{scalars_lost}
@@ -225,6 +228,11 @@ fine_in program s gs stands (tells request e after) same fine = kept_on program 
 fine_in program s gs stands (asks request answered) same fine = λ granted. kept_on program s (answered granted) gs stands Quiet (same granted) (fine granted).alters (fine granted)
 fine_in program s gs stands (picks n taken) same fine = λ i lt. kept_on program s (taken i) gs stands Quiet (same i lt) (fine i lt).alters (fine i lt)
 
+-- Each variable of the running body has a place.
+placed_in : (p : ProgramForm) (a : Activation Value) (rest : List (Activation Value)) (s : State) → s.activations ≡ a ∷ rest → typed.TypedIn p s → ArePlaced p.variables a.places
+placed_in p a rest s is (typed.running kinds ready fits) x kind at = active_placed (cells_of s.heap) p.variables kinds (a ∷ rest) x kind (rw is at ready.active) at
+placed_in p a rest s is (typed.on_jump mode jumps goes) x kind at = active_placed (cells_of s.heap) p.variables [] (a ∷ rest) x kind (rw is at jumps.active) at
+
 -- The body of a procedure runs when it is called.
 module _ (program : Program) (number : ℕ) (b : BodyForm) (given : List ActualForm) (k : Control) (a : Activation Value) (gs : List Suspension) (s : State) (well : IsWellFormed (program_form program)) (obeys : ObeysRules program)
     (w : Working (known_in program a.procedure gs) s.heap a.places s.masters (CallsOn (known_in program a.procedure gs) number b given k)) (is : IsBody (program_form program) a.procedure) where
@@ -241,12 +249,12 @@ module _ (program : Program) (number : ℕ) (b : BodyForm) (given : List ActualF
   spares_called rest stands t may =
       let freed = freed_by_call program number b given k a rest gs s w stands t may in
       let caller = known_in program a.procedure gs in
-      call_spares caller.program.variables (slice_get (effects_of caller.program) number) a.places w.holds (outers caller) t freed (w.rest.3 t freed)
+      call_spares caller.program.variables (slice_get (effects_of caller.program) number) given a.places (values program number b given k a [] gs s) w.holds (outers caller) t freed (w.rest.3 t freed)
 
-  runs_called : (rest : List (Activation Value)) → Stands program gs (record s { activations = a ∷ rest }) → RunsOn called (Elaborates b.declarations b.statements b.handlers ∷ Returns given ∷ k) (gone_with b.declarations ∷ []) (first_holds b.variables)
+  runs_called : (rest : List (Activation Value)) → Stands program gs (record s { activations = a ∷ rest }) → RunsOn called (Elaborates b.declarations b.statements b.handlers ∷ Returns given ∷ k) (gone_with b.declarations ∷ []) (first_holds b.formals b.variables)
   runs_called rest stands =
-      subst (λ (c : BodyForm). RunsOn called (Elaborates c.declarations c.statements c.handlers ∷ Returns given ∷ k) (gone_with c.declarations ∷ []) (first_holds c.variables)) same_body
-      (body_runs program (Some number) (waiting program number b given k a [] gs s w ∷ gs) (body_obeys program (Some number) (b, seen_body) obeys) (none_out program (Some number) well) (none_on program (Some number) well) (spares_called rest stands))
+      subst (λ (c : BodyForm). RunsOn called (Elaborates c.declarations c.statements c.handlers ∷ Returns given ∷ k) (gone_with c.declarations ∷ []) (first_holds c.formals c.variables)) same_body
+      (body_runs program (Some number) (waiting program number b given k a [] gs s w ∷ gs) (body_obeys program (Some number) (b, seen_body) obeys) (none_out program (Some number) well) (none_on program (Some number) well) (spares_called rest stands) (callee_keeps (program_form program) a.procedure number b is w.rest.0))
 
 filled_in : (p : ProgramForm) (s : State) → typed.TypedIn p s → AreFilled p.types (cells_of s.heap) (cells_of s.heap)
 filled_in p s (typed.running kinds ready fits) = ready.filled
@@ -317,23 +325,25 @@ module _ (program : Program) (a : Activation Value) (rest : List (Activation Val
   -- The step of a frame, where no jump is on its way.
   running_step : (f : Frame Value) → Sound program (state_with Running (f ∷ k) (a ∷ rest) s) → FineIn program (state_with Running (f ∷ k) (a ∷ rest) s) (mode_next named program.types.items (body_forms program) Running (state_with Running (f ∷ k) (a ∷ rest) s))
   running_step (Calls number b actuals) sound =
-      let w = sound.ready.1 in
+      let ready = sound.ready.1 in
+      let caller = known_in program a.procedure sound.suspensions in
+      let w : Working caller s.heap a.places s.masters (CallsOn caller number b actuals k) = at_work ready ready.rest.0 in
       let stands = restand Running (Calls number b actuals) sound.suspensions sound.stands in
-      calls_fine program number b actuals k a rest sound.suspensions s w stands (runs_called program number b actuals k a sound.suspensions s sound.well sound.obeys w stands.body rest stands) _
-  running_step (Returns actuals) sound = left_fine program a actuals k s Running rest sound.suspensions (restand Running (Returns actuals) sound.suspensions sound.stands) sound.ready.1
+      calls_fine program number b actuals k a rest sound.suspensions s w ready.rest.1 stands (runs_called program number b actuals k a sound.suspensions s sound.well sound.obeys w stands.body rest stands)
+  running_step (Returns actuals) sound = left_fine program a actuals k s Running rest sound.suspensions (restand Running (Returns actuals) sound.suspensions sound.stands) (placed_in (seen_in a.procedure (program_form program)) a rest (state_with Running (Returns actuals ∷ k) (a ∷ rest) s) refl sound.typed.inside) sound.ready.1
   running_step f sound = crossing_none f refl sound
 
   -- While a jump is on its way.
   raising_step : (e : Exception) (f : Frame Value) → Sound program (state_with (Raising e) (f ∷ k) (a ∷ rest) s) → FineIn program (state_with (Raising e) (f ∷ k) (a ∷ rest) s) (jump_next named (Raising e) (f ∷ k) (state_with (Raising e) (f ∷ k) (a ∷ rest) s))
-  raising_step e (Returns actuals) sound = left_fine program a actuals k s (Raising e) rest sound.suspensions (restand (Raising e) (Returns actuals) sound.suspensions sound.stands) sound.ready.1
+  raising_step e (Returns actuals) sound = left_fine program a actuals k s (Raising e) rest sound.suspensions (restand (Raising e) (Returns actuals) sound.suspensions sound.stands) (placed_in (seen_in a.procedure (program_form program)) a rest (state_with (Raising e) (Returns actuals ∷ k) (a ∷ rest) s) refl sound.typed.inside) sound.ready.1
   raising_step e f sound = passing_none (Raising e) f refl _ refl refl sound
 
   exiting_step : (f : Frame Value) → Sound program (state_with Exiting (f ∷ k) (a ∷ rest) s) → FineIn program (state_with Exiting (f ∷ k) (a ∷ rest) s) (jump_next named Exiting (f ∷ k) (state_with Exiting (f ∷ k) (a ∷ rest) s))
-  exiting_step (Returns actuals) sound = left_fine program a actuals k s Exiting rest sound.suspensions (restand Exiting (Returns actuals) sound.suspensions sound.stands) sound.ready.1
+  exiting_step (Returns actuals) sound = left_fine program a actuals k s Exiting rest sound.suspensions (restand Exiting (Returns actuals) sound.suspensions sound.stands) (placed_in (seen_in a.procedure (program_form program)) a rest (state_with Exiting (Returns actuals ∷ k) (a ∷ rest) s) refl sound.typed.inside) sound.ready.1
   exiting_step f sound = passing_none Exiting f refl _ refl refl sound
 
   returning_step : (f : Frame Value) → Sound program (state_with Returning (f ∷ k) (a ∷ rest) s) → FineIn program (state_with Returning (f ∷ k) (a ∷ rest) s) (jump_next named Returning (f ∷ k) (state_with Returning (f ∷ k) (a ∷ rest) s))
-  returning_step (Returns actuals) sound = left_fine program a actuals k s Returning rest sound.suspensions (restand Returning (Returns actuals) sound.suspensions sound.stands) sound.ready.1
+  returning_step (Returns actuals) sound = left_fine program a actuals k s Returning rest sound.suspensions (restand Returning (Returns actuals) sound.suspensions sound.stands) (placed_in (seen_in a.procedure (program_form program)) a rest (state_with Returning (Returns actuals ∷ k) (a ∷ rest) s) refl sound.typed.inside) sound.ready.1
   returning_step f sound = passing_none Returning f refl _ refl refl sound
 
 -- Any step.

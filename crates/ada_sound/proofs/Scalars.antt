@@ -9,19 +9,22 @@ use Rattle.ada_text.specs.declared.spot.Spot.{Spot}
 use Rattle.ada_program.specs.declared.program.Program.{Program}
 use Rattle.ada_program.specs.declared.program.VariableKind.{VariableKind}
 use Rattle.ada_program.specs.declared.program.VariableKind.TheVariants as variable
-use Rattle.ada_program.specs.Form.{PathForm, ExpressionForm, RightForm, computes, DeclarationForm, collects, declares, declares_record, StmtForm, skips, assigns, assigns_record, frees, gets, writes, writes_text, chooses, repeats, counts, exits, calls, returns, raises, encloses, StmtsForm, no_stmts, a_stmt, BranchesForm, otherwise, a_branch, HandlersForm, no_handlers, a_handler}
+use Rattle.ada_program.specs.Form.{PathForm, ExpressionForm, RightForm, computes, DeclarationForm, collects, declares, declares_record, StmtForm, skips, assigns, assigns_record, frees, gets, writes, writes_text, chooses, repeats, counts, exits, calls, returns, raises, encloses, StmtsForm, no_stmts, a_stmt, BranchesForm, otherwise, a_branch, HandlersForm, no_handlers, a_handler, ActualForm, in_value, in_null, in_access, in_out_path, in_out_access}
 use Rattle.ada_program.specs.ProgramForm.{TypeForm, VariableForm, program_form, seen_in}
-use Rattle.ada_program.specs.WellFormed.{access_of, variable_kind, is_borrower, selectors_kind, path_access, right_fits, initial_fits, is_freed_by, statement_fits, stmts_fit, branches_fit, handlers_fit, Profile, callable_in, value_access, root_kind, is_record_object}
+use Rattle.ada_program.specs.WellFormed.{access_of, variable_kind, is_borrower, selectors_kind, path_access, right_fits, initial_fits, is_freed_by, statement_fits, stmts_fit, branches_fit, handlers_fit, Profile, callable_in, value_access, root_kind, is_record_object, names_borrower, actual_fits, actuals_fit, suits_profile}
 use Rattle.ada_effects.specs.Effects.{expression_raises, path_raises, record_path_raises, items_raise, actuals_raise, initial_raises, Effect, call_raises, passes}
 use Rattle.ada_flow.specs.declared.rule.Hold.{Hold}
 use Rattle.ada_flow.specs.declared.rule.Region.TheVariants.{Whole}
-use Rattle.ada_flow.specs.declared.rule.Hold.TheVariants.{Null, Own, Alias, Lost}
-use Rattle.ada_flow.specs.declared.rule.Rule.TheVariants.{LoopState}
-use Rattle.ada_flow.specs.Flow.{Holds, hold_at, variable_access, join, join_option, Outcome, faults, goes, also_raises, then_flow, raising_if, ends_with, Use, uses_in, uses_in_right, uses_in_target, Breach, broken_among, unless_broken, using_paths, computed, left_by_move, without_value, without_values, moved_by_right, right_hold, evaluation_raises, gives, gives_path, without_alias, without_aliases, without_freed, left_by_call, uses_in_actuals, behind_end, freed, released, passes_own, freed_behind, frees_path, gets_path, either_of, are_as_good, opened_hold, opened, opened_target, opened_by, opened_by_all, opened_by_branches, opened_by_handlers, ends_turn, left_with, is_left, condition_flow, loop_flow, Gone, gone_with, declared_at, uses_in_initial, uses_in_record, reaches_it, without_types, without_variables, if_own, left, left_option, leaves_block, handled, Around, in_loop, in_block, exit_of, exit_flow, declaration_flow, declarations_flow, bounds_flow, counting_start, begins_pair, stmt_flow, stmts_flow, branches_flow, handlers_flow}
+use Rattle.ada_flow.specs.declared.rule.Hold.TheVariants.{Null, Own, Alias, Lost, Kept}
+use Rattle.ada_flow.specs.declared.rule.Rule.TheVariants.{LoopState, FormalNotOwned}
+use Rattle.ada_flow.specs.Flow.{Holds, hold_at, variable_access, join, join_option, Outcome, faults, goes, also_raises, then_flow, raising_if, ends_with, Use, uses_in, uses_in_right, uses_in_target, Breach, broken_among, unless_broken, using_paths, computed, left_by_move, without_value, without_values, moved_by_right, right_hold, evaluation_raises, gives, gives_path, without_alias, without_aliases, without_freed, left_by_call, uses_in_actuals, behind_end, freed, released, passes_own, freed_behind, frees_path, gets_path, either_of, are_as_good, opened_hold, opened, opened_target, opened_by, opened_by_all, opened_by_branches, opened_by_handlers, ends_turn, left_with, is_left, condition_flow, loop_flow, Gone, gone_with, declared_at, uses_in_initial, uses_in_record, reaches_it, without_types, without_variables, if_own, left, left_option, leaves_block, handled, Around, in_loop, in_block, exit_of, exit_flow, declaration_flow, declarations_flow, bounds_flow, counting_start, begins_pair, stmt_flow, stmts_flow, branches_flow, handlers_flow, all_touched, touched, touched_hold, touched_by_all, variable_of, opened_by_actuals, handed_back, left_unkept, unless_kept, first_kept, others_kept, Keeping, return_flow, all_give_back, formal_hold, first_holds, kept_at}
 use Rattle.ada_typed.proofs.Bodies.{SeenFits}
 use Rattle.ada_sound.proofs.Assigned.{root_or_none}
 use Rattle.ada_sound.specs.Agreement.{Place, Turning, Comes, here, behind, in_branches, in_body, in_count, in_enclosed, ComesBy, in_others, in_this, in_next, ComesTo, to_this, to_next, ComesInside, in_statements, in_handlers, IsFlowAt}
 use Rattle.ada_sound.proofs.Values.{read_same, read_other, same_or_not}
+use Rattle.ada_program.specs.declared.program.FormalMode.{FormalMode}
+use Rattle.ada_program.specs.declared.program.FormalMode.TheVariants.{In, InOut}
+use Rattle.ada_typed.proofs.Actuals.{given_kind}
 
 -- What is lost stays lost where ways meet.
 join_lost : (a b : Holds) (x : ℕ) → hold_at a x ≡ Lost → hold_at b x ≡ Lost → hold_at (join a b) x ≡ Lost
@@ -75,10 +78,22 @@ aliases_lost (v ∷ vs) t (h ∷ hs) zero e = rw e (alias_lost _)
 aliases_lost (v ∷ vs) t (h ∷ hs) (suc x) e = aliases_lost vs t hs x e
 
 -- At first each variable is.
-first_lost : (n x : ℕ) → hold_at (replicate n Lost) x ≡ Lost
-first_lost zero x = refl
-first_lost (suc n) zero = refl
-first_lost (suc n) (suc x) = first_lost n x
+formal_lost : (m : FormalMode) (kind : VariableKind) → access_of (Some kind) ≡ None → formal_hold m kind ≡ Lost
+formal_lost In variable.Integer none = refl
+formal_lost In variable.Boolean none = refl
+formal_lost In (variable.Access access) none = absurd (cc none)
+formal_lost In (variable.Record object) none = refl
+formal_lost InOut variable.Integer none = refl
+formal_lost InOut variable.Boolean none = refl
+formal_lost InOut (variable.Access access) none = absurd (cc none)
+formal_lost InOut (variable.Record object) none = refl
+
+first_lost : (ms : List FormalMode) (vs : List VariableForm) (x : ℕ) → variable_access vs x ≡ None → hold_at (first_holds ms vs) x ≡ Lost
+first_lost ms [] x none = refl
+first_lost [] (v ∷ vs) zero none = refl
+first_lost [] (v ∷ vs) (suc x) none = first_lost [] vs x none
+first_lost (m ∷ ms) (v ∷ vs) zero none = formal_lost m v.kind none
+first_lost (m ∷ ms) (v ∷ vs) (suc x) none = first_lost ms vs x none
 
 -- What is assigned to an Integer or a Boolean is one.
 right_lost : (borrows : Bool) (types : List TypeForm) (variables : List VariableForm) (kind : Option VariableKind) (right : RightForm) (holds : Holds) → right_fits types variables kind right ≡ true → access_of kind ≡ None → right_hold borrows right holds ≡ Lost
@@ -206,6 +221,7 @@ module _ (types : List TypeForm) (variables : List VariableForm) (texts exceptio
 
   released_keeps : (x : ℕ) (spot : Spot) (holds : Holds) (h : Hold) → (variable_access variables x ≡ None → ⊥) → Scalars holds → Keeps (released variables x spot holds h)
   released_keeps x spot holds Null some s = (freed_keeps x holds some s, tt)
+  released_keeps x spot holds (Kept r) some s = (freed_keeps x holds some s, tt)
   released_keeps x spot holds (Own r) some s = (freed_keeps x holds some s, tt)
   released_keeps x spot holds (Alias r) some s = tt
   released_keeps x spot holds Lost some s = tt
@@ -231,12 +247,34 @@ module _ (types : List TypeForm) (variables : List VariableForm) (texts exceptio
   target_keeps [] y holds s = opened_keeps y holds s
   target_keeps (c ∷ cs) y holds s = s
 
+  touches_keep : (ys : List ℕ) (holds : Holds) → Scalars holds → Scalars (all_touched ys holds)
+  touches_keep [] holds s = s
+  touches_keep (y ∷ ys) holds s = touches_keep ys (touched y holds) (set_keeps holds y (touched_hold (hold_at holds y)) (λ n. rw (s y n) refl) s)
+
+  parts_keep : (ds : List DeclarationForm) (holds : Holds) → Scalars holds → Scalars (touched_by_all variables ds holds)
+  parts_keep [] holds s = s
+  parts_keep (collects access ∷ ds) holds s = parts_keep ds holds s
+  parts_keep (declares y right ∷ ds) holds s =
+      let moved = moved_by_right (is_borrower variables y) right in
+      parts_keep ds (all_touched moved holds) (touches_keep moved holds s)
+  parts_keep (declares_record y object initial ∷ ds) holds s = parts_keep ds holds s
+
+  handing_keeps : (actuals : List ActualForm) (holds : Holds) → Scalars holds → Scalars (opened_by_actuals variables actuals holds)
+  handing_keeps [] holds s = s
+  handing_keeps (in_value e ∷ rest) holds s = handing_keeps rest holds s
+  handing_keeps (in_null ∷ rest) holds s = handing_keeps rest holds s
+  handing_keeps (in_access path ∷ rest) holds s = handing_keeps rest holds s
+  handing_keeps (in_out_path path ∷ rest) holds s = handing_keeps rest holds s
+  handing_keeps (in_out_access path ∷ rest) holds s = handing_keeps rest (opened variables path.root holds) (opened_keeps path.root holds s)
+
   mutual
     opens : (f : StmtForm) (holds : Holds) → Scalars holds → Scalars (opened_by variables f holds)
     opens skips holds s = s
-    opens (assigns target right) holds s = target_keeps target.selectors target.root holds s
+    opens (assigns target right) holds s =
+        let moved = moved_by_right (names_borrower variables target) right in
+        target_keeps target.selectors target.root (all_touched moved holds) (touches_keep moved holds s)
     opens (assigns_record target items) holds s = s
-    opens (frees access path) holds s = s
+    opens (frees access path) holds s = touches_keep (variable_of path.selectors path.root) holds s
     opens (gets target) holds s = s
     opens (writes e) holds s = s
     opens (writes_text text) holds s = s
@@ -244,10 +282,12 @@ module _ (types : List TypeForm) (variables : List VariableForm) (texts exceptio
     opens (repeats condition fs end_spot) holds s = opens_all fs holds s
     opens (counts x low high fs end_spot) holds s = opens_all fs holds s
     opens (exits condition spot) holds s = s
-    opens (calls procedure actuals) holds s = s
+    opens (calls procedure actuals) holds s = handing_keeps actuals holds s
     opens (returns spot) holds s = s
     opens (raises e) holds s = s
-    opens (encloses ds fs hs) holds s = opens_handlers hs (opened_by_all variables fs holds) (opens_all fs holds s)
+    opens (encloses ds fs hs) holds s =
+        let inside = touched_by_all variables ds holds in
+        opens_handlers hs (opened_by_all variables fs inside) (opens_all fs inside (parts_keep ds holds s))
 
     opens_all : (fs : StmtsForm) (holds : Holds) → Scalars holds → Scalars (opened_by_all variables fs holds)
     opens_all no_stmts holds s = s
@@ -263,6 +303,10 @@ module _ (types : List TypeForm) (variables : List VariableForm) (texts exceptio
 
   counting_keeps : (x : ℕ) (fs : StmtsForm) (holds : Holds) → Scalars holds → Scalars (counting_start variables x fs holds)
   counting_keeps x fs holds s = set_keeps (opened_by_all variables fs holds) x Lost (λ n. refl) (opens_all fs holds s)
+
+  returning_keeps : (b : Bool) (spot : Spot) → Keeps (if b then goes None None else faults spot FormalNotOwned)
+  returning_keeps true spot = (tt, tt)
+  returning_keeps false spot = tt
 
   worse_keeps : (b : Bool) (spot : Spot) (more : Outcome) → Keeps more → Keeps (if b then more else faults spot LoopState)
   worse_keeps true spot more k = k
@@ -330,6 +374,41 @@ module _ (types : List TypeForm) (variables : List VariableForm) (texts exceptio
   bounds_keep low high holds s = then_keeps (computed low holds) (computed high) (computed_keeps low holds s) (λ hs k. computed_keeps high hs k)
 
   -- Behind a call what was lost is lost.
+  -- A variable that is handed over is of an access type.
+  handed_some : (kind : VariableKind) (path : PathForm) → actual_fits types variables kind (in_out_access path) ≡ true → variable_access variables path.root ≡ None → ⊥
+  handed_some variable.Integer path fits none = cc fits
+  handed_some variable.Boolean path fits none = cc fits
+  handed_some (variable.Access access) path fits none = cc (rw (given_kind types variables (variable.Access access) (in_out_access path) path.root fits refl) at none)
+  handed_some (variable.Record object) path fits none = cc fits
+
+  handing_back : (kinds : List VariableKind) (actuals : List ActualForm) (holds : Holds) → actuals_fit types variables kinds actuals ≡ true → Scalars holds → Scalars (handed_back actuals holds)
+  handing_back kinds [] holds fits s = s
+  handing_back [] (a ∷ rest) holds fits s = absurd (cc fits)
+  handing_back (kind ∷ kinds) (in_value e ∷ rest) holds fits s = handing_back kinds rest holds (and_parts _ _ fits).1 s
+  handing_back (kind ∷ kinds) (in_null ∷ rest) holds fits s = handing_back kinds rest holds (and_parts _ _ fits).1 s
+  handing_back (kind ∷ kinds) (in_access path ∷ rest) holds fits s = handing_back kinds rest holds (and_parts _ _ fits).1 s
+  handing_back (kind ∷ kinds) (in_out_path path ∷ rest) holds fits s = handing_back kinds rest holds (and_parts _ _ fits).1 s
+  handing_back (kind ∷ kinds) (in_out_access path ∷ rest) holds fits s =
+      let parts = and_parts _ _ fits in
+      handing_back kinds rest (slice_set holds path.root (Own Whole)) parts.1 (set_keeps holds path.root (Own Whole) (λ none. absurd (handed_some kind path parts.0 none)) s)
+
+  suited_back : (profile : Option Profile) (actuals : List ActualForm) (holds : Holds) → suits_profile types variables profile actuals ≡ true → Scalars holds → Scalars (handed_back actuals holds)
+  suited_back None actuals holds suits s = absurd (cc suits)
+  suited_back (Some profile) actuals holds suits s = handing_back profile.kinds actuals holds (and_parts _ _ suits).0 s
+
+  spared_keeps : (b : Bool) (x : ℕ) (holds : Holds) → Scalars holds → Scalars (unless_kept b x holds)
+  spared_keeps true x holds s = s
+  spared_keeps false x holds s = without_keeps (x ∷ []) holds s
+
+  unkept_keeps : (kept : Keeping) (actuals : List ActualForm) (holds : Holds) → Scalars holds → Scalars (left_unkept kept actuals holds)
+  unkept_keeps kept [] holds s = s
+  unkept_keeps kept (in_value e ∷ rest) holds s = unkept_keeps (others_kept kept) rest holds s
+  unkept_keeps kept (in_null ∷ rest) holds s = unkept_keeps (others_kept kept) rest holds s
+  unkept_keeps kept (in_access path ∷ rest) holds s = unkept_keeps (others_kept kept) rest holds s
+  unkept_keeps kept (in_out_path path ∷ rest) holds s = unkept_keeps (others_kept kept) rest holds s
+  unkept_keeps kept (in_out_access path ∷ rest) holds s =
+      unkept_keeps (others_kept kept) rest (unless_kept (first_kept kept) path.root holds) (spared_keeps (first_kept kept) path.root holds s)
+
   call_keeps : (effect : Option Effect) (holds : Holds) → Scalars holds → Scalars (left_by_call variables effect holds)
   call_keeps None holds s = s
   call_keeps (Some effect) holds s = λ x none. freed_lost variables effect.frees holds x (s x none)
@@ -358,10 +437,13 @@ module _ (types : List TypeForm) (variables : List VariableForm) (texts exceptio
     stmt_keeps around inside cleared (exits condition spot) holds fits s = exit_keeps around.start around.inside condition spot holds s
     stmt_keeps around inside cleared (calls procedure actuals) holds fits s =
         let effect = slice_get around.effects procedure in
-        let after = left_by_call variables effect holds in
+        let left = left_by_call variables effect holds in
+        let kept = kept_at around.kept procedure in
         let may = actuals_raise actuals || call_raises effect (λ e. true) in
-        using_keeps (uses_in_actuals [] actuals) holds (ends_with may after after) (ends_keep may after after (call_keeps effect holds s) (call_keeps effect holds s))
-    stmt_keeps around inside cleared (returns spot) holds fits s = (tt, tt)
+        using_keeps (uses_in_actuals [] actuals) holds (ends_with may (left_unkept kept actuals left) (handed_back actuals left))
+        (ends_keep may (left_unkept kept actuals left) (handed_back actuals left) (unkept_keeps kept actuals left (call_keeps effect holds s))
+        (suited_back (slice_get callable procedure) actuals left fits (call_keeps effect holds s)))
+    stmt_keeps around inside cleared (returns spot) holds fits s = returning_keeps (all_give_back around.owed (left variables around.within holds)) spot
     stmt_keeps around inside cleared (raises e) holds fits s = (tt, s)
     stmt_keeps around inside cleared (encloses ds fs hs) holds fits s =
         let parts = and_parts _ _ fits in
@@ -444,4 +526,4 @@ module _ (types : List TypeForm) (variables : List VariableForm) (texts exceptio
 pub scalars_lost : (program : Program) (procedure : Option ℕ) (rest : Place) (way : List Turning) (place : Place) (holds : Holds) → SeenFits (seen_in procedure (program_form program)) → IsFlowAt program procedure rest way place holds → (x : ℕ) → variable_access (seen_in procedure (program_form program)).variables x ≡ None → hold_at holds x ≡ Lost
 scalars_lost program procedure rest way place holds w at =
     let p = seen_in procedure (program_form program) in
-    inside_comes p.types p.variables p.texts p.exceptions (callable_in p) false w.initials_fit w.statements_fit w.handlers_fit (λ x none. first_lost (length p.variables) x) at
+    inside_comes p.types p.variables p.texts p.exceptions (callable_in p) false w.initials_fit w.statements_fit w.handlers_fit (λ x none. first_lost p.formals p.variables x none) at

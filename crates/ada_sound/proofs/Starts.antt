@@ -1,13 +1,14 @@
 -- The first state of a program that is well formed, whose collections nest, and that obeys the rules keeps the invariant.
 
-use Rattle.std.proofs.Common.{◌≡◌, ℕ, false, List, [], ◌∷◌, length, refl, sym, subst}
+use Rattle.std.proofs.Common.{◌≡◌, ℕ, zero, suc, false, List, [], ◌∷◌, refl, sym, subst}
 use Rattle.std.specs.Prelude.{ℤ, Option, None}
 use Rattle.ada_program.specs.declared.program.Program.{Program}
-use Rattle.ada_program.specs.ProgramForm.{TypeForm, program_form, main_body, seen_in}
+use Rattle.ada_program.specs.ProgramForm.{TypeForm, VariableForm, program_form, main_body, seen_in}
 use Rattle.ada_program.specs.WellFormed.{IsWellFormed}
 use Rattle.ada_program.specs.Nested.{CollectionsNest}
 use Rattle.ada_effects.specs.Effects.{body_frees, effects_of}
-use Rattle.ada_flow.specs.Flow.{body_flow, first_holds, gone_with, have_exit, handlers_have_exit, ObeysRules}
+use Rattle.ada_flow.specs.declared.rule.Hold.TheVariants as hold
+use Rattle.ada_flow.specs.Flow.{hold_at, keeping_of, body_flow, first_holds, gone_with, have_exit, handlers_have_exit, ObeysRules}
 use Rattle.ada_meaning.specs.Step.{blanks}
 use Rattle.ada_meaning.specs.Named.{State, named}
 use Rattle.ada_meaning.specs.Run.{first_state}
@@ -17,7 +18,6 @@ use Rattle.ada_typed.proofs.Control as typed
 use Rattle.ada_typed.proofs.Runs.{first_typed}
 use Rattle.ada_scopes.proofs.Runs.{Scoped, first_nested}
 use Rattle.ada_sound.proofs.Fits.{first_fit}
-use Rattle.ada_sound.proofs.Calls.{lost_at}
 use Rattle.ada_sound.proofs.Bodies.{IsBody, IsFine, obeys_in}
 use Rattle.ada_sound.proofs.BodyRuns.{body_runs, none_suspended}
 use Rattle.ada_sound.proofs.Exits.{no_exits, no_exit_handlers}
@@ -37,10 +37,10 @@ pub record Sound (program : Program) (s : State) : Type 0 where
   pub nested : Scoped (program_form program) s
 
 -- Each body of a program breaks no rule, and no exit leads out of it.
-pub body_obeys : (program : Program) (procedure : Option ℕ) → IsBody (program_form program) procedure → ObeysRules program → IsFine (seen_in procedure (program_form program)).types (body_flow (seen_in procedure (program_form program)).types (effects_of (seen_in procedure (program_form program))) (main_body (seen_in procedure (program_form program))))
+pub body_obeys : (program : Program) (procedure : Option ℕ) → IsBody (program_form program) procedure → ObeysRules program → IsFine (seen_in procedure (program_form program)).types (body_flow (seen_in procedure (program_form program)).types (effects_of (seen_in procedure (program_form program))) (keeping_of (seen_in procedure (program_form program))) (main_body (seen_in procedure (program_form program))))
 body_obeys program procedure is obeys =
     let own = seen_in procedure (program_form program) in
-    subst (λ (types : List TypeForm). IsFine types (body_flow types (effects_of own) (main_body own))) (sym (same_types procedure (program_form program))) (obeys_in (program_form program) procedure is obeys)
+    subst (λ (types : List TypeForm). IsFine types (body_flow types (effects_of own) (keeping_of own) (main_body own))) (sym (same_types procedure (program_form program))) (obeys_in (program_form program) procedure is obeys)
 
 pub none_out : (program : Program) (procedure : Option ℕ) → IsWellFormed (program_form program) → have_exit (seen_in procedure (program_form program)).statements ≡ false
 none_out program procedure well =
@@ -52,6 +52,12 @@ none_on program procedure well =
     let p = seen_in procedure (program_form program) in
     no_exit_handlers p.types p.variables p.texts p.exceptions _ p.handlers (seen_fits (program_form program) well procedure).handlers_fit
 
+-- No variable of the main body is declared yet.
+lost_first : (variables : List VariableForm) (x : ℕ) → hold_at (first_holds [] variables) x ≡ hold.Lost
+lost_first [] x = refl
+lost_first (v ∷ vs) zero = refl
+lost_first (v ∷ vs) (suc x) = lost_first vs x
+
 -- The first state.
 ready_first : (program : Program) (input : List ℤ) → IsWellFormed (program_form program) → ObeysRules program → Ready (known_in program None []) (first_state program input)
 ready_first program input well obeys =
@@ -59,11 +65,11 @@ ready_first program input well obeys =
       tt,
       record {
         rooms = gone_with p.declarations ∷ [];
-        holds = first_holds p.variables;
+        holds = first_holds [] p.variables;
         stored = record { counted = tt; sane = λ o x e. absurd (cc e) };
         roomed = (tt, refl);
-        fit = first_fit p.types p.variables (blanks named p.variables) (first_holds p.variables) (lost_at (length p.variables));
-        rest = body_runs program None [] (body_obeys program None tt obeys) (none_out program None well) (none_on program None well) (none_suspended program None (body_frees p.types (effects_of p) (main_body p)));
+        fit = first_fit p.types p.variables (blanks named p.variables) (first_holds [] p.variables) (lost_first p.variables);
+        rest = body_runs program None [] (body_obeys program None tt obeys) (none_out program None well) (none_on program None well) (none_suspended program None (body_frees p.types (effects_of p) (main_body p))) tt;
       },
     )
 

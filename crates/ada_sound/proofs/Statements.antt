@@ -11,7 +11,7 @@ use Rattle.ada_program.specs.declared.program.Exception.TheVariants.{ConstraintE
 use Rattle.ada_program.specs.Form.{PathForm, ExpressionForm, RightForm, nothing, value_of, allocates, allocates_default, computes, StmtForm, skips, assigns, assigns_record, frees, gets, writes, writes_text, chooses, repeats, counts, exits, calls, returns, raises, encloses, StmtsForm, no_stmts, a_stmt, BranchesForm, otherwise, a_branch, HandlersForm, DeclarationForm, collects, declares, declares_record}
 use Rattle.ada_program.specs.Handling.{is_same}
 use Rattle.ada_program.specs.ProgramForm.{BodyForm}
-use Rattle.ada_effects.specs.Effects.{expression_raises, path_raises, condition_raises, right_raises}
+use Rattle.ada_effects.specs.Effects.{effects_of, stmt_raises, expression_raises, path_raises, condition_raises, right_raises}
 use Rattle.ada_flow.specs.Flow.{Holds, uses_in_target, ends_with, bounds_flow, gives, gives_path, gets_path, frees_path, leaves_path, clears, begins_pair, exit_of, declared_at, collected, gone_with, computed}
 use Rattle.ada_meaning.specs.declared.state.Value.{Value}
 use Rattle.ada_meaning.specs.declared.state.Mode.TheVariants.{Raising, Exiting, Returning}
@@ -30,10 +30,10 @@ use Rattle.ada_sound.proofs.Roots.{root_object, value_root, right_leads, integer
 use Rattle.ada_sound.proofs.Copied.{record_there}
 use Rattle.ada_sound.proofs.Records.{has_place, record_fine}
 use Rattle.ada_sound.proofs.Wholes.{record_begins}
-use Rattle.ada_sound.proofs.Invariant.{Pooled, Known, Where, outers, below, Control, Rooms, Roomed, Goes, Raised, Doing, Choosing, TurnsTo, condition_among, component_among, Counting, Elaborating, Handled, Outside, RunsOn, Deciding, TurningOn, ExitingTo, Computing, IsOne, Pairs, Takes, Working, Resumes, EvaluatesTo, Fine, ways}
+use Rattle.ada_sound.proofs.Invariant.{owed_in, Pooled, Known, Where, outers, below, Control, Rooms, Roomed, Goes, Raised, Doing, Choosing, TurnsTo, condition_among, component_among, Counting, Elaborating, Handled, Outside, RunsOn, Deciding, TurningOn, ExitingTo, Computing, IsOne, Pairs, Takes, Working, Resumes, EvaluatesTo, Fine, ways}
 use Rattle.ada_sound.proofs.Ready.{running, at_work, with_less, at_less, stays, lost_stored, ready_on, runs_on, jumps, jumps_less}
 use Rattle.ada_sound.proofs.Nestings.{Starting, starts, others_do, branch_does, chooses_from, repeats_from, turn_runs, counts_from, count_runs, exit_parts, encloses_from}
-use Rattle.ada_sound.proofs.Outcomes.{goes_map, to_before, raised_before, raised_less, then_goes, using_goes, computed_goes}
+use Rattle.ada_sound.proofs.Outcomes.{return_goes, goes_map, to_before, raised_before, raised_less, then_goes, using_goes, computed_goes}
 use Rattle.ada_sound.proofs.Raising.{or_left, or_right, same_here}
 use Rattle.ada_sound.proofs.Leavings.{all_among}
 use Rattle.ada_sound.proofs.Targets.{component_begins, get_begins, half_begins}
@@ -149,7 +149,7 @@ module _ (known : Known) where
           record_fine known a rest s types x t ds fs hs k initial place.0 place.1 is w
       declaration_fine types (declares x right) ds held fits w =
           ready_on known (Evaluates right ∷ Declares x ∷ Elaborates ds fs hs ∷ k) a rest s a.operands
-          (declares_ready right x (Elaborates ds fs hs ∷ k) (at_work w (declares_more s.heap a.places x right ds fs hs k w.holds w.rooms w.rest)))
+          (inl (declares_ready right x (Elaborates ds fs hs ∷ k) (at_work w (declares_more s.heap a.places x right ds fs hs k w.holds w.rooms w.rest))))
 
       pub declarations_fine : (types : List TypeDefinition) (ds : List DeclarationForm) → AreHeld (cells_of s.heap) known.program.variables a.places → list_all (initial_fits known.program.types known.program.variables) ds ≡ true → Working known s.heap a.places s.masters (RunsOn known (Elaborates ds fs hs ∷ k)) → Fine known s.heap s.masters (declarations_next named types ds fs hs (running k a rest s))
       declarations_fine types [] held fits w = runs_on known (Does fs ∷ Handles hs ∷ Closes ∷ k) a rest s (at_work w (begins_more fs hs k w.holds w.rooms w.rest)) Quiet tt
@@ -162,7 +162,7 @@ module _ (known : Known) where
         let cleared = begins_pair (assigns target right) fs in
         let among = component_among (path_raises target) right in
         ready_on known (Evaluates right ∷ Stores target.root ∷ Does fs ∷ k) a rest s a.operands
-        (stores_ready right target.root (Does fs ∷ k) (at_work w (
+        (inl (stores_ready right target.root (Does fs ∷ k) (at_work w (
           cleared,
           (
             target.spot,
@@ -170,7 +170,7 @@ module _ (known : Known) where
                 (λ h m. m) (λ h r. raised_less among (λ e. right_raises (is_same e) right) out (λ e may. or_right (is_same e ConstraintError && path_raises target) (right_raises (is_same e) right) may) h r) w.rest,
           ),
           pairs_variable target right fs k is,
-        )))
+        ))))
     assign_fine (c ∷ cs) target right fs k is whole w =
         let cleared = begins_pair (assigns target right) fs in
         component_begins known a rest s cleared c cs target right fs k is whole (at_work w (w.rest, pairs_component c cs target right fs k is))
@@ -206,11 +206,11 @@ module _ (known : Known) where
     pub repeats_fine : (condition : Option ExpressionForm) (body : StmtsForm) (k : Control) → Working known s.heap a.places s.masters (RunsOn known (Repeats condition body ∷ k)) → Fine known s.heap s.masters (repeats_next named condition body (running k a rest s))
     repeats_fine None body k w =
         let r = w.rest in
-        turn_fine None body k (with_less w r.0 r.1 (turn_runs known None body k (ways known k w.rooms) w.holds r r.2.0))
+        turn_fine None body k (with_less w r.0 r.1 (turn_runs known None body k (ways known k w.rooms) w.holds r r.2.1.0))
     repeats_fine (Some e) body k w =
         let r = w.rest in
         let out = ways known k w.rooms in
-        let h = computed_goes e r.0 (TurnsTo known body (Repeats (Some e) body ∷ k) out r.0) (Raised (condition_among (Some e)) out) r.2 in
+        let h = computed_goes e r.0 (TurnsTo known body (Repeats (Some e) body ∷ k) out r.2.0 r.0) (Raised (condition_among (Some e)) out) r.2.1 in
         ready_on known (Computes e ∷ Turns e body ∷ k) a rest s a.operands (with_less w r.0 r.1 (h.0, (λ may. h.2 may ConstraintError may), (turn_runs known (Some e) body k out w.holds r h.1, r.3 refl)))
 
     -- A `for` loop comes to its next turn.
@@ -304,7 +304,7 @@ module _ (known : Known) where
     stmt_fine bodies calling inside here (exits condition spot) fs k pooled fits w =
         exit_fine condition (Does fs ∷ k) (at_work w (exit_parts known here.start here.inside condition spot w.holds (RunsOn known (Does fs ∷ k) w.rooms) (Raised (λ e. is_same e ConstraintError && condition_raises condition) (ways known k w.rooms)) (ways known k w.rooms).exited w.rest.1 (w.rest.2 refl)))
     stmt_fine bodies calling inside here (calls procedure actuals) fs k pooled fits w = call_begins known bodies calling here procedure actuals fs k a rest s fits w
-    stmt_fine bodies calling inside here (returns spot) fs k pooled fits w = jumps known (Does fs ∷ k) a rest s Returning (at_work w (w.rest.3 w.holds))
+    stmt_fine bodies calling inside here (returns spot) fs k pooled fits w = jumps known (Does fs ∷ k) a rest s Returning (at_work w (w.rest.3 w.holds (return_goes known.program.variables (owed_in known.program) here.within spot w.holds (Doing known fs k (ways known k w.rooms)) (Raised (λ e. stmt_raises (effects_of known.program) (is_same e) (returns spot)) (ways known k w.rooms)) w.rest.1)))
     stmt_fine bodies calling inside here (raises e) fs k pooled fits w = jumps_less known (Does fs ∷ k) a rest s (Raising e) (at_work w (w.rest.1.1 e (same_here e)))
     stmt_fine bodies calling inside here (encloses ds body hs) fs k pooled fits w =
         stays known Quiet _ (

@@ -32,7 +32,7 @@ use Rattle.ada_sound.proofs.Statements.{declarations_fine, repeats_fine, counts_
 use Rattle.ada_sound.proofs.CallStatements.{MayCall}
 use Rattle.ada_sound.proofs.Allocators.{items_fine, creates_fine}
 use Rattle.ada_sound.proofs.Defaults.{Reaches}
-use Rattle.ada_sound.proofs.Evaluations.{right_fine, follows_fine, stores_fine, declares_fine, writes_fine}
+use Rattle.ada_sound.proofs.Evaluations.{evaluates_fine, follows_fine, stores_fine, declares_fine, writes_fine}
 use Rattle.ada_sound.proofs.Records.{recorded_fine}
 use Rattle.ada_sound.proofs.Wholes.{copies_fine, record_target_fine, store_record_fine}
 use Rattle.ada_sound.proofs.Releases.{free_in_fine}
@@ -119,7 +119,7 @@ module _ (known : Known) where
     frame_fine (Leaves mode) inner t pooled held low r = leave_fine known mode k a rest s s.masters r held (low mode k refl)
     frame_fine (Calls procedure b actuals) inner t pooled held low r = absurd (cc inner)
     frame_fine (Returns actuals) inner t pooled held low r = absurd (cc inner)
-    frame_fine (Evaluates right) inner t pooled held low r = right_fine known k a rest s types reaches right t.0 t.1 r
+    frame_fine (Evaluates right) inner t pooled held low r = evaluates_fine known k a rest s types reaches right t.0 t.1 r
     frame_fine (Computes e) inner t pooled held low r = expression_fine known k a rest s e t.1.0 t.1.1 r
     frame_fine (Follows cs) inner t pooled held low r = path_fine cs a.operands t r
     frame_fine (TestsNull equal) inner t pooled held low r = null_test_fine known k a rest s (older a.operands) r equal (named.reads_null (first_or Null a.operands))

@@ -51,6 +51,10 @@ module _ (known : Known) where
   right_stored (allocates_default access) k heap places ms w = (None, w.stored)
   right_stored (computes e) k heap places ms w = (None, w.stored)
 
+  evaluates_stored : {more : Rooms → Holds → Type 0} (right : RightForm) (k : Control) (heap : List Object) (places : List Value) (ms : List Master) → EvaluatesTo known right k heap places ms ⊎ Working known heap places ms more → IsStored heap ms
+  evaluates_stored right k heap places ms (inl h) = right_stored right k heap places ms h
+  evaluates_stored right k heap places ms (inr w) = (None, w.stored)
+
   half_follows_stored : (v : Value) (cs : List ℕ) (k : Control) (heap : List Object) (places : List Value) (ms : List Master) → HalfFollows known v cs k heap places ms → IsStored heap ms
   half_follows_stored v cs [] heap places ms h = absurd h
   half_follows_stored v cs (Targets c right ∷ k) heap places ms h = clearing_stored (Names h.1) c k heap places ms h.3
@@ -94,7 +98,7 @@ module _ (known : Known) where
   frame_stored (Leaves mode) k heap places operands ms r = (None, r.stored)
   frame_stored (Calls procedure b actuals) k heap places operands ms r = (None, r.stored)
   frame_stored (Returns actuals) k heap places operands ms r = (None, r.stored)
-  frame_stored (Evaluates right) k heap places operands ms r = right_stored right k heap places ms r
+  frame_stored (Evaluates right) k heap places operands ms r = evaluates_stored right k heap places ms r
   frame_stored (Computes e) k heap places operands ms r = (None, r.stored)
   frame_stored (Follows cs) k heap places operands ms r = path_stored (first_or Null operands) cs k heap places ms r
   frame_stored (TestsNull equal) k heap places operands ms r = (None, r.stored)

@@ -16,7 +16,7 @@ use Rattle.ada_program.specs.WellFormed.{access_of, selectors_kind, variable_kin
 use Rattle.ada_effects.specs.Effects.{follows_value, path_raises, right_raises}
 use Rattle.ada_flow.specs.declared.rule.Hold.{Hold}
 use Rattle.ada_flow.specs.declared.rule.Hold.TheVariants as hold
-use Rattle.ada_flow.specs.Flow.{Holds, hold_at, variable_access, uses_in_target, moves_it, left_by_move, gives_component, moved_behind, moved_by, taken_by, lost_by, without_values, variable_of, value_hold, borrows_it, borrowed_hold, ends_with, gives, same_selectors}
+use Rattle.ada_flow.specs.Flow.{Holds, hold_at, variable_access, uses_in_target, moves_it, left_by_move, gives_component, moved_behind, moved_by, taken_by, lost_by, without_values, variable_of, value_hold, borrows_it, borrowed_hold, ends_with, gives, same_selectors, touched_hold}
 use Rattle.ada_meaning.specs.declared.state.Id.{Id}
 use Rattle.ada_meaning.specs.declared.state.Value.{Value}
 use Rattle.ada_meaning.specs.declared.state.Value.TheVariants.{Null, Names}
@@ -34,7 +34,7 @@ use Rattle.ada_typed.proofs.Control as typed
 use Rattle.ada_sound.proofs.Objects.{set_here, set_other}
 use Rattle.ada_sound.proofs.Values.{same_or_not}
 use Rattle.ada_sound.proofs.Stored.{Stored, stored_filled}
-use Rattle.ada_sound.proofs.Fits.{Outer, Fit, component_access, names_object, is_object, null_object, none_spared, place_at, null_fit, lose, put_null, put_alias, root_names, hand_of, move_fit, store_blank, store_owner}
+use Rattle.ada_sound.proofs.Fits.{Outer, Outsiders, Fit, component_access, names_object, is_object, null_object, none_spared, place_at, null_fit, lose, put_null, put_alias, root_names, hand_of, move_fit, store_blank, store_owner}
 use Rattle.ada_sound.proofs.Invariant.{Known, Control, Rooms, MayRaise, component_among, Goes, Raised, RunsOn, Takes, Working, ways}
 use Rattle.ada_sound.proofs.Outcomes.{using_goes, ends_goes}
 use Rattle.ada_sound.proofs.Followings.{first_kept, kept_apart}
@@ -65,18 +65,20 @@ abbrev pub at_path : (of_record : Bool) → (root : ℕ) → List ℕ → Spot �
 at_path whole root cs spot = record { root = root; of_record = whole; selectors = cs; spot = spot }
 
 -- A variable is moved to another, or into a component.
-module _ {types : List TypeForm} {variables : List VariableForm} {outer : List Outer} {heap : List Object} {places : List Value} {holds : Holds} (f : Fit types variables outer none_spared heap places holds) (y : ℕ) (spot : Spot) where
+module _ {types : List TypeForm} {variables : List VariableForm} {outer : Outsiders} {heap : List Object} {places : List Value} {holds : Holds} (f : Fit types variables outer none_spared heap places holds) (y : ℕ) (spot : Spot) where
   pub null_place : hold_at holds y ≡ hold.Null → place_at places y ≡ Null
-  null_place is = rw is at (f.nulls y)
+  null_place is = rw is at (f.said y)
 
-  pub move_by : (x : ℕ) (h : Hold) → is_object variables x ≡ false → hold_at holds y ≡ h → variable_access variables x ≡ variable_access variables y → moved_by h spot ≡ None → Fit types variables outer none_spared heap (slice_set places x (place_at places y)) (slice_set (slice_set holds y (left_by_move h)) x h)
+  pub move_by : (x : ℕ) (h : Hold) → is_object variables x ≡ false → hold_at holds y ≡ h → variable_access variables x ≡ variable_access variables y → moved_by h spot ≡ None → Fit types variables outer none_spared heap (slice_set places x (place_at places y)) (slice_set (slice_set holds y (left_by_move h)) x (touched_hold h))
   move_by x hold.Null none is same kept = let null = null_place is in rw null (put_null x none (null_fit y (null_object y (λ lost. cc (lost, is)) null f) null f))
+  move_by x (hold.Kept r) none is same kept = move_fit x y r none (rw is tt) same f
   move_by x (hold.Own r) none is same kept = move_fit x y r none (rw is tt) same f
   move_by x (hold.Alias r) none is same kept = absurd (cc kept)
   move_by x hold.Lost none is same kept = absurd (cc kept)
 
   pub store_by : (o : Id) (object : Object) (c : ℕ) (h : Hold) → hold_at holds y ≡ h → object_at heap o ≡ Some object → object.listed ≡ true → component_access types object c ≡ variable_access variables y → moved_by h spot ≡ None → Fit types variables outer none_spared (store heap (Names o) c (place_at places y)) places (slice_set holds y (left_by_move h))
   store_by o object c hold.Null is found listed same kept = let null = null_place is in rw null (store_blank o object c Null found (λ p e. cc e) (null_fit y (null_object y (λ lost. cc (lost, is)) null f) null f))
+  store_by o object c (hold.Kept r) is found listed same kept = store_owner o object c (place_at places y) found listed (rw same (hand_of y (rw is tt) f)) (lose y f)
   store_by o object c (hold.Own r) is found listed same kept = store_owner o object c (place_at places y) found listed (rw same (hand_of y (rw is tt) f)) (lose y f)
   store_by o object c (hold.Alias r) is found listed same kept = absurd (cc kept)
   store_by o object c hold.Lost is found listed same kept = absurd (cc kept)
@@ -84,6 +86,7 @@ module _ {types : List TypeForm} {variables : List VariableForm} {outer : List O
   -- What a variable names that is not lost may be lent to a borrower; so may what a component of an object in its collection names.
   pub borrow_by : (x : ℕ) (h : Hold) → is_object variables x ≡ false → hold_at holds y ≡ h → variable_access variables x ≡ variable_access variables y → lost_by h spot ≡ None → Fit types variables outer none_spared heap (slice_set places x (place_at places y)) (slice_set holds x (borrowed_hold h))
   borrow_by x hold.Null none is same kept = let null = null_place is in rw null (put_null x none f)
+  borrow_by x (hold.Kept r) none is same kept = put_alias x (place_at places y) r none (rw same (root_names y spot (rw is kept) f)) f
   borrow_by x (hold.Own r) none is same kept = put_alias x (place_at places y) r none (rw same (root_names y spot (rw is kept) f)) f
   borrow_by x (hold.Alias r) none is same kept = put_alias x (place_at places y) r none (rw same (root_names y spot (rw is kept) f)) f
   borrow_by x hold.Lost none is same kept = absurd (cc kept)
@@ -118,6 +121,7 @@ value_fills types cleared target whole root cs spot holds more raised g =
 pub cleared_is : (cleared : Bool) (h : Hold) (spot : Spot) → taken_by cleared h spot ≡ None → (cleared ≡ true) × (lost_by h spot ≡ None)
 cleared_is true h spot kept = (refl, kept)
 cleared_is false hold.Null spot kept = absurd (cc kept)
+cleared_is false (hold.Kept r) spot kept = absurd (cc kept)
 cleared_is false (hold.Own r) spot kept = absurd (cc kept)
 cleared_is false (hold.Alias r) spot kept = absurd (cc kept)
 cleared_is false hold.Lost spot kept = absurd (cc kept)
@@ -191,7 +195,7 @@ kept_root known (StoresIn o d ∷ k) heap places ms whole root c cs spot w =
 kept_root known (f ∷ k) heap places ms whole root c cs spot w = absurd (w.rest)
 
 -- The object that a variable names which is not lost is of the variable's access type.
-pub root_access : {types : List TypeForm} {variables : List VariableForm} {outer : List Outer} {heap : List Object} {places : List Value} {holds : Holds} → Fit types variables outer none_spared heap places holds → (x : ℕ) (spot : Spot) (o : Id) (object : Object) → lost_by (hold_at holds x) spot ≡ None → place_at places x ≡ Names o → object_at heap o ≡ Some object → variable_access variables x ≡ Some object.cell.access
+pub root_access : {types : List TypeForm} {variables : List VariableForm} {outer : Outsiders} {heap : List Object} {places : List Value} {holds : Holds} → Fit types variables outer none_spared heap places holds → (x : ℕ) (spot : Spot) (o : Id) (object : Object) → lost_by (hold_at holds x) spot ≡ None → place_at places x ≡ Names o → object_at heap o ≡ Some object → variable_access variables x ≡ Some object.cell.access
 root_access {types} {variables} {heap} {places} {holds} f x spot o object kept is found = by_kind (variable_access variables x) (root_names x spot kept f o is)
   where
     by_kind : (kind : Option ℕ) → IsOf (access_at heap) kind o → kind ≡ Some object.cell.access

@@ -135,7 +135,7 @@ module _ (known : Known) (k : Control) (a : Activation Value) (rest : List (Acti
   found_fine : {under : Option Id} (o : Id) (there : IsThere s.heap o) (c : ℕ) (right : RightForm) (below : List Value) → Stored under s.heap s.masters → EvaluatesTo known right (StoresIn (Names o) c ∷ k) s.heap a.places s.masters → Fine known s.heap s.masters (target_next named (Names o) c right (look s.heap (Names o)) (running k (record a { operands = below }) rest s))
   found_fine o (object, found, listed) c right below stored r =
       rw (found, (stored.sane o object found).listed_exists listed)
-      (stays known (Followed (Names o)) (running (Evaluates right ∷ StoresIn (Names o) c ∷ k) (record a { operands = below }) rest s) (tt, r) (followed o (object, found, listed) stored))
+      (stays known (Followed (Names o)) (running (Evaluates right ∷ StoresIn (Names o) c ∷ k) (record a { operands = below }) rest s) (tt, inl r) (followed o (object, found, listed) stored))
 
   -- The object is there, or null raises Constraint_Error.
   pub target_fine : (v : Value) (below : List Value) (c : ℕ) (right : RightForm) (kinds : List VariableKind) → typed.Fits known.program (cells_of s.heap) kinds (Targets c right ∷ k) → AreComputed (cells_of s.heap) kinds (v ∷ below) → TargetsTo known v c right k s.heap a.places s.masters → Fine known s.heap s.masters (target_next named v c right (look s.heap v) (running k (record a { operands = below }) rest s))

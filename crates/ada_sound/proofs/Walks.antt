@@ -28,9 +28,9 @@ use Rattle.ada_owners.specs.Walks.{then_found, value_found, behind, walk}
 use Rattle.ada_sound.proofs.Stored.{Stored, exists_out}
 use Rattle.ada_sound.proofs.Fits.{Fit, MayFollow, none_spared, place_at, component_access, component_is, component_follows, behind_good}
 use Rattle.ada_sound.proofs.Orderings.{as_good_then}
-use Rattle.ada_sound.proofs.Invariant.{outers, Known, Control, Rooms, To, RaisesAt, Working, Clearing, PassesNone, FillsTo, FindsFor, FillsOn, WalksOn, HalfFollows, ReadyIn, Stepped, Fine, front, final, ways}
+use Rattle.ada_sound.proofs.Invariant.{outers, Known, Control, Rooms, To, RaisesAt, Working, Clearing, PassesNone, FillsTo, FindsFor, FillsOn, PassesTo, PassesOn, WalksOn, HalfFollows, ReadyIn, Stepped, Fine, front, final, ways}
 use Rattle.ada_sound.proofs.Roots.{raises_null, raises_next}
-use Rattle.ada_sound.proofs.Ready.{running, at_work, stays, jumps_less}
+use Rattle.ada_sound.proofs.Ready.{running, at_work, stays, jumps_less, passes_ready}
 use Rattle.ada_sound.proofs.Back.{stored_before}
 
 -- The words of an object that is not gone are out.
@@ -200,6 +200,11 @@ module _ (known : Known) (heap : List Object) (places : List Value) where
   finds_ready (FreesIn access c ∷ k) v below ms w follows = at_work w (follows, w.rest)
   finds_ready (f ∷ k) v below ms w follows = absurd (w.rest)
 
+-- Where a value is followed at all, Constraint_Error may be raised.
+abbrev pub RaisesBehind : Known → Value → List ℕ → Control → Rooms → Holds → Type 0
+RaisesBehind known v [] k rooms holds = Unit {0}
+RaisesBehind known v (c ∷ cs) k rooms holds = RaisesAt known v cs k rooms holds
+
 module _ (known : Known) (a : Activation Value) (rest : List (Activation Value)) (s : State) (below : List Value) where
   -- The path of a target, or of a component that is freed, is followed.
   pub finds_fine : (k : Control) (cs : List ℕ) (v : Value) (w : Working known s.heap a.places s.masters (FindsFor known s.heap a.places v below cs k)) → MayFollow s.heap v → Fine known s.heap s.masters (path_next named cs v (running k (record a { operands = below }) rest s))
@@ -225,7 +230,21 @@ module _ (known : Known) (a : Activation Value) (rest : List (Activation Value))
     where
       next : (ds : List ℕ) (u : Value) → RaisesAt known v ds (Fills items ∷ k) w.rooms w.holds → MayFollow s.heap u → ((x : Value) → walk s.heap u ds ≡ finds x → FillsTo known s.heap a.places items k (x ∷ below) w.rooms w.holds) → ReadyIn known Running (behind_these ds (Fills items ∷ k)) s.heap a.places (u ∷ below) s.masters
       next [] u raises there f = at_work w (f u refl)
-      next (d ∷ ds) u raises there f = inl (at_work w (there, inr ((λ may. raises), inr (inr f))))
+      next (d ∷ ds) u raises there f = inl (at_work w (there, inr ((λ may. raises), inr (inr (inl f)))))
+
+  -- The path of an actual parameter is followed.
+  pub passed_fine : (k : Control) (cs : List ℕ) (v : Value) (w : Working known s.heap a.places s.masters (PassesOn known s.heap a.places v below cs k)) → MayFollow s.heap v → RaisesBehind known v cs k w.rooms w.holds → Fine known s.heap s.masters (path_next named cs v (running k (record a { operands = below }) rest s))
+  passed_fine k [] v w follows raise =
+      stays known Quiet (running k (record a { operands = v ∷ below }) rest s) (tt, passes_ready known k s.heap a.places (v ∷ below) s.masters (at_work w (w.rest v refl))) tt
+  passed_fine k (c ∷ cs) v w follows raise =
+      follow_fine known k a rest s below c cs v w.stored follows
+      (λ is. jumps_less known k (record a { operands = below }) rest s (Raising ConstraintError) (at_work w (raises_null known v k w.rooms w.holds cs raise is)))
+      (λ o object u is found listed at. next cs u raise (component_follows o object c u refl found listed at w.fit)
+      (λ x on. w.rest x (walk_behind s.heap v c cs u (rw is (behind_is s.heap o object c u found ((w.stored.sane o object found).listed_exists listed) at)) ∙ on)))
+    where
+      next : (ds : List ℕ) (u : Value) → RaisesAt known v ds k w.rooms w.holds → MayFollow s.heap u → ((x : Value) → walk s.heap u ds ≡ finds x → PassesTo known s.heap a.places (x ∷ below) k w.rooms w.holds) → ReadyIn known Running (behind_these ds k) s.heap a.places (u ∷ below) s.masters
+      next [] u raises there f = passes_ready known k s.heap a.places (u ∷ below) s.masters (at_work w (f u refl))
+      next (d ∷ ds) u raises there f = inl (at_work w (there, inr ((λ may. raises), inr (inr (inr f)))))
 
   -- Objects are stored before a component is cleared, too.
   clearing_stored : (o : Id) (c : ℕ) (k : Control) → Clearing known (Names o) c k s.heap a.places s.masters → Stored None s.heap s.masters

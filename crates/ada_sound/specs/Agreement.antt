@@ -6,14 +6,13 @@ use Rattle.ada_program.specs.declared.program.Choice.{Choice}
 use Rattle.ada_program.specs.declared.program.Program.{Program}
 use Rattle.ada_text.specs.declared.spot.Spot.{Spot}
 use Rattle.ada_program.specs.Form.{ActualForm, PathForm, ExpressionForm, nothing, DeclarationForm, StmtForm, assigns, chooses, repeats, counts, encloses, StmtsForm, a_stmt, BranchesForm, otherwise, a_branch, HandlersForm, a_handler}
-use Rattle.ada_program.specs.ProgramForm.{TypeForm, VariableForm, ProgramForm, program_form, seen_in}
+use Rattle.ada_program.specs.ProgramForm.{TypeForm, VariableForm, ProgramForm, main_body, program_form, seen_in}
 use Rattle.ada_program.specs.declared.program.TypeNo.{TypeNo}
 use Rattle.ada_program.specs.declared.program.VariableKind.TheVariants as variable
 use Rattle.ada_program.specs.WellFormed.{access_of, variable_kind, reached_components, kind_among}
 use Rattle.ada_flow.specs.declared.rule.Hold.{Hold}
 use Rattle.ada_flow.specs.declared.rule.Hold.TheVariants as hold
-use Rattle.ada_flow.specs.declared.rule.Region.{Region}
-use Rattle.ada_flow.specs.Flow.{Holds, goes, hold_at, variable_access, declarations_flow, computed, bounds_flow, condition_flow, opened_by_all, counting_start, gone_with, Around, outermost, in_loop, in_block, begins_pair, stmt_flow, stmts_flow, first_holds}
+use Rattle.ada_flow.specs.Flow.{Holds, goes, hold_at, variable_access, declarations_flow, computed, bounds_flow, condition_flow, opened_by_all, counting_start, gone_with, Around, body_around, keeping_of, in_loop, in_block, begins_pair, stmt_flow, stmts_flow, first_holds}
 use Rattle.ada_effects.specs.Effects.{effects_of}
 use Rattle.ada_meaning.specs.declared.state.Id.{Id}
 use Rattle.ada_meaning.specs.declared.state.Value.{Value}
@@ -28,6 +27,7 @@ use Rattle.ada_meaning.specs.Named.{Object, State, object_at, named}
 use Rattle.ada_meaning.specs.Law.{items_of}
 use Rattle.ada_owners.specs.Places as owners
 use Rattle.ada_owners.specs.Places.{value_at}
+use Rattle.ada_owners.specs.Reliance.{Owns}
 use Rattle.ada_owners.specs.Walks.{walk}
 
 -- An open collection of the object's own access type is its home, or its own item, where it is a record object (7.6.1).
@@ -50,6 +50,7 @@ IsValid objects masters access (Scalar v) = ⊥
 -- A value of a variable of this access type is as it is relied on to be.
 abbrev pub IsAs : List Object → List Master → Option ℕ → Hold → Value → Type 0
 IsAs objects masters access hold.Null v = v ≡ Null
+IsAs objects masters access (hold.Kept r) v = IsValid objects masters access v
 IsAs objects masters access (hold.Own r) v = IsValid objects masters access v
 IsAs objects masters access (hold.Alias r) v = IsValid objects masters access v
 IsAs objects masters access hold.Lost v = Unit {0}
@@ -57,6 +58,7 @@ IsAs objects masters access hold.Lost v = Unit {0}
 -- What may be freed or moved: an owner, or null.
 abbrev pub IsOwner : Hold → Type 0
 IsOwner hold.Null = Unit {0}
+IsOwner (hold.Kept r) = Unit {0}
 IsOwner (hold.Own r) = Unit {0}
 IsOwner (hold.Alias r) = ⊥
 IsOwner hold.Lost = ⊥
@@ -146,7 +148,8 @@ IsBehind (Some number) rest = (actuals : List ActualForm) × (k : Place) × (res
 -- The holds that flow gives at a place, on this way from the declarations of a program's main body.
 abbrev pub IsFlowIn : (p : ProgramForm) (rest : Place) (way : List Turning) (place : Place) (holds : Holds) → Type 0
 IsFlowIn p rest way place holds =
-    ComesInside p.types p.variables (outermost (effects_of p)) rest p.declarations p.statements p.handlers (first_holds p.variables) way place holds
+    ComesInside p.types p.variables (body_around (effects_of p) (keeping_of p) (main_body p)) rest p.declarations p.statements p.handlers
+    (first_holds p.formals p.variables) way place holds
 
 -- So it is from the declarations of a procedure's body, or the main one, on.
 abbrev pub IsFlowAt : (program : Program) (procedure : Option ℕ) (rest : Place) (way : List Turning) (place : Place) (holds : Holds) → Type 0
@@ -175,7 +178,7 @@ IsKept objects masters access (Scalar v) = Unit {0}
 -- A place owns what it names: a variable by what flow says of it, and each component. A component of an object that has left its collection is
 -- read as null.
 abbrev pub IsOwning : Holds → owners.Place → Type 0
-IsOwning holds (owners.variable x) = (r : Region) × (hold_at holds x ≡ hold.Own r)
+IsOwning holds (owners.variable x) = Owns (hold_at holds x)
 IsOwning holds (owners.component o c) = Unit {0}
 IsOwning holds (owners.elsewhere activation x) = ⊥
 
@@ -197,8 +200,7 @@ pub record IsCleared (s : State) (p : owners.Place) : Type 0 where
 -- components: only between the two statements of a take pair, of which the second sets the component to null that the first one read.
 pub record Agrees (types : List TypeForm) (variables : List VariableForm) (s : State) (holds : Holds) : Type 0 where
   pub each : (x : ℕ) → IsAs s.heap s.masters (variable_access variables x) (hold_at holds x) (value_in s x)
-  pub one_owner : (x y : ℕ) (q r : Region) (o : Id) → x ≢ y
-      → hold_at holds x ≡ hold.Own q → hold_at holds y ≡ hold.Own r → value_in s x ≡ Names o → value_in s y ≡ Names o → ⊥
+  pub one_owner : (x y : ℕ) (o : Id) → x ≢ y → Owns (hold_at holds x) → Owns (hold_at holds y) → value_in s x ≡ Names o → value_in s y ≡ Names o → ⊥
   pub records : (x : ℕ) (t : TypeNo) → variable_kind variables x ≡ Some (variable.Record t)
       → hold_at holds x ≢ hold.Lost → value_in s x ≢ Null
   pub components : (o : Id) (object : Object) (c : ℕ) (v : Value)

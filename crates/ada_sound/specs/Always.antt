@@ -6,11 +6,11 @@ use Rattle.ada_program.specs.declared.program.Program.{Program}
 use Rattle.ada_text.specs.declared.spot.Spot.{Spot}
 use Rattle.ada_flow.specs.declared.rule.Rule.{Rule}
 use Rattle.ada_program.specs.Form.{declaration_forms, stmt_forms, handler_forms}
-use Rattle.ada_program.specs.ProgramForm.{program_form, seen_in}
+use Rattle.ada_program.specs.ProgramForm.{main_body, program_form, seen_in}
 use Rattle.ada_program.specs.WellFormed.{IsWellFormed}
 use Rattle.ada_program.specs.Nested.{CollectionsNest}
 use Rattle.ada_effects.specs.Effects.{effects_of}
-use Rattle.ada_flow.specs.Flow.{Holds, goes, faults, outermost, declarations_flow, stmts_flow, handlers_flow, first_holds, program_flow, types_of, variables_of, ObeysRules}
+use Rattle.ada_flow.specs.Flow.{Holds, goes, faults, Around, body_around, keeping_of, declarations_flow, stmts_flow, handlers_flow, first_holds, program_flow, types_of, variables_of, ObeysRules}
 use Rattle.ada_meaning.specs.declared.state.Id.{Id}
 use Rattle.ada_meaning.specs.declared.event.Halt.{Halt}
 use Rattle.ada_meaning.specs.declared.event.Halt.TheVariants.{Finished, Erroneous}
@@ -126,14 +126,18 @@ pub record IsIllNested (program : Program) : Type 0 where
   pub ill_nested : CollectionsNest (program_form program) → ⊥
   pub obeys : ObeysRules program
 
+-- Where the statements of the main procedure stand.
+abbrev pub main_around : Program → Around
+main_around program = body_around (effects_of (program_form program)) (keeping_of (program_form program)) (main_body (program_form program))
+
 -- Flow knows this of the variables where the statements of the main procedure begin, and again where they come to their end; and handlers
 -- that began with it would keep the rules.
 abbrev pub IsFineAtEnds : Holds → Program → Type 0
 IsFineAtEnds holds program =
     (before within normal raising : Option Holds)
-    × (declarations_flow (types_of program) (variables_of program) (declaration_forms program) (first_holds (variables_of program)) ≡ goes (Some holds) before)
-    × (stmts_flow (types_of program) (variables_of program) (outermost (effects_of (program_form program))) (stmt_forms program) holds ≡ goes (Some holds) within)
-    × (handlers_flow (types_of program) (variables_of program) (outermost (effects_of (program_form program))) (handler_forms program) holds ≡ goes normal raising)
+    × (declarations_flow (types_of program) (variables_of program) (declaration_forms program) (first_holds [] (variables_of program)) ≡ goes (Some holds) before)
+    × (stmts_flow (types_of program) (variables_of program) (main_around program) (stmt_forms program) holds ≡ goes (Some holds) within)
+    × (handlers_flow (types_of program) (variables_of program) (main_around program) (handler_forms program) holds ≡ goes normal raising)
 
 -- A run of the program comes to this end.
 abbrev pub HaltsSomewhere : Halt → Program → Type 0

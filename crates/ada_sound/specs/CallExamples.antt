@@ -3,10 +3,11 @@
 use Rattle.std.specs.Prelude.{ℕ, List, [], ◌∷◌, Some, None, false, pos}
 use Rattle.ada_values.specs.declared.operator.BinaryOperator.TheVariants as binary
 use Rattle.ada_program.specs.declared.program.Choice.TheVariants as choice
+use Rattle.ada_program.specs.declared.program.FormalMode.{FormalMode}
 use Rattle.ada_program.specs.declared.program.FormalMode.TheVariants.{In, InOut}
 use Rattle.ada_program.specs.declared.program.VariableKind.{VariableKind}
 use Rattle.ada_program.specs.declared.program.VariableKind.TheVariants as variable
-use Rattle.ada_program.specs.Form.{ActualForm, in_value, in_out_path, ExpressionForm, integer, reads, item_of_value, nothing, allocates, value_of, computes, declares, StmtForm, assigns, frees, writes, chooses, calls, returns, raises, StmtsForm, no_stmts, a_stmt, otherwise, a_branch, HandlersForm, no_handlers, a_handler}
+use Rattle.ada_program.specs.Form.{ActualForm, in_value, in_access, in_out_path, in_out_access, ExpressionForm, integer, reads, item_of_value, nothing, allocates, value_of, computes, declares, StmtForm, assigns, frees, writes, chooses, calls, returns, raises, StmtsForm, no_stmts, a_stmt, otherwise, a_branch, HandlersForm, no_handlers, a_handler}
 use Rattle.ada_program.specs.ProgramForm.{VariableForm, BodyForm}
 use Rattle.ada_meaning.specs.declared.state.Value.TheVariants.{Names}
 use Rattle.ada_meaning.specs.declared.event.Cause.TheVariants.{Leaving, Freeing}
@@ -53,6 +54,7 @@ showing_body = record {
   declarations = declares 1 nothing ∷ [];
   statements = showing_stmts;
   handlers = no_handlers;
+  end_spot = example_spot;
 }
 
 -- procedure Show_Two (N : Integer) is begin Show (N); Show (N + 1); end Show_Two;
@@ -67,6 +69,7 @@ showing_two_body = record {
   declarations = [];
   statements = showing_two_stmts;
   handlers = no_handlers;
+  end_spot = example_spot;
 }
 
 -- Both procedures.
@@ -136,6 +139,7 @@ incrementing_body = record {
   declarations = [];
   statements = a_stmt (assigns (example_path 0 []) (computes (with_number binary.Add 1 formal_now))) no_stmts;
   handlers = no_handlers;
+  end_spot = example_spot;
 }
 
 -- The variable of a number is given for the formal parameter of such a procedure.
@@ -150,6 +154,7 @@ failing_body = record {
   declarations = [];
   statements = a_stmt (calls 0 (gives 0)) (a_stmt (writes formal_now) (a_stmt (raises full) no_stmts));
   handlers = no_handlers;
+  end_spot = example_spot;
 }
 
 -- Both procedures.
@@ -182,7 +187,7 @@ giving_events =
 
 -- procedure Stop is begin raise Full; end Stop;
 abbrev pub stopping_bodies : List BodyForm
-stopping_bodies = record { formals = []; variables = []; declarations = []; statements = a_stmt (raises full) no_stmts; handlers = no_handlers } ∷ []
+stopping_bodies = record { formals = []; variables = []; declarations = []; statements = a_stmt (raises full) no_stmts; handlers = no_handlers; end_spot = example_spot } ∷ []
 
 -- X := new Cell'(Value => 7); Y := X; Free (Y); Stop; X := null;
 abbrev pub stopping_stmts : StmtsForm
@@ -196,3 +201,165 @@ stopping_stmts =
 -- The object is freed, Stop is left, and then the handler looks for the object.
 abbrev pub stopping_events : List Event
 stopping_events = Back (Names (record { 0 = 0 })) 1 1 (Some 0) None (Freeing 1) ∷ Left 2 ∷ []
+
+-- The words of examples whose formal parameters are of access types: L : Link has number 0 in a body, and K : Link, where it is a formal parameter, has
+-- number 1.
+
+-- The body of a procedure with one formal parameter of this mode, L : Link, that does these statements.
+abbrev pub body_with_link : FormalMode → StmtsForm → BodyForm
+body_with_link mode fs = record {
+  formals = mode ∷ [];
+  variables = unnamed (variable.Access (record { 0 = 1 })) ∷ [];
+  declarations = [];
+  statements = fs;
+  handlers = no_handlers;
+  end_spot = example_spot;
+}
+
+-- The same with two, L and K.
+abbrev pub body_with_links : (first second : FormalMode) → StmtsForm → BodyForm
+body_with_links first second fs = record {
+  formals = first ∷ second ∷ [];
+  variables = unnamed (variable.Access (record { 0 = 1 })) ∷ unnamed (variable.Access (record { 0 = 1 })) ∷ [];
+  declarations = [];
+  statements = fs;
+  handlers = no_handlers;
+  end_spot = example_spot;
+}
+
+-- The access value of the variable of a number is lent to a formal parameter of mode `in`.
+abbrev pub lends : (variable : ℕ) → ActualForm
+lends x = in_access (example_path x [])
+
+-- What the variable of a number owns is handed over to a formal parameter of mode `in out`.
+abbrev pub hands : (variable : ℕ) → ActualForm
+hands x = in_out_access (example_path x [])
+
+-- procedure Bump (L : Link) is begin L.Value := L.Value + 1; end Bump;
+abbrev pub bumping_bodies : List BodyForm
+bumping_bodies =
+    body_with_link In (a_stmt (assigns (example_path 0 (0 ∷ [])) (computes (with_number binary.Add 1 (value_at 0)))) no_stmts) ∷ []
+
+-- X := new Cell'(Value => 7); Bump (X); Put_Line (Integer'Image (X.Value)); Free (X);
+abbrev pub bumping_stmts : StmtsForm
+bumping_stmts =
+    seven_to_x
+    (a_stmt (calls 0 (lends 0 ∷ []))
+    (a_stmt (writes (value_at 0))
+    (a_stmt (frees 1 (example_path 0 [])) no_stmts)))
+
+-- Bump follows the object of X where it finds its target, where it reads the component, and where it stores the sum. X still owns the object behind the
+-- call: it frees it.
+abbrev pub bumping_events : List Event
+bumping_events =
+    Followed (Names (record { 0 = 0 }))
+    ∷ Followed (Names (record { 0 = 0 }))
+    ∷ Followed (Names (record { 0 = 0 }))
+    ∷ Left 1
+    ∷ Followed (Names (record { 0 = 0 }))
+    ∷ Line (Image (pos 8))
+    ∷ Back (Names (record { 0 = 0 })) 1 1 (Some 0) None (Freeing 2)
+    ∷ Left 0
+    ∷ []
+
+-- procedure Renew (L : in out Link) is begin Free (L); L := new Cell'(Value => 9); end Renew;
+abbrev pub renewing_bodies : List BodyForm
+renewing_bodies =
+    body_with_link InOut
+    (a_stmt (frees 1 (example_path 0 []))
+    (a_stmt (assigns (example_path 0 []) (allocates 1 (item_of_value (integer (pos 9)) ∷ []))) no_stmts))
+    ∷ []
+
+-- X := new Cell'(Value => 7); Renew (X); Put_Line (Integer'Image (X.Value));
+abbrev pub renewing_stmts : StmtsForm
+renewing_stmts = seven_to_x (a_stmt (calls 0 (hands 0 ∷ [])) (a_stmt (writes (value_at 0)) no_stmts))
+
+-- Renew frees the object that X hands over. X owns the one that comes back, which goes with the main procedure.
+abbrev pub renewing_events : List Event
+renewing_events =
+    Back (Names (record { 0 = 0 })) 1 1 (Some 0) None (Freeing 2)
+    ∷ Left 1
+    ∷ Followed (Names (record { 0 = 1 }))
+    ∷ Line (Image (pos 9))
+    ∷ Back (Names (record { 0 = 1 })) 1 2 (Some 0) None (Leaving 0 0)
+    ∷ Left 0
+    ∷ []
+
+-- procedure Drop (L : in out Link) is begin if L.Value = 7 then raise Full; end if; Free (L); end Drop;
+abbrev pub dropping_bodies : List BodyForm
+dropping_bodies =
+    body_with_link InOut
+    (a_stmt (chooses (a_branch (with_number binary.Equal 7 (value_at 0)) (a_stmt (raises full) no_stmts) (otherwise no_stmts)))
+    (a_stmt (frees 1 (example_path 0 [])) no_stmts))
+    ∷ []
+
+-- X := new Cell'(Value => 7); Drop (X);
+abbrev pub dropping_stmts : StmtsForm
+dropping_stmts = seven_to_x (a_stmt (calls 0 (hands 0 ∷ [])) no_stmts)
+
+-- Drop raises Full before it changes L, so X still owns its object, which the handler follows and frees.
+abbrev pub dropping_events : List Event
+dropping_events =
+    Followed (Names (record { 0 = 0 }))
+    ∷ Left 1
+    ∷ Followed (Names (record { 0 = 0 }))
+    ∷ Line (Image (pos 7))
+    ∷ Back (Names (record { 0 = 0 })) 1 1 (Some 0) None (Freeing 2)
+    ∷ Left 0
+    ∷ []
+
+-- procedure Share (L : in out Link; K : in out Link) is begin L := K; end Share;
+abbrev pub sharing_bodies : List BodyForm
+sharing_bodies = body_with_links InOut InOut (a_stmt (assigns (example_path 0 []) (value_of (example_path 1 []))) no_stmts) ∷ []
+
+-- X := new Cell'(Value => 7); Share (Y, X); Free (Y); Free (X);
+abbrev pub sharing_stmts : StmtsForm
+sharing_stmts =
+    seven_to_x
+    (a_stmt (calls 0 (hands 1 ∷ hands 0 ∷ []))
+    (a_stmt (frees 1 (example_path 1 []))
+    (a_stmt (frees 1 (example_path 0 [])) no_stmts)))
+
+-- Both variables get the one object back, Y frees it, and X is to free it once more.
+abbrev pub sharing_events : List Event
+sharing_events = Left 1 ∷ Back (Names (record { 0 = 0 })) 1 1 (Some 0) None (Freeing 2) ∷ []
+
+-- procedure Spoil (L : in out Link) is begin Free (L); raise Full; end Spoil;
+abbrev pub spoiling_bodies : List BodyForm
+spoiling_bodies = body_with_link InOut (a_stmt (frees 1 (example_path 0 [])) (a_stmt (raises full) no_stmts)) ∷ []
+
+-- X := new Cell'(Value => 7); Spoil (X);
+abbrev pub spoiling_stmts : StmtsForm
+spoiling_stmts = seven_to_x (a_stmt (calls 0 (hands 0 ∷ [])) no_stmts)
+
+-- Spoil frees the object, and the exception gives X nothing back: the handler looks for the object.
+abbrev pub spoiling_events : List Event
+spoiling_events = Back (Names (record { 0 = 0 })) 1 1 (Some 0) None (Freeing 2) ∷ Left 1 ∷ []
+
+-- procedure Cut (L : in out Link; K : in out Link) is begin Free (L); Put_Line (Integer'Image (K.Value)); end Cut;
+abbrev pub cutting_bodies : List BodyForm
+cutting_bodies = body_with_links InOut InOut (a_stmt (frees 1 (example_path 0 [])) (a_stmt (writes (value_at 1)) no_stmts)) ∷ []
+
+-- X := new Cell'(Value => 7); Cut (X, X);
+abbrev pub cutting_stmts : StmtsForm
+cutting_stmts = seven_to_x (a_stmt (calls 0 (hands 0 ∷ hands 0 ∷ [])) no_stmts)
+
+-- Both formal parameters name the one object: L frees it, and K looks for it.
+abbrev pub cutting_events : List Event
+cutting_events = Back (Names (record { 0 = 0 })) 1 1 (Some 0) None (Freeing 2) ∷ []
+
+-- procedure Claim (L : in out Link; K : Link) is begin L := K; end Claim;
+abbrev pub claiming_bodies : List BodyForm
+claiming_bodies = body_with_links InOut In (a_stmt (assigns (example_path 0 []) (value_of (example_path 1 []))) no_stmts) ∷ []
+
+-- X := new Cell'(Value => 7); Claim (Y, X); Free (Y); Free (X);
+abbrev pub claiming_stmts : StmtsForm
+claiming_stmts =
+    seven_to_x
+    (a_stmt (calls 0 (hands 1 ∷ lends 0 ∷ []))
+    (a_stmt (frees 1 (example_path 1 []))
+    (a_stmt (frees 1 (example_path 0 [])) no_stmts)))
+
+-- Y gets what X only lends: Y frees the object, and X, which still owns it, is to free it once more.
+abbrev pub claiming_events : List Event
+claiming_events = Left 1 ∷ Back (Names (record { 0 = 0 })) 1 1 (Some 0) None (Freeing 2) ∷ []

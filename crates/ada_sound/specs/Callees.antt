@@ -1,17 +1,21 @@
--- What the rules say of a call: it moves nothing, it leaves no alias of what the procedure may free, no actual parameter relies on what is lost, and no
--- variable gets two values back.
+-- What the rules say of a call: it moves nothing but what it hands over, and that comes back; it leaves no alias of what the procedure may free; no actual
+-- parameter relies on what is lost; and no variable that gets something back is used for another actual parameter.
 
-use Rattle.std.specs.Prelude.{◌≡◌, ◌≢◌, ℕ, Bool, true, false, ◌&&◌, ◌||◌, ◌==◌, List, [], ◌∷◌, Option, Some}
-use Rattle.std.specs.List.{list_any, slice_get}
+use Rattle.std.specs.Prelude.{◌≡◌, ◌≢◌, ◌⊎◌, ℕ, Bool, true, false, ◌&&◌, ◌||◌, ◌==◌, List, [], ◌∷◌, Option, Some, None}
+use Rattle.std.specs.List.{list_any, slice_get, slice_index_or}
 use Rattle.ada_text.specs.declared.spot.Spot.{Spot}
-use Rattle.ada_program.specs.Form.{PathForm, ActualForm, in_out_path, value_given, ExpressionForm, integer, boolean, reads, is_null, applied_to, chained, LinksForm, no_more_links, a_link, calls}
+use Rattle.ada_program.specs.Form.{PathForm, ActualForm, in_value, in_null, in_access, in_out_path, in_out_access, ExpressionForm, integer, boolean, reads, is_null, applied_to, chained, LinksForm, no_more_links, a_link, calls}
 use Rattle.ada_program.specs.ProgramForm.{TypeForm, VariableForm}
 use Rattle.ada_effects.specs.Effects.{call_frees}
 use Rattle.ada_flow.specs.declared.rule.Hold.TheVariants.{Own, Alias, Lost}
 use Rattle.ada_flow.specs.declared.rule.Region.{Region}
+use Rattle.ada_flow.specs.declared.rule.Region.TheVariants.{Whole}
 use Rattle.ada_flow.specs.declared.rule.Rule.{Rule}
 use Rattle.ada_flow.specs.declared.rule.Rule.TheVariants.{LostValue}
-use Rattle.ada_flow.specs.Flow.{Holds, goes, faults, hold_at, variable_access, is_freed, Around, stmt_flow}
+use Rattle.ada_flow.specs.Flow.{Holds, goes, faults, hold_at, variable_access, is_freed, Around, kept_at, stmt_flow}
+use Rattle.ada_meaning.specs.Calls.{variable_given}
+use Rattle.ada_owners.specs.Reliance.{Owns}
+use Rattle.ada_sound.specs.Agreement.{IsOwner}
 
 -- A call comes to its end with these holds.
 abbrev pub CallEnds : List TypeForm → List VariableForm → Around → (procedure : ℕ) → (actuals : List ActualForm) → (holds after : Holds) → Type 0
@@ -37,35 +41,74 @@ RaisedCallLeavesNoAlias =
     → CallRaises types variables around procedure actuals holds raised → call_frees (slice_get around.effects procedure) t ≡ true
     → (x : ℕ) → variable_access variables x ≡ Some t → (r : Region) → hold_at raised x ≢ Alias r
 
--- A call moves nothing: a variable that owns something before it owns it after.
+-- A variable is handed over to a formal parameter of mode `in out` of an access type (6.4.1).
+abbrev pub IsHandedOver : (x : ℕ) → List ActualForm → Type 0
+IsHandedOver x actuals = (formal : ℕ) × (path : PathForm) × (slice_get actuals formal ≡ Some (in_out_access path)) × (path.root ≡ x)
+
+-- Is the formal parameter of a number kept by a procedure?
+abbrev pub is_kept_by : Around → (procedure formal : ℕ) → Bool
+is_kept_by around procedure formal = slice_index_or (kept_at around.kept procedure) formal false
+
+-- A variable is handed over to a formal parameter that the procedure does not keep.
+abbrev pub IsGivenUp : Around → (procedure x : ℕ) → List ActualForm → Type 0
+IsGivenUp around procedure x actuals =
+    (formal : ℕ) × (path : PathForm) × (slice_get actuals formal ≡ Some (in_out_access path)) × (path.root ≡ x)
+    × (is_kept_by around procedure formal ≡ false)
+
+-- A call leaves each owner one: a variable that is an owner before it, or null, holds the same after, or owns what comes back.
 abbrev pub CallMovesNothing : Type 0
 CallMovesNothing =
     (types : List TypeForm) (variables : List VariableForm) (around : Around) (procedure : ℕ) (actuals : List ActualForm) (holds after : Holds)
     → CallEnds types variables around procedure actuals holds after
-    → (x : ℕ) (v : VariableForm) → slice_get variables x ≡ Some v → (r : Region) → hold_at holds x ≡ Own r → hold_at after x ≡ Own r
+    → (x : ℕ) (v : VariableForm) → slice_get variables x ≡ Some v → IsOwner (hold_at holds x)
+    → (hold_at after x ≡ hold_at holds x) ⊎ (hold_at after x ≡ Own Whole)
 
--- So it is where the call raises an exception.
+-- Where the call raises an exception, an owner, or null, holds the same, unless it is given up.
 abbrev pub RaisedCallMovesNothing : Type 0
 RaisedCallMovesNothing =
     (types : List TypeForm) (variables : List VariableForm) (around : Around) (procedure : ℕ) (actuals : List ActualForm) (holds raised : Holds)
     → CallRaises types variables around procedure actuals holds raised
-    → (x : ℕ) (v : VariableForm) → slice_get variables x ≡ Some v → (r : Region) → hold_at holds x ≡ Own r → hold_at raised x ≡ Own r
+    → (x : ℕ) (v : VariableForm) → slice_get variables x ≡ Some v → (IsGivenUp around procedure x actuals → ⊥) → IsOwner (hold_at holds x)
+    → hold_at raised x ≡ hold_at holds x
 
--- A variable holds what it did, if it is of no access type of which the procedure may free an object.
+-- What is handed over is an owner, or null (6.4.1).
+abbrev pub OnlyOwnersAreHandedOver : Type 0
+OnlyOwnersAreHandedOver =
+    (types : List TypeForm) (variables : List VariableForm) (around : Around) (cleared : Bool) (procedure x : ℕ) (actuals : List ActualForm) (holds : Holds)
+    (normal raising : Option Holds)
+    → stmt_flow types variables around cleared (calls procedure actuals) holds ≡ goes normal raising → IsHandedOver x actuals → IsOwner (hold_at holds x)
+
+-- Behind the call it owns what comes back.
+abbrev pub CallHandsBack : Type 0
+CallHandsBack =
+    (types : List TypeForm) (variables : List VariableForm) (around : Around) (procedure x : ℕ) (v : VariableForm) (actuals : List ActualForm)
+    (holds after : Holds)
+    → CallEnds types variables around procedure actuals holds after → slice_get variables x ≡ Some v → IsHandedOver x actuals
+    → hold_at after x ≡ Own Whole
+
+-- Where the call raises an exception, nothing comes back: a variable that was given up owns nothing.
+abbrev pub UnkeptOwnNothing : Type 0
+UnkeptOwnNothing =
+    (types : List TypeForm) (variables : List VariableForm) (around : Around) (procedure x : ℕ) (actuals : List ActualForm) (holds raised : Holds)
+    → CallRaises types variables around procedure actuals holds raised → IsGivenUp around procedure x actuals → Owns (hold_at raised x) → ⊥
+
+-- A variable that is not handed over holds what it did, if it is of no access type of which the procedure may free an object.
 abbrev pub CallKeepsOthers : Type 0
 CallKeepsOthers =
     (types : List TypeForm) (variables : List VariableForm) (around : Around) (procedure : ℕ) (actuals : List ActualForm) (holds after : Holds)
     → CallEnds types variables around procedure actuals holds after
     → (x : ℕ) (v : VariableForm) → slice_get variables x ≡ Some v
-    → is_freed (call_frees (slice_get around.effects procedure)) (variable_access variables x) ≡ false → hold_at after x ≡ hold_at holds x
+    → is_freed (call_frees (slice_get around.effects procedure)) (variable_access variables x) ≡ false → (IsHandedOver x actuals → ⊥)
+    → hold_at after x ≡ hold_at holds x
 
--- So it is where the call raises an exception.
+-- Where the call raises an exception, a variable of such a type holds what it did, unless it is given up.
 abbrev pub RaisedCallKeepsOthers : Type 0
 RaisedCallKeepsOthers =
     (types : List TypeForm) (variables : List VariableForm) (around : Around) (procedure : ℕ) (actuals : List ActualForm) (holds raised : Holds)
     → CallRaises types variables around procedure actuals holds raised
     → (x : ℕ) (v : VariableForm) → slice_get variables x ≡ Some v
-    → is_freed (call_frees (slice_get around.effects procedure)) (variable_access variables x) ≡ false → hold_at raised x ≡ hold_at holds x
+    → is_freed (call_frees (slice_get around.effects procedure)) (variable_access variables x) ≡ false
+    → (IsGivenUp around procedure x actuals → ⊥) → hold_at raised x ≡ hold_at holds x
 
 -- Does a path with these components behind its variable follow the value of that one (4.1)?
 abbrev pub has_selector : List ℕ → Bool
@@ -87,26 +130,44 @@ abbrev mutual
   links_rely_on x no_more_links = false
   links_rely_on x (a_link operator e links) = relies_on x e || links_rely_on x links
 
--- Does the value of one of these actual parameters?
+-- Does one of these actual parameters? One that is lent or handed over does, where it begins with the variable.
 abbrev pub value_relies_on : (x : ℕ) → ActualForm → Bool
-value_relies_on x a = relies_on x (value_given a)
+value_relies_on x (in_value e) = relies_on x e
+value_relies_on x in_null = false
+value_relies_on x (in_access path) = path.root == x
+value_relies_on x (in_out_path path) = relies_on x (reads path)
+value_relies_on x (in_out_access path) = path.root == x
 
--- No variable is given for two formal parameters of mode `in out`.
-abbrev pub GivesEachOnce : List ActualForm → Type 0
-GivesEachOnce actuals =
-    (i j : ℕ) (p q : PathForm) → slice_get actuals i ≡ Some (in_out_path p) → slice_get actuals j ≡ Some (in_out_path q) → p.root ≡ q.root → i ≡ j
+-- The variable with which an actual parameter begins, where that is no expression.
+abbrev pub begins_with : ActualForm → Option ℕ
+begins_with (in_value e) = None
+begins_with in_null = None
+begins_with (in_access path) = Some path.root
+begins_with (in_out_path path) = Some path.root
+begins_with (in_out_access path) = Some path.root
 
--- A call breaks a rule if an actual parameter relies on what is lost: that of lost values, where the call gives no variable twice.
+-- No variable is given for a formal parameter of mode `in out` with which another actual parameter begins.
+abbrev pub AreGivenApart : List ActualForm → Type 0
+AreGivenApart actuals =
+    (i j x : ℕ) (a b : ActualForm) → slice_get actuals i ≡ Some a → slice_get actuals j ≡ Some b → variable_given a ≡ Some x → begins_with b ≡ Some x
+    → i ≡ j
+
+-- Nothing is handed over that another owns.
+abbrev pub HandsNoAlias : List ActualForm → Holds → Type 0
+HandsNoAlias actuals holds = (x : ℕ) (r : Region) → IsHandedOver x actuals → hold_at holds x ≢ Alias r
+
+-- A call breaks a rule if an actual parameter relies on what is lost: that of lost values, where no variable is given and used besides, and nothing is
+-- handed over that another owns.
 abbrev pub LostIsNoActual : Type 0
 LostIsNoActual =
     (types : List TypeForm) (variables : List VariableForm) (around : Around) (cleared : Bool) (procedure x : ℕ) (actuals : List ActualForm) (holds : Holds)
     → list_any (value_relies_on x) actuals ≡ true → hold_at holds x ≡ Lost
     → (spot : Spot) × (rule : Rule) × (stmt_flow types variables around cleared (calls procedure actuals) holds ≡ faults spot rule)
-    × (GivesEachOnce actuals → rule ≡ LostValue)
+    × (AreGivenApart actuals → HandsNoAlias actuals holds → rule ≡ LostValue)
 
--- Where a call breaks no rule, no variable is given for two formal parameters of mode `in out` (6.4.1).
+-- Where a call breaks no rule, no variable is given for a formal parameter of mode `in out` with which another actual parameter begins (6.4.1).
 abbrev pub NoneIsGivenTwice : Type 0
 NoneIsGivenTwice =
     (types : List TypeForm) (variables : List VariableForm) (around : Around) (cleared : Bool) (procedure : ℕ) (actuals : List ActualForm) (holds : Holds)
     (normal raising : Option Holds)
-    → stmt_flow types variables around cleared (calls procedure actuals) holds ≡ goes normal raising → GivesEachOnce actuals
+    → stmt_flow types variables around cleared (calls procedure actuals) holds ≡ goes normal raising → AreGivenApart actuals

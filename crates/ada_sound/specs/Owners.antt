@@ -13,6 +13,7 @@ use Rattle.ada_program.specs.declared.program.TypeNo.{TypeNo}
 use Rattle.ada_program.specs.ProgramForm.{TypeForm, VariableForm}
 use Rattle.ada_program.specs.WellFormed.{access_of, record_components, reached_components, variable_kind, selectors_kind, path_access, is_borrower, names_borrower, lends_to}
 use Rattle.ada_flow.specs.Flow.{Holds, faults, goes, hold_at, variable_access, Around, begins_pair, stmt_flow, stmts_flow, declaration_flow}
+use Rattle.ada_owners.specs.Reliance.{Owns}
 use Rattle.ada_sound.specs.Agreement.{IsOwner}
 
 -- A statement, the first of a take pair or not, breaks no rule from these holds.
@@ -37,7 +38,7 @@ AreLetThrough types variables fs holds =
 
 -- A variable owns nothing.
 abbrev pub OwnsNothing : Holds → ℕ → Type 0
-OwnsNothing holds x = (r : Region) → hold_at holds x ≢ Own r
+OwnsNothing holds x = Owns (hold_at holds x) → ⊥
 
 -- A path is a variable, and no component.
 abbrev pub IsVariable : PathForm → Type 0

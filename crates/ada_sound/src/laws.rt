@@ -5,7 +5,7 @@ ghost use Rattle.ada_program.specs.declared.program.Program.{Program};
 ghost use Rattle.ada_program.specs.Form.{declaration_forms, stmt_forms, handler_forms};
 ghost use Rattle.ada_program.specs.ProgramForm.{body_forms};
 ghost use Rattle.ada_flow.specs.declared.rule.Hold.TheVariants.{Null};
-ghost use Rattle.ada_flow.specs.declared.rule.Rule.TheVariants.{LostValue, TakePair, LoopState, UnsafePath, RecordCopied};
+ghost use Rattle.ada_flow.specs.declared.rule.Rule.TheVariants.{LostValue, AliasMoved, TakePair, LoopState, UnsafePath, FormalNotOwned, RecordCopied};
 ghost use Rattle.ada_program.specs.declared.program.Exception.TheVariants.{ConstraintError};
 ghost use Rattle.ada_meaning.specs.declared.event.Halt.TheVariants.{Unhandled, Erroneous};
 ghost use Rattle.ada_meaning.specs.declared.event.Why.{Why};
@@ -181,26 +181,33 @@ pub fn borrowers_only_borrow()
     ensures lost_is_refused { owners.LostIsNotBorrowed }
 {}
 
-/// A call leaves what the caller's variables own and borrow as it is (6.4), but for aliases of an access type of which the
-/// procedure may free an object (13.11.2): these are lost behind the call, and where it raises an exception. So it moves
-/// nothing: what is owned before it is owned after.
+/// A call leaves what the caller's variables own and borrow as it is (6.4), but for two things. Aliases of an access type
+/// of which the procedure may free an object (13.11.2) are lost behind the call, and where it raises an exception. And a
+/// variable that is given for a formal parameter of mode `in out` of an access type is handed over (6.4.1): it is an
+/// owner, or null, and behind the call it owns what comes back. Where the call raises an exception, nothing comes back:
+/// the variable owns nothing, unless the procedure keeps the parameter, and then it holds what it did. So where a call
+/// ends normally, each variable that owned something before owns something after.
 pub fn calls_forget_aliases()
     ensures no_alias { callees.CallLeavesNoAlias }
     ensures no_alias_where_raised { callees.RaisedCallLeavesNoAlias }
     ensures owners_stay { callees.CallMovesNothing }
     ensures owners_stay_where_raised { callees.RaisedCallMovesNothing }
+    ensures only_owners { callees.OnlyOwnersAreHandedOver }
+    ensures handed_back { callees.CallHandsBack }
+    ensures unkept { callees.UnkeptOwnNothing }
     ensures others_stay { callees.CallKeepsOthers }
     ensures others_stay_where_raised { callees.RaisedCallKeepsOthers }
 {}
 
-/// No actual parameter follows a value that is lost, or compares it with null (4.1, 4.5.2, 6.4.1): such a call breaks a
-/// rule, and where it gives no variable twice, the rule of lost values.
+/// No actual parameter follows a value that is lost, compares it with null, lends it to a formal parameter, or hands it
+/// over to one (4.1, 4.5.2, 6.4.1): such a call breaks a rule. That is the rule of lost values, where no variable is given
+/// for a formal parameter of mode `in out` with which another actual parameter begins, and no alias is handed over.
 pub fn lost_is_no_actual()
     ensures { callees.LostIsNoActual }
 {}
 
-/// Where a call breaks no rule, no variable is given for two formal parameters of mode `in out` (6.4.1): so none gets two
-/// values back.
+/// Where a call breaks no rule, no variable is given for a formal parameter of mode `in out` with which another actual
+/// parameter begins (6.4.1): so none gets two values back, and none is lent and handed over at once.
 pub fn one_variable_each()
     ensures { callees.NoneIsGivenTwice }
 {}
@@ -229,7 +236,11 @@ pub fn one_variable_each()
 /// the second of these raises an exception, which leaves both procedures; the handler in the main procedure follows and
 /// frees what that one still owns. And one whose borrower has a value where it calls a procedure that frees an object of
 /// the same access type, and gets its value once more behind it. And one whose variable gets a value back from a call that
-/// ends normally, through a call in a call, and none from a call that an exception leaves.
+/// ends normally, through a call in a call, and none from a call that an exception leaves. And one that lends an object to
+/// a procedure, which changes a component of it: behind the call the variable still owns the object, and follows and frees
+/// it. And one that hands an object over to a procedure, which frees it and gives another one back. And one whose
+/// procedure raises an exception before it changes what was handed over to it: the handler follows and frees the object,
+/// which the variable still owns.
 pub fn premises_are_met()
     ensures begins { (program : Program) × IsChecked program × ReachesStatement program }
     ensures finishes { (program : Program) × IsChecked program × FinishesAfter examples.example_events program }
@@ -285,6 +296,16 @@ pub fn premises_are_met()
         × (stmt_forms program ≡ call_examples.giving_stmts)
         × (handler_forms program ≡ call_examples.giving_handlers)
         × IsChecked program × FinishesAfter call_examples.giving_events program }
+    ensures lends { (program : Program) × (body_forms program ≡ call_examples.bumping_bodies)
+        × (stmt_forms program ≡ call_examples.bumping_stmts)
+        × IsChecked program × FinishesAfter call_examples.bumping_events program }
+    ensures hands_over { (program : Program) × (body_forms program ≡ call_examples.renewing_bodies)
+        × (stmt_forms program ≡ call_examples.renewing_stmts)
+        × IsChecked program × FinishesAfter call_examples.renewing_events program }
+    ensures keeps { (program : Program) × (body_forms program ≡ call_examples.dropping_bodies)
+        × (stmt_forms program ≡ call_examples.dropping_stmts)
+        × (handler_forms program ≡ call_examples.calling_handlers)
+        × IsChecked program × FinishesAfter call_examples.dropping_events program }
 {}
 
 /// The rules are needed. Of programs that are well formed and whose collections nest, one that breaks the rules follows
@@ -306,6 +327,12 @@ pub fn premises_are_met()
 /// alone that the new object goes to: else two of them name one object, which one gives to a variable that frees it,
 /// and the other one is followed. And a record with a component of an access type is not copied: else a component of
 /// the copy names the same object, which is freed by way of one record and followed by way of the other.
+///
+/// So are the rules of calls. At a normal end of its body a procedure gives back only what its formal parameters own:
+/// else two variables get one object back, and each of them frees it. It does not move what is only lent to it: else it
+/// gives the object to a second variable, and both free it. No variable is handed over for two formal parameters: else
+/// the body follows by way of the one what it has freed by way of the other. And where an exception leaves a procedure
+/// that frees what was handed over to it, the variable is lost: else the handler follows the object that is gone.
 ///
 /// So are the other premises. A variable relies on values of its own access type alone: of a program that is not well
 /// formed, one of another type names what goes with a block. And components name what lasts as long as their objects: of
@@ -359,6 +386,23 @@ pub fn rules_are_needed()
     ensures copies { (program : Program) × (stmt_forms program ≡ record_examples.duplicating_stmts)
         × always.Breaks RecordCopied program
         × always.HaltsAfter record_examples.duplicating_events (Erroneous FollowsGone) program }
+    ensures shares { (program : Program) × (body_forms program ≡ call_examples.sharing_bodies)
+        × (stmt_forms program ≡ call_examples.sharing_stmts)
+        × always.Breaks FormalNotOwned program
+        × always.HaltsAfter call_examples.sharing_events (Erroneous EndsTwice) program }
+    ensures spoils { (program : Program) × (body_forms program ≡ call_examples.spoiling_bodies)
+        × (stmt_forms program ≡ call_examples.spoiling_stmts)
+        × (handler_forms program ≡ examples.raising_handlers)
+        × always.Breaks LostValue program
+        × always.HaltsAfter call_examples.spoiling_events (Erroneous FollowsGone) program }
+    ensures cuts { (program : Program) × (body_forms program ≡ call_examples.cutting_bodies)
+        × (stmt_forms program ≡ call_examples.cutting_stmts)
+        × always.Breaks UnsafePath program
+        × always.HaltsAfter call_examples.cutting_events (Erroneous FollowsGone) program }
+    ensures claims { (program : Program) × (body_forms program ≡ call_examples.claiming_bodies)
+        × (stmt_forms program ≡ call_examples.claiming_stmts)
+        × always.Breaks AliasMoved program
+        × always.HaltsAfter call_examples.claiming_events (Erroneous EndsTwice) program }
     ensures nests { (program : Program) × (stmt_forms program ≡ owner_examples.outlasting_stmts)
         × always.IsIllNested program × always.HaltsAfter owner_examples.outlasting_events (Erroneous FollowsGone) program }
 {}

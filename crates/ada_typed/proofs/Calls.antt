@@ -215,7 +215,7 @@ active_in : (own : ProgramForm) (s : State) → TypedIn own s → (kinds : List 
 active_in own s (running kinds ready fits) = (kinds, ready.active)
 active_in own s (on_jump mode jumps goes) = ([], jumps.active)
 
--- Wherever a call ends next: each value that its caller is to get back is a scalar, and the variable that gets it is of that scalar's type.
+-- Wherever a call ends next: each value that its caller is to get back is a scalar or an access value, and the variable that gets it is of its type.
 pub typed_comes_back : (p : ProgramForm) (s : State) (actuals : List ActualForm) (outer : List (Frame Value)) (a c : Activation Value) (suspended : List (Activation Value)) → Typed p s → s.control ≡ frame.Returns actuals ∷ outer → s.activations ≡ a ∷ c ∷ suspended → GiveBack (cells_of s.heap) (seen_in c.procedure p).variables actuals a.places
 typed_comes_back p s actuals outer a c suspended typed at_return are =
     let cells = cells_of s.heap in

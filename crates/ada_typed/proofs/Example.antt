@@ -28,7 +28,7 @@ use Rattle.ada_program.specs.declared.program.Choice.TheVariants as choice
 use Rattle.ada_program.specs.declared.program.Exception.{Exception}
 use Rattle.ada_program.specs.declared.program.Exception.TheVariants.{ProgramError, Declared}
 use Rattle.ada_program.specs.declared.program.Handler.{Handler}
-use Rattle.ada_program.specs.Form.{expression_form, stmt_form, path_form, record_path_form, item_of_record, in_out_path, integer, reads, is_null, StmtsForm, no_stmts, a_stmt, assigns, assigns_record, allocates_default, computes, gets, writes, frees, chooses, repeats, counts, exits, calls, returns, raises, encloses, otherwise, a_branch, HandlersForm, no_handlers, a_handler, declaration_forms, stmt_forms, handler_forms, statement_rules, expression_rules}
+use Rattle.ada_program.specs.Form.{expression_form, stmt_form, path_form, record_path_form, item_of_record, in_null, in_out_path, in_out_access, integer, reads, is_null, StmtsForm, no_stmts, a_stmt, assigns, assigns_record, allocates_default, computes, gets, writes, frees, chooses, repeats, counts, exits, calls, returns, raises, encloses, otherwise, a_branch, HandlersForm, no_handlers, a_handler, declaration_forms, stmt_forms, handler_forms, statement_rules, expression_rules}
 use Rattle.ada_program.specs.ProgramForm.{BodyForm, body_form, body_forms, program_form}
 use Rattle.ada_program.specs.WellFormed.{Creation, creation, created_by_all, created_by_handlers, created_in_all, creates_from, has_collections, IsWellFormed, stmts_fit, bodies_fit, callable_in}
 use Rattle.ada_meaning.specs.declared.event.Halt.TheVariants.{Finished}
@@ -127,14 +127,14 @@ handlers = record { choices = vec (choice.Exception failure ∷ []) (omega arith
 abbrev counted : List Stmt
 counted = stmt.Block (vec [] (omega arith)) (vec (stmt.Get n_path ∷ stmt.Raise failure ∷ []) (omega arith)) (vec handlers (omega arith)) ∷ []
 
--- loop .. end loop; for I in 1 .. 1 loop .. end loop; X := new Cell; Free (X); Show (N);
+-- loop .. end loop; for I in 1 .. 1 loop .. end loop; X := new Cell; Show (N, X, null); Free (X);
 abbrev statements : List Stmt
 statements =
     stmt.Loop None (vec body (omega arith)) spot
     ∷ stmt.For (record { 0 = 3 }) (Integer (pos 1)) (Integer (pos 1)) (vec counted (omega arith)) spot
     ∷ stmt.Assign x_path (right.Default (record { 0 = 1 }))
+    ∷ stmt.Call (record { 0 = 0 }) (vec (actual.InOut n_path ∷ actual.InOutAccess x_path ∷ actual.InNull ∷ []) (omega arith))
     ∷ stmt.Free (record { 0 = 1 }) x_path
-    ∷ stmt.Call (record { 0 = 0 }) (vec (actual.InOut n_path ∷ []) (omega arith))
     ∷ []
 
 -- P; Q: the variables of a procedure have numbers of their own.
@@ -142,18 +142,25 @@ abbrev p_path : Path
 p_path = x_path
 
 abbrev q_path : Path
-q_path = n_path
+q_path = i_path
 
--- procedure Show (P : in out Integer) is Q : Integer := P; begin Put_Line (Integer'Image (Q)); return; end Show;
+-- procedure Show (P : in out Integer; L : in out Link; K : Link) is Q : Integer := P; begin Put_Line (Integer'Image (Q)); return; end Show;
+abbrev show_variables : List Variable
+show_variables =
+    record { name = no_name; spot = spot; kind = variable.Integer; borrows = false }
+    ∷ record { name = no_name; spot = spot; kind = variable.Access (record { 0 = 1 }); borrows = false }
+    ∷ record { name = no_name; spot = spot; kind = variable.Access (record { 0 = 1 }); borrows = false }
+    ∷ record { name = no_name; spot = spot; kind = variable.Integer; borrows = false }
+    ∷ []
+
 abbrev show : Procedure
 show = record {
-  formals = vec (mode.InOut ∷ []) (omega arith);
-  variables =
-      vec (record { name = no_name; spot = spot; kind = variable.Integer; borrows = false } ∷ record { name = no_name; spot = spot; kind = variable.Integer; borrows = false } ∷ [])
-      (omega arith);
-  declarations = vec (declaration.Variable (record { 0 = 1 }) (Some (right.Value (Reads p_path))) ∷ []) (omega arith);
+  formals = vec (mode.InOut ∷ mode.InOut ∷ mode.In ∷ []) (omega arith);
+  variables = vec show_variables (omega arith);
+  declarations = vec (declaration.Variable (record { 0 = 3 }) (Some (right.Value (Reads p_path))) ∷ []) (omega arith);
   statements = vec (stmt.PutImage (Reads q_path) ∷ stmt.Return spot ∷ []) (omega arith);
   handlers = vec [] (omega arith);
+  end = spot;
 }
 
 abbrev pub program : Program
@@ -189,7 +196,8 @@ abbrev forms : StmtsForm
 forms =
     a_stmt (repeats None turn_forms spot) (
     a_stmt (counts 3 (integer (pos 1)) (integer (pos 1)) counted_forms spot) (
-    a_stmt (assigns (path_form x_path) (allocates_default 1)) (a_stmt (frees 1 (path_form x_path)) (a_stmt (calls 0 (in_out_path (path_form n_path) ∷ [])) no_stmts))))
+    a_stmt (assigns (path_form x_path) (allocates_default 1)) (
+    a_stmt (calls 0 (in_out_path (path_form n_path) ∷ in_out_access (path_form x_path) ∷ in_null ∷ [])) (a_stmt (frees 1 (path_form x_path)) no_stmts))))
 
 statements_are : stmt_forms program ≡ forms
 statements_are = simp (statement_rules, expression_rules)
@@ -239,7 +247,7 @@ some_member = omega arith
 
 finishes_from : FinishesFrom forms
 unfolding next expression_form stmt_form
-finishes_from = (_, _, there settled _ (refl, refl) (there settled _ (refl, refl) (there settled _ (refl, refl) (there settled _ (refl, refl) (there settled _ (refl, refl) (there settled _ (refl, refl) (there (grants true) _ (refl, refl) (there settled _ (refl, refl) (there settled _ (refl, refl) (there settled _ (refl, refl) (there settled _ (refl, refl) (there settled _ (refl, refl) (there settled _ (refl, refl) (there settled _ (refl, refl) (there settled _ (refl, refl) (there settled _ (refl, refl) (there settled _ (refl, refl) (there settled _ (refl, refl) (there settled _ (refl, refl) (there settled _ (refl, refl) (there settled _ (refl, refl) (there settled _ (refl, refl) (there settled _ (refl, refl) (there settled _ (refl, refl) (there settled _ (refl, refl) (there settled _ (refl, refl) (there settled _ (refl, refl) (there settled _ (refl, refl) (there settled _ (refl, refl) (there settled _ (refl, refl) (there settled _ (refl, refl) (there settled _ (refl, refl) (there settled _ (refl, refl) (there settled _ (refl, refl) (there settled _ (refl, refl) (there settled _ (refl, refl) (there settled _ (refl, refl) (there settled _ (refl, refl) (there settled _ (refl, refl) (there settled _ (refl, refl) (there settled _ (refl, refl) (there settled _ (refl, refl) (there settled _ (refl, refl) (there settled _ (refl, refl) (there settled _ (refl, refl) (there settled _ (refl, refl) (there settled _ (refl, refl) (there settled _ (refl, refl) (there settled _ (refl, refl) (there settled _ (refl, refl) (there settled _ (refl, refl) (there settled _ (refl, refl) (there settled _ (refl, refl) (there settled _ (refl, refl) (there settled _ (refl, refl) (there settled _ (refl, refl) (there settled _ (refl, refl) (there settled _ (refl, refl) (there settled _ (refl, refl) (there settled _ (refl, refl) (there settled _ (refl, refl) (there settled _ (refl, refl) (there settled _ (refl, refl) (there settled _ (refl, refl) (there settled _ (refl, refl) (there settled _ (refl, refl) (there settled _ (refl, refl) (there settled _ (refl, refl) (there settled _ (refl, refl) (there settled _ (refl, refl) (there settled _ (refl, refl) (there (grants true) _ (refl, refl) (there settled _ (refl, refl) (there settled _ (refl, refl) (there settled _ (refl, refl) (there settled _ (refl, refl) (there settled _ (refl, refl) (there settled _ (refl, refl) (there settled _ (refl, refl) (there settled _ (refl, refl) (there settled _ (refl, refl) (there settled _ (refl, refl) (there settled _ (refl, refl) (there settled _ (refl, refl) (there settled _ (refl, refl) (there settled _ (refl, refl) (there settled _ (refl, refl) (there settled _ (refl, refl) (there settled _ (refl, refl) (there settled _ (refl, refl) (there settled _ (refl, refl) (there settled _ (refl, refl) (there settled _ (refl, refl) (there settled _ (refl, refl) (there settled _ (refl, refl) (there settled _ (refl, refl) (there settled _ (refl, refl) (there settled _ (refl, refl) (there (takes 0) _ (some_member, refl, refl) (there settled _ (refl, refl) (there settled _ (refl, refl) (there settled _ (refl, refl) (there settled _ (refl, refl) (there settled _ (refl, refl) (there settled _ (refl, refl) (there settled _ (refl, refl) here))))))))))))))))))))))))))))))))))))))))))))))))))))))))))))))))))))))))))))))))))))))))))))))))))))))))), refl)
+finishes_from = (_, _, there settled _ (refl, refl) (there settled _ (refl, refl) (there settled _ (refl, refl) (there settled _ (refl, refl) (there settled _ (refl, refl) (there settled _ (refl, refl) (there (grants true) _ (refl, refl) (there settled _ (refl, refl) (there settled _ (refl, refl) (there settled _ (refl, refl) (there settled _ (refl, refl) (there settled _ (refl, refl) (there settled _ (refl, refl) (there settled _ (refl, refl) (there settled _ (refl, refl) (there settled _ (refl, refl) (there settled _ (refl, refl) (there settled _ (refl, refl) (there settled _ (refl, refl) (there settled _ (refl, refl) (there settled _ (refl, refl) (there settled _ (refl, refl) (there settled _ (refl, refl) (there settled _ (refl, refl) (there settled _ (refl, refl) (there settled _ (refl, refl) (there settled _ (refl, refl) (there settled _ (refl, refl) (there settled _ (refl, refl) (there settled _ (refl, refl) (there settled _ (refl, refl) (there settled _ (refl, refl) (there settled _ (refl, refl) (there settled _ (refl, refl) (there settled _ (refl, refl) (there settled _ (refl, refl) (there settled _ (refl, refl) (there settled _ (refl, refl) (there settled _ (refl, refl) (there settled _ (refl, refl) (there settled _ (refl, refl) (there settled _ (refl, refl) (there settled _ (refl, refl) (there settled _ (refl, refl) (there settled _ (refl, refl) (there settled _ (refl, refl) (there settled _ (refl, refl) (there settled _ (refl, refl) (there settled _ (refl, refl) (there settled _ (refl, refl) (there settled _ (refl, refl) (there settled _ (refl, refl) (there settled _ (refl, refl) (there settled _ (refl, refl) (there settled _ (refl, refl) (there settled _ (refl, refl) (there settled _ (refl, refl) (there settled _ (refl, refl) (there settled _ (refl, refl) (there settled _ (refl, refl) (there settled _ (refl, refl) (there settled _ (refl, refl) (there settled _ (refl, refl) (there settled _ (refl, refl) (there settled _ (refl, refl) (there settled _ (refl, refl) (there settled _ (refl, refl) (there settled _ (refl, refl) (there settled _ (refl, refl) (there settled _ (refl, refl) (there settled _ (refl, refl) (there (grants true) _ (refl, refl) (there settled _ (refl, refl) (there settled _ (refl, refl) (there settled _ (refl, refl) (there settled _ (refl, refl) (there settled _ (refl, refl) (there settled _ (refl, refl) (there settled _ (refl, refl) (there settled _ (refl, refl) (there settled _ (refl, refl) (there settled _ (refl, refl) (there settled _ (refl, refl) (there settled _ (refl, refl) (there settled _ (refl, refl) (there settled _ (refl, refl) (there settled _ (refl, refl) (there settled _ (refl, refl) (there settled _ (refl, refl) (there settled _ (refl, refl) (there settled _ (refl, refl) (there settled _ (refl, refl) (there settled _ (refl, refl) (there settled _ (refl, refl) (there settled _ (refl, refl) (there settled _ (refl, refl) (there settled _ (refl, refl) (there settled _ (refl, refl) (there settled _ (refl, refl) (there settled _ (refl, refl) (there (takes 0) _ (some_member, refl, refl) (there settled _ (refl, refl) (there settled _ (refl, refl) (there settled _ (refl, refl) (there settled _ (refl, refl) (there settled _ (refl, refl) (there settled _ (refl, refl) (there settled _ (refl, refl) here))))))))))))))))))))))))))))))))))))))))))))))))))))))))))))))))))))))))))))))))))))))))))))))))))))))))))), refl)
 
 pub finishes : Finishes program
 finishes =

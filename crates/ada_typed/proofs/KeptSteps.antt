@@ -4,7 +4,7 @@ use Rattle.std.proofs.Common.{◌≡◌, ℕ, ℤ, int_le, not, if◌then◌else
 use Rattle.std.specs.List.{slice_get, slice_index_or, slice_set}
 use Rattle.ada_program.specs.declared.program.Exception.TheVariants.{ConstraintError, StorageError, EndError}
 use Rattle.ada_program.specs.declared.program.TypeDefinition.{TypeDefinition}
-use Rattle.ada_program.specs.Form.{ActualForm, ExpressionForm, integer, boolean, reads, is_null, applied_to, chained, LinksForm, no_more_links, a_link, ItemForm, null_item, item_of_path, item_of_value, item_of_record, RightForm, nothing, value_of, allocates, allocates_default, computes, StmtForm, skips, assigns, assigns_record, frees, gets, writes, writes_text, chooses, repeats, counts, exits, calls, returns, raises as raises_it, encloses, StmtsForm, no_stmts, a_stmt, BranchesForm, otherwise, a_branch, HandlersForm, DeclarationForm, collects, declares, declares_record}
+use Rattle.ada_program.specs.Form.{ActualForm, in_value, in_null, in_access, in_out_path, in_out_access, ExpressionForm, integer, boolean, reads, is_null, applied_to, chained, LinksForm, no_more_links, a_link, ItemForm, null_item, item_of_path, item_of_value, item_of_record, RightForm, nothing, value_of, allocates, allocates_default, computes, StmtForm, skips, assigns, assigns_record, frees, gets, writes, writes_text, chooses, repeats, counts, exits, calls, returns, raises as raises_it, encloses, StmtsForm, no_stmts, a_stmt, BranchesForm, otherwise, a_branch, HandlersForm, DeclarationForm, collects, declares, declares_record}
 use Rattle.ada_program.specs.ProgramForm.{BodyForm}
 use Rattle.ada_program.specs.Typed.{reached_of, words_of, width_of}
 use Rattle.ada_values.specs.declared.operator.BinaryOperator.{BinaryOperator}
@@ -274,7 +274,11 @@ exited_keeps (Some false) s = still refl refl refl
 
 behind_computing : (actuals : List ActualForm) (k : List (Frame Value)) → behind_call (computing named actuals k) ≡ behind_call k
 behind_computing [] k = refl
-behind_computing (a ∷ rest) k = behind_computing rest k
+behind_computing (in_value e ∷ rest) k = behind_computing rest k
+behind_computing (in_null ∷ rest) k = behind_computing rest k
+behind_computing (in_access path ∷ rest) k = behind_computing rest k
+behind_computing (in_out_path path ∷ rest) k = behind_computing rest k
+behind_computing (in_out_access path ∷ rest) k = behind_computing rest k
 
 call_keeps : (procedure : ℕ) (actuals : List ActualForm) (found : Option BodyForm) (s : State) → Each (Keeps s) (call_next named procedure actuals found s)
 call_keeps procedure actuals None s = tt

@@ -60,6 +60,7 @@ rule_text rule.AliasMoved = rules.ALIAS_MOVED.now
 rule_text rule.TakePair = rules.TAKE_PAIR.now
 rule_text rule.LoopState = rules.LOOP_STATE.now
 rule_text rule.UnsafePath = rules.UNSAFE_PATH.now
+rule_text rule.FormalNotOwned = rules.FORMAL_NOT_OWNED.now
 rule_text rule.RecordCopied = rules.RECORD_COPIED.now
 
 -- Where a source is refused, by which rule; nothing where memory ran out.

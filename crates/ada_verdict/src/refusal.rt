@@ -96,6 +96,7 @@ fn rule_text(rule: Rule) -> &'static str
         Rule::TakePair => rules::TAKE_PAIR,
         Rule::LoopState => rules::LOOP_STATE,
         Rule::UnsafePath => rules::UNSAFE_PATH,
+        Rule::FormalNotOwned => rules::FORMAL_NOT_OWNED,
         Rule::RecordCopied => rules::RECORD_COPIED,
     }
 }

@@ -60,9 +60,12 @@ pub const TAKE_PAIR: &str = "S3 take-pair";
 /// At the end of a loop's body, or at an exit, less is known of a variable than at the loop's start.
 pub const LOOP_STATE: &str = "S5 loop-state";
 
-/// A component is freed whose path follows a value of the component's own access type, or a variable is given for two formal
-/// parameters of mode `in out`.
+/// A component is freed whose path follows a value of the component's own access type, or a variable with which two actual
+/// parameters begin is given for a formal parameter of mode `in out`.
 pub const UNSAFE_PATH: &str = "S6 unsafe-path";
+
+/// At a normal end of a body a formal parameter of mode `in out` may hold a value that it doesn't own.
+pub const FORMAL_NOT_OWNED: &str = "S7 formal-not-owned";
 
 /// A record is copied that has a component of an access type, or an aggregate with such a component stands outside an allocator.
 pub const RECORD_COPIED: &str = "S11 record-copied";

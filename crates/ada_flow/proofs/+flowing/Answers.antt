@@ -3,7 +3,7 @@ use Rattle.std.proofs.lemmas.List.{at_drop_more}
 use Rattle.std.proofs.lemmas.Result.{err_from_is_err_and}
 use Rattle.std.specs.Prelude.{Ok, Err, IfSome, if◌then◌else◌}
 use Rattle.ada_text.specs.declared.spot.Spot.{Spot}
-use Rattle.ada_effects.specs.Effects.{Effect, passes}
+use Rattle.ada_effects.specs.Effects.{passes}
 use Rattle.ada_program.specs.declared.program.Handler.{Handler}
 use Rattle.ada_program.specs.declared.program.Stmt.{Stmt}
 use Rattle.ada_program.specs.Form.{StmtForm, StmtsForm, ExpressionForm, HandlersForm, a_handler, DeclarationForm, encloses, encloses_form, condition_form, declaration_form, handlers_form, stmt_form, stmts_form}
@@ -11,7 +11,7 @@ use Rattle.ada_program.specs.ProgramForm.{TypeForm, VariableForm}
 use Rattle.ada_flow.specs.declared.fault.FlowFault.{FlowFault}
 use Rattle.ada_flow.specs.declared.fault.FlowFault.TheVariants.{Broken, NoMemory}
 use Rattle.ada_flow.specs.Flow.{Holds, Gone, goes, Around, gone_with, gone_with_both, nothing_gone, join_option, left_option, stmt_flow, stmts_flow, handlers_flow, unless_worse, condition_flow, loop_flow, in_loop, in_block, declarations_flow}
-use Rattle.ada_flow.specs.Told.{Noted, emptied, ending, end_handled, around_of, breach_of, effects_in, gone_of, held, joined_end, noted, noted_behind, noted_for, start_in, types_in, variables_in}
+use Rattle.ada_flow.specs.Told.{Noted, emptied, ending, end_handled, around_of, breach_of, gone_of, held, joined_end, noted, noted_behind, noted_for, types_in, variables_in}
 use Rattle.ada_flow.proofs.Noted.{End, handlers_end, turn_returns, turn_stops, block_declares_badly, block_breaks, block_handles}
 use Rattle.ada_flow.proofs.+flowing.Goals as goal
 use Rattle.ada_flow.proofs.+flowing.Goals.{repetition::turn-in-Some+in_ok-unless_worse, repetition::turn-in_default}
@@ -73,9 +73,9 @@ keeps_start start first after seen spot first_is seen_is keeps =
     (subst (λ (s : Holds). unless_worse s seen spot (goes (Some seen) None) ≡ goes (Some seen) None) first_is keeps)
 
 -- with which nothing goes
-place_in : (start : Holds) (inside : Gone) (around place : Around) → place ≡ record { effects = around.effects; start = Some start; inside = inside } → inside ≡ nothing_gone →
+place_in : (start : Holds) (inside : Gone) (around place : Around) → place ≡ record around { start = Some start; inside = inside } → inside ≡ nothing_gone →
     place ≡ in_loop (Some start) around
-place_in start inside around place place_is nothing = place_is ∙ ap (λ (g : Gone). record { effects = around.effects; start = Some start; inside = g }) nothing
+place_in start inside around place place_is nothing = place_is ∙ ap (λ (g : Gone). record around { start = Some start; inside = g }) nothing
 
 pub repetition::turn-returns-then-leaves : goal.repetition::turn-returns-then-leaves
 repetition::turn-returns-then-leaves t c =
@@ -120,11 +120,12 @@ inner_ends m inner types variables around within gone fs fs' hs hs' at end withi
     (subst (λ (f : StmtsForm). ending inner (stmts_flow types variables within f at) ≡ end) fs_is ends))
 
 -- where a block's statements stand
-abbrev stands : List Effect → Option Holds → Gone → Around
-stands effects start inside = record { effects = effects; start = start; inside = inside }
+abbrev stands : Around → (inside within : Gone) → Around
+stands around inside within = record around { inside = inside; within = within }
 
-stands_in : (gone inside : Gone) (around : Around) → inside ≡ gone_with_both gone around.inside → stands around.effects around.start inside ≡ in_block gone around
-stands_in gone inside around e = ap (stands around.effects around.start) e
+stands_in : (gone inside within : Gone) (around : Around) → inside ≡ gone_with_both gone around.inside → within ≡ gone_with_both gone around.within →
+    stands around inside within ≡ in_block gone around
+stands_in gone inside within around e f = ap (λ (g : Gone). stands around g within) e ∙ ap (stands around (gone_with_both gone around.inside)) f
 
 -- its declarations break a rule
 declares_badly : (fault : FlowFault) (n own : Noted) (types : List TypeForm) (variables : List VariableForm) (cleared : Bool) (around : Around) (f : StmtForm) (ds ds' : List DeclarationForm) (fs : StmtsForm) (hs : HandlersForm) (holds : Holds) →
@@ -172,6 +173,47 @@ block_is_left n own m inner k l raised types variables cleared around within gon
     (inner_ends m inner types variables around within gone fs fs' hs hs' at (Ok (normal, k)) within_is inner_is hs_is fs_is ends)
     handlers_end)))
 
+-- its handlers do
+handlers_break_rule : (fault : FlowFault) (n own m inner k : Noted) (types : List TypeForm) (variables : List VariableForm) (cleared : Bool) (around within : Around) (gone : Gone) (f : StmtForm) (ds ds' : List DeclarationForm) (fs fs' fs'' : StmtsForm) (hs hs' hs'' : HandlersForm) (holds at : Holds) (normal : Option Holds) →
+    f ≡ encloses ds fs hs → gone ≡ gone_with ds → own ≡ emptied n → ds' ≡ ds →
+    ending own (declarations_flow types variables ds' holds) ≡ Ok (Some at, m) →
+    within ≡ in_block gone around → inner ≡ noted_for m hs' → hs' ≡ hs → fs' ≡ fs →
+    ending inner (stmts_flow types variables within fs' at) ≡ Ok (normal, k) →
+    fs'' ≡ fs → hs'' ≡ hs →
+    IfSome (breach_of fault) (λ breach. end_handled m (passes around.effects fs'' hs'') (handlers_flow types variables within hs'') normal k ≡ Err breach) →
+    IfSome (breach_of fault) (λ breach. ending n (stmt_flow types variables around cleared f holds) ≡ Err breach)
+handlers_break_rule NoMemory n own m inner k types variables cleared around within gone f ds ds' fs fs' fs'' hs hs' hs'' holds at normal form gone_is own_is ds_is declares within_is inner_is hs_is fs_is ends fs_is' hs_is' breaks = tt
+handlers_break_rule (Broken spot rule) n own m inner k types variables cleared around within gone f ds ds' fs fs' fs'' hs hs' hs'' holds at normal form gone_is own_is ds_is declares within_is inner_is hs_is fs_is ends fs_is' hs_is' breaks =
+    let handlers_end : end_handled m (passes around.effects fs hs) (handlers_flow types variables (in_block gone around) hs) normal k ≡ Err (spot, rule) =
+    subst (λ (p : Around). end_handled m (passes around.effects fs hs) (handlers_flow types variables p hs) normal k ≡ Err (spot, rule)) within_is
+    (subst (λ (h : HandlersForm). end_handled m (passes around.effects fs h) (handlers_flow types variables within h) normal k ≡ Err (spot, rule)) hs_is'
+    (subst (λ (g : StmtsForm). end_handled m (passes around.effects g hs'') (handlers_flow types variables within hs'') normal k ≡ Err (spot, rule)) fs_is' breaks)) in
+    subst (λ (g : StmtForm). ending n (stmt_flow types variables around cleared g holds) ≡ Err (spot, rule)) (sym form)
+    (block_handles n m k types variables around cleared gone ds fs hs holds at normal (Err (spot, rule)) gone_is
+    (declared n own types variables ds ds' holds (Ok (Some at, m)) own_is ds_is declares)
+    (inner_ends m inner types variables around within gone fs fs' hs hs' at (Ok (normal, k)) within_is inner_is hs_is fs_is ends)
+    handlers_end)
+
+pub statements::statement-returns-in_err-end-in-Block-2 :
+    goal.statements::statement-returns-in_err-end-in-Block-2
+statements::statement-returns-in_err-end-in-Block-2 t c =
+    let form : stmt_form c.args.statement.now ≡ encloses (map declaration_form c.in-Block.declarations.items) (stmts_form c.in-Block.statements.items) (handlers_form c.in-Block.handlers.items) =
+    ap stmt_form c.in-Block.is ∙ encloses_form c.in-Block.declarations c.in-Block.statements c.in-Block.handlers in
+    let gone_is : gone_of c.in_ok-gone-in-Block.gone ≡ gone_with (map declaration_form c.in-Block.declarations.items) =
+    c.in_ok-gone-in-Block.ensures ∙ ap gone_with (ap (map declaration_form) c.deref-in-Block.ensures.value) in
+    let p = err_from_is_err_and c.from_residual-in_err-end-in-Block-2.result c.from_residual-in_err-end-in-Block-2.ensures.1 in
+    rw (p.1, p.2) (handlers_break_rule c.in_err-end-in-Block-2.field-0.0 (noted c.args.raised.now) (noted c.emptied-own.result) (noted c.declare.new.raised) (noted c.with_handlers-inner.result) (noted c.statements-in-Block.new.raised)
+    (types_in c.args.around.now) (variables_in c.args.around.now) c.args.cleared (around_of c.args.around.now)
+    (stands (around_of c.args.around.now) (gone_of c.in_ok-inside-in-Block.inside) (gone_of c.in_ok-both-in-Block.both)) (gone_of c.in_ok-gone-in-Block.gone) (stmt_form c.args.statement.now)
+    (map declaration_form c.in-Block.declarations.items) (map declaration_form c.deref-in-Block-2.result.now)
+    (stmts_form c.in-Block.statements.items) (stmts_form c.deref-in-Block-4.result.now) (stmts_form c.deref-in-Block-6.result.now)
+    (handlers_form c.in-Block.handlers.items) (handlers_form c.deref-in-Block-3.result.now) (handlers_form c.deref-in-Block-5.result.now)
+    c.args.known.holds.items c.declare.new.known.holds.items (held c.in_ok-end-in-Block.end)
+    form gone_is c.emptied-own.ensures (ap (map declaration_form) c.deref-in-Block-2.ensures.value) c.in_ok-declare-in-Block.ensures
+    (stands_in (gone_of c.in_ok-gone-in-Block.gone) (gone_of c.in_ok-inside-in-Block.inside) (gone_of c.in_ok-both-in-Block.both) (around_of c.args.around.now) c.in_ok-inside-in-Block.ensures c.in_ok-both-in-Block.ensures)
+    c.with_handlers-inner.ensures (ap handlers_form c.deref-in-Block-3.ensures.value) (ap stmts_form c.deref-in-Block-4.ensures.value) c.in_ok-end-in-Block.ensures
+    (ap stmts_form c.deref-in-Block-6.ensures.value) (ap handlers_form c.deref-in-Block-5.ensures.value) c.in_err-end-in-Block-2.ensures)
+
 pub statements::statement-returns-in_err-declare-in-Block :
     goal.statements::statement-returns-in_err-declare-in-Block
 statements::statement-returns-in_err-declare-in-Block t c =
@@ -191,11 +233,11 @@ statements::statement-returns-in_err-end-in-Block t c =
     c.in_ok-gone-in-Block.ensures ∙ ap gone_with (ap (map declaration_form) c.deref-in-Block.ensures.value) in
     let p = err_from_is_err_and c.from_residual-in_err-end-in-Block.result c.from_residual-in_err-end-in-Block.ensures.1 in
     rw (p.1, p.2) (inner_breaks c.in_err-end-in-Block.field-0.0 (noted c.args.raised.now) (noted c.emptied-own.result) (noted c.declare.new.raised) (noted c.with_handlers-inner.result) (types_in c.args.around.now) (variables_in c.args.around.now) c.args.cleared (around_of c.args.around.now)
-    (stands (effects_in c.args.around.now) (start_in c.args.around.now) (gone_of c.in_ok-inside-in-Block.inside)) (gone_of c.in_ok-gone-in-Block.gone) (stmt_form c.args.statement.now)
+    (stands (around_of c.args.around.now) (gone_of c.in_ok-inside-in-Block.inside) (gone_of c.in_ok-both-in-Block.both)) (gone_of c.in_ok-gone-in-Block.gone) (stmt_form c.args.statement.now)
     (map declaration_form c.in-Block.declarations.items) (map declaration_form c.deref-in-Block-2.result.now) (stmts_form c.in-Block.statements.items) (stmts_form c.deref-in-Block-4.result.now)
     (handlers_form c.in-Block.handlers.items) (handlers_form c.deref-in-Block-3.result.now) c.args.known.holds.items c.declare.new.known.holds.items
     form gone_is c.emptied-own.ensures (ap (map declaration_form) c.deref-in-Block-2.ensures.value) c.in_ok-declare-in-Block.ensures
-    (stands_in (gone_of c.in_ok-gone-in-Block.gone) (gone_of c.in_ok-inside-in-Block.inside) (around_of c.args.around.now) c.in_ok-inside-in-Block.ensures)
+    (stands_in (gone_of c.in_ok-gone-in-Block.gone) (gone_of c.in_ok-inside-in-Block.inside) (gone_of c.in_ok-both-in-Block.both) (around_of c.args.around.now) c.in_ok-inside-in-Block.ensures c.in_ok-both-in-Block.ensures)
     c.with_handlers-inner.ensures (ap handlers_form c.deref-in-Block-3.ensures.value) (ap stmts_form c.deref-in-Block-4.ensures.value) c.in_err-end-in-Block.ensures)
 
 pub statements::statement-returns-in-Block : goal.statements::statement-returns-in-Block
@@ -206,14 +248,14 @@ statements::statement-returns-in-Block t c =
     c.in_ok-gone-in-Block.ensures ∙ ap gone_with (ap (map declaration_form) c.deref-in-Block.ensures.value) in
     block_is_left (noted c.args.raised.now) (noted c.emptied-own.result) (noted c.declare.new.raised) (noted c.with_handlers-inner.result) (noted c.statements-in-Block.new.raised) (noted c.handled.new.raised) (noted c.add_behind.new.self)
     (types_in c.args.around.now) (variables_in c.args.around.now) c.args.cleared (around_of c.args.around.now)
-    (stands (effects_in c.args.around.now) (start_in c.args.around.now) (gone_of c.in_ok-inside-in-Block.inside)) (gone_of c.in_ok-gone-in-Block.gone) (stmt_form c.args.statement.now)
+    (stands (around_of c.args.around.now) (gone_of c.in_ok-inside-in-Block.inside) (gone_of c.in_ok-both-in-Block.both)) (gone_of c.in_ok-gone-in-Block.gone) (stmt_form c.args.statement.now)
     (map declaration_form c.in-Block.declarations.items) (map declaration_form c.deref-in-Block-2.result.now)
     (stmts_form c.in-Block.statements.items) (stmts_form c.deref-in-Block-4.result.now) (stmts_form c.deref-in-Block-6.result.now)
     (handlers_form c.in-Block.handlers.items) (handlers_form c.deref-in-Block-3.result.now) (handlers_form c.deref-in-Block-5.result.now)
     c.args.known.holds.items c.declare.new.known.holds.items
     (held c.in_ok-end-in-Block.end) (held c.in_ok-end-in-Block-2.end) (held c.in_ok-leave_end-in-Block.field-0)
     form gone_is c.emptied-own.ensures (ap (map declaration_form) c.deref-in-Block-2.ensures.value) c.in_ok-declare-in-Block.ensures
-    (stands_in (gone_of c.in_ok-gone-in-Block.gone) (gone_of c.in_ok-inside-in-Block.inside) (around_of c.args.around.now) c.in_ok-inside-in-Block.ensures)
+    (stands_in (gone_of c.in_ok-gone-in-Block.gone) (gone_of c.in_ok-inside-in-Block.inside) (gone_of c.in_ok-both-in-Block.both) (around_of c.args.around.now) c.in_ok-inside-in-Block.ensures c.in_ok-both-in-Block.ensures)
     c.with_handlers-inner.ensures (ap handlers_form c.deref-in-Block-3.ensures.value) (ap stmts_form c.deref-in-Block-4.ensures.value) c.in_ok-end-in-Block.ensures
     (ap stmts_form c.deref-in-Block-6.ensures.value) (ap handlers_form c.deref-in-Block-5.ensures.value) c.in_ok-end-in-Block-2.ensures
     c.in_ok-add_behind-in-Block.ensures c.in_ok-leave_end-in-Block.ensures

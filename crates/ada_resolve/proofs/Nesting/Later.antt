@@ -3,6 +3,7 @@
 use Rattle.std.proofs.Common.{◌≡◌, ◌∙◌, ℕ, ◌+◌, Bool, true, false, List, [], ◌∷◌, ◌++◌, length, length-append, refl, sym, ap, subst, arith}
 use Rattle.std.specs.Prelude.{Option, Some, None, ◌&&◌}
 use Rattle.std.specs.List.{list_all}
+use Rattle.ada_text.specs.declared.spot.Spot.{Spot}
 use Rattle.ada_tree.specs.Declarations.{HeadTree}
 use Rattle.ada_tree.specs.Names.{Ident}
 use Rattle.ada_tree.specs.Statements.{DeclarationTree, exception_declaration, constant_declaration, incomplete_type, access_type, record_type, instance}
@@ -196,9 +197,9 @@ module _ (types : List TypeForm) where
   late_borrower around k name (Some lender) w = late_value around k name true (variable.Access lender.1) (value_of lender.0) w
 
   -- the body of a procedure, which creates no collection and nests where it stands
-  pub late_body : (around : List ℕ) (k z : Known) (head : HeadTree) (fs : StmtsForm) (hs : HandlersForm) → LateOpen around k → InBody (around_body k head) z → NoneIn (created_in_all (z.bodies ++ body_of z fs hs ∷ [])) → body_nests types (callees_from types [] z.bodies) (body_of z fs hs) (collected k.here.elaborated ++ around) ≡ true → LateOpen around (declared (left_body (around_body k head) z (body_of z fs hs)) head.name.text (entity.Callable (next_procedure z)))
-  late_body around k z head fs hs w f none h =
-      let b = body_of z fs hs in
+  pub late_body : (around : List ℕ) (k z : Known) (head : HeadTree) (fs : StmtsForm) (hs : HandlersForm) (last : Spot) → LateOpen around k → InBody (around_body k head) z → NoneIn (created_in_all (z.bodies ++ body_of z fs hs last ∷ [])) → body_nests types (callees_from types [] z.bodies) (body_of z fs hs last) (collected k.here.elaborated ++ around) ≡ true → LateOpen around (declared (left_body (around_body k head) z (body_of z fs hs last)) head.name.text (entity.Callable (next_procedure z)))
+  late_body around k z head fs hs last w f none h =
+      let b = body_of z fs hs last in
       let us = collected k.here.elaborated ++ around in
       let text = head.name.text in
       let ns = k.here.names in

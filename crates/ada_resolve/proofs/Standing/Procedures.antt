@@ -8,7 +8,6 @@ use Rattle.ada_text.specs.declared.spot.Spot.{Spot}
 use Rattle.ada_program.specs.declared.program.FormalMode.{FormalMode}
 use Rattle.ada_program.specs.declared.program.FormalMode.TheVariants.{In, InOut}
 use Rattle.ada_program.specs.declared.program.VariableKind.{VariableKind}
-use Rattle.ada_program.specs.declared.program.VariableKind.TheVariants as variable
 use Rattle.ada_program.specs.declared.program.VariableNo.{VariableNo}
 use Rattle.ada_program.specs.Form.{StmtsForm, HandlersForm}
 use Rattle.ada_program.specs.ProgramForm.{TypeForm, access_to, VariableForm, BodyForm}
@@ -17,23 +16,23 @@ use Rattle.ada_tree.specs.Declarations.{FormalTree, HeadTree}
 use Rattle.ada_tree.specs.Names.{Ident}
 use Rattle.ada_resolve.specs.declared.scope.Entity.{Entity}
 use Rattle.ada_resolve.specs.declared.scope.Entity.TheVariants as entity
-use Rattle.ada_resolve.specs.Known.{Known, Named, Part, declared, entered, named, next_procedure, no_body_yet, parts}
+use Rattle.ada_resolve.specs.Known.{Known, Named, Part, declared, entered, named, next_procedure, no_body_yet, parts, visible}
 use Rattle.ada_resolve.specs.Paths.{name_of_type}
 use Rattle.ada_resolve.specs.Procedures.{Formals, no_formals, formal_type, formal_kind, formal_mode, formal_entity, with_next, with_formal, with_formals, with_body, behind_head, variables_around, body_of, with_procedure, body_ended}
 use Rattle.ada_resolve.proofs.Parts.{left_parts}
 use Rattle.ada_resolve.proofs.WellFormed.Exceptions.{RaisedFits}
-use Rattle.ada_resolve.proofs.WellFormed.Names.{EntityFits, is_scalar_kind, variables_behind, PartsFit, all_entered, named_entered, other_text}
+use Rattle.ada_resolve.proofs.WellFormed.Names.{EntityFits, variables_behind, PartsFit, all_entered, first_of_two, named_entered, other_text, visible_fits}
 use Rattle.ada_resolve.proofs.WellFormed.Tables as tables
-use Rattle.ada_resolve.proofs.WellFormed.Tables.{all_more, all_weaker, both_parts, get_more, get_last, variable_kept}
+use Rattle.ada_resolve.proofs.WellFormed.Tables.{all_get, all_more, all_weaker, both_parts, first_part, get_more, get_last, variable_kept}
 use Rattle.ada_resolve.proofs.Standing.Order.{IsCalled, PartsCalled, AllSized, Sound, Complete, Keeps, longer}
 use Rattle.ada_resolve.proofs.Standing.Types.{name_sound}
 use Rattle.ada_resolve.proofs.Standing.Kept.{old_name}
 use Rattle.ada_resolve.proofs.Standing.Inner.{own_before, parts_before, outers_fit, outers_raised, outers_called}
 
--- a formal parameter is there, a constant or a variable, an Integer or a Boolean
+-- a formal parameter is there, a constant or a variable
 abbrev pub IsFormalIn : List VariableForm → List ℕ → VariableKind → ℕ → Type 0
 IsFormalIn variables text kind x =
-    ((spot : Spot) × (slice_get variables x ≡ Some (record { name = text; spot = spot; kind = kind; borrows = false }))) × (is_scalar_kind kind ≡ true)
+    (spot : Spot) × (slice_get variables x ≡ Some (record { name = text; spot = spot; kind = kind; borrows = false }))
 
 abbrev pub IsFormal : List VariableForm → List ℕ → Entity → Type 0
 IsFormal variables text (entity.Parameter x kind) = IsFormalIn variables text kind x.0
@@ -41,20 +40,17 @@ IsFormal variables text (entity.Variable x kind) = IsFormalIn variables text kin
 IsFormal variables text e = ⊥
 
 -- the formals are in order
-pub record FormalsSound (types : List TypeForm) (f : Formals) : Type 0 where
-  pub fit : list_all (fits.variable_fits types) f.variables ≡ true
+pub record FormalsSound (f : Formals) : Type 0 where
   pub names : (text : List ℕ) (e : Entity) → named text f.names ≡ Some e → IsFormal f.variables text e
   pub modes : length f.modes ≡ length f.variables
 
-scalar_fits : (types : List TypeForm) (kind : VariableKind) → is_scalar_kind kind ≡ true → fits.variable_kind_fits types kind ≡ true
-scalar_fits types variable.Integer e = refl
-scalar_fits types variable.Boolean e = refl
-scalar_fits types (variable.Access t) e = absurd (cc e)
-scalar_fits types (variable.Record t) e = absurd (cc e)
+-- and fit these types
+abbrev pub AllFormalsFit : List TypeForm → Formals → Type 0
+AllFormalsFit types f = list_all (fits.variable_fits types) f.variables ≡ true
 
 formal_more : (variables : List VariableForm) (v : VariableForm) (text : List ℕ) (e : Entity) → IsFormal variables text e → IsFormal (variables ++ v ∷ []) text e
-formal_more variables v text (entity.Parameter x kind) f = ((f.0.0, get_more variables v x.0 _ f.0.1), f.1)
-formal_more variables v text (entity.Variable x kind) f = ((f.0.0, get_more variables v x.0 _ f.0.1), f.1)
+formal_more variables v text (entity.Parameter x kind) f = (f.0, get_more variables v x.0 _ f.1)
+formal_more variables v text (entity.Variable x kind) f = (f.0, get_more variables v x.0 _ f.1)
 formal_more variables v text e f = absurd f
 
 -- what a formal of a mode is
@@ -62,15 +58,13 @@ formal_is : (mode : FormalMode) (variables : List VariableForm) (text : List ℕ
 formal_is In variables text x kind f = f
 formal_is InOut variables text x kind f = f
 
-next_sound : (types : List TypeForm) (name : Ident) (mode : FormalMode) (kind : VariableKind) (f : Formals) → is_scalar_kind kind ≡ true → FormalsSound types f → FormalsSound types (with_next name mode kind f)
-next_sound types name mode kind f scalar s =
+next_sound : (name : Ident) (mode : FormalMode) (kind : VariableKind) (f : Formals) → FormalsSound f → FormalsSound (with_next name mode kind f)
+next_sound name mode kind f s =
     let v : VariableForm = record { name = name.text; spot = name.spot; kind = kind; borrows = false } in
     let x : VariableNo = record { 0 = length f.variables } in
     record {
-      fit = all_more (fits.variable_fits types) f.variables (v ∷ []) s.fit
-          (both_parts (fits.variable_fits types v) true (both_parts (fits.variable_kind_fits types kind) true (scalar_fits types kind scalar) refl) refl);
       names = all_entered (IsFormal (f.variables ++ v ∷ [])) f.names name.text (formal_entity mode x kind)
-          (formal_is mode (f.variables ++ v ∷ []) name.text x kind ((name.spot, get_last f.variables v), scalar))
+          (formal_is mode (f.variables ++ v ∷ []) name.text x kind (name.spot, get_last f.variables v))
           (λ text e ne is. formal_more f.variables v text e (s.names text e is));
       modes =
           let same = s.modes in
@@ -79,30 +73,71 @@ next_sound types name mode kind f scalar s =
           omega (arith, same, modes, variables);
     }
 
-formal_scalar : (o : Option Entity) → is_scalar_kind (formal_kind o) ≡ true
-formal_scalar (Some entity.Boolean) = refl
-formal_scalar (Some e) = refl
-formal_scalar None = refl
-
-formal_sound : (types : List TypeForm) (k : Known) (f : FormalTree) (before : Formals) → FormalsSound types before → FormalsSound types (with_formal k f before)
+pub formal_sound : (k : Known) (f : FormalTree) (before : Formals) → FormalsSound before → FormalsSound (with_formal k f before)
 unfolding with_formal
-formal_sound types k f before s =
-    next_sound types f.name (formal_mode f.input f.output) (formal_kind (formal_type k before f.type_name)) before (formal_scalar (formal_type k before f.type_name)) s
+formal_sound k f before s =
+    next_sound f.name (formal_mode f.input f.output) (formal_kind (formal_type k before f.type_name)) before s
 
-formals_sound : (types : List TypeForm) (k : Known) (fs : List FormalTree) (before : Formals) → FormalsSound types before → FormalsSound types (with_formals k fs before)
-formals_sound types k [] before s = s
-formals_sound types k (f ∷ fs) before s = formals_sound types k fs (with_formal k f before) (formal_sound types k f before s)
+formals_sound : (k : Known) (fs : List FormalTree) (before : Formals) → FormalsSound before → FormalsSound (with_formals k fs before)
+formals_sound k [] before s = s
+formals_sound k (f ∷ fs) before s = formals_sound k fs (with_formal k f before) (formal_sound k f before s)
 
-no_formal : (types : List TypeForm) → FormalsSound types no_formals
-no_formal types = record { fit = refl; names = λ text e is. absurd (cc is); modes = refl }
+pub no_formal : FormalsSound no_formals
+no_formal = record { names = λ text e is. absurd (cc is); modes = refl }
 
-pub head_formals : (types : List TypeForm) (k : Known) (fs : List FormalTree) → FormalsSound types (with_formals k fs no_formals)
-head_formals types k fs = formals_sound types k fs no_formals (no_formal types)
+pub head_formals : (k : Known) (fs : List FormalTree) → FormalsSound (with_formals k fs no_formals)
+head_formals k fs = formals_sound k fs no_formals no_formal
 
-formal_fits : (types : List TypeForm) (variables : List VariableForm) (text : List ℕ) (e : Entity) → IsFormal variables text e → EntityFits types variables text e
-formal_fits types variables text (entity.Parameter x kind) f = f
-formal_fits types variables text (entity.Variable x kind) f = ((f.0.0, false, f.0.1), scalar_fits types kind f.1)
-formal_fits types variables text e f = absurd f
+-- what a formal holds fits, where the type that is named is there
+abbrev HoldsFit : List TypeForm → Entity → Type 0
+HoldsFit types e = fits.variable_kind_fits types (formal_kind (Some e)) ≡ true
+
+formal_holds : (types : List TypeForm) (variables : List VariableForm) (text : List ℕ) (e : Entity) → IsFormal variables text e → HoldsFit types e
+formal_holds types variables text (entity.Parameter x kind) f = refl
+formal_holds types variables text (entity.Variable x kind) f = refl
+formal_holds types variables text e f = absurd f
+
+entity_holds : (types : List TypeForm) (variables : List VariableForm) (text : List ℕ) (e : Entity) → EntityFits types variables text e → HoldsFit types e
+entity_holds types variables text (entity.Access t) f = rw f.1 refl
+entity_holds types variables text entity.Boolean f = refl
+entity_holds types variables text e f = refl
+
+kind_holds : (types : List TypeForm) (o : Option Entity) → ((e : Entity) → o ≡ Some e → HoldsFit types e) → fits.variable_kind_fits types (formal_kind o) ≡ true
+kind_holds types None w = refl
+kind_holds types (Some e) w = w e refl
+
+formal_kind_fits : (k : Known) (before : Formals) (name : Ident) → Sound k → FormalsSound before → fits.variable_kind_fits k.types (formal_kind (formal_type k before name)) ≡ true
+formal_kind_fits k before name w s =
+    kind_holds k.types (formal_type k before name)
+    (λ e is. first_of_two (HoldsFit k.types) (named name.text before.names) (visible k name.text) e
+    (λ y own. formal_holds k.types before.variables name.text y (s.names name.text y own))
+    (λ y own. entity_holds k.types k.variables name.text y (visible_fits k w.names name.text y own)) is)
+
+formal_variable_fits : (k : Known) (f : FormalTree) (before : Formals) → Sound k → FormalsSound before → AllFormalsFit k.types before → AllFormalsFit k.types (with_formal k f before)
+unfolding with_formal
+formal_variable_fits k f before w s fit =
+    let kind = formal_kind (formal_type k before f.type_name) in
+    let v : VariableForm = record { name = f.name.text; spot = f.name.spot; kind = kind; borrows = false } in
+    all_more (fits.variable_fits k.types) before.variables (v ∷ []) fit
+    (both_parts (fits.variable_fits k.types v) true
+    (both_parts (fits.variable_kind_fits k.types kind) true (formal_kind_fits k before f.type_name w s) refl) refl)
+
+formals_fit : (k : Known) (fs : List FormalTree) (before : Formals) → Sound k → FormalsSound before → AllFormalsFit k.types before → AllFormalsFit k.types (with_formals k fs before)
+formals_fit k [] before w s fit = fit
+formals_fit k (f ∷ fs) before w s fit = formals_fit k fs (with_formal k f before) w (formal_sound k f before s) (formal_variable_fits k f before w s fit)
+
+head_fit : (k : Known) (fs : List FormalTree) → Sound k → AllFormalsFit k.types (with_formals k fs no_formals)
+head_fit k fs w = formals_fit k fs no_formals w no_formal refl
+
+-- what a formal holds fits, as all of them do
+held_fits : (types : List TypeForm) (variables : List VariableForm) (text : List ℕ) (x : ℕ) (kind : VariableKind) → list_all (fits.variable_fits types) variables ≡ true → IsFormalIn variables text kind x → fits.variable_kind_fits types kind ≡ true
+held_fits types variables text x kind fit f =
+    first_part (fits.variable_kind_fits types kind) true (all_get (fits.variable_fits types) variables x (record { name = text; spot = f.0; kind = kind; borrows = false }) fit f.1)
+
+formal_fits : (types : List TypeForm) (variables : List VariableForm) (text : List ℕ) (e : Entity) → list_all (fits.variable_fits types) variables ≡ true → IsFormal variables text e → EntityFits types variables text e
+formal_fits types variables text (entity.Parameter x kind) fit f = (f, held_fits types variables text x.0 kind fit f)
+formal_fits types variables text (entity.Variable x kind) fit f = ((f.0, false, f.1), held_fits types variables text x.0 kind fit f)
+formal_fits types variables text e fit f = absurd f
 
 formal_raised : (exceptions : List (List ℕ)) (variables : List VariableForm) (text : List ℕ) (e : Entity) → IsFormal variables text e → RaisedFits exceptions text e
 formal_raised exceptions variables text (entity.Parameter x kind) f = tt
@@ -115,11 +150,11 @@ formal_called n variables text (entity.Variable x kind) f = tt
 formal_called n variables text e f = absurd f
 
 -- the body begins
-with_body_sound : (k : Known) (f : Formals) → Sound k → FormalsSound k.types f → Sound (with_body f k)
-with_body_sound k f s g = record {
+with_body_sound : (k : Known) (f : Formals) → Sound k → FormalsSound f → AllFormalsFit k.types f → Sound (with_body f k)
+with_body_sound k f s g fit = record {
   types_fit = s.types_fit;
-  variables_fit = g.fit;
-  names = (λ text e is. formal_fits k.types f.variables text e (g.names text e is), s.names);
+  variables_fit = fit;
+  names = (λ text e is. formal_fits k.types f.variables text e fit (g.names text e is), s.names);
   exceptions = (λ text e is. formal_raised k.exceptions f.variables text e (g.names text e is), s.exceptions);
   called = (λ text e is. formal_called (length k.bodies) f.variables text e (g.names text e is), s.called);
   sized = s.sized;
@@ -147,11 +182,11 @@ around_sound k head s = name_sound k head.name.text entity.Procedure s tt tt tt 
 pub head_sound : (k : Known) (head : HeadTree) → Sound k → Sound (behind_head k head)
 unfolding behind_head
 head_sound k head s =
-    with_body_sound (around_body k head) (with_formals k head.formals no_formals) (around_sound k head s) (head_formals k.types k head.formals)
+    with_body_sound (around_body k head) (with_formals k head.formals no_formals) (around_sound k head s) (head_formals k head.formals) (head_fit k head.formals s)
 
 pub head_complete : (k : Known) (head : HeadTree) → Complete (behind_head k head)
 unfolding behind_head
-head_complete k head text t is = (head_formals k.types k head.formals).names text (entity.Incomplete t) is
+head_complete k head text t is = (head_formals k head.formals).names text (entity.Incomplete t) is
 
 -- a place in a body that stands at another place: in it, or behind its declarations
 pub record InBody (k m : Known) : Type 0 where
@@ -168,7 +203,7 @@ pub record InBody (k m : Known) : Type 0 where
 pub head_in_body : (k : Known) (head : HeadTree) → Sound k → InBody (around_body k head) (behind_head k head)
 unfolding behind_head
 head_in_body k head s = record {
-  sound = with_body_sound (around_body k head) (with_formals k head.formals no_formals) (around_sound k head s) (head_formals k.types k head.formals);
+  sound = with_body_sound (around_body k head) (with_formals k head.formals no_formals) (around_sound k head s) (head_formals k head.formals) (head_fit k head.formals s);
   around = refl;
   outer = refl;
   withs = refl;
@@ -246,20 +281,20 @@ left_body_sound k z b s f own = record {
 }
 
 -- what is known behind a body, in the words of the place before it
-pub ended_is : (k z : Known) (name : Ident) (fs : StmtsForm) (hs : HandlersForm) → InBody k z → body_ended name fs hs z ≡ declared (left_body k z (body_of z fs hs)) name.text (entity.Callable (next_procedure z))
-ended_is k z name fs hs f =
-    ap (λ (v : Known). declared (with_procedure (body_of z fs hs) (record v { variables = variables_around z.here.around })) name.text (entity.Callable (next_procedure z)))
+pub ended_is : (k z : Known) (name : Ident) (fs : StmtsForm) (hs : HandlersForm) (last : Spot) → InBody k z → body_ended name fs hs last z ≡ declared (left_body k z (body_of z fs hs last)) name.text (entity.Callable (next_procedure z))
+ended_is k z name fs hs last f =
+    ap (λ (v : Known). declared (with_procedure (body_of z fs hs last) (record v { variables = variables_around z.here.around })) name.text (entity.Callable (next_procedure z)))
     (left_parts z z.outer k.here k.outer f.outer) ∙
-    ap (λ (a : Option (List VariableForm)). declared (with_procedure (body_of z fs hs) (record z { here = k.here; outer = k.outer; variables = variables_around a })) name.text (entity.Callable (next_procedure z)))
+    ap (λ (a : Option (List VariableForm)). declared (with_procedure (body_of z fs hs last) (record z { here = k.here; outer = k.outer; variables = variables_around a })) name.text (entity.Callable (next_procedure z)))
     f.around
 
-pub body_ended_sound : (k z : Known) (name : Ident) (fs : StmtsForm) (hs : HandlersForm) → Sound k → InBody k z → Sound (body_ended name fs hs z)
-body_ended_sound k z name fs hs s f =
-    let b = body_of z fs hs in
+pub body_ended_sound : (k z : Known) (name : Ident) (fs : StmtsForm) (hs : HandlersForm) (last : Spot) → Sound k → InBody k z → Sound (body_ended name fs hs last z)
+body_ended_sound k z name fs hs last s f =
+    let b = body_of z fs hs last in
     let one = longer_bodies z.bodies b in
     let modes = f.sound.bounds.modes in
     let variables = f.sound.bounds.first_variable in
-    subst Sound (sym (ended_is k z name fs hs f))
+    subst Sound (sym (ended_is k z name fs hs last f))
     (name_sound (left_body k z b) name.text (entity.Callable (next_procedure z)) (left_body_sound k z b s f (omega (arith, modes, variables))) tt tt (omega (arith, one)) tt (λ none. tt))
 
 -- a name that stands for something is another than a new one, which is entered twice
@@ -275,22 +310,22 @@ twice_entered ns name text a b x none is =
     apart same = no_entity (sym none ∙ subst (λ (n : List ℕ). named n ns ≡ Some x) same is)
 
 -- what was declared in its part is so behind a body
-pub body_ended_names : (k z : Known) (head : HeadTree) (fs : StmtsForm) (hs : HandlersForm) → named head.name.text k.here.names ≡ None → InBody (around_body k head) z → (text : List ℕ) (x : Entity) → named text k.here.names ≡ Some x → named text (body_ended head.name fs hs z).here.names ≡ Some x
-body_ended_names k z head fs hs none f text x is =
-    ap (λ (v : Known). named text v.here.names) (ended_is (around_body k head) z head.name fs hs f) ∙
+pub body_ended_names : (k z : Known) (head : HeadTree) (fs : StmtsForm) (hs : HandlersForm) (last : Spot) → named head.name.text k.here.names ≡ None → InBody (around_body k head) z → (text : List ℕ) (x : Entity) → named text k.here.names ≡ Some x → named text (body_ended head.name fs hs last z).here.names ≡ Some x
+body_ended_names k z head fs hs last none f text x is =
+    ap (λ (v : Known). named text v.here.names) (ended_is (around_body k head) z head.name fs hs last f) ∙
     twice_entered k.here.names head.name.text text entity.Procedure (entity.Callable (next_procedure z)) x none is
 
 -- a body stands before there
-pub body_ended_some : (k z : Known) (name : Ident) (fs : StmtsForm) (hs : HandlersForm) → Sound k → InBody k z → no_body_yet (body_ended name fs hs z) ≡ true → ⊥
-body_ended_some k z name fs hs s f none = some_body k z (body_of z fs hs) s f (ap (λ (v : Known). no_body_yet v) (sym (ended_is k z name fs hs f)) ∙ none)
+pub body_ended_some : (k z : Known) (name : Ident) (fs : StmtsForm) (hs : HandlersForm) (last : Spot) → Sound k → InBody k z → no_body_yet (body_ended name fs hs last z) ≡ true → ⊥
+body_ended_some k z name fs hs last s f none = some_body k z (body_of z fs hs last) s f (ap (λ (v : Known). no_body_yet v) (sym (ended_is k z name fs hs last f)) ∙ none)
 
 -- a body leaves the names of its part but its own, and the tables
-pub body_ended_keeps : (k : Known) (z : Known) (head : HeadTree) (spot : Spot) (fs : StmtsForm) (hs : HandlersForm) → Sound k → named head.name.text k.here.names ≡ None → InBody (around_body k head) z → Keeps k (body_ended head.name fs hs z)
-body_ended_keeps k z head spot fs hs s none f =
+pub body_ended_keeps : (k : Known) (z : Known) (head : HeadTree) (spot : Spot) (fs : StmtsForm) (hs : HandlersForm) (last : Spot) → Sound k → named head.name.text k.here.names ≡ None → InBody (around_body k head) z → Keeps k (body_ended head.name fs hs last z)
+body_ended_keeps k z head spot fs hs last s none f =
     let k1 = around_body k head in
-    let b = body_of z fs hs in
+    let b = body_of z fs hs last in
     let e = entity.Callable (next_procedure z) in
-    subst (λ (v : Known). Keeps k v) (sym (ended_is k1 z head.name fs hs f)) (record {
+    subst (λ (v : Known). Keeps k v) (sym (ended_is k1 z head.name fs hs last f)) (record {
       types = λ t form is settled. (f.types t form is, λ yet. absurd (some_body k1 z b (around_sound k head s) f yet));
       accesses = λ t name d is. f.types t (access_to name d) is;
       type_names = λ t name is. named_type t name (slice_get k.types t) refl is;

@@ -45,6 +45,7 @@ entity_kept n types more variables text other g ne (entity.Record t size) f = (f
 entity_kept n types more variables text other g ne (entity.Access t) f = (f.0, g.keeps t.0 (access_to other f.0) ne f.1)
 entity_kept n types more variables text other g ne (entity.Instance t) f = g.kept.0 t.0 f
 entity_kept n types more variables text other g ne (entity.Variable x kind) f = (f.0, object_kind_kept types more g.kept kind f.1)
+entity_kept n types more variables text other g ne (entity.Parameter x kind) f = (f.0, object_kind_kept types more g.kept kind f.1)
 entity_kept n types more variables text other g ne e f = f
 
 -- what a name of a part around stands for stays, whatever the name
@@ -54,6 +55,7 @@ outer_kept n types more variables text other g (entity.Record t size) b f = (f.0
 outer_kept n types more variables text other g (entity.Access t) b f = (f.0, g.before t.0 (access_to other f.0) b f.1)
 outer_kept n types more variables text other g (entity.Instance t) b f = g.kept.0 t.0 f
 outer_kept n types more variables text other g (entity.Variable x kind) b f = (f.0, object_kind_kept types more g.kept kind f.1)
+outer_kept n types more variables text other g (entity.Parameter x kind) b f = (f.0, object_kind_kept types more g.kept kind f.1)
 outer_kept n types more variables text other g e b f = f
 
 outers_kept : (n : ℕ) (types more : List TypeForm) (variables : List VariableForm) (text : List ℕ) → Grown n text types more → (ps : List Part) → PartsBefore n ps → PartsFit types variables ps → PartsFit more variables ps
@@ -296,6 +298,7 @@ entity_more types variables form text (entity.Record t size) f = (f.0, f.1, get_
 entity_more types variables form text (entity.Access t) f = (f.0, get_more types form t.0 (access_to text f.0) f.1)
 entity_more types variables form text (entity.Instance t) f = (keeps_more types form).0 t.0 f
 entity_more types variables form text (entity.Variable x kind) f = (f.0, object_kind_kept types (types ++ form ∷ []) (keeps_more types form) kind f.1)
+entity_more types variables form text (entity.Parameter x kind) f = (f.0, object_kind_kept types (types ++ form ∷ []) (keeps_more types form) kind f.1)
 entity_more types variables form text e f = f
 
 parts_more : (types : List TypeForm) (variables : List VariableForm) (form : TypeForm) (ps : List Part) → TypesFit (types ++ form ∷ []) → PartsFit types variables ps → PartsFit (types ++ form ∷ []) variables ps

@@ -5,6 +5,7 @@ use Rattle.std.specs.Prelude.{Some, ◌&&◌}
 use Rattle.std.specs.List.{list_all, slice_get}
 use Rattle.std.proofs.lemmas.Bool.{false_from_ne_true}
 use Rattle.std.proofs.lemmas.List.{append-nil}
+use Rattle.ada_text.specs.declared.spot.Spot.{Spot}
 use Rattle.ada_tree.specs.Declarations.{HeadTree}
 use Rattle.ada_program.specs.Form.{StmtsForm, HandlersForm}
 use Rattle.ada_program.specs.ProgramForm.{TypeForm}
@@ -38,7 +39,7 @@ body_begins k head = record {
   types = refl;
   first_type = refl;
   first_variable = refl;
-  modes = (head_formals k.types k head.formals).modes;
+  modes = (head_formals k head.formals).modes;
   ended = λ e. ended_on k (behind_head k head) refl (omega arith) (omega arith) (λ t form is settled. (is, λ yet text u there same. head_complete k head text u there)) e;
 }
 
@@ -48,9 +49,9 @@ created_so inner z cs c =
     let n = length z.variables in
     sym (ap (λ es. fits.creates_from n (length inner.variables) es) (append-nil cs)) ∙ (c.in_order n [] ∙ eq-eqb n n refl)
 
-pub body_is : (inner z : Known) (fs : StmtsForm) (hs : HandlersForm) → Sound z → length z.here.modes ≡ length inner.variables → Creates inner z (fits.created_in (body_of z fs hs)) → declarations_fit z.types z.variables z.here.elaborated ≡ true → stmts_fit z.types z.variables z.texts z.exceptions (callables z.bodies) false fs ≡ true → handlers_fit z.types z.variables z.texts z.exceptions (callables z.bodies) false hs ≡ true → fits.body_fits z.types z.texts z.exceptions (callables z.bodies) (body_of z fs hs) ≡ true
-body_is inner z fs hs s first c declares own handled =
-    let b = body_of z fs hs in
+pub body_is : (inner z : Known) (fs : StmtsForm) (hs : HandlersForm) (last : Spot) → Sound z → length z.here.modes ≡ length inner.variables → Creates inner z (fits.created_in (body_of z fs hs last)) → declarations_fit z.types z.variables z.here.elaborated ≡ true → stmts_fit z.types z.variables z.texts z.exceptions (callables z.bodies) false fs ≡ true → handlers_fit z.types z.variables z.texts z.exceptions (callables z.bodies) false hs ≡ true → fits.body_fits z.types z.texts z.exceptions (callables z.bodies) (body_of z fs hs last) ≡ true
+body_is inner z fs hs last s first c declares own handled =
+    let b = body_of z fs hs last in
     let held = list_all (fits.variable_fits z.types) z.variables in
     let created = fits.creates_from (length z.variables) (length z.here.modes) (fits.created_in b) in
     let created_is : created ≡ true =
@@ -71,14 +72,14 @@ pub record BodyBehind (k next z : Known) : Type 0 where
   pub types : next.types ≡ z.types
   pub ended : Ended z → Ended next
 
-pub body_behind : (k z : Known) (head : HeadTree) (fs : StmtsForm) (hs : HandlersForm) → Sound k → Late k → InBody (around_body k head) z → ((a : ℕ) → accesses z.types a ≡ accesses k.types a) → fits.body_fits z.types z.texts z.exceptions (callables z.bodies) (body_of z fs hs) ≡ true → ((a : ℕ) → collected a (fits.created_in (body_of z fs hs)) ≡ 0) → BodyBehind k (body_ended head.name fs hs z) z
-body_behind k z head fs hs s w f same fit none =
+pub body_behind : (k z : Known) (head : HeadTree) (fs : StmtsForm) (hs : HandlersForm) (last : Spot) → Sound k → Late k → InBody (around_body k head) z → ((a : ℕ) → accesses z.types a ≡ accesses k.types a) → fits.body_fits z.types z.texts z.exceptions (callables z.bodies) (body_of z fs hs last) ≡ true → ((a : ℕ) → collected a (fits.created_in (body_of z fs hs last)) ≡ 0) → BodyBehind k (body_ended head.name fs hs last z) z
+body_behind k z head fs hs last s w f same fit none =
     let k1 = around_body k head in
-    let b = body_of z fs hs in
+    let b = body_of z fs hs last in
     let e = entity.Callable (next_procedure z) in
-    let next = body_ended head.name fs hs z in
-    let so : next ≡ declared (left_body k1 z b) head.name.text e = ended_is k1 z head.name fs hs f in
-    let some : no_body_yet next ≡ true → ⊥ = body_ended_some k1 z head.name fs hs (around_sound k head s) f in
+    let next = body_ended head.name fs hs last z in
+    let so : next ≡ declared (left_body k1 z b) head.name.text e = ended_is k1 z head.name fs hs last f in
+    let some : no_body_yet next ≡ true → ⊥ = body_ended_some k1 z head.name fs hs last (around_sound k head s) f in
     record {
       order = late (subst Late (sym so) (body_late k z head b e w f.types same))
           (false_from_ne_true (types_go_on next) (λ on. some (second_part (no_variable_yet next) (no_body_yet next) on)));

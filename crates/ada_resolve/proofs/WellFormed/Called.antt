@@ -1,36 +1,39 @@
 -- A procedure that may be called has a profile, and actual parameters with which nothing is wrong suit it.
 
-use Rattle.std.proofs.Common.{◌≡◌, ◌∙◌, ℕ, ◌<◌, ◌≤◌, Bool, true, false, List, [], ◌∷◌, length, refl, sym, ap, zero, suc, cond, arith}
-use Rattle.std.specs.Prelude.{Option, Some, None, map, take, bytes_eq, codes}
+use Rattle.std.proofs.Common.{◌≡◌, ◌∙◌, ℕ, ◌<◌, ◌≤◌, Bool, true, false, List, [], ◌∷◌, length, refl, sym, ap, zero, suc, cond, arith, ◌==◌, eq-eqb}
+use Rattle.std.specs.Prelude.{Option, Some, None, map, take, bytes_eq, codes, not}
 use Rattle.std.specs.List.{slice_get}
+use Rattle.std.proofs.lemmas.Bool.{eqb-true}
 use Rattle.ada_text.specs.declared.spot.Spot.{Spot}
-use Rattle.ada_tree.specs.Expressions.{ArgumentTree, ExpressionTree, expression_argument, path_expression}
+use Rattle.ada_tree.specs.Expressions.{ArgumentTree, expression_argument, path_expression}
 use Rattle.ada_program.specs.declared.program.Exception.TheVariants.{ConstraintError, ProgramError, StorageError}
 use Rattle.ada_program.specs.declared.program.FormalMode.{FormalMode}
 use Rattle.ada_program.specs.declared.program.FormalMode.TheVariants.{In, InOut}
 use Rattle.ada_program.specs.declared.program.ProcedureNo.{ProcedureNo}
 use Rattle.ada_program.specs.declared.program.ScalarType.TheVariants.{Integer, Boolean}
+use Rattle.ada_program.specs.declared.program.TypeNo.{TypeNo}
 use Rattle.ada_program.specs.declared.program.VariableKind.{VariableKind}
 use Rattle.ada_program.specs.declared.program.VariableKind.TheVariants as variable
-use Rattle.ada_program.specs.Form.{reads}
+use Rattle.ada_program.specs.Form.{PathForm, reads}
 use Rattle.ada_program.specs.ProgramForm.{TypeForm, VariableForm, BodyForm}
 use Rattle.ada_program.specs.WellFormed as fits
+use Rattle.ada_resolve.specs.declared.fault.NameRule.TheVariants.{WrongType}
 use Rattle.ada_resolve.specs.declared.library.Withs.{Withs}
 use Rattle.ada_resolve.specs.declared.scope.Entity.{Entity}
 use Rattle.ada_resolve.specs.declared.scope.Entity.TheVariants as entity
-use Rattle.ada_resolve.specs.Actuals.{alone_wanted, variable_wanted, given_remark, given_variable, given_meant, first_mode, other_modes, given_all_remark, given_all, profile_in, profile, procedure_call_remark}
+use Rattle.ada_resolve.specs.Actuals.{kind_wanted, alone_wanted, variable_wanted, given_remark, given_variable, given_value, given_meant, first_mode, other_modes, given_all_remark, given_all, profile_in, profile, procedure_call_remark}
 use Rattle.ada_resolve.specs.Expressions.{expression_meant, expression_remark}
 use Rattle.ada_resolve.specs.Known.{Known, Part, named, from_part, named_in, inner_first, outermost, unit_named, visible, parts}
 use Rattle.ada_resolve.specs.Library.{predefined}
-use Rattle.ada_resolve.specs.Operators.{integer_wanted, boolean_wanted, scalar_in}
-use Rattle.ada_resolve.specs.Paths.{Meant, unknown, integer_value, boolean_value, path_meant}
+use Rattle.ada_resolve.specs.Operators.{access_wanted, owner_wanted}
+use Rattle.ada_resolve.specs.Paths.{Meant, unknown, null_value, access_value, lent_value, integer_value, boolean_value, path_meant}
 use Rattle.ada_resolve.specs.Spots.{expression_spot}
 use Rattle.ada_resolve.proofs.Standing.Order.{IsCalled, PartsCalled, AllSized}
 use Rattle.ada_resolve.proofs.WellFormed.Growing.{AreIn}
 use Rattle.ada_resolve.proofs.WellFormed.Items.{expression_fits}
 use Rattle.ada_resolve.proofs.WellFormed.Meanings.{MeantFits, path_fits}
 use Rattle.ada_resolve.proofs.WellFormed.Names.{PartsFit, first_of_two, within_of, unit_only}
-use Rattle.ada_resolve.proofs.WellFormed.Remarks.{Quiet}
+use Rattle.ada_resolve.proofs.WellFormed.Remarks.{Quiet, quiet_if, quiet_unless}
 use Rattle.ada_resolve.proofs.WellFormed.Tables.{both_parts}
 use Rattle.ada_resolve.proofs.WellFormed.Typing.{is_of_type}
 
@@ -96,23 +99,22 @@ pub visible_called : (k : Known) → PartsCalled (length k.bodies) (parts k) →
 unfolding visible
 visible_called k w text x e = inner_called (length k.bodies) k.withs text x (named_in text (parts k)) (bytes_eq text k.procedure) (parts_called (length k.bodies) (parts k) w text) e
 
--- what is given is of the formal parameter's type
-scalar_integer : (types : List TypeForm) (variables : List VariableForm) (m : Meant) (spot : Spot) → MeantFits types variables m → Quiet (integer_wanted m spot) → fits.type_of types variables (scalar_in m) ≡ Some Integer
-scalar_integer types variables (integer_value e) spot f q = f
-scalar_integer types variables unknown spot f q = absurd f
-scalar_integer types variables m spot f q = absurd q
-
-scalar_boolean : (types : List TypeForm) (variables : List VariableForm) (m : Meant) (spot : Spot) → MeantFits types variables m → Quiet (boolean_wanted m spot) → fits.type_of types variables (scalar_in m) ≡ Some Boolean
-scalar_boolean types variables (boolean_value e) spot f q = f
-scalar_boolean types variables unknown spot f q = absurd f
-scalar_boolean types variables m spot f q = absurd q
-
--- so is the variable for which it stands, which stands alone
+-- a variable for which a formal parameter stands is no component
 stands_alone : (selectors : List ℕ) (spot : Spot) → Quiet (alone_wanted selectors spot) → fits.stands_alone selectors ≡ true
 stands_alone [] spot q = refl
 stands_alone (c ∷ cs) spot q = absurd q
 
-variable_fits : (types : List TypeForm) (variables : List VariableForm) (kind : VariableKind) (m : Meant) (spot : Spot) → MeantFits types variables m → Quiet (variable_wanted kind m spot) → (fits.actual_fits types variables kind (given_variable m) ≡ true) × (fits.mode_of (given_variable m) ≡ InOut)
+same_number : (t u : ℕ) → (t == u) ≡ true → (u == t) ≡ true
+same_number t u e = eq-eqb u t (sym (eqb-true t u e))
+
+-- an access value that a path names is of the formal parameter's type, and no borrower
+access_named : (types : List TypeForm) (variables : List VariableForm) (t u : TypeNo) (path : PathForm) (spot : Spot) → MeantFits types variables (access_value path u) → Quiet (access_wanted t (access_value path u) spot) → Quiet (owner_wanted variables (access_value path u) spot) → fits.names_access types variables t.0 path ≡ true
+access_named types variables t u path spot f typed owned =
+    both_parts (fits.is_this t.0 (fits.path_access types variables path)) (not (fits.names_borrower variables path))
+    (rw f (same_number t.0 u.0 (quiet_unless (t.0 == u.0) spot WrongType typed)))
+    (ap (λ (b : Bool). not b) (quiet_if (fits.names_borrower variables path) spot WrongType owned))
+
+variable_fits : (types : List TypeForm) (variables : List VariableForm) (kind : VariableKind) (m : Meant) (spot : Spot) → MeantFits types variables m → Quiet (variable_wanted variables kind m spot) → (fits.actual_fits types variables kind (given_variable m) ≡ true) × (fits.mode_of (given_variable m) ≡ InOut)
 variable_fits types variables kind unknown spot f q = absurd f
 variable_fits types variables variable.Integer (integer_value (reads path)) spot f q =
     let typed = fits.type_of types variables (reads path) in
@@ -120,23 +122,27 @@ variable_fits types variables variable.Integer (integer_value (reads path)) spot
 variable_fits types variables variable.Boolean (boolean_value (reads path)) spot f q =
     let typed = fits.type_of types variables (reads path) in
     (both_parts (fits.is_type Boolean typed) (fits.stands_alone path.selectors) (is_of_type Boolean typed f) (stands_alone path.selectors spot q), refl)
+variable_fits types variables (variable.Access t) (access_value path u) spot f q =
+    (both_parts (fits.names_access types variables t.0 path) (fits.stands_alone path.selectors) (access_named types variables t u path spot f q.0 q.1.0) (stands_alone path.selectors spot q.1.1), refl)
 variable_fits types variables kind m spot f q = absurd q
 
-value_fits : (k : Known) (kind : VariableKind) (e : ExpressionTree) → PartsFit k.types k.variables (parts k) → Quiet (given_remark k In kind (expression_argument e)) → fits.actual_fits k.types k.variables kind (given_meant k In (expression_argument e)) ≡ true
-value_fits k variable.Integer e w q =
-    let typed = fits.type_of k.types k.variables (scalar_in (expression_meant k e)) in
-    both_parts (fits.is_type Integer typed) true
-    (is_of_type Integer typed (scalar_integer k.types k.variables (expression_meant k e) (expression_spot e) (expression_fits k e w q.0) q.1)) refl
-value_fits k variable.Boolean e w q =
-    let typed = fits.type_of k.types k.variables (scalar_in (expression_meant k e)) in
-    both_parts (fits.is_type Boolean typed) true
-    (is_of_type Boolean typed (scalar_boolean k.types k.variables (expression_meant k e) (expression_spot e) (expression_fits k e w q.0) q.1)) refl
-value_fits k kind e w q = absurd q.1
+value_fits : (types : List TypeForm) (variables : List VariableForm) (kind : VariableKind) (m : Meant) (spot : Spot) → MeantFits types variables m → Quiet (kind_wanted variables kind m spot) → (fits.actual_fits types variables kind (given_value m) ≡ true) × (fits.mode_of (given_value m) ≡ In)
+value_fits types variables kind unknown spot f q = absurd f
+value_fits types variables kind (lent_value t) spot f q = absurd f
+value_fits types variables variable.Integer (integer_value e) spot f q = (is_of_type Integer (fits.type_of types variables e) f, refl)
+value_fits types variables variable.Integer m spot f q = absurd q
+value_fits types variables variable.Boolean (boolean_value e) spot f q = (is_of_type Boolean (fits.type_of types variables e) f, refl)
+value_fits types variables variable.Boolean m spot f q = absurd q
+value_fits types variables (variable.Access t) null_value spot f q = (refl, refl)
+value_fits types variables (variable.Access t) (access_value path u) spot f q = (access_named types variables t u path spot f q.0 q.1, refl)
+value_fits types variables (variable.Access t) m spot f q = absurd q.0
+value_fits types variables (variable.Record t) m spot f q = absurd q
 
 -- what is given suits the formal parameter, and is passed in its mode
 given_fits : (k : Known) (mode : FormalMode) (kind : VariableKind) (argument : ArgumentTree) → PartsFit k.types k.variables (parts k) → Quiet (given_remark k mode kind argument) → (fits.actual_fits k.types k.variables kind (given_meant k mode argument) ≡ true) × (fits.mode_of (given_meant k mode argument) ≡ mode)
 unfolding expression_remark
-given_fits k In kind (expression_argument e) w q = (value_fits k kind e w q, refl)
+given_fits k In kind (expression_argument e) w q =
+    value_fits k.types k.variables kind (expression_meant k e) (expression_spot e) (expression_fits k e w q.0) q.1
 given_fits k InOut kind (expression_argument (path_expression path)) w q =
     variable_fits k.types k.variables kind (path_meant k path) path.root.spot (path_fits k path w q.0.1) q.1.0
 given_fits k mode kind other w q = absurd q.0

@@ -14,7 +14,7 @@ use Rattle.ada_program.specs.declared.program.VariableKind.{VariableKind}
 use Rattle.ada_program.specs.declared.program.VariableKind.TheVariants as variable
 use Rattle.ada_program.specs.declared.program.ScalarType.{ScalarType}
 use Rattle.ada_program.specs.declared.program.ScalarType.TheVariants.{Integer, Boolean}
-use Rattle.ada_program.specs.Form.{PathForm, ActualForm, value_given, RecordPathForm, ExpressionForm, integer, boolean, reads, is_null, applied_to, chained, LinksForm, no_more_links, a_link, ItemForm, null_item, item_of_path, item_of_value, item_of_record, RightForm, nothing, value_of, allocates, allocates_default, computes, StmtForm, skips, assigns, assigns_record, frees, gets, writes, writes_text, chooses, repeats, counts, exits, calls, returns, raises, encloses, StmtsForm, no_stmts, a_stmt, BranchesForm, otherwise, a_branch, HandlersForm, no_handlers, a_handler, DeclarationForm, collects, declares, declares_record}
+use Rattle.ada_program.specs.Form.{PathForm, ActualForm, in_value, in_null, in_access, in_out_path, in_out_access, RecordPathForm, ExpressionForm, integer, boolean, reads, is_null, applied_to, chained, LinksForm, no_more_links, a_link, ItemForm, null_item, item_of_path, item_of_value, item_of_record, RightForm, nothing, value_of, allocates, allocates_default, computes, StmtForm, skips, assigns, assigns_record, frees, gets, writes, writes_text, chooses, repeats, counts, exits, calls, returns, raises, encloses, StmtsForm, no_stmts, a_stmt, BranchesForm, otherwise, a_branch, HandlersForm, no_handlers, a_handler, DeclarationForm, collects, declares, declares_record}
 use Rattle.ada_program.specs.ProgramForm.{TypeForm, VariableForm}
 use Rattle.ada_program.specs.WellFormed as fits
 use Rattle.ada_resolve.proofs.WellFormed.Tables.{both_parts, first_part, second_part, all_weaker}
@@ -440,16 +440,38 @@ module _ (types more : List TypeForm) (variables others : List VariableForm) (ts
   condition_stays (Some e) h = has_type_stays Boolean e h
 
   -- what is given to formal parameters
-  given_stays : (t : ScalarType) (a : ActualForm) → (fits.has_type types variables t (value_given a) && fits.is_variable a) ≡ true → (fits.has_type more others t (value_given a) && fits.is_variable a) ≡ true
-  given_stays t a h =
-      let typed = fits.has_type types variables t (value_given a) in
-      let alone = fits.is_variable a in
-      both_parts (fits.has_type more others t (value_given a)) alone (has_type_stays t (value_given a) (first_part typed alone h)) (second_part typed alone h)
+  scalar_given_stays : (t : ScalarType) (a : ActualForm) → fits.is_scalar_given types variables t a ≡ true → fits.is_scalar_given more others t a ≡ true
+  scalar_given_stays t (in_value e) h = has_type_stays t e h
+  scalar_given_stays t in_null h = absurd (cc h)
+  scalar_given_stays t (in_access path) h = absurd (cc h)
+  scalar_given_stays t (in_out_path path) h =
+      let typed = fits.has_type types variables t (reads path) in
+      let alone = fits.stands_alone path.selectors in
+      both_parts (fits.has_type more others t (reads path)) alone (has_type_stays t (reads path) (first_part typed alone h)) (second_part typed alone h)
+  scalar_given_stays t (in_out_access path) h = absurd (cc h)
+
+  access_named_stays : (access : ℕ) (path : PathForm) → fits.names_access types variables access path ≡ true → fits.names_access more others access path ≡ true
+  access_named_stays access path h =
+      let this = fits.is_this access (fits.path_access types variables path) in
+      let owns = not (fits.names_borrower variables path) in
+      let own : this ≡ true = first_part this owns h in
+      both_parts (fits.is_this access (fits.path_access more others path)) (not (fits.names_borrower others path)) (moved_stays path access own)
+      (ap (λ (b : Bool). not b) (moved_owns path access own) ∙ second_part this owns h)
+
+  access_given_stays : (access : ℕ) (a : ActualForm) → fits.is_access_given types variables access a ≡ true → fits.is_access_given more others access a ≡ true
+  access_given_stays access (in_value e) h = absurd (cc h)
+  access_given_stays access in_null h = refl
+  access_given_stays access (in_access path) h = access_named_stays access path h
+  access_given_stays access (in_out_path path) h = absurd (cc h)
+  access_given_stays access (in_out_access path) h =
+      let own = fits.names_access types variables access path in
+      let alone = fits.stands_alone path.selectors in
+      both_parts (fits.names_access more others access path) alone (access_named_stays access path (first_part own alone h)) (second_part own alone h)
 
   actual_stays : (kind : VariableKind) (a : ActualForm) → fits.actual_fits types variables kind a ≡ true → fits.actual_fits more others kind a ≡ true
-  actual_stays variable.Integer a h = given_stays Integer a h
-  actual_stays variable.Boolean a h = given_stays Boolean a h
-  actual_stays (variable.Access access) a h = absurd (cc h)
+  actual_stays variable.Integer a h = scalar_given_stays Integer a h
+  actual_stays variable.Boolean a h = scalar_given_stays Boolean a h
+  actual_stays (variable.Access access) a h = access_given_stays access.0 a h
   actual_stays (variable.Record object) a h = absurd (cc h)
 
   actuals_stay : (kinds : List VariableKind) (actuals : List ActualForm) → fits.actuals_fit types variables kinds actuals ≡ true → fits.actuals_fit more others kinds actuals ≡ true

@@ -11,7 +11,6 @@ use Rattle.ada_program.specs.WellFormed as fits
 use Rattle.ada_program.specs.declared.program.ComponentKind.{ComponentKind}
 use Rattle.ada_program.specs.declared.program.Exception.TheVariants.{ConstraintError, ProgramError, StorageError}
 use Rattle.ada_program.specs.declared.program.VariableKind.{VariableKind}
-use Rattle.ada_program.specs.declared.program.VariableKind.TheVariants as variable
 use Rattle.ada_resolve.specs.declared.library.Withs.{Withs}
 use Rattle.ada_resolve.specs.declared.scope.Entity.{Entity}
 use Rattle.ada_resolve.specs.declared.scope.Entity.TheVariants as entity
@@ -25,12 +24,6 @@ use Rattle.ada_resolve.proofs.WellFormed.Laid.{AreRecordsLaid}
 -- a variable of this name is there, which holds this, a borrower or not
 abbrev pub IsVariableIn : List VariableForm → List ℕ → VariableKind → ℕ → Type 0
 IsVariableIn variables text kind x = (spot : Spot) × (borrows : Bool) × (slice_get variables x ≡ Some (record { name = text; spot = spot; kind = kind; borrows = borrows }))
-
--- a constant holds an Integer or a Boolean
-abbrev pub is_scalar_kind : VariableKind → Bool
-is_scalar_kind variable.Integer = true
-is_scalar_kind variable.Boolean = true
-is_scalar_kind other = false
 
 -- what a name stands for is there, and has the name
 abbrev pub EntityFits : List TypeForm → List VariableForm → List ℕ → Entity → Type 0
@@ -48,7 +41,7 @@ EntityFits types variables text (entity.Access t) = (d : ℕ) × (slice_get type
 EntityFits types variables text (entity.Instance t) = fits.is_access types t.0 ≡ true
 EntityFits types variables text (entity.Variable x kind) = IsVariableIn variables text kind x.0 × (fits.variable_kind_fits types kind ≡ true)
 EntityFits types variables text (entity.Parameter x kind) =
-    ((spot : Spot) × (slice_get variables x.0 ≡ Some (record { name = text; spot = spot; kind = kind; borrows = false }))) × (is_scalar_kind kind ≡ true)
+    ((spot : Spot) × (slice_get variables x.0 ≡ Some (record { name = text; spot = spot; kind = kind; borrows = false }))) × (fits.variable_kind_fits types kind ≡ true)
 EntityFits types variables text (entity.Outer kind role) = Unit {0}
 
 abbrev pub NamesFit : List TypeForm → List VariableForm → List Named → Type 0

@@ -1,4 +1,4 @@
--- By twenty programs and their runs.
+-- By twenty-four programs and their runs.
 use Rattle.ada_sound.proofs.Example as example
 use Rattle.ada_sound.proofs.ExampleBlocks as blocks
 use Rattle.ada_sound.proofs.ExampleTargets as targets
@@ -81,3 +81,12 @@ returns-clause-borrows_around_calls c = (
 
 pub returns-clause-gives_back : goal.returns-clause-gives_back
 returns-clause-gives_back c = (calls.giving, calls.giving_declares, calls.giving_form, calls.giving_handles, calls.giving_accepted, calls.gives_back)
+
+pub returns-clause-lends : goal.returns-clause-lends
+returns-clause-lends c = (calls.bumping, calls.bumping_declares, calls.bumping_form, calls.bumping_accepted, calls.bumps)
+
+pub returns-clause-hands_over : goal.returns-clause-hands_over
+returns-clause-hands_over c = (calls.renewing, calls.renewing_declares, calls.renewing_form, calls.renewing_accepted, calls.renews)
+
+pub returns-clause-keeps : goal.returns-clause-keeps
+returns-clause-keeps c = (calls.dropping, calls.dropping_declares, calls.dropping_form, calls.dropping_handles, calls.dropping_accepted, calls.drops)

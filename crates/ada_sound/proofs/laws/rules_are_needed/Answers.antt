@@ -1,4 +1,4 @@
--- By nineteen programs and their runs.
+-- By twenty-three programs and their runs.
 use Rattle.ada_sound.proofs.Example as example
 use Rattle.ada_sound.proofs.ExampleBlocks as blocks
 use Rattle.ada_sound.proofs.ExampleTargets as targets
@@ -86,3 +86,15 @@ returns-clause-nests c = (owners.outlasting, owners.outlasting_form, owners.outl
 
 pub returns-clause-copies : goal.returns-clause-copies
 returns-clause-copies c = (records.duplicating, records.duplicating_form, records.duplicating_breaks, records.duplicates)
+
+pub returns-clause-shares : goal.returns-clause-shares
+returns-clause-shares c = (calls.sharing, calls.sharing_declares, calls.sharing_form, calls.sharing_breaks, calls.shares)
+
+pub returns-clause-spoils : goal.returns-clause-spoils
+returns-clause-spoils c = (calls.spoiling, calls.spoiling_declares, calls.spoiling_form, calls.spoiling_handles, calls.spoiling_breaks, calls.spoils)
+
+pub returns-clause-cuts : goal.returns-clause-cuts
+returns-clause-cuts c = (calls.cutting, calls.cutting_declares, calls.cutting_form, calls.cutting_breaks, calls.cuts)
+
+pub returns-clause-claims : goal.returns-clause-claims
+returns-clause-claims c = (calls.claiming, calls.claiming_declares, calls.claiming_form, calls.claiming_breaks, calls.claims)

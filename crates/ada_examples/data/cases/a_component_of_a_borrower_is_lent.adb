@@ -1,0 +1,8 @@
+with Ada.Text_IO; with Ada.Unchecked_Deallocation;
+procedure Main is
+type Node; type Link is access Node;
+type Node is record Value : Integer := 0; Next : Link; end record;
+procedure Free is new Ada.Unchecked_Deallocation (Node, Link);
+procedure Show (L : Link) is begin Ada.Text_IO.Put_Line (Integer'Image (L.Value)); end Show;
+A : Link := new Node'(7, null); B : access Node := A;
+begin A.Next := new Node'(8, null); Show (B.Next); end Main;

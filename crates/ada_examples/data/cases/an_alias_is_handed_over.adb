@@ -1,0 +1,9 @@
+with Ada.Text_IO; with Ada.Unchecked_Deallocation;
+procedure Main is
+type Node; type Link is access Node;
+type Node is record Value : Integer := 0; Next : Link; end record;
+procedure Free is new Ada.Unchecked_Deallocation (Node, Link);
+procedure Keep (L : in out Link) is begin null; end Keep;
+procedure Lend (L : Link) is begin null; end Lend;
+A : Link := new Node'(7, null); B : access Node := A;
+begin Keep (B); end Main;

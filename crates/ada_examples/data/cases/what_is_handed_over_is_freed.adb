@@ -1,0 +1,8 @@
+with Ada.Text_IO; with Ada.Unchecked_Deallocation;
+procedure Main is
+type Node; type Link is access Node;
+type Node is record Value : Integer := 0; Next : Link; end record;
+procedure Free is new Ada.Unchecked_Deallocation (Node, Link);
+procedure End_It (L : in out Link) is begin Free (L); end End_It;
+A : Link := new Node'(1, null);
+begin End_It (A); if A = null then Ada.Text_IO.Put_Line (Integer'Image (0)); end if; end Main;

@@ -1,0 +1,8 @@
+with Ada.Text_IO; with Ada.Unchecked_Deallocation;
+procedure Main is
+type Node; type Link is access Node;
+type Node is record Value : Integer := 0; Next : Link; end record;
+procedure Free is new Ada.Unchecked_Deallocation (Node, Link);
+procedure Keep (L : in out Link) is begin null; end Keep;
+A : Link := new Node'(1, null); B : Link;
+begin for I in 1 .. 2 loop Keep (A); B := A; end loop; end Main;

@@ -1,0 +1,9 @@
+with Ada.Text_IO; with Ada.Unchecked_Deallocation;
+procedure Main is
+type Node; type Link is access Node;
+type Node is record Value : Integer := 0; Next : Link; end record;
+procedure Free is new Ada.Unchecked_Deallocation (Node, Link);
+procedure End_It (L : in out Link) is begin Free (L); end End_It;
+procedure Take (L : Link) is begin End_It (L); end Take;
+A : Link := new Node'(7, null);
+begin Take (A); end Main;
