@@ -81,9 +81,11 @@ fn actual_raises(actual: &Actual) -> bool
     match actual {
         Actual::In(value) => expression_raises(value),
         Actual::InNull => false,
-        Actual::InAccess(path) | Actual::InOut(path) | Actual::InOutAccess(path) => {
-            path_raises(path)
-        }
+        Actual::InAccess(path)
+        | Actual::InOut(path)
+        | Actual::InOutAccess(path)
+        | Actual::InOutComponent(path) => path_raises(path),
+        Actual::InRecord(path) | Actual::InOutRecord(path) => record_path_raises(path),
     }
 }
 

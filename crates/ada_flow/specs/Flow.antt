@@ -10,10 +10,10 @@ use Rattle.ada_program.specs.declared.program.FormalMode.TheVariants.{In, InOut}
 use Rattle.ada_program.specs.declared.program.Program.{Program}
 use Rattle.ada_program.specs.declared.program.VariableKind.{VariableKind}
 use Rattle.ada_program.specs.declared.program.VariableKind.TheVariants as variable
-use Rattle.ada_program.specs.Form.{ActualForm, in_value, in_null, in_access, in_out_path, in_out_access, PathForm, RecordPathForm, ExpressionForm, integer, boolean, reads, is_null, applied_to, chained, LinksForm, no_more_links, a_link, ItemForm, null_item, item_of_path, item_of_value, item_of_record, RightForm, nothing, value_of, allocates, allocates_default, computes, StmtForm, skips, assigns, assigns_record, frees, gets, writes, writes_text, chooses, repeats, counts, exits, calls, returns, raises, encloses, StmtsForm, no_stmts, a_stmt, BranchesForm, otherwise, a_branch, HandlersForm, no_handlers, a_handler, DeclarationForm, collects, declares, declares_record}
+use Rattle.ada_program.specs.Form.{ActualForm, in_value, in_null, in_access, in_record, in_out_path, in_out_access, in_out_component, in_out_record, PathForm, RecordPathForm, ExpressionForm, integer, boolean, reads, is_null, applied_to, chained, LinksForm, no_more_links, a_link, ItemForm, null_item, item_of_path, item_of_value, item_of_record, RightForm, nothing, value_of, allocates, allocates_default, computes, StmtForm, skips, assigns, assigns_record, frees, gets, writes, writes_text, chooses, repeats, counts, exits, calls, returns, raises, encloses, StmtsForm, no_stmts, a_stmt, BranchesForm, otherwise, a_branch, HandlersForm, no_handlers, a_handler, DeclarationForm, collects, declares, declares_record}
 use Rattle.ada_program.specs.ProgramForm.{TypeForm, type_form, VariableForm, variable_form, BodyForm, nowhere, ProgramForm, main_body, program_form}
 use Rattle.ada_program.specs.WellFormed.{record_components, reached_components, access_of, variable_kind, selected_kind, path_access, is_this, is_borrower, names_borrower}
-use Rattle.ada_effects.specs.Effects.{expression_raises, path_raises, record_path_raises, actuals_raise, items_raise, initial_raises, Effect, call_raises, passes, effect_of}
+use Rattle.ada_effects.specs.Effects.{expression_raises, path_raises, record_path_raises, actuals_raise, items_raise, initial_raises, Effect, call_raises, call_frees, passes, effect_of}
 use Rattle.ada_flow.specs.declared.rule.Hold.{Hold}
 use Rattle.ada_flow.specs.declared.rule.Hold.TheVariants.{Null, Kept, Own, Alias, Lost}
 use Rattle.ada_flow.specs.declared.rule.Region.TheVariants.{Whole}
@@ -100,8 +100,10 @@ ends_with may_raise before after = goes (Some after) (raising_if may_raise befor
 -- variable, or out of a component, which the same or the next statement overwrites then, or none does; or it is moved though an item before it moves
 -- it already (4.8); or an Integer or a Boolean is given for a formal parameter of mode `in out`, though it is given for one before it (6.4.1); or an
 -- access value is lent to a formal parameter of mode `in`, or handed over to one of mode `in out`, where another actual parameter before it begins with
--- the same variable and one of the two is for mode `in out`, or none is; or the path to the object in which a record lies; or a record as a whole, which
--- goes to what stands here, and of which some component owns what it names, or none does (4.3.1, 5.2).
+-- the same variable and one of the two is for mode `in out`, or none is; or a component, which owns what it names or holds an Integer or a Boolean, is given
+-- for a formal parameter of mode `in out`, or the object in which a record lies is passed with it, and that is unsafe, or it is not; or the path to the
+-- object in which a record lies; or a record as a whole, which goes to what stands here, and of which some component owns what it names, or none does
+-- (4.3.1, 5.2).
 pub data Use : Type 0 where
   reads_it : PathForm → Use
   compares_it : PathForm → Use
@@ -111,6 +113,8 @@ pub data Use : Type 0 where
   gives_again : PathForm → Use
   lends_it : (again : Bool) → PathForm → Use
   hands_it : (again : Bool) → PathForm → Use
+  opens_it : (owning unsafe : Bool) → PathForm → Use
+  passes_it : (unsafe : Bool) → PathForm → Use
   reaches_it : PathForm → Use
   copies_to : (owning : Bool) → Spot → Use
 
@@ -272,7 +276,8 @@ abbrev pub moved_behind : (overwritten : Bool) → List ℕ → Hold → Spot �
 moved_behind overwritten [] hold spot = moved_by hold spot
 moved_behind overwritten (c ∷ cs) hold spot = taken_by overwritten hold spot
 
--- An actual parameter begins with a variable with which another one before it begins, and one of them is for a formal parameter of mode `in out`.
+-- An actual parameter begins with a variable with which another one before it begins, and one of them is for a formal parameter of mode `in out`; or what
+-- its path follows may be freed by the call.
 abbrev pub given_by_both : (again : Bool) → Spot → Option Breach
 given_by_both false spot = None
 given_by_both true spot = Some (spot, UnsafePath)
@@ -293,6 +298,19 @@ handed_by again (Own r) spot = given_by_both again spot
 handed_by again (Alias r) spot = Some (spot, AliasMoved)
 handed_by again Lost spot = Some (spot, LostValue)
 
+-- What is passed by reference for as long as a call lasts, or gets something back behind it, is not found behind what is lost, and is safe (6.2, 6.4.1).
+abbrev pub passed_by : (unsafe : Bool) → Hold → Spot → Option Breach
+passed_by unsafe Null spot = given_by_both unsafe spot
+passed_by unsafe (Kept r) spot = given_by_both unsafe spot
+passed_by unsafe (Own r) spot = given_by_both unsafe spot
+passed_by unsafe (Alias r) spot = given_by_both unsafe spot
+passed_by unsafe Lost spot = Some (spot, LostValue)
+
+-- A component that owns what it names is not handed over: it is moved by take pairs alone.
+abbrev pub opened_by_call : (owning unsafe : Bool) → Hold → Spot → Option Breach
+opened_by_call true unsafe hold spot = taken_by false hold spot
+opened_by_call false unsafe hold spot = passed_by unsafe hold spot
+
 -- A record is copied as a whole only if none of its components owns what it names: else there would be two owners.
 abbrev pub copied_to : (owning : Bool) → Spot → Option Breach
 copied_to false spot = None
@@ -309,6 +327,8 @@ broken_in holds (moves_again path) = Some (path.spot, LostValue)
 broken_in holds (gives_again path) = Some (path.spot, UnsafePath)
 broken_in holds (lends_it again path) = lent_by again (hold_at holds path.root) path.spot
 broken_in holds (hands_it again path) = handed_by again (hold_at holds path.root) path.spot
+broken_in holds (opens_it owning unsafe path) = opened_by_call owning unsafe (hold_at holds path.root) path.spot
+broken_in holds (passes_it unsafe path) = passed_by unsafe (hold_at holds path.root) path.spot
 broken_in holds (reaches_it path) = lost_by (hold_at holds path.root) path.spot
 broken_in holds (copies_to owning spot) = copied_to owning spot
 
@@ -557,14 +577,17 @@ abbrev pub left_by_call : List VariableForm → Option Effect → Holds → Hold
 left_by_call variables None holds = holds
 left_by_call variables (Some effect) holds = without_freed variables effect.frees holds
 
--- Is a variable given by one of these actual parameters for a formal one of mode `in out` (6.4.1)?
+-- Does an actual parameter for a formal one of mode `in out` begin with a variable (6.4.1)?
 abbrev pub is_given : List ActualForm → (variable : ℕ) → Bool
 is_given [] x = false
 is_given (in_value e ∷ rest) x = is_given rest x
 is_given (in_null ∷ rest) x = is_given rest x
 is_given (in_access path ∷ rest) x = is_given rest x
+is_given (in_record p ∷ rest) x = is_given rest x
 is_given (in_out_path path ∷ rest) x = (x == path.root) || is_given rest x
 is_given (in_out_access path ∷ rest) x = (x == path.root) || is_given rest x
+is_given (in_out_component path ∷ rest) x = (x == path.root) || is_given rest x
+is_given (in_out_record p ∷ rest) x = (x == p.object.root) || is_given rest x
 
 -- Does one of these actual parameters begin with a variable? The operands of an expression for a formal parameter of mode `in` don't count.
 abbrev pub is_begun_with : List ActualForm → (variable : ℕ) → Bool
@@ -572,25 +595,53 @@ is_begun_with [] x = false
 is_begun_with (in_value e ∷ rest) x = is_begun_with rest x
 is_begun_with (in_null ∷ rest) x = is_begun_with rest x
 is_begun_with (in_access path ∷ rest) x = (x == path.root) || is_begun_with rest x
+is_begun_with (in_record p ∷ rest) x = (x == p.object.root) || is_begun_with rest x
 is_begun_with (in_out_path path ∷ rest) x = (x == path.root) || is_begun_with rest x
 is_begun_with (in_out_access path ∷ rest) x = (x == path.root) || is_begun_with rest x
+is_begun_with (in_out_component path ∷ rest) x = (x == path.root) || is_begun_with rest x
+is_begun_with (in_out_record p ∷ rest) x = (x == p.object.root) || is_begun_with rest x
 
 -- How the path to an Integer or a Boolean is used that is given for a formal parameter of mode `in out`, behind other actual parameters.
 abbrev pub given_use : (earlier : List ActualForm) → PathForm → Use
 given_use earlier path = if is_begun_with earlier path.root then gives_again path else reads_it path
 
--- The paths in an actual parameter, behind others of its call.
-abbrev pub uses_in_actual : (earlier : List ActualForm) → ActualForm → List Use
-uses_in_actual earlier (in_value e) = uses_in e
-uses_in_actual earlier in_null = []
-uses_in_actual earlier (in_access path) = lends_it (is_given earlier path.root) path ∷ []
-uses_in_actual earlier (in_out_path path) = given_use earlier path ∷ []
-uses_in_actual earlier (in_out_access path) = hands_it (is_begun_with earlier path.root) path ∷ []
+-- Does a path follow a value of an access type of which objects may be freed: that of its variable, or one behind that (4.1)?
+abbrev pub passes_freed : List TypeForm → (may : ℕ → Bool) → Option VariableKind → (selectors : List ℕ) → Bool
+passes_freed types may kind [] = false
+passes_freed types may kind (c ∷ cs) = is_freed may (access_of kind) || passes_freed types may (selected_kind types kind c) cs
+
+-- So does the path to a component, or to a record, which follows the access value to the object in which the record lies, too.
+abbrev pub component_passes : List TypeForm → List VariableForm → (may : ℕ → Bool) → PathForm → Bool
+component_passes types variables may path = passes_freed types may (variable_kind variables path.root) path.selectors
+
+abbrev pub record_passes : List TypeForm → List VariableForm → (may : ℕ → Bool) → RecordPathForm → Bool
+record_passes types variables may p =
+    component_passes types variables may p.object || is_freed may (path_access types variables p.object)
+
+-- Has a path a value of an access type?
+abbrev pub names_value : Option ℕ → Bool
+names_value None = false
+names_value (Some t) = true
+
+-- The paths in an actual parameter, behind others of its call, which may free objects of some access types.
+abbrev pub uses_in_actual : List TypeForm → List VariableForm → (may : ℕ → Bool) → (earlier : List ActualForm) → ActualForm → List Use
+uses_in_actual types variables may earlier (in_value e) = uses_in e
+uses_in_actual types variables may earlier in_null = []
+uses_in_actual types variables may earlier (in_access path) = lends_it (is_given earlier path.root) path ∷ []
+uses_in_actual types variables may earlier (in_record p) =
+    passes_it (is_given earlier p.object.root || record_passes types variables may p) p.object ∷ []
+uses_in_actual types variables may earlier (in_out_path path) = given_use earlier path ∷ []
+uses_in_actual types variables may earlier (in_out_access path) = hands_it (is_begun_with earlier path.root) path ∷ []
+uses_in_actual types variables may earlier (in_out_component path) =
+    opens_it (names_value (path_access types variables path)) (is_begun_with earlier path.root || component_passes types variables may path) path ∷ []
+uses_in_actual types variables may earlier (in_out_record p) =
+    passes_it (is_begun_with earlier p.object.root || record_passes types variables may p) p.object ∷ []
 
 -- The paths in actual parameters, in order, behind others.
-abbrev pub uses_in_actuals : (earlier : List ActualForm) → List ActualForm → List Use
-uses_in_actuals earlier [] = []
-uses_in_actuals earlier (a ∷ rest) = uses_in_actual earlier a ++ uses_in_actuals (earlier ++ a ∷ []) rest
+abbrev pub uses_in_actuals : List TypeForm → List VariableForm → (may : ℕ → Bool) → (earlier : List ActualForm) → List ActualForm → List Use
+uses_in_actuals types variables may earlier [] = []
+uses_in_actuals types variables may earlier (a ∷ rest) =
+    uses_in_actual types variables may earlier a ++ uses_in_actuals types variables may (earlier ++ a ∷ []) rest
 
 -- What is known behind a call of the variables that were handed over (6.4.1): each owns what comes back.
 abbrev pub handed_back : List ActualForm → Holds → Holds
@@ -598,8 +649,11 @@ handed_back [] holds = holds
 handed_back (in_value e ∷ rest) holds = handed_back rest holds
 handed_back (in_null ∷ rest) holds = handed_back rest holds
 handed_back (in_access path ∷ rest) holds = handed_back rest holds
+handed_back (in_record p ∷ rest) holds = handed_back rest holds
 handed_back (in_out_path path ∷ rest) holds = handed_back rest holds
 handed_back (in_out_access path ∷ rest) holds = handed_back rest (slice_set holds path.root (Own Whole))
+handed_back (in_out_component path ∷ rest) holds = handed_back rest holds
+handed_back (in_out_record p ∷ rest) holds = handed_back rest holds
 
 -- Which formal parameters a procedure keeps, by their numbers: wherever an exception leaves its body, they hold what the call handed over. None past the
 -- end.
@@ -628,14 +682,17 @@ left_unkept kept [] holds = holds
 left_unkept kept (in_value e ∷ rest) holds = left_unkept (others_kept kept) rest holds
 left_unkept kept (in_null ∷ rest) holds = left_unkept (others_kept kept) rest holds
 left_unkept kept (in_access path ∷ rest) holds = left_unkept (others_kept kept) rest holds
+left_unkept kept (in_record p ∷ rest) holds = left_unkept (others_kept kept) rest holds
 left_unkept kept (in_out_path path ∷ rest) holds = left_unkept (others_kept kept) rest holds
 left_unkept kept (in_out_access path ∷ rest) holds = left_unkept (others_kept kept) rest (unless_kept (first_kept kept) path.root holds)
+left_unkept kept (in_out_component path ∷ rest) holds = left_unkept (others_kept kept) rest holds
+left_unkept kept (in_out_record p ∷ rest) holds = left_unkept (others_kept kept) rest holds
 
 -- After a call with these actual parameters of a procedure that keeps these. Where they raise an exception themselves, as little is said as where the
 -- body does.
-abbrev pub called : List VariableForm → Option Effect → Keeping → (actuals : List ActualForm) → Holds → Outcome
-called variables effect kept actuals holds =
-    using_paths (uses_in_actuals [] actuals) holds
+abbrev pub called : List TypeForm → List VariableForm → Option Effect → Keeping → (actuals : List ActualForm) → Holds → Outcome
+called types variables effect kept actuals holds =
+    using_paths (uses_in_actuals types variables (call_frees effect) [] actuals) holds
     (ends_with (actuals_raise actuals || call_raises effect (λ e. true))
     (left_unkept kept actuals (left_by_call variables effect holds)) (handed_back actuals (left_by_call variables effect holds)))
 
@@ -725,8 +782,11 @@ opened_by_actuals variables [] holds = holds
 opened_by_actuals variables (in_value e ∷ rest) holds = opened_by_actuals variables rest holds
 opened_by_actuals variables (in_null ∷ rest) holds = opened_by_actuals variables rest holds
 opened_by_actuals variables (in_access path ∷ rest) holds = opened_by_actuals variables rest holds
+opened_by_actuals variables (in_record p ∷ rest) holds = opened_by_actuals variables rest holds
 opened_by_actuals variables (in_out_path path ∷ rest) holds = opened_by_actuals variables rest holds
 opened_by_actuals variables (in_out_access path ∷ rest) holds = opened_by_actuals variables rest (opened variables path.root holds)
+opened_by_actuals variables (in_out_component path ∷ rest) holds = opened_by_actuals variables rest holds
+opened_by_actuals variables (in_out_record p ∷ rest) holds = opened_by_actuals variables rest holds
 
 abbrev mutual
   -- What a loop's start holds: each variable that a statement of its body assigns or hands over, wherever it stands there, is opened (5.2, 5.5, 6.4.1),
@@ -1009,7 +1069,7 @@ abbrev mutual
       (λ hs. loop_flow None true end_spot (λ start hs. stmts_flow types variables (in_loop start around) fs hs) (counting_start variables x fs hs))
   stmt_flow types variables around cleared (exits condition spot) holds = exit_flow variables around.start around.inside condition spot holds
   stmt_flow types variables around cleared (calls procedure actuals) holds =
-      called variables (slice_get around.effects procedure) (kept_at around.kept procedure) actuals holds
+      called types variables (slice_get around.effects procedure) (kept_at around.kept procedure) actuals holds
   stmt_flow types variables around cleared (returns spot) holds = return_flow variables around.owed around.within spot holds
   stmt_flow types variables around cleared (raises e) holds = goes None (Some holds)
   stmt_flow types variables around cleared (encloses ds fs hs) holds =
@@ -1038,13 +1098,13 @@ abbrev mutual
 -- Bodies, and the whole program.
 
 -- What a formal parameter of a mode is relied on for where its body begins (6.4.1): one of an access type borrows what its call gives it, or owns it. What
--- gets an Integer or a Boolean is not relied on.
+-- gets an Integer or a Boolean is not relied on. A record is another's, and it is there as long as the body runs (6.2).
 abbrev pub formal_hold : FormalMode → VariableKind → Hold
 formal_hold In (variable.Access access) = Alias Whole
 formal_hold InOut (variable.Access access) = Kept Whole
 formal_hold mode variable.Integer = Lost
 formal_hold mode variable.Boolean = Lost
-formal_hold mode (variable.Record object) = Lost
+formal_hold mode (variable.Record object) = Alias Whole
 
 -- At first no other variable of a body is declared.
 abbrev pub first_holds : List FormalMode → List VariableForm → Holds

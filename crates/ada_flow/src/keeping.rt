@@ -125,14 +125,16 @@ pub(crate) fn owed_by(
     Ok(owed)
 }
 
-/// What a formal parameter of a mode is relied on for where its body begins.
+/// What a formal parameter of a mode is relied on for where its body begins. A record is another's, and is there as long as the
+/// body runs.
 pub(crate) fn formal_hold(mode: FormalMode, kind: VariableKind) -> Hold
     ensures { result ≡ rules.formal_hold mode kind }
 {
     match (mode, kind) {
         (FormalMode::In, VariableKind::Access(_)) => Hold::Alias(Region::Whole),
         (FormalMode::InOut, VariableKind::Access(_)) => Hold::Kept(Region::Whole),
-        (_, VariableKind::Integer | VariableKind::Boolean | VariableKind::Record(_)) => Hold::Lost,
+        (_, VariableKind::Integer | VariableKind::Boolean) => Hold::Lost,
+        (_, VariableKind::Record(_)) => Hold::Alias(Region::Whole),
     }
 }
 

@@ -255,7 +255,7 @@ fn moved_by(hold: Hold, spot: Spot) -> Option<Breach>
 }
 
 /// A value that is moved out of a component is not found behind a lost one, and the component is overwritten.
-fn taken_by(overwritten: bool, hold: Hold, spot: Spot) -> Option<Breach>
+pub(crate) fn taken_by(overwritten: bool, hold: Hold, spot: Spot) -> Option<Breach>
     ensures { broken result ≡ rules.taken_by overwritten hold spot }
 {
     match hold {

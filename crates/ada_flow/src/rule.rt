@@ -18,7 +18,7 @@ pub enum Hold {
     /// It holds null, or owns the object that it names: no other variable and no component owns it.
     Own(Region),
     /// It holds null, or names an object that exists, which another may own: so do borrowers and formal parameters of mode
-    /// `in`.
+    /// `in`, and so does a record parameter of either mode, whose record lies in another's object.
     Alias(Region),
     /// Nothing: its object may be gone.
     Lost,
@@ -27,17 +27,19 @@ pub enum Hold {
 /// A rule of the flow of values.
 #[derive(Clone, Copy)]
 pub enum Rule {
-    /// A value that may be gone is followed, moved or freed.
+    /// A value that may be gone is followed, passed, moved or freed.
     LostValue,
     /// A variable is moved, freed or given for a formal parameter of mode `in out` whose object another one owns.
     AliasMoved,
     /// A value is moved out of a component that keeps it: the next statement does not set it to null, and it is not what gets the new object.
+    /// Or a component of an access type is given for a formal parameter of mode `in out`.
     TakePair,
     /// At the end of a loop's body, or at an exit, less is known of a variable than at the loop's start.
     LoopState,
     /// A component is freed whose path follows a value of the component's own access type: the object that is freed may be one on the way.
     /// Or two actual parameters of a call begin with one variable, and one of them is for mode `in out`: what is done through
-    /// one formal parameter would be seen through the other.
+    /// one formal parameter would be seen through the other. Or a record is passed, or a component given for mode `in out`, whose
+    /// path follows a value of an access type of which the call may free objects: what is passed may be gone before the call ends.
     UnsafePath,
     /// At a normal end of a body a formal parameter of mode `in out` owns nothing that it could give back, and is not null.
     FormalNotOwned,

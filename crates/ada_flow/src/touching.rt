@@ -108,7 +108,13 @@ fn open_actual(variables: &[Variable], known: &mut Known, actual: &Actual)
 {
     match actual {
         Actual::InOutAccess(path) => open(variables, known, path.root),
-        Actual::In(_) | Actual::InNull | Actual::InAccess(_) | Actual::InOut(_) => {}
+        Actual::In(_)
+        | Actual::InNull
+        | Actual::InAccess(_)
+        | Actual::InRecord(_)
+        | Actual::InOut(_)
+        | Actual::InOutComponent(_)
+        | Actual::InOutRecord(_) => {}
     }
 }
 

@@ -1,13 +1,14 @@
 -- Activations with the places of all of them behind one another.
 
-use Rattle.std.proofs.Common.{◌≡◌, ◌⊎◌, inl, inr, ℕ, List, [], ◌∷◌, ◌++◌, drop, take, length, map, Some, None, Result, Ok, Err, OnOk, OnErr, zero, suc, refl, sym, ap, ◌∙◌, append_assoc, arith}
+use Rattle.std.proofs.Common.{◌≡◌, ◌⊎◌, inl, inr, ℕ, ◌+◌, ◌-◌, ◌≤◌, List, [], ◌∷◌, ◌++◌, drop, take, length, map, Some, None, Result, Ok, Err, OnOk, OnErr, zero, suc, refl, sym, ap, ◌∙◌, append_assoc, arith}
 use Rattle.std.specs.List.{slice_get}
+use Rattle.std.proofs.lemmas.List.{length-append}
 use Rattle.ada_program.specs.declared.program.Actual.{Actual}
 use Rattle.ada_program.specs.declared.program.Variable.{Variable}
-use Rattle.ada_program.specs.Form.{ActualForm, in_value, in_null, in_access, in_out_path, in_out_access, actual_form}
+use Rattle.ada_program.specs.Form.{ActualForm, in_value, in_null, in_access, in_record, in_out_path, in_out_access, in_out_component, in_out_record, actual_form}
 use Rattle.ada_program.specs.ProgramForm.{variable_form}
 use Rattle.ada_meaning.specs.declared.state.Value.{Value}
-use Rattle.ada_meaning.specs.Step.{blanks, given_places, copied_back, older, places_of, with_places}
+use Rattle.ada_meaning.specs.Step.{blanks, given_places, copied_back, older, places_of, operands_of, with_places, with_operands}
 use Rattle.ada_meaning.specs.Named.{named}
 use Rattle.ada_interpreter.specs.declared.activations.Begun.{Begun}
 use Rattle.ada_interpreter.specs.Activations.{activations_of, AreAwaited}
@@ -41,8 +42,11 @@ none_gets (a ∷ rest) [] = refl
 none_gets (in_value e ∷ rest) (v ∷ vs) = none_gets rest vs
 none_gets (in_null ∷ rest) (v ∷ vs) = none_gets rest vs
 none_gets (in_access path ∷ rest) (v ∷ vs) = none_gets rest vs
+none_gets (in_record p ∷ rest) (v ∷ vs) = none_gets rest vs
 none_gets (in_out_path path ∷ rest) (v ∷ vs) = none_gets rest vs
 none_gets (in_out_access path ∷ rest) (v ∷ vs) = none_gets rest vs
+none_gets (in_out_component path ∷ rest) (v ∷ vs) = none_gets rest vs
+none_gets (in_out_record p ∷ rest) (v ∷ vs) = none_gets rest vs
 
 -- nor where nothing is left of the actual parameters or of the formal ones
 pub no_more_gives : (actuals : List Actual) (formals places : List Value) → (actuals ≡ []) ⊎ (formals ≡ []) → places ≡ copied_back (map actual_form actuals) formals places
@@ -61,3 +65,21 @@ pub no_caller : (begun : List Begun) (places operands gets : List Value) → Non
 no_caller [] places operands gets none = refl
 no_caller (b ∷ []) places operands gets none = refl
 no_caller (b ∷ c ∷ bs) places operands gets none = grind (arith, none)
+
+-- the running activation keeps what its places keep
+pub running_keeps : (begun : List Begun) (places later operands : List Value) (running : Begun) → Some running ≡ slice_get begun 0 → drop running.base later ≡ drop running.base places → places_of (activations_of begun later operands) ≡ places_of (activations_of begun places operands)
+running_keeps [] places later operands running first kept = refl
+running_keeps (b ∷ bs) places later operands running first kept = grind (arith, first, kept)
+
+-- how many places were laid behind others
+pub count_laid : (before after values : List Value) (n m : ℕ) → after ≡ before ++ values → n ≡ length after → m ≡ length before → n - m ≡ length values
+count_laid before after values n m is all base =
+    let size : length after ≡ length before + length values = ap (λ (xs : List Value). length xs) is ∙ length-append before values in
+    omega (arith, all, base, size)
+
+-- where the running activation ends, its caller goes on with what is put onto its operands
+pub ended : (back : List Value → List Value) (begun : List Begun) (places before after : List Value) (running : Begun) → Some running ≡ slice_get begun 0 → (length begun ≤ 1) ⊎ (after ≡ back (drop running.base places) ++ []) → activations_of (older begun) (take running.base places) after ≡ with_operands (back (places_of (activations_of begun places before)) ++ operands_of (older (activations_of begun places before))) (older (activations_of begun places before))
+ended back [] places before after running first puts = refl
+ended back (b ∷ []) places before after running first puts = refl
+ended back (b ∷ c ∷ bs) places before after running first (inl few) = absurd (omega (arith, few))
+ended back (b ∷ c ∷ bs) places before after running first (inr is) = grind (arith, first, is)

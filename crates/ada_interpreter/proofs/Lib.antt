@@ -16,3 +16,5 @@ pub mod RecordLemmas
 pub mod ActivationLemmas
 -- actual parameters that are evaluated one after another
 pub mod CallLemmas
+-- what formal parameters give back to components
+pub mod OperandLemmas

@@ -1,7 +1,8 @@
 -- Activations, with the places of all of them behind one another.
 
-use Rattle.std.specs.Prelude.{◌≡◌, ℕ, List, [], ◌∷◌, take, drop, Option, Some, None}
+use Rattle.std.specs.Prelude.{◌≡◌, ℕ, Bool, true, false, List, [], ◌∷◌, take, drop, Option, Some, None}
 use Rattle.ada_program.specs.declared.program.ProcedureNo.{ProcedureNo}
+use Rattle.ada_program.specs.Form.{ActualForm, in_value, in_null, in_access, in_record, in_out_path, in_out_access, in_out_component, in_out_record}
 use Rattle.ada_meaning.specs.declared.state.Value.{Value}
 use Rattle.ada_meaning.specs.State.{Activation}
 use Rattle.ada_interpreter.specs.declared.activations.Begun.{Begun}
@@ -21,3 +22,14 @@ activations_of (b ∷ bs) places operands =
 abbrev pub AreAwaited : List Begun → (operands : List Value) → Type 0
 AreAwaited [] operands = operands ≡ []
 AreAwaited (b ∷ bs) operands = Unit {0}
+
+-- Is an actual parameter a component, for a formal one of mode `in out`?
+abbrev pub is_component : ActualForm → Bool
+is_component (in_value e) = false
+is_component in_null = false
+is_component (in_access path) = false
+is_component (in_record p) = false
+is_component (in_out_path path) = false
+is_component (in_out_access path) = false
+is_component (in_out_component path) = true
+is_component (in_out_record p) = false

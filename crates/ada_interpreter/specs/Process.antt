@@ -3,7 +3,7 @@
 use Rattle.std.specs.Prelude.{◌≡◌, ℕ, pos, ◌+ℤ◌, List, [], ◌∷◌, map, Option, Some, Result, Ok, Err}
 use Rattle.std.specs.Option.{option_copied}
 use Rattle.std.specs.declared.alloc.AllocError.{AllocError}
-use Rattle.ada_program.specs.Form.{component_number, path_form, reads, value_of, actual_form, expression_form, links_form, item_form, right_form, initial_form, condition_form, stmts_form, branches_form, handlers_form, declaration_form}
+use Rattle.ada_program.specs.Form.{component_number, path_form, record_path_form, reads, value_of, actual_form, expression_form, links_form, item_form, right_form, initial_form, condition_form, stmts_form, branches_form, handlers_form, declaration_form}
 use Rattle.ada_program.specs.ProgramForm.{body_form}
 use Rattle.ada_program.specs.declared.program.Exception.TheVariants.{ConstraintError}
 use Rattle.ada_meaning.specs.declared.state.Value.{Value as ValueOf}
@@ -43,13 +43,17 @@ frame_of (held.Handles handlers) = frame.Handles (handlers_form handlers.now)
 frame_of held.Closes = frame.Closes
 frame_of (held.Leaves mode) = frame.Leaves mode
 frame_of (held.Calls procedure body actuals) = frame.Calls procedure.0 (body_form body.now) (map actual_form actuals.now)
-frame_of (held.Returns actuals) = frame.Returns (map actual_form actuals.now)
+frame_of (held.Returns actuals references) = frame.Returns (map actual_form actuals.now) references.items
 frame_of (held.Evaluates right) = frame.Evaluates (initial_form (option_copied right))
 frame_of (held.Computes expression) = frame.Computes (expression_form expression.now)
 frame_of (held.Reads path) = frame.Computes (reads (path_form path.now))
 frame_of (held.Names path) = frame.Evaluates (value_of (path_form path.now))
 frame_of (held.Follows selectors) = frame.Follows (map component_number selectors.now)
 frame_of (held.TestsNull equal) = frame.TestsNull equal
+frame_of (held.Refers path) = frame.Refers (record_path_form path.now)
+frame_of (held.RefersIn first record_type) = frame.RefersIn first.0 record_type.0
+frame_of (held.Opens path) = frame.Opens (path_form path.now)
+frame_of (held.OpensIn component) = frame.OpensIn component.0
 frame_of (held.Continues links) = frame.Continues (links_form links.now)
 frame_of (held.Applies operator) = frame.Applies operator
 frame_of (held.AppliesAlone operator) = frame.AppliesAlone operator

@@ -4,8 +4,9 @@ ghost use Rattle.std.specs.Prelude.{◌≡◌, [], ◌∷◌, ◌++◌, take, dr
 ghost use Rattle.std.specs.List.{slice_index_or, slice_set};
 ghost use Rattle.ada_program.specs.Form.{actual_form};
 ghost use Rattle.ada_program.specs.ProgramForm.{variable_form};
-ghost use Rattle.ada_meaning.specs.Step.{first_or, older, places_of, operands_of, with_places, with_operands, in_front, blank, blanks, given_places, copied_back};
+ghost use Rattle.ada_meaning.specs.Step.{first_or, older, places_of, operands_of, with_places, with_operands, in_front, blank, blanks, given_places, copied_back, stored_back, operand_count, given_values, references_in};
 ghost use Rattle.ada_meaning.specs.Named.{named};
+ghost use Rattle.ada_interpreter.specs.Activations.{is_component};
 
 use crate::stack::Stack;
 use crate::values::{set_value, set_value_behind, value_at, values_behind};
@@ -25,9 +26,10 @@ struct Begun {
 }
 
 /// The activations that have begun (6.4), seen as the list of them, the running one first. Once the stacks have grown,
-/// a call takes no memory.
+/// a call that gives no component takes no memory.
 #[derive(Drop)]
 pub(crate) struct Activations {
+    alloc: Global,
     /// The running one is the newest.
     begun: Stack<Begun>,
     /// What the variables of all of them hold: each one's places lie behind those of its caller.
@@ -66,6 +68,7 @@ impl Activations {
         let mut places = Vec::new(alloc);
         lay_blanks(&mut places, variables)?;
         Ok(Activations {
+            alloc,
             begun,
             places,
             operands: Stack::new(alloc),
@@ -175,36 +178,57 @@ impl Activations {
         self.operands.clear();
     }
 
-    /// An activation of a procedure's body begins (6.4): the newest operands, as many as `count`, are what its formal
-    /// parameters hold, and what lies in its other places is blank. Its caller keeps no operand.
+    /// An activation of a procedure's body begins (6.4): of the newest operands, which are those of these actual parameters,
+    /// its formal parameters get their values, and what lies in its other places is blank. Its caller keeps no operand.
+    /// Returns what refers to the components that are given (6.4.1), in order.
     pub(crate) fn begin(
         &mut self,
         procedure: ProcedureNo,
         variables: &[Variable],
-        count: usize,
-    ) -> Result<(), AllocError>
-        ensures { let actuals = reverse (take count (operands_of self.old)) in
-            let places = given_places named actuals (map variable_form variables.now) in
+        actuals: &[Actual],
+    ) -> Result<Vec<Value>, AllocError>
+        ensures begun { let given = map actual_form actuals.now in
+            let computed = reverse (take (operand_count given) (operands_of self.old)) in
+            let places = given_places named (given_values given computed) (map variable_form variables.now) in
             OnOk result
             (self.new ≡
             record { procedure = Some procedure.0; places = places; operands = [] } ∷ with_operands [] self.old) }
+        ensures references { let given = map actual_form actuals.now in
+            let computed = reverse (take (operand_count given) (operands_of self.old)) in
+            IfOk result (λ references. references.items ≡ references_in given computed) }
     {
         let base = self.places.len();
-        lay_places(&mut self.places, self.operands.newest(count), variables)?;
+        let computed = self.operands.newest(operand_count(actuals));
+        lay_places(&mut self.places, actuals, computed, variables)?;
+        let references = references_in(self.alloc, actuals, computed)?;
         self.begun.push(Begun {
             procedure: Some(procedure),
             base,
         })?;
         self.operands.clear();
-        Ok(())
+        Ok(references)
+    }
+
+    /// The running activation ends normally (6.4.1, 6.5), and its caller goes on: its variables get back what they are to
+    /// get, and what components are to get back is computed.
+    pub(crate) fn end_normally(&mut self, actuals: &[Actual]) -> Result<(), AllocError>
+        ensures { let caller = older self.old in
+            let given = map actual_form actuals.now in
+            let places = copied_back given (places_of self.old) (places_of caller) in
+            let stored = stored_back given (places_of self.old) ++ operands_of caller in
+            OnOk result (self.new ≡ with_operands stored (with_places places caller)) }
+    {
+        self.give_back(actuals);
+        self.end_storing(actuals)
     }
 
     /// The formal parameters of the running activation give back what they hold to its caller, where they are of mode
     /// `in out` (6.4.1): each to the variable for which it stands. Takes no memory.
-    pub(crate) fn give_back(&mut self, actuals: &[Actual])
-        ensures { let caller = older self.old in
+    fn give_back(&mut self, actuals: &[Actual])
+        ensures given { let caller = older self.old in
             let places = copied_back (map actual_form actuals.now) (places_of self.old) (places_of caller) in
             older self.new ≡ with_places places caller }
+        ensures same { places_of self.new ≡ places_of self.old }
     {
         if let Some(running) = self.begun.at(0) {
             if let Some(caller) = self.begun.at(1) {
@@ -212,6 +236,25 @@ impl Activations {
                 copy_back_behind(places, caller.base, running.base, actuals);
             }
         }
+    }
+
+    /// The running activation ends (6.5): what its formal parameters give back to components becomes the operands of its
+    /// caller, the first one newest (6.4.1).
+    fn end_storing(&mut self, actuals: &[Actual]) -> Result<(), AllocError>
+        ensures { let caller = older self.old in
+            let stored = stored_back (map actual_form actuals.now) (places_of self.old) in
+            OnOk result (self.new ≡ with_operands (stored ++ operands_of caller) caller) }
+    {
+        if let Some(running) = self.begun.at(0) {
+            self.operands.clear();
+            if self.begun.len() > 1 {
+                let formals = values_behind(self.places.as_slice(), running.base);
+                push_stored(&mut self.operands, formals, actuals)?;
+            }
+            self.places.truncate(running.base);
+            self.begun.shorten();
+        }
+        Ok(())
     }
 
     /// The running activation ends (6.5), and what its forms have computed goes: that of its caller goes on.
@@ -233,6 +276,7 @@ fn copy_back_behind(places: &mut [Value], caller: usize, callee: usize, actuals:
         drop caller (take callee places.new)
         ≡ copied_back (map actual_form actuals.now) (drop callee places.old) held }
     ensures before { take caller (take callee places.new) ≡ take caller (take callee places.old) }
+    ensures formals { drop callee places.new ≡ drop callee places.old }
 {
     if callee < places.len() {
         let (callers, formals) = places.split_at_mut(callee);
@@ -253,22 +297,137 @@ fn copy_back(variables: &mut [Value], formals: &[Value], actuals: &[Actual])
             Actual::InOut(path) | Actual::InOutAccess(path) => {
                 set_value(variables, path.root.0, *held);
             }
-            Actual::In(_) | Actual::InNull | Actual::InAccess(_) => {}
+            Actual::In(_)
+            | Actual::InNull
+            | Actual::InAccess(_)
+            | Actual::InRecord(_)
+            | Actual::InOutComponent(_)
+            | Actual::InOutRecord(_) => {}
         }
     }
 }
 
-/// The places of a body's variables are laid behind others: the first ones hold the actual parameters (6.4.1).
+/// Is an actual parameter a component, for a formal one of mode `in out`? It takes two operands: what refers to it, and its
+/// value (6.4.1).
+fn is_component(actual: &Actual) -> bool
+    ensures { result ≡ is_component (actual_form actual.now) }
+{
+    match actual {
+        Actual::InOutComponent(_) => true,
+        Actual::In(_)
+        | Actual::InNull
+        | Actual::InAccess(_)
+        | Actual::InRecord(_)
+        | Actual::InOut(_)
+        | Actual::InOutAccess(_)
+        | Actual::InOutRecord(_) => false,
+    }
+}
+
+/// How many operands the values of actual parameters are.
+fn operand_count(actuals: &[Actual]) -> usize
+    ensures { result ≡ operand_count (map actual_form actuals.now) }
+{
+    let mut count = 0;
+    for actual in actuals {
+        count += if is_component(actual) { 2 } else { 1 };
+    }
+    count
+}
+
+/// The places of a body's variables are laid behind others: the first ones hold the values of the actual parameters (6.4.1),
+/// which are among these operands.
 fn lay_places(
     places: &mut Vec<Value>,
-    actuals: &[Value],
+    actuals: &[Actual],
+    computed: &[Value],
     variables: &[Variable],
 ) -> Result<(), AllocError>
-    ensures { let given = given_places named actuals.now (map variable_form variables.now) in
-        OnOk result (places.new.items ≡ places.old.items ++ given) }
+    ensures { let values = given_values (map actual_form actuals.now) computed.now in
+        OnOk result
+        (places.new.items ≡ places.old.items ++ given_places named values (map variable_form variables.now)) }
 {
-    places.extend_from_slice(actuals)?;
-    lay_blanks(places, variables_behind(variables, actuals.len()))
+    let base = places.len();
+    lay_values(places, actuals, computed)?;
+    let formals = places.len() - base;
+    lay_blanks(places, variables_behind(variables, formals))
+}
+
+/// The values of actual parameters are laid behind other places, in order: that of a component stands behind what refers to
+/// it.
+fn lay_values(
+    places: &mut Vec<Value>,
+    actuals: &[Actual],
+    computed: &[Value],
+) -> Result<(), AllocError>
+    ensures { let values = given_values (map actual_form actuals.now) computed.now in
+        OnOk result (places.new.items ≡ places.old.items ++ values) }
+{
+    let mut left = computed;
+    for actual in actuals {
+        if is_component(actual) {
+            left = values_behind(left, 1);
+        }
+        match left.split_first() {
+            None => return Ok(()),
+            Some((value, behind)) => {
+                places.push(*value)?;
+                left = behind;
+            }
+        }
+    }
+    Ok(())
+}
+
+/// What refers to the components that are given, in order: where there are none, it takes no memory.
+fn references_in(
+    alloc: Global,
+    actuals: &[Actual],
+    computed: &[Value],
+) -> Result<Vec<Value>, AllocError>
+    ensures { IfOk result
+        (λ references. references.items ≡ references_in (map actual_form actuals.now) computed.now) }
+{
+    let mut references = Vec::new(alloc);
+    let mut left = computed;
+    for actual in actuals {
+        let Some((first, behind)) = left.split_first() else {
+            return Ok(references);
+        };
+        if is_component(actual) {
+            let Some((_, others)) = behind.split_first() else {
+                return Ok(references);
+            };
+            references.push(*first)?;
+            left = others;
+        } else {
+            left = behind;
+        }
+    }
+    Ok(references)
+}
+
+/// What formal parameters hold that give it back to components (6.4.1) is put onto operands: the first one becomes the newest.
+fn push_stored(
+    operands: &mut Stack<Value>,
+    formals: &[Value],
+    actuals: &[Actual],
+) -> Result<(), AllocError>
+    ensures { let stored = stored_back (map actual_form actuals.now) formals.now in
+        OnOk result (operands.new ≡ stored ++ operands.old) }
+{
+    let mut left = if actuals.len() < formals.len() {
+        actuals.len()
+    } else {
+        formals.len()
+    };
+    'actuals: while left > 0 {
+        left -= 1;
+        if is_component(&actuals[left]) {
+            operands.push(formals[left])?;
+        }
+    }
+    Ok(())
 }
 
 /// The variables from a number on.

@@ -47,20 +47,25 @@ impl<'a> Process<'a> {
                 self.keep(Value::Null)?;
                 Ok(QUIET)
             }
-            Item::Path(path) => self.read_then(path, rest),
+            Item::Path(path) => self.read_then(path.root, path.selectors.as_slice(), rest),
             Item::Value(expression) => {
                 self.replace_by_two(Frame::Computes(expression), rest)?;
                 Ok(QUIET)
             }
-            Item::Record(path) => self.find(
-                path.object.root,
-                path.object.selectors.as_slice(),
-                Frame::Copies {
-                    first: path.first,
-                    record_type: path.record,
-                },
-                rest,
-            ),
+            Item::Record(path) => {
+                let root = path.object.root;
+                let selectors = path.object.selectors.as_slice();
+                let first = self.number_in(root, selectors, path.first)?;
+                self.find(
+                    root,
+                    selectors,
+                    Frame::Copies {
+                        first,
+                        record_type: path.record,
+                    },
+                    rest,
+                )
+            }
         }
     }
 

@@ -1,19 +1,21 @@
 //! Calls of procedures: actual parameters, the beginning of a body, and its end.
 
-ghost use Rattle.std.specs.Prelude.{◌≡◌, map, length, false, OnOk};
+ghost use Rattle.std.specs.Prelude.{◌≡◌, map, false, OnOk};
 ghost use Rattle.std.specs.List.{slice_get};
 ghost use Rattle.ada_program.specs.Form.{actual_form};
 ghost use Rattle.ada_program.specs.ProgramForm.{body_form, body_forms};
 ghost use Rattle.ada_meaning.specs.Event.{Quiet};
 ghost use Rattle.ada_meaning.specs.Frame.{landing};
+ghost use Rattle.ada_meaning.specs.Frame as frame;
 ghost use Rattle.ada_meaning.specs.Step as step;
 ghost use Rattle.ada_meaning.specs.Named.{named};
-ghost use Rattle.ada_interpreter.specs.Process.{frame_of, state_of, passed, replaced, Turns, IsTurn};
+ghost use Rattle.ada_interpreter.specs.Process.{frame_of, state_of, passed, replaced, Turns};
 
 use crate::frame::Frame;
 use crate::process::Process;
 use crate::turn::{QUIET, Turn};
-use ada_meaning::{Halt, Mode};
+use crate::values::{base, whole};
+use ada_meaning::{Halt, Mode, Value};
 use ada_program::Program;
 use ada_program::program::{Actual, Procedure, ProcedureNo};
 use std::alloc::AllocError;
@@ -61,8 +63,8 @@ impl<'a> Process<'a> {
         Ok(())
     }
 
-    /// The body of a procedure begins (6.4): its activation holds the values of the actual parameters, which are the newest
-    /// operands, and the body is a master of its own (7.6.1).
+    /// The body of a procedure begins (6.4): its activation holds the values of the actual parameters, which are among the
+    /// newest operands, and the body is a master of its own (7.6.1).
     pub(crate) fn begin_body(
         &mut self,
         procedure: ProcedureNo,
@@ -70,59 +72,84 @@ impl<'a> Process<'a> {
         actuals: &'a [Actual],
     ) -> Result<Turn, AllocError>
         ensures { let s = passed (state_of self.old) in
-            let values = step.newest_ones named (length actuals.now) s in
             let given = map actual_form actuals.now in
-            Turns (step.moves Quiet (step.begun named procedure.0 (body_form body.now) given values s))
+            let computed = step.newest_ones named (step.operand_count given) s in
+            Turns (step.moves Quiet (step.begun named procedure.0 (body_form body.now) given computed s))
             (state_of self.old) result (state_of self.new) }
     {
+        let references = self
+            .activations
+            .begin(procedure, body.variables.as_slice(), actuals)?;
         self.replace_by_two(
             Frame::Elaborates {
                 declarations: body.declarations.as_slice(),
                 statements: body.statements.as_slice(),
                 handlers: body.handlers.as_slice(),
             },
-            Frame::Returns(actuals),
+            Frame::Returns {
+                actuals,
+                references,
+            },
         )?;
-        self.activations
-            .begin(procedure, body.variables.as_slice(), actuals.len())?;
         self.enter()?;
         Ok(QUIET)
     }
 
-    /// A call's body ends normally (6.4.1, 6.5): its caller gets back what it is to get, and goes on.
-    pub(crate) fn resume(&mut self, actuals: &[Actual]) -> Turn
-        ensures { let s = passed (state_of self.old) in
-            IsTurn (step.moves Quiet (step.returned (map actual_form actuals.now) s))
-            (state_of self.old) result (state_of self.new) }
+    /// A call's body ends normally (6.4.1, 6.5): its caller gets back what it is to get, and goes on. What goes to components
+    /// is stored in them next.
+    pub(crate) fn resume(
+        &mut self,
+        actuals: &[Actual],
+        references: &[Value],
+    ) -> Result<(), AllocError>
+        ensures { let given = map actual_form actuals.now in
+            OnOk result
+            (state_of self.new ≡ step.returned named given references.now (state_of self.old)) }
     {
-        self.activations.give_back(actuals);
-        self.break_off()
+        self.activations.end_normally(actuals)?;
+        self.store_all(references)
+    }
+
+    /// The components to which values refer get the newest operands, one after another, before what else is left to do.
+    fn store_all(&mut self, references: &[Value]) -> Result<(), AllocError>
+        ensures { let s = state_of self.old in
+            OnOk result (state_of self.new ≡ step.at (step.storing named references.now s.control) s) }
+    {
+        let mut left = references.len();
+        'references: while left > 0 {
+            left -= 1;
+            let reference = references[left];
+            self.push(Frame::StoresIn {
+                object: whole(reference),
+                component: base(reference),
+            })?;
+        }
+        Ok(())
     }
 
     /// A jump comes to the end of a call's body. A return ends here, and the body ends normally (6.5). Any other jump
     /// passes, and nothing is given back (6.4.1, 11.4).
-    pub(crate) fn leave_body(&mut self, mode: Mode, actuals: &'a [Actual]) -> Turn
+    pub(crate) fn leave_body(
+        &mut self,
+        mode: Mode,
+        actuals: &[Actual],
+        references: &[Value],
+    ) -> Result<(), AllocError>
         ensures { let given = map actual_form actuals.now in
-            let s = step.left_by mode given (passed (state_of self.old)) in
-            IsTurn (step.pass_next named false (landing mode (frame_of (Frame.Returns actuals.entry))) mode s)
-            (state_of self.old) result (state_of self.new) }
+            let returns = frame.Returns given references.now in
+            let s = step.left_by named mode given references.now (state_of self.old) in
+            OnOk result
+            (step.moves Quiet (state_of self.new) ≡ step.pass_next named false (landing mode returns) mode s) }
     {
         match mode {
             Mode::Returning => {
                 self.mode = Mode::Running;
-                self.resume(actuals)
+                self.resume(actuals, references)
             }
-            Mode::Running | Mode::Raising(_) | Mode::Exiting => self.break_off(),
+            Mode::Running | Mode::Raising(_) | Mode::Exiting => {
+                self.activations.end();
+                Ok(())
+            }
         }
-    }
-
-    /// A call's body ends, and gives nothing more back: the activation of its caller goes on.
-    fn break_off(&mut self) -> Turn
-        ensures { let s = passed (state_of self.old) in
-            IsTurn (step.moves Quiet (step.resumed s)) (state_of self.old) result (state_of self.new) }
-    {
-        self.pass();
-        self.activations.end();
-        QUIET
     }
 }

@@ -11,6 +11,7 @@ ghost use Rattle.ada_interpreter.specs.Process.{state_of, passed};
 
 use crate::frame::Frame;
 use crate::process::Process;
+use crate::values::whole;
 use ada_meaning::Value;
 use ada_program::Path;
 use ada_program::program::{Expression, Right};
@@ -62,11 +63,11 @@ impl<'a> Process<'a> {
     /// A path that is a variable (4.1).
     pub(crate) fn read_next(&mut self, path: &'a Path) -> Result<bool, AllocError>
         ensures { let s = passed (state_of self.old) in let form = path_form path.now in
-            MayMove (step.path_next named form.selectors (step.held named s form.root) s) self.old result self.new }
+            MayMove (step.named_next named form.selectors form.root s) self.old result self.new }
     {
         match path.selectors.as_slice().first() {
             None => {
-                let value = self.held(path.root);
+                let value = whole(self.held(path.root));
                 self.give(value)?;
                 Ok(true)
             }

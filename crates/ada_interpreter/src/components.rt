@@ -37,15 +37,18 @@ impl<'a> Process<'a> {
                 )?;
                 Ok(QUIET)
             }
-            Some((last, before)) => self.find(
-                target.root,
-                before,
-                Frame::Targets {
-                    component: *last,
-                    right: value,
-                },
-                rest,
-            ),
+            Some((last, before)) => {
+                let component = self.number_in(target.root, before, *last)?;
+                self.find(
+                    target.root,
+                    before,
+                    Frame::Targets {
+                        component,
+                        right: value,
+                    },
+                    rest,
+                )
+            }
         }
     }
 
@@ -58,7 +61,10 @@ impl<'a> Process<'a> {
     {
         match target.selectors.as_slice().split_last() {
             None => self.get_variable(target.root, rest),
-            Some((last, before)) => self.find(target.root, before, Frame::Receives(*last), rest),
+            Some((last, before)) => {
+                let component = self.number_in(target.root, before, *last)?;
+                self.find(target.root, before, Frame::Receives(component), rest)
+            }
         }
     }
 
@@ -86,12 +92,11 @@ impl<'a> Process<'a> {
     ) -> Result<Turn, AllocError>
         ensures { let after = replaced (frame_of rest.entry) (state_of self.old) in
             let s = pushed (frame_of then.entry) after in
-            let value = step.held named s variable.0 in
-            Turns (step.path_next named (map component_number selectors.now) value s)
+            Turns (step.named_next named (map component_number selectors.now) variable.0 s)
             (state_of self.old) result (state_of self.new) }
     {
         let value = self.held(variable);
-        match self.reach(value, selectors) {
+        match self.reach_from(value, selectors) {
             Err(halt) => Ok(Turn::Halts(halt)),
             Ok(outcome) => {
                 self.replace_by_two(then, rest)?;
@@ -118,7 +123,11 @@ impl<'a> Process<'a> {
                 self.raise(Exception::ConstraintError);
                 Ok(QUIET)
             }
-            Value::Scalar(_) => Ok(Turn::Halts(Halt::Stuck)),
+            Value::Scalar(_)
+            | Value::Part {
+                object: _,
+                first: _,
+            } => { Ok(Turn::Halts(Halt::Stuck)) }
             Value::Names(object) => self.target_object(object, component, right),
         }
     }
@@ -202,7 +211,11 @@ impl<'a> Process<'a> {
                 self.raise(Exception::ConstraintError);
                 QUIET
             }
-            Value::Scalar(_) => Turn::Halts(Halt::Stuck),
+            Value::Scalar(_)
+            | Value::Part {
+                object: _,
+                first: _,
+            } => Turn::Halts(Halt::Stuck),
             Value::Names(object) => self.receive_in_object(object, component),
         }
     }

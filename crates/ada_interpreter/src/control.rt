@@ -2,7 +2,7 @@
 
 ghost use Rattle.std.specs.Prelude.{◌≡◌};
 ghost use Rattle.ada_program.specs.ProgramForm.{body_forms};
-ghost use Rattle.ada_meaning.specs.Step.{running_next, jump_next, frame_next, pass_next, landed, end_of};
+ghost use Rattle.ada_meaning.specs.Step.{running_next, jump_next, pass_next, landed, end_of};
 ghost use Rattle.ada_meaning.specs.Named.{next, named};
 ghost use Rattle.ada_interpreter.specs.Process.{frame_of, landing_of, state_of, passed, Turns};
 
@@ -36,104 +36,115 @@ impl<'a> Process<'a> {
     {
         match self.frames.top() {
             None => Ok(Turn::Halts(Halt::Finished)),
-            Some(frame) => {
-                let frame = *frame;
-                self.advance(program, frame)
-            }
-        }
-    }
-
-    /// What the first of what is left to do does.
-    fn advance(&mut self, program: &'a Program, frame: Frame<'a>) -> Result<Turn, AllocError>
-        ensures { let s = state_of self.old in
-            Turns (frame_next named program.now.types.items (body_forms program.now) (frame_of frame.entry) (passed s))
-            s result (state_of self.new) }
-    {
-        match frame {
-            Frame::Elaborates {
-                declarations,
-                statements,
-                handlers,
-            } => self.elaborate(program, declarations, statements, handlers),
-            Frame::Does(statements) => self.begin(program, statements),
-            Frame::Decides {
-                statements,
-                branches,
-                otherwise,
-            } => self.decide(statements, branches, otherwise),
-            Frame::Repeats {
-                condition,
-                statements,
-            } => self.repeat(condition, statements),
-            Frame::Turns {
-                condition,
-                statements,
-            } => self.go_round(condition, statements),
-            Frame::Ranges {
-                parameter,
-                statements,
-            } => self.count(parameter, statements),
-            Frame::Counts {
-                parameter,
-                value,
-                last,
-                statements,
-            } => self.count_on(parameter, value, last, statements),
-            Frame::Exits => Ok(self.exit_where_true()),
-            Frame::Handles(_) => {
-                self.pass();
-                Ok(QUIET)
-            }
-            Frame::Closes => self.close(),
-            Frame::Leaves(mode) => self.leave(mode),
-            Frame::Calls {
-                procedure,
-                body,
-                actuals,
-            } => self.begin_body(procedure, body, actuals),
-            Frame::Returns(actuals) => Ok(self.resume(actuals)),
-            Frame::Evaluates(right) => self.evaluate(program, right),
-            Frame::Computes(expression) => self.compute(expression),
-            Frame::Reads(path) | Frame::Names(path) => self.read(path),
-            Frame::Follows(selectors) => self.follow(selectors),
-            Frame::TestsNull { equal } => self.test_null(equal),
-            Frame::Continues(links) => {
-                self.go_on(links)?;
-                Ok(QUIET)
-            }
-            Frame::Applies(operator) => self.apply(operator),
-            Frame::AppliesAlone(operator) => self.apply_alone(operator),
-            Frame::Fills(items) => self.fill(items),
-            Frame::Copies { first, record_type } => self.copy(program, first, record_type),
-            Frame::Creates { access, count } => Ok(self.ask(program, access, count)),
-            Frame::Stores(variable) => Ok(self.store(variable)),
-            Frame::Targets { component, right } => self.target(component, right),
-            Frame::StoresIn { object, component } => Ok(self.store_in(object, component)),
-            Frame::TargetsRecord {
-                first,
-                record_type,
-                items,
-            } => self.target_record(program, first, record_type, items),
-            Frame::StoresRecord {
-                object,
-                first,
-                count,
-            } => Ok(self.store_record(object, first, count)),
-            Frame::Receives(component) => Ok(self.receive(component)),
-            Frame::FreesIn { access, component } => self.free_in(access, component),
-            Frame::Declares(variable) => self.create(variable),
-            Frame::DeclaresRecord { variable, object } => {
-                self.declare_record(program, variable, object)
-            }
-            Frame::Writes => Ok(self.write()),
-            Frame::Ends(object) => Ok(self.end(object)),
-            Frame::GivesBack {
-                object,
-                cause,
-                pool,
-            } => Ok(self.give_back(object, cause, pool)),
-            Frame::Clears(variable) => Ok(self.clear(variable)),
-            Frame::ClearsIn { object, component } => Ok(self.clear_in(object, component)),
+            Some(frame) => match *frame {
+                Frame::Elaborates {
+                    declarations,
+                    statements,
+                    handlers,
+                } => self.elaborate(program, declarations, statements, handlers),
+                Frame::Does(statements) => self.begin(program, statements),
+                Frame::Decides {
+                    statements,
+                    branches,
+                    otherwise,
+                } => self.decide(statements, branches, otherwise),
+                Frame::Repeats {
+                    condition,
+                    statements,
+                } => self.repeat(condition, statements),
+                Frame::Turns {
+                    condition,
+                    statements,
+                } => self.go_round(condition, statements),
+                Frame::Ranges {
+                    parameter,
+                    statements,
+                } => self.count(parameter, statements),
+                Frame::Counts {
+                    parameter,
+                    value,
+                    last,
+                    statements,
+                } => self.count_on(parameter, value, last, statements),
+                Frame::Exits => Ok(self.exit_where_true()),
+                Frame::Handles(_) => {
+                    self.pass();
+                    Ok(QUIET)
+                }
+                Frame::Closes => self.close(),
+                Frame::Leaves(mode) => self.leave(mode),
+                Frame::Calls {
+                    procedure,
+                    body,
+                    actuals,
+                } => self.begin_body(procedure, body, actuals),
+                Frame::Returns {
+                    actuals: _,
+                    references: _,
+                } => {
+                    let Some(
+                        Frame::Returns {
+                            actuals,
+                            references,
+                        },
+                    ) = self.frames.pop()
+                    else {
+                        unreachable!()
+                    };
+                    self.resume(actuals, references.as_slice())?;
+                    Ok(QUIET)
+                }
+                Frame::Evaluates(right) => self.evaluate(program, right),
+                Frame::Computes(expression) => self.compute(expression),
+                Frame::Reads(path) | Frame::Names(path) => self.read(path),
+                Frame::Follows(selectors) => self.follow(selectors),
+                Frame::TestsNull { equal } => self.test_null(equal),
+                Frame::Refers(path) => self.refer(path),
+                Frame::RefersIn { first, record_type } => self.refer_in(
+                    program,
+                    first,
+                    record_type,
+                ),
+                Frame::Opens(path) => self.open(path),
+                Frame::OpensIn(component) => self.open_in(component),
+                Frame::Continues(links) => {
+                    self.go_on(links)?;
+                    Ok(QUIET)
+                }
+                Frame::Applies(operator) => self.apply(operator),
+                Frame::AppliesAlone(operator) => self.apply_alone(operator),
+                Frame::Fills(items) => self.fill(items),
+                Frame::Copies { first, record_type } => self.copy(program, first, record_type),
+                Frame::Creates { access, count } => Ok(self.ask(program, access, count)),
+                Frame::Stores(variable) => Ok(self.store(variable)),
+                Frame::Targets { component, right } => self.target(component, right),
+                Frame::StoresIn { object, component } => Ok(self.store_in(object, component)),
+                Frame::TargetsRecord {
+                    first,
+                    record_type,
+                    items,
+                } => self.target_record(program, first, record_type, items),
+                Frame::StoresRecord {
+                    object,
+                    first,
+                    count,
+                } => Ok(self.store_record(object, first, count)),
+                Frame::Receives(component) => Ok(self.receive(component)),
+                Frame::FreesIn { access, component } => self.free_in(access, component),
+                Frame::Declares(variable) => self.create(variable),
+                Frame::DeclaresRecord { variable, object } => {
+                    self.declare_record(program, variable, object)
+                }
+                Frame::Writes => Ok(self.write()),
+                Frame::Ends(object) => Ok(self.end(object)),
+                Frame::GivesBack {
+                    object,
+                    cause,
+                    pool,
+                } => Ok(self.give_back(object, cause, pool)),
+                Frame::Clears(variable) => Ok(self.clear(variable)),
+                Frame::ClearsIn { object, component } => Ok(self.clear_in(object, component)),
+            },
         }
     }
 
@@ -144,9 +155,23 @@ impl<'a> Process<'a> {
     {
         match self.frames.top() {
             None => Ok(Turn::Halts(end_of(mode))),
-            Some(Frame::Returns(actuals)) => {
-                let actuals = *actuals;
-                Ok(self.leave_body(mode, actuals))
+            Some(
+                Frame::Returns {
+                    actuals: _,
+                    references: _,
+                },
+            ) => {
+                let Some(
+                    Frame::Returns {
+                        actuals,
+                        references,
+                    },
+                ) = self.frames.pop()
+                else {
+                    unreachable!()
+                };
+                self.leave_body(mode, actuals, references.as_slice())?;
+                Ok(QUIET)
             }
             Some(frame) => {
                 let is_master = frame.is_master();

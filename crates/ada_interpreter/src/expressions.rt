@@ -1,19 +1,20 @@
 //! Paths and expressions: each step evaluates one part of them.
 
-ghost use Rattle.std.specs.Prelude.{◌≡◌, map, IfOk, OnOk};
+ghost use Rattle.std.specs.Prelude.{◌≡◌, ◌+◌, map, IfOk, OnOk};
 ghost use Rattle.ada_program.specs.Form.{component_number, path_form, expression_form};
 ghost use Rattle.ada_meaning.specs.Event.{Quiet, event_of};
 ghost use Rattle.ada_meaning.specs.Frame as frame;
 ghost use Rattle.ada_meaning.specs.Step as step;
-ghost use Rattle.ada_meaning.specs.Named.{State, named, look};
+ghost use Rattle.ada_meaning.specs.Named.{State, named, look, whole};
 ghost use Rattle.ada_interpreter.specs.Process.{frame_of, state_of, passed, replaced, pushed, Turns, behind, going_by, outcome_of};
 
 use crate::frame::Frame;
 use crate::process::Process;
 use crate::turn::{QUIET, Turn};
+use crate::values::{first_in, values_behind, whole};
 use ada_meaning::{Event, Exception, Halt, Id, Value, Why};
-use ada_program::Path;
 use ada_program::program::{ComponentNo, Expression};
+use ada_program::{Path, VariableNo};
 use ada_values::Value as Scalar;
 use std::alloc::AllocError;
 
@@ -50,9 +51,11 @@ impl<'a> Process<'a> {
                 Ok(QUIET)
             }
             Expression::Path(path) => self.read(path),
-            Expression::NullTest { path, equal } => {
-                self.read_then(path, Frame::TestsNull { equal: *equal })
-            }
+            Expression::NullTest { path, equal } => self.read_then(
+                path.root,
+                path.selectors.as_slice(),
+                Frame::TestsNull { equal: *equal },
+            ),
             Expression::Unary { operator, operand } => {
                 self.compute_then(operand, Frame::AppliesAlone(*operator))
             }
@@ -77,12 +80,12 @@ impl<'a> Process<'a> {
     pub(crate) fn read(&mut self, path: &'a Path) -> Result<Turn, AllocError>
         ensures { let s = state_of self.old in let form = path_form path.now in
             Turns
-            (step.path_next named form.selectors (step.held named (passed s) form.root) (passed s))
+            (step.named_next named form.selectors form.root (passed s))
             s result (state_of self.new) }
     {
         match path.selectors.as_slice().split_first() {
             None => {
-                let value = self.held(path.root);
+                let value = whole(self.held(path.root));
                 self.give(value)?;
                 Ok(QUIET)
             }
@@ -94,11 +97,11 @@ impl<'a> Process<'a> {
     fn read_behind(&mut self, path: &'a Path) -> Result<Turn, AllocError>
         ensures { let s = state_of self.old in let form = path_form path.now in
             Turns
-            (step.path_next named form.selectors (step.held named (passed s) form.root) (passed s))
+            (step.named_next named form.selectors form.root (passed s))
             s result (state_of self.new) }
     {
         let value = self.held(path.root);
-        match self.reach(value, path.selectors.as_slice()) {
+        match self.reach_from(value, path.selectors.as_slice()) {
             Err(halt) => Ok(Turn::Halts(halt)),
             Ok(outcome) => {
                 self.pass();
@@ -108,14 +111,18 @@ impl<'a> Process<'a> {
     }
 
     /// A path is read, and then something is to be done with its value, in place of the first of what is left to do.
-    pub(crate) fn read_then(&mut self, path: &'a Path, then: Frame<'a>) -> Result<Turn, AllocError>
+    pub(crate) fn read_then(
+        &mut self,
+        variable: VariableNo,
+        selectors: &'a [ComponentNo],
+        then: Frame<'a>,
+    ) -> Result<Turn, AllocError>
         ensures { let s = replaced (frame_of then.entry) (state_of self.old) in
-            let form = path_form path.now in
-            Turns (step.path_next named form.selectors (step.held named s form.root) s)
+            Turns (step.named_next named (map component_number selectors.now) variable.0 s)
             (state_of self.old) result (state_of self.new) }
     {
-        let value = self.held(path.root);
-        match self.reach(value, path.selectors.as_slice()) {
+        let value = self.held(variable);
+        match self.reach_from(value, selectors) {
             Err(halt) => Ok(Turn::Halts(halt)),
             Ok(outcome) => {
                 self.replace(then)?;
@@ -155,8 +162,36 @@ impl<'a> Process<'a> {
             None => Ok(Outcome::Value(value)),
             Some((first, rest)) => match value {
                 Value::Null => Ok(Outcome::Raises),
-                Value::Scalar(_) => Err(Halt::Stuck),
+                Value::Scalar(_)
+                | Value::Part {
+                    object: _,
+                    first: _,
+                } => Err(Halt::Stuck),
                 Value::Names(object) => self.component(object, *first, rest),
+            },
+        }
+    }
+
+    /// What comes of the components that are named behind what a variable holds (4.1, 6.2). A record parameter stands for a
+    /// record that lies in an object, so the first of them is a component of that.
+    pub(crate) fn reach_from(
+        &self,
+        value: Value,
+        selectors: &'a [ComponentNo],
+    ) -> Result<Outcome<'a>, Halt>
+        ensures { let named_behind = step.selected named value (map component_number selectors.now) in
+            (s : State) → s.heap ≡ self.now.objects →
+            step.path_next named named_behind (whole value) s ≡ outcome_of result s }
+    {
+        match selectors.split_first() {
+            None => Ok(Outcome::Value(whole(value))),
+            Some((component, rest)) => match value {
+                Value::Null => Ok(Outcome::Raises),
+                Value::Scalar(_) => Err(Halt::Stuck),
+                Value::Names(object) => self.component(object, *component, rest),
+                Value::Part { object, first } => {
+                    self.component_behind(object, first, *component, rest)
+                }
             },
         }
     }
@@ -182,6 +217,44 @@ impl<'a> Process<'a> {
                 }),
             },
         }
+    }
+
+    /// What comes of a component of a record that lies in an object from its component `first` on (6.2).
+    fn component_behind(
+        &self,
+        object: Id,
+        first: usize,
+        component: ComponentNo,
+        rest: &'a [ComponentNo],
+    ) -> Result<Outcome<'a>, Halt>
+        ensures { let v = Value.Names object in (s : State) → s.heap ≡ self.now.objects →
+            step.follow_next named v (first + component.0) (map component_number rest.now) (look s.heap v) s ≡ outcome_of result s }
+    {
+        match self.objects.existing(object) {
+            None => Err(Halt::Erroneous(Why::FollowsGone)),
+            Some(cell) => match values_behind(cell.values.as_slice(), first).get(component.0) {
+                None => Err(Halt::Stuck),
+                Some(value) => Ok(Outcome::Component {
+                    object,
+                    value: *value,
+                    rest,
+                }),
+            },
+        }
+    }
+
+    /// The number that a component has in the object to which a path leads from a variable (4.1.3, 6.2).
+    pub(crate) fn number_in(
+        &self,
+        variable: VariableNo,
+        selectors: &[ComponentNo],
+        component: ComponentNo,
+    ) -> Result<ComponentNo, AllocError>
+        ensures { let v = step.held named (state_of self.now) variable.0 in
+            IfOk result
+            (λ number. number.0 ≡ step.first_in named v (map component_number selectors.now) component.0) }
+    {
+        first_in(self.held(variable), selectors, component)
     }
 
     /// The run goes on by an outcome.

@@ -10,13 +10,13 @@ use crate::handling::{Landing, landing_among};
 use ada_meaning::{Cause, Exception, Mode, Value};
 use ada_program::program::{
     Actual, Branch, ComponentNo, Declaration, Expression, Handler, Item, Link, Procedure,
-    ProcedureNo, Right,
+    ProcedureNo, RecordPath, Right,
 };
 use ada_program::{Path, Stmt, TypeNo, VariableNo};
 use ada_values::operator::{BinaryOperator, UnaryOperator};
 
 /// One thing that is left to do.
-#[derive(Clone, Copy)]
+#[derive(Drop)]
 pub(crate) enum Frame<'a> {
     /// The declarations that are left of a master, and the statements behind them with their handlers (3.11).
     Elaborates {
@@ -69,8 +69,12 @@ pub(crate) enum Frame<'a> {
         actuals: &'a [Actual],
     },
     /// The body of a call with these actual parameters is in front of this: its activation ends then, and that of its
-    /// caller goes on (6.4, 6.5).
-    Returns(&'a [Actual]),
+    /// caller goes on (6.4, 6.5). The references are to the components that are given for formal parameters of mode
+    /// `in out`, in order: where there are none, they take no memory.
+    Returns {
+        actuals: &'a [Actual],
+        references: Vec<Value>,
+    },
     /// What is assigned is to be evaluated; null where nothing is written (5.2).
     Evaluates(Option<&'a Right>),
     /// An expression is to be evaluated: its value becomes the newest operand (4.4).
@@ -85,6 +89,19 @@ pub(crate) enum Frame<'a> {
     TestsNull {
         equal: bool,
     },
+    /// The record to which a path leads is to be found: what refers to it becomes the newest operand (6.2).
+    Refers(&'a RecordPath),
+    /// The newest operand gives access to an object in which a record of this type lies, from a component on: what refers
+    /// to the record becomes the newest operand (6.2).
+    RefersIn {
+        first: ComponentNo,
+        record_type: TypeNo,
+    },
+    /// The component to which a path leads is to be found, for a formal parameter of mode `in out` (6.4.1).
+    Opens(&'a Path),
+    /// The newest operand gives access to an object, whose component is given for such a parameter: what refers to it
+    /// becomes an operand, and its value the newest one (6.4.1).
+    OpensIn(ComponentNo),
     /// The operators of a chain that are left; the newest operand is the left one of the first (4.5).
     Continues(&'a [Link]),
     /// An operator is to be applied to the two newest operands (4.5).
@@ -165,7 +182,8 @@ pub(crate) enum Frame<'a> {
 }
 
 impl<'a> Frame<'a> {
-    /// An actual parameter is to be evaluated (6.4.1): the value that is given, or what the variable holds.
+    /// An actual parameter is to be evaluated (6.4.1): the value that is given, or what the variable holds. A record and a
+    /// component are to be found.
     pub(crate) fn evaluating(actual: &'a Actual) -> Frame<'a>
         ensures { frame_of result ≡ frame.evaluating (actual_form actual.now) }
     {
@@ -174,6 +192,8 @@ impl<'a> Frame<'a> {
             Actual::InNull => Frame::Evaluates(None),
             Actual::InOut(path) => Frame::Reads(path),
             Actual::InAccess(path) | Actual::InOutAccess(path) => Frame::Names(path),
+            Actual::InOutComponent(path) => Frame::Opens(path),
+            Actual::InRecord(path) | Actual::InOutRecord(path) => Frame::Refers(path),
         }
     }
 
@@ -207,7 +227,10 @@ impl<'a> Frame<'a> {
         ensures { result ≡ is_return (frame_of self.now) }
     {
         match self {
-            Frame::Returns(_) => true,
+            Frame::Returns {
+                actuals: _,
+                references: _,
+            } => true,
             _ => false,
         }
     }

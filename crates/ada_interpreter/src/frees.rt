@@ -30,15 +30,15 @@ impl<'a> Process<'a> {
     {
         match path.selectors.as_slice().split_last() {
             None => self.free_variable(access, path.root, rest),
-            Some((last, before)) => self.find(
-                path.root,
-                before,
-                Frame::FreesIn {
-                    access,
-                    component: *last,
-                },
-                rest,
-            ),
+            Some((last, before)) => {
+                let component = self.number_in(path.root, before, *last)?;
+                self.find(
+                    path.root,
+                    before,
+                    Frame::FreesIn { access, component },
+                    rest,
+                )
+            }
         }
     }
 
@@ -59,7 +59,11 @@ impl<'a> Process<'a> {
                 self.replace(rest)?;
                 Ok(QUIET)
             }
-            Value::Scalar(_) => Ok(Turn::Halts(Halt::Stuck)),
+            Value::Scalar(_)
+            | Value::Part {
+                object: _,
+                first: _,
+            } => { Ok(Turn::Halts(Halt::Stuck)) }
             Value::Names(object) => self.free_object(object, variable, rest),
         }
     }
@@ -104,7 +108,11 @@ impl<'a> Process<'a> {
                 self.raise(Exception::ConstraintError);
                 Ok(QUIET)
             }
-            Value::Scalar(_) => Ok(Turn::Halts(Halt::Stuck)),
+            Value::Scalar(_)
+            | Value::Part {
+                object: _,
+                first: _,
+            } => { Ok(Turn::Halts(Halt::Stuck)) }
             Value::Names(holder) => self.free_in_object(holder, component),
         }
     }
@@ -147,7 +155,11 @@ impl<'a> Process<'a> {
                 self.pop();
                 Ok(Turn::Moves(Event::Followed { object: holder }))
             }
-            Value::Scalar(_) => Ok(Turn::Halts(Halt::Stuck)),
+            Value::Scalar(_)
+            | Value::Part {
+                object: _,
+                first: _,
+            } => { Ok(Turn::Halts(Halt::Stuck)) }
             Value::Names(object) => self.free_component_object(holder, component, object),
         }
     }

@@ -8,7 +8,8 @@
 //! its collection, and an access type its newest open collection. An exception looks at the handlers that it comes to,
 //! the step that copies or fills a record costs as much as the record is long, the steps in which a call begins cost
 //! as much as it has actual parameters and its procedure has variables, and the step in which it ends costs as much as
-//! it has actual parameters. Once the machine's stacks have grown, a call takes no memory.
+//! it has actual parameters. Once the machine's stacks have grown, a call takes no memory, but for one that gives
+//! components for formal parameters of mode `in out`: what refers to them is kept as long as its body runs.
 #![tactic(auto)]
 
 mod activations;
@@ -31,6 +32,7 @@ mod machine;
 mod masters;
 mod objects;
 mod operators;
+mod parameters;
 mod process;
 mod records;
 mod shelves;

@@ -92,7 +92,11 @@ impl<'a> Process<'a> {
                 self.exchange(Value::Scalar(Scalar::Boolean(!equal)))?;
                 Ok(QUIET)
             }
-            Value::Scalar(_) => Ok(Turn::Halts(Halt::Stuck)),
+            Value::Scalar(_)
+            | Value::Part {
+                object: _,
+                first: _,
+            } => { Ok(Turn::Halts(Halt::Stuck)) }
         }
     }
 

@@ -41,7 +41,11 @@ impl<'a> Process<'a> {
                 self.raise(Exception::ConstraintError);
                 Ok(QUIET)
             }
-            Value::Scalar(_) => Ok(Turn::Halts(Halt::Stuck)),
+            Value::Scalar(_)
+            | Value::Part {
+                object: _,
+                first: _,
+            } => { Ok(Turn::Halts(Halt::Stuck)) }
             Value::Names(object) => self.copy_from(object, first, program.width(record_type)),
         }
     }
@@ -81,16 +85,19 @@ impl<'a> Process<'a> {
     ) -> Result<Turn, AllocError>
         ensures { let s = replaced (frame_of rest.entry) (state_of self.old) in
             let form = record_path_form target.now in
-            let targets = frame.TargetsRecord form.first form.record_type (map item_form items.now) in
+            let forms = map item_form items.now in
             Turns
-            (step.path_next named form.object.selectors (step.held named s form.object.root) (pushed targets s))
+            (step.record_holder_next named form (λ first. frame.TargetsRecord first form.record_type forms) s)
             (state_of self.old) result (state_of self.new) }
     {
+        let root = target.object.root;
+        let selectors = target.object.selectors.as_slice();
+        let first = self.number_in(root, selectors, target.first)?;
         self.find(
-            target.object.root,
-            target.object.selectors.as_slice(),
+            root,
+            selectors,
             Frame::TargetsRecord {
-                first: target.first,
+                first,
                 record_type: target.record,
                 items,
             },
@@ -120,7 +127,11 @@ impl<'a> Process<'a> {
                 self.raise(Exception::ConstraintError);
                 Ok(QUIET)
             }
-            Value::Scalar(_) => Ok(Turn::Halts(Halt::Stuck)),
+            Value::Scalar(_)
+            | Value::Part {
+                object: _,
+                first: _,
+            } => { Ok(Turn::Halts(Halt::Stuck)) }
             Value::Names(object) => {
                 self.target_record_in(object, first, program.width(record_type), items)
             }

@@ -54,6 +54,15 @@ impl<T: Drop> Stack<T> {
         let _ = self.items.pop();
     }
 
+    /// Takes the newest item off.
+    #[tactic(auto, using(crate::proofs::StackLemmas::newest_first))]
+    pub(crate) fn pop(&mut self) -> Option<T>
+        ensures item { result ≡ slice_get self.old 0 }
+        ensures left { self.new ≡ older self.old }
+    {
+        self.items.pop()
+    }
+
     /// The newest item.
     #[tactic(auto, using(crate::proofs::StackLemmas::newest_first))]
     pub(crate) fn top(&self) -> Option<&T>

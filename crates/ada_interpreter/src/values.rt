@@ -3,12 +3,13 @@
 ghost use Rattle.std.specs.Prelude.{◌≡◌, take, drop, map, IfOk};
 ghost use Rattle.std.specs.List.{slice_index_or, slice_set};
 ghost use Rattle.std.specs.Option.{option_copied};
-ghost use Rattle.ada_meaning.specs.Step.{initial_value, record_in};
-ghost use Rattle.ada_meaning.specs.Named.{named, reads_boolean, reads_integer};
+ghost use Rattle.ada_program.specs.Form.{component_number};
+ghost use Rattle.ada_meaning.specs.Step.{initial_value, record_in, first_in};
+ghost use Rattle.ada_meaning.specs.Named.{named, reads_boolean, reads_integer, whole, base, inside};
 ghost use Rattle.ada_interpreter.specs.Objects.{set_from};
 
 use ada_meaning::Value;
-use ada_program::program::ComponentKind;
+use ada_program::program::{ComponentKind, ComponentNo};
 use ada_values::Value as Scalar;
 use std::alloc::{AllocError, Global};
 
@@ -76,6 +77,57 @@ pub(crate) fn values_behind(values: &[Value], first: usize) -> &[Value]
         &values[first..]
     } else {
         &[]
+    }
+}
+
+/// The object in which that lies to which a value refers (6.2). Any other value is as it was.
+pub(crate) fn whole(value: Value) -> Value
+    ensures { result ≡ whole value }
+{
+    match value {
+        Value::Part { object, first: _ } => Value::Names(object),
+        Value::Null | Value::Names(_) | Value::Scalar(_) => value,
+    }
+}
+
+/// The component of its object where that begins to which a value refers (6.2).
+pub(crate) fn base(value: Value) -> ComponentNo
+    ensures { result.0 ≡ base value }
+{
+    match value {
+        Value::Part { object: _, first } => ComponentNo(first),
+        Value::Null | Value::Names(_) | Value::Scalar(_) => ComponentNo(0),
+    }
+}
+
+/// The number that a component has in the object of a value, which may refer to a record that lies in it (6.2). Fails where
+/// that is past every number.
+pub(crate) fn inside(value: Value, component: ComponentNo) -> Result<ComponentNo, AllocError>
+    ensures { IfOk result (λ number. number.0 ≡ inside value component.0) }
+{
+    match value {
+        Value::Part { object: _, first } => match first.checked_add(component.0) {
+            Some(number) => Ok(ComponentNo(number)),
+            None => Err(AllocError),
+        },
+        Value::Null | Value::Names(_) | Value::Scalar(_) => Ok(component),
+    }
+}
+
+/// The number that a component has in the object to which these selectors lead from a value: where there are none, it is that
+/// of the value.
+pub(crate) fn first_in(
+    value: Value,
+    selectors: &[ComponentNo],
+    component: ComponentNo,
+) -> Result<ComponentNo, AllocError>
+    ensures { IfOk result
+        (λ number. number.0 ≡ first_in named value (map component_number selectors.now) component.0) }
+{
+    if selectors.is_empty() {
+        inside(value, component)
+    } else {
+        Ok(component)
     }
 }
 

@@ -3,7 +3,7 @@
 use Rattle.std.proofs.Common.{◌≡◌, ℕ, zero, suc, Bool, true, false, if◌then◌else◌, List, [], ◌∷◌, length, Option, Some, None, Result, Ok, Err, refl, ap, ◌∙◌}
 use Rattle.std.specs.List.{slice_get, slice_set}
 use Rattle.ada_program.specs.declared.program.TypeDefinition.{TypeDefinition}
-use Rattle.ada_program.specs.Form.{ExpressionForm, integer, boolean, reads, is_null, applied_to, chained, LinksForm, no_more_links, a_link, ItemForm, null_item, item_of_path, item_of_value, item_of_record, RightForm, nothing, value_of, allocates, allocates_default, computes}
+use Rattle.ada_program.specs.Form.{RecordPathForm, ExpressionForm, integer, boolean, reads, is_null, applied_to, chained, LinksForm, no_more_links, a_link, ItemForm, null_item, item_of_path, item_of_value, item_of_record, RightForm, nothing, value_of, allocates, allocates_default, computes}
 use Rattle.ada_values.specs.declared.operator.BinaryOperator.{BinaryOperator}
 use Rattle.ada_values.specs.declared.fault.OperatorFault.{OperatorFault}
 use Rattle.ada_values.specs.declared.fault.OperatorFault.TheVariants.{Overflow, DivisionByZero, WrongType}
@@ -16,8 +16,8 @@ use Rattle.ada_meaning.specs.Frame.{Frame, is_master, Landing, passes_on, goes_b
 use Rattle.ada_meaning.specs.Frame as frame
 use Rattle.ada_meaning.specs.State.{Activation}
 use Rattle.ada_meaning.specs.Heap.{Cell, Found, on_null, on_gone, on_other, finds}
-use Rattle.ada_meaning.specs.Step.{same_pool, told_back, record_in, copied_next, copies_next, halts, moves, tells, asks, picks, at, older, places_of, operands, with_places, with_operands, set_operands, popped, put, held, newest, reading, component_next, follow_next, path_next, expression_next, null_test_next, is_decided, link_next, links_next, outcome_next, item_next, items_next, answered, new_next, right_next, free_next, end_next, given_back, back_next}
-use Rattle.ada_meaning.specs.Named.{State, Next, named, look, reads_boolean, on_object, returned}
+use Rattle.ada_meaning.specs.Step.{same_pool, told_back, record_in, copied_next, copies_next, halts, moves, tells, asks, picks, at, older, places_of, operands, with_places, with_operands, set_operands, popped, put, held, newest, reading, component_next, follow_next, path_next, selected, named_next, holder_next, first_in, record_holder_next, before_last, last_of, expression_next, null_test_next, is_decided, link_next, links_next, outcome_next, item_next, items_next, answered, new_next, right_next, free_next, end_next, given_back, back_next}
+use Rattle.ada_meaning.specs.Named.{State, Next, named, whole, inside, look, reads_boolean, on_object, returned}
 use Rattle.ada_meaning.specs.Run.{Event}
 
 -- What a body that runs on keeps: the activations behind its own, its procedure, and how many variables it has.
@@ -89,11 +89,28 @@ pub path_keeps : {w : Shape} (cs : List ℕ) (v : Value) (s : State) → shape s
 path_keeps [] v s h = operands_kept _ s h
 path_keeps (c ∷ cs) v s h = follow_keeps v c cs (look s.heap v) s h
 
+-- Paths that begin with a variable.
+pub named_keeps : {w : Shape} (cs : List ℕ) (x : ℕ) (s : State) → shape s.activations ≡ w → Keeps w (named_next named cs x s)
+named_keeps cs x s h = path_keeps (selected named (held named s x) cs) (whole (held named s x)) s h
+
+pub holder_keeps :
+    {w : Shape} (c : ℕ) (cs : List ℕ) (x : ℕ) (frame_of : ℕ → Frame Value) (s : State) → shape s.activations ≡ w
+    → Keeps w (holder_next named c cs x frame_of s)
+holder_keeps c cs x frame_of s h =
+    let first = inside (held named s x) c in
+    path_keeps (before_last first cs) (whole (held named s x)) (at (frame_of (last_of first cs) ∷ s.control) s) h
+
+pub record_holder_keeps :
+    {w : Shape} (p : RecordPathForm) (frame_of : ℕ → Frame Value) (s : State) → shape s.activations ≡ w → Keeps w (record_holder_next named p frame_of s)
+record_holder_keeps p frame_of s h =
+    let v = held named s p.object.root in
+    path_keeps (selected named v p.object.selectors) (whole v) (at (frame_of (first_in named v p.object.selectors p.first) ∷ s.control) s) h
+
 pub expression_keeps : {w : Shape} (e : ExpressionForm) (s : State) → shape s.activations ≡ w → Keeps w (expression_next named e s)
 expression_keeps (integer i) s h = operands_kept _ s h
 expression_keeps (boolean b) s h = operands_kept _ s h
-expression_keeps (reads path) s h = path_keeps path.selectors (held named s path.root) s h
-expression_keeps (is_null equal path) s h = path_keeps path.selectors (held named s path.root) (at (frame.TestsNull equal ∷ s.control) s) h
+expression_keeps (reads path) s h = named_keeps path.selectors path.root s h
+expression_keeps (is_null equal path) s h = named_keeps path.selectors path.root (at (frame.TestsNull equal ∷ s.control) s) h
 expression_keeps (applied_to operator e) s h = h
 expression_keeps (chained e links) s h = h
 
@@ -121,9 +138,9 @@ outcome_keeps (Err WrongType) s h = tt
 -- Allocators, and what is assigned.
 pub item_keeps : {w : Shape} (item : ItemForm) (s : State) → shape s.activations ≡ w → Keeps w (item_next named item s)
 item_keeps null_item s h = operands_kept _ s h
-item_keeps (item_of_path path) s h = path_keeps path.selectors (held named s path.root) s h
+item_keeps (item_of_path path) s h = named_keeps path.selectors path.root s h
 item_keeps (item_of_value e) s h = h
-item_keeps (item_of_record p) s h = path_keeps p.object.selectors (held named s p.object.root) (at (frame.Copies p.first p.record_type ∷ s.control) s) h
+item_keeps (item_of_record p) s h = record_holder_keeps p (λ first. frame.Copies first p.record_type) s h
 
 pub items_keep : {w : Shape} (items : List ItemForm) (s : State) → shape s.activations ≡ w → Keeps w (items_next named items s)
 items_keep [] s h = h
@@ -155,7 +172,7 @@ new_keeps access count words (Some item) s h = answered_keeps access count item 
 
 pub right_keeps : {w : Shape} (types : List TypeDefinition) (right : RightForm) (s : State) → shape s.activations ≡ w → Keeps w (right_next named types right s)
 right_keeps types nothing s h = operands_kept _ s h
-right_keeps types (value_of path) s h = path_keeps path.selectors (held named s path.root) s h
+right_keeps types (value_of path) s h = named_keeps path.selectors path.root s h
 right_keeps types (allocates access items) s h = h
 right_keeps types (allocates_default access) s h = operands_kept _ s h
 right_keeps types (computes e) s h = h

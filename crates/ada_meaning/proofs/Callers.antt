@@ -49,8 +49,8 @@ frame_stays :
     → Stays s (frame_next named types bodies f (at k s))
 frame_stays types bodies (frame.Calls procedure body actuals) k s runs is =
     calls_one (record { procedure = procedure; body = body; actuals = actuals; outer = k; runs = runs; first = is }) _ refl
-frame_stays types bodies (frame.Returns actuals) k s runs is =
-    ends (record { actuals = actuals; outer = k; first = is }) (inl runs) (comes_back actuals s.activations)
+frame_stays types bodies (frame.Returns actuals references) k s runs is =
+    ends (record { actuals = actuals; references = references; outer = k; first = is }) (inl runs) (comes_back actuals s.activations)
 frame_stays types bodies f k s runs is = keeps_stays s (frame_next named types bodies f (at k s)) (frame_keeps types bodies f (at k s) tt refl)
 
 running_stays :
@@ -86,16 +86,16 @@ left_stay before (picks n taking) left = absurd left
 
 -- At the end of a call's body a return gives back what the caller is to get, and any other jump leaves the callers as they were.
 returning_stays :
-    (actuals : List ActualForm) (k : List (Frame Value)) (s : State) → s.mode ≡ Returning → s.control ≡ frame.Returns actuals ∷ k
-    → CallersStay s (record (returned actuals s) { control = k; mode = Running })
-returning_stays actuals k s returns is =
-    ends (record { actuals = actuals; outer = k; first = is }) (inr returns) (comes_back actuals s.activations)
+    (actuals : List ActualForm) (references : List Value) (k : List (Frame Value)) (s : State) → s.mode ≡ Returning
+    → s.control ≡ frame.Returns actuals references ∷ k → CallersStay s (record (returned named actuals references (at k s)) { mode = Running })
+returning_stays actuals references k s returns is =
+    ends (record { actuals = actuals; references = references; outer = k; first = is }) (inr returns) (comes_back actuals s.activations)
 
 broken_stays :
-    (actuals : List ActualForm) (k : List (Frame Value)) (mode : Mode) (s : State) → EndsAbruptly s.mode → s.control ≡ frame.Returns actuals ∷ k
-    → CallersStay s (record (resumed s) { control = k; mode = mode })
-broken_stays actuals k mode s abrupt is =
-    breaks_off (record { actuals = actuals; outer = k; first = is }) abrupt (older_callers s.activations)
+    (actuals : List ActualForm) (references : List Value) (k : List (Frame Value)) (mode : Mode) (s : State) → EndsAbruptly s.mode
+    → s.control ≡ frame.Returns actuals references ∷ k → CallersStay s (record (resumed s) { control = k; mode = mode })
+broken_stays actuals references k mode s abrupt is =
+    breaks_off (record { actuals = actuals; references = references; outer = k; first = is }) abrupt (older_callers s.activations)
 
 -- A frame that a jump passes.
 abbrev IsJump : Mode → Type 0
@@ -105,17 +105,18 @@ IsJump Exiting = Unit {0}
 IsJump Returning = Unit {0}
 
 passed_end_stays :
-    (mode : Mode) (actuals : List ActualForm) (k : List (Frame Value)) (s : State) → IsJump mode → s.mode ≡ mode → s.control ≡ frame.Returns actuals ∷ k
-    → Stays s (pass_next named false (landing {V = Value} mode (frame.Returns actuals)) mode (left_by mode actuals (at k s)))
-passed_end_stays Running actuals k s jump m is = absurd jump
-passed_end_stays (Raising e) actuals k s jump m is = broken_stays actuals k s.mode s (subst EndsAbruptly (sym m) tt) is
-passed_end_stays Exiting actuals k s jump m is = broken_stays actuals k s.mode s (subst EndsAbruptly (sym m) tt) is
-passed_end_stays Returning actuals k s jump m is = returning_stays actuals k s m is
+    (mode : Mode) (actuals : List ActualForm) (references : List Value) (k : List (Frame Value)) (s : State) → IsJump mode → s.mode ≡ mode
+    → s.control ≡ frame.Returns actuals references ∷ k
+    → Stays s (pass_next named false (landing mode (frame.Returns actuals references)) mode (left_by named mode actuals references (at k s)))
+passed_end_stays Running actuals references k s jump m is = absurd jump
+passed_end_stays (Raising e) actuals references k s jump m is = broken_stays actuals references k s.mode s (subst EndsAbruptly (sym m) tt) is
+passed_end_stays Exiting actuals references k s jump m is = broken_stays actuals references k s.mode s (subst EndsAbruptly (sym m) tt) is
+passed_end_stays Returning actuals references k s jump m is = returning_stays actuals references k s m is
 
 passed_stays :
     (mode : Mode) (f : Frame Value) (k : List (Frame Value)) (s : State) → IsJump mode → s.mode ≡ mode → s.control ≡ f ∷ k
-    → Stays s (pass_next named (is_master f) (landing mode f) mode (unwound mode f (at k s)))
-passed_stays mode (frame.Returns actuals) k s jump m is = passed_end_stays mode actuals k s jump m is
+    → Stays s (pass_next named (is_master f) (landing mode f) mode (unwound named mode f (at k s)))
+passed_stays mode (frame.Returns actuals references) k s jump m is = passed_end_stays mode actuals references k s jump m is
 passed_stays mode f k s jump m is =
     left_stay s (pass_next named (is_master f) (landing mode f) mode (at k s)) (pass_leaves (is_master f) (landing mode f) mode (at k s))
 

@@ -1,23 +1,25 @@
 -- What the laws of calls refuse, and what they let pass.
 
-use Rattle.std.proofs.Common.{◌≡◌, ◌≢◌, ◌⊎◌, ℕ, Bool, false, List, [], ◌∷◌, length, take, drop, Some, None, arith, refl, ap, sym, ◌∙◌, inl, inr, subst}
+use Rattle.std.proofs.Common.{◌≡◌, ◌≢◌, ◌⊎◌, ℕ, Bool, false, List, [], ◌∷◌, ◌++◌, length, take, drop, Some, None, arith, refl, ap, sym, ◌∙◌, inl, inr, subst}
 use Rattle.ada_text.specs.declared.spot.Spot.{Spot}
 use Rattle.ada_values.specs.declared.value.Value.TheVariants as scalar
 use Rattle.ada_program.specs.declared.program.Exception.{Exception}
 use Rattle.ada_program.specs.declared.program.VariableKind.{VariableKind}
 use Rattle.ada_program.specs.declared.program.VariableKind.TheVariants as variable
-use Rattle.ada_program.specs.Form.{PathForm, ActualForm, in_value, in_access, in_out_path, in_out_access, ExpressionForm, nothing, value_of, StmtsForm}
+use Rattle.ada_program.specs.Form.{PathForm, RecordPathForm, ActualForm, in_value, in_access, in_out_path, in_out_access, in_out_component, in_out_record, ExpressionForm, nothing, value_of, StmtsForm}
 use Rattle.ada_program.specs.ProgramForm.{VariableForm, BodyForm}
+use Rattle.ada_meaning.specs.declared.state.Id.{Id}
 use Rattle.ada_meaning.specs.declared.state.Mode.{Mode}
 use Rattle.ada_meaning.specs.declared.state.Mode.TheVariants.{Running, Raising, Exiting, Returning}
 use Rattle.ada_meaning.specs.declared.state.Value.{Value}
-use Rattle.ada_meaning.specs.declared.state.Value.TheVariants.{Scalar}
+use Rattle.ada_meaning.specs.declared.state.Value.TheVariants.{Names, Scalar, Part}
 use Rattle.ada_meaning.specs.Frame.{Frame}
 use Rattle.ada_meaning.specs.Frame as frame
 use Rattle.ada_meaning.specs.State.{Activation}
 use Rattle.ada_meaning.specs.Named.{State}
-use Rattle.ada_meaning.specs.Calls.{callers_in, waiting, EndsBody, EndsNormally, EndsAbruptly, variable_given, IsGiven, GetsBack, ComesBack, CallersStay, goes_on, calls_one, ends, breaks_off, EvaluatesActuals, IsOfKind, AreOfKinds, HasBegun, HasReturned}
+use Rattle.ada_meaning.specs.Calls.{callers_in, waiting, EndsBody, EndsNormally, EndsAbruptly, variable_given, IsGiven, GoBack, none, skips, takes, GetsBack, ComesBack, CallersStay, goes_on, calls_one, ends, breaks_off, EvaluatesActuals, IsOfKind, AreOfKinds, AreGiven, HasBegun, AreStoredIn, HasReturned}
 use Rattle.ada_meaning.proofs.CopiedBack.{comes_back}
+use Rattle.ada_meaning.proofs.Calls.{values_given, references_given}
 
 -- Callers stay.
 abbrev Actives : Type 0
@@ -29,7 +31,7 @@ active xs s = record s { activations = xs }
 
 -- The body of a call with these actual parameters ends next.
 abbrev Ending : List ActualForm → State → Type 0
-Ending actuals s = (outer : List (Frame Value)) × (s.control ≡ frame.Returns actuals ∷ outer)
+Ending actuals s = (references : List Value) × (outer : List (Frame Value)) × (s.control ≡ frame.Returns actuals references ∷ outer)
 
 -- The activation whose variables are these.
 abbrev holding : List Value → Activation Value → Activation Value
@@ -54,25 +56,25 @@ assignment_passes s a b u v = goes_on (refl, refl, refl)
 
 end_passes :
     (s : State) (a b c : Activation Value) → s.mode ≡ Running → Ending [] s → CallersStay (active (a ∷ b ∷ c ∷ []) s) (active (b ∷ c ∷ []) s)
-end_passes s a b c runs is = ends (record { actuals = []; outer = is.0; first = is.1 }) (inl runs) (comes_back [] (a ∷ b ∷ c ∷ []))
+end_passes s a b c runs is = ends (record { actuals = []; references = is.0; outer = is.1; first = is.2 }) (inl runs) (comes_back [] (a ∷ b ∷ c ∷ []))
 
 giving_back_passes :
     (s : State) (a b : Activation Value) (spot : Spot) (u v : Value) → s.mode ≡ Returning → Ending (first_given spot) s → EndsWith a b u v u s
 giving_back_passes s a b spot u v returns is =
-    ends (record { actuals = first_given spot; outer = is.0; first = is.1 }) (inr returns)
+    ends (record { actuals = first_given spot; references = is.0; outer = is.1; first = is.2 }) (inr returns)
     (comes_back (first_given spot) (holding (u ∷ []) a ∷ holding (v ∷ []) b ∷ []))
 
 access_back_passes :
     (s : State) (a b : Activation Value) (spot : Spot) (u v : Value) → s.mode ≡ Running → Ending (in_out_access (to_first spot) ∷ []) s → EndsWith a b u v u s
 access_back_passes s a b spot u v runs is =
-    ends (record { actuals = in_out_access (to_first spot) ∷ []; outer = is.0; first = is.1 }) (inl runs)
+    ends (record { actuals = in_out_access (to_first spot) ∷ []; references = is.0; outer = is.1; first = is.2 }) (inl runs)
     (comes_back (in_out_access (to_first spot) ∷ []) (holding (u ∷ []) a ∷ holding (v ∷ []) b ∷ []))
 
 raise_passes :
     (s : State) (a b : Activation Value) (actuals : List ActualForm) (u v : Value) (e : Exception) → s.mode ≡ Raising e → Ending actuals s
     → EndsWith a b u v v s
 raise_passes s a b actuals u v e raises is =
-    breaks_off (record { actuals = actuals; outer = is.0; first = is.1 }) (subst EndsAbruptly (sym raises) tt) refl
+    breaks_off (record { actuals = actuals; references = is.0; outer = is.1; first = is.2 }) (subst EndsAbruptly (sym raises) tt) refl
 
 -- So many activations can't be so many others.
 unlike : (xs ys : Actives) → length xs ≢ length ys → xs ≡ ys → ⊥
@@ -112,7 +114,7 @@ calling_changes_refused s a b vs apart (breaks_off body abrupt left) =
 
 -- An activation that ends anywhere but at the end of its body.
 never_ends : (s : State) → s.control ≡ frame.Exits ∷ [] → EndsBody s → ⊥
-never_ends s is body = let never : frame.Exits ∷ [] ≡ frame.Returns body.actuals ∷ body.outer = sym is ∙ body.first in absurd (cc)
+never_ends s is body = let never : frame.Exits ∷ [] ≡ frame.Returns body.actuals body.references ∷ body.outer = sym is ∙ body.first in absurd (cc)
 
 early_end_refused : (s : State) (a b : Activation Value) → s.control ≡ frame.Exits ∷ [] → CallersStay (active (a ∷ b ∷ []) s) (active (b ∷ []) s) → ⊥
 early_end_refused s a b is (goes_on runs) = unlike [] (b ∷ []) (λ same. absurd (omega (arith, same))) runs.0
@@ -130,9 +132,9 @@ apart_modes Exiting (inr is) abrupt = absurd (cc)
 apart_modes Returning normal abrupt = abrupt
 
 same_actuals :
-    (k outer behind : List (Frame Value)) (actuals given : List ActualForm) → k ≡ frame.Returns actuals ∷ outer → k ≡ frame.Returns given ∷ behind
-    → actuals ≡ given
-same_actuals k outer behind actuals given is also = cc
+    (k outer behind : List (Frame Value)) (actuals given : List ActualForm) (references others : List Value) → k ≡ frame.Returns actuals references ∷ outer
+    → k ≡ frame.Returns given others ∷ behind → actuals ≡ given
+same_actuals k outer behind actuals given references others is also = cc
 
 returned_to :
     (s : State) (callee caller later : Activation Value) (actuals : List ActualForm) → EndsNormally s.mode → Ending actuals s
@@ -142,7 +144,7 @@ returned_to s callee caller later actuals normal is (calls_one begins one called
     absurd (unlike (later ∷ []) (one ∷ waiting (callee ∷ caller ∷ [])) (λ same. absurd (omega (arith, same))) called)
 returned_to s callee caller later actuals normal is (ends body also back) =
     subst (λ (given : List ActualForm). GetsBack given callee caller later)
-    (same_actuals s.control body.outer is.0 body.actuals actuals body.first is.1) back.1
+    (same_actuals s.control body.outer is.1 body.actuals actuals body.references is.0 body.first is.2) back.1
 returned_to s callee caller later actuals normal is (breaks_off body abrupt left) = absurd (apart_modes s.mode normal abrupt)
 
 one_of : (u v : Value) → Some u ≡ Some v → u ≡ v
@@ -171,15 +173,15 @@ no_access_back_refused s a b spot u v apart = forgotten_refused s a b (in_out_ac
 
 -- A formal parameter of mode `in` that gives back what it holds: the value of an expression, or an access value, though the first variable names it.
 gives_none : (given : ActualForm) (x : ℕ) → variable_given given ≡ None → IsGiven x (given ∷ []) → ⊥
-gives_none given x none (inl is) = absurd (cc)
-gives_none given x none (inr never) = never
+gives_none given x constant (inl is) = absurd (cc)
+gives_none given x constant (inr never) = never
 
 constant_back_refused :
     (s : State) (a b : Activation Value) (given : ActualForm) (u v : Value) → u ≢ v → variable_given given ≡ None → EndsNormally s.mode
     → Ending (given ∷ []) s → EndsWith a b u v u s → ⊥
-constant_back_refused s a b given u v apart none normal is ended =
+constant_back_refused s a b given u v apart constant normal is ended =
     let got = returned_to s (holding (u ∷ []) a) (holding (v ∷ []) b) (holding (u ∷ []) b) (given ∷ []) normal is ended in
-    apart (one_of u v (got.others 0 (gives_none given 0 none)))
+    apart (one_of u v (got.others 0 (gives_none given 0 constant)))
 
 value_back_refused :
     (s : State) (a b : Activation Value) (e : ExpressionForm) (u v : Value) → u ≢ v → EndsNormally s.mode → Ending (in_value e ∷ []) s
@@ -190,6 +192,70 @@ access_back_refused :
     (s : State) (a b : Activation Value) (spot : Spot) (u v : Value) → u ≢ v → EndsNormally s.mode → Ending (in_access (to_first spot) ∷ []) s
     → EndsWith a b u v u s → ⊥
 access_back_refused s a b spot u v apart = constant_back_refused s a b (in_access (to_first spot)) u v apart refl
+
+-- A component that is given: what the formal parameter holds goes to the newest operand, and not to a variable.
+component_back_passes :
+    (s : State) (a b : Activation Value) (path : PathForm) (u : Value) → s.mode ≡ Returning → Ending (in_out_component path ∷ []) s
+    → CallersStay (active (holding (u ∷ []) a ∷ b ∷ []) s) (active (record b { operands = u ∷ b.operands } ∷ []) s)
+component_back_passes s a b path u returns is =
+    ends (record { actuals = in_out_component path ∷ []; references = is.0; outer = is.1; first = is.2 }) (inr returns)
+    (comes_back (in_out_component path ∷ []) (holding (u ∷ []) a ∷ b ∷ []))
+
+component_variable_refused :
+    (s : State) (a b : Activation Value) (path : PathForm) (u v : Value) → u ≢ v → EndsNormally s.mode → Ending (in_out_component path ∷ []) s
+    → EndsWith a b u v u s → ⊥
+component_variable_refused s a b path u v apart = constant_back_refused s a b (in_out_component path) u v apart refl
+
+-- What goes back to one component, to two, and to none.
+one_goes : (path : PathForm) (u : Value) (given_back : List Value) → GoBack (in_out_component path ∷ []) (u ∷ []) given_back → given_back ≡ u ∷ []
+one_goes path u given_back (skips apart none) = absurd (apart tt)
+one_goes path u given_back (takes is none) = refl
+
+two_go :
+    (path other : PathForm) (u v : Value) (given_back : List Value) → GoBack (in_out_component path ∷ in_out_component other ∷ []) (u ∷ v ∷ []) given_back
+    → given_back ≡ u ∷ v ∷ []
+two_go path other u v given_back (skips apart back) = absurd (apart tt)
+two_go path other u v given_back (takes is (skips apart none)) = absurd (apart tt)
+two_go path other u v given_back (takes is (takes also none)) = refl
+
+none_goes : (p : RecordPathForm) (u : Value) (given_back : List Value) → GoBack (in_out_record p ∷ []) (u ∷ []) given_back → given_back ≡ []
+none_goes p u given_back (skips apart none) = refl
+none_goes p u given_back (takes is none) = absurd is
+
+module _ (s : State) (a b : Activation Value) where
+  -- The caller has these operands more than before.
+  abbrev GoesOnWith : (formals more : List Value) → Type 0
+  GoesOnWith vs us = CallersStay (active (holding vs a ∷ b ∷ []) s) (active (record b { operands = us ++ b.operands } ∷ []) s)
+
+  back_with :
+      (actuals : List ActualForm) (vs us : List Value) → EndsNormally s.mode → Ending actuals s → GoesOnWith vs us
+      → GetsBack actuals (holding vs a) b (record b { operands = us ++ b.operands })
+  back_with actuals vs us normal is stays = returned_to s (holding vs a) b (record b { operands = us ++ b.operands }) actuals normal is stays
+
+  -- A return that gives nothing back to a component.
+  no_component_back_refused : (path : PathForm) (u : Value) → EndsNormally s.mode → Ending (in_out_component path ∷ []) s → GoesOnWith (u ∷ []) [] → ⊥
+  no_component_back_refused path u normal is stays =
+      let got = (back_with (in_out_component path ∷ []) (u ∷ []) [] normal is stays).operands (omega arith) in
+      let more : b.operands ≡ u ∷ b.operands = got.2 ∙ ap (λ (us : List Value). us ++ b.operands) (one_goes path u got.0 got.1) in
+      let long : length b.operands ≡ length (u ∷ b.operands) = ap length more in
+      absurd (omega (arith, long))
+
+  -- What goes back to two components, in reverse order.
+  swapped_back_refused :
+      (path other : PathForm) (u v : Value) → u ≢ v → EndsNormally s.mode → Ending (in_out_component path ∷ in_out_component other ∷ []) s
+      → GoesOnWith (u ∷ v ∷ []) (v ∷ u ∷ []) → ⊥
+  swapped_back_refused path other u v apart normal is stays =
+      let got = (back_with (in_out_component path ∷ in_out_component other ∷ []) (u ∷ v ∷ []) (v ∷ u ∷ []) normal is stays).operands (omega arith) in
+      let other_order : v ∷ u ∷ b.operands ≡ u ∷ v ∷ b.operands = got.2 ∙ ap (λ (us : List Value). us ++ b.operands) (two_go path other u v got.0 got.1) in
+      apart (cc)
+
+  -- A record that gives back what refers to it, as if it were a value.
+  record_back_refused : (p : RecordPathForm) (u : Value) → EndsNormally s.mode → Ending (in_out_record p ∷ []) s → GoesOnWith (u ∷ []) (u ∷ []) → ⊥
+  record_back_refused p u normal is stays =
+      let got = (back_with (in_out_record p ∷ []) (u ∷ []) (u ∷ []) normal is stays).operands (omega arith) in
+      let more : u ∷ b.operands ≡ b.operands = got.2 ∙ ap (λ (us : List Value). us ++ b.operands) (none_goes p u got.0 got.1) in
+      let long : length (u ∷ b.operands) ≡ length b.operands = ap length more in
+      absurd (omega (arith, long))
 
 -- Two that stand for one variable, of which the first gives back last.
 first_back_refused :
@@ -228,7 +294,8 @@ module _ (path : PathForm) (body : BodyForm) (later : StmtsForm) (outer : List (
 -- Actuals arrive: a callee whose places are these has begun.
 abbrev Given : BodyForm → List Value → List Value → State → State → Type 0
 Given body actuals vs before after =
-    (given : List ActualForm) × (begun : HasBegun 0 body given actuals (record { procedure = None; places = []; operands = [] }) [] [] before after)
+    (given : List ActualForm) × (references : List Value)
+    × (begun : HasBegun 0 body given actuals references (record { procedure = None; places = []; operands = [] }) [] [] before after)
     × (begun.callee.places ≡ vs)
 
 first_of_two : (t u v w : Value) → (t ∷ u ∷ []) ≡ (v ∷ w ∷ []) → t ≡ v
@@ -237,22 +304,36 @@ first_of_two t u v w is = cc
 -- In reverse order.
 reverse_refused :
     (body : BodyForm) (u v : Value) (behind : List Value) (before after : State) → u ≢ v → Given body (u ∷ v ∷ []) (v ∷ u ∷ behind) before after → ⊥
-reverse_refused body u v behind before after apart given = apart (sym (first_of_two v u u v (ap (take 2) (sym given.2) ∙ given.1.formals)))
+reverse_refused body u v behind before after apart given = apart (sym (first_of_two v u u v (ap (take 2) (sym given.3) ∙ given.2.formals)))
 
 -- In the last places, behind the body's own variables.
 last_places_refused : (body : BodyForm) (u v w : Value) (before after : State) → w ≢ u → Given body (u ∷ v ∷ []) (w ∷ u ∷ v ∷ []) before after → ⊥
-last_places_refused body u v w before after apart given = apart (first_of_two w u u v (ap (take 2) (sym given.2) ∙ given.1.formals))
+last_places_refused body u v w before after apart given = apart (first_of_two w u u v (ap (take 2) (sym given.3) ∙ given.2.formals))
 
 -- An access value that a variable hands over for a formal parameter of mode `in out` arrives there: the callee doesn't begin with another one.
 module _ (body : BodyForm) (path : PathForm) (caller : Activation Value) (u v : Value) (behind : List Value) (before after : State) where
   abbrev HandsOver : Type 0
-  HandsOver = HasBegun 0 body (in_out_access path ∷ []) (u ∷ []) caller [] [] before after
+  HandsOver = HasBegun 0 body (in_out_access path ∷ []) (u ∷ []) [] caller [] [] before after
 
   first_of_one : (u ∷ []) ≡ (v ∷ []) → u ≡ v
   first_of_one is = cc
 
   other_access_refused : u ≢ v → (begun : HandsOver) → begun.callee.places ≡ v ∷ behind → ⊥
   other_access_refused apart begun holds = apart (first_of_one (sym begun.formals ∙ ap (take 1) holds))
+
+-- Of a component the value arrives, and not what refers to it.
+reference_given_refused :
+    (path : PathForm) (r v : Value) (references : List Value) → r ≢ v → AreGiven (in_out_component path ∷ []) (r ∷ v ∷ []) (r ∷ []) references
+    → ⊥
+reference_given_refused path r v references apart are =
+    let given : v ∷ [] ≡ r ∷ [] = values_given (in_out_component path ∷ []) (r ∷ v ∷ []) (r ∷ []) references are in
+    apart (cc)
+
+-- And what refers to it is kept, and not its value.
+value_kept_refused : (path : PathForm) (r v : Value) (formals : List Value) → r ≢ v → AreGiven (in_out_component path ∷ []) (r ∷ v ∷ []) formals (v ∷ []) → ⊥
+value_kept_refused path r v formals apart are =
+    let kept : r ∷ [] ≡ v ∷ [] = references_given (in_out_component path ∷ []) (r ∷ v ∷ []) formals (v ∷ []) are in
+    apart (cc)
 
 of_kinds_of :
     (n : ℕ) (xs ys : List VariableForm) (us vs : List Value) → xs ≡ ys → us ≡ vs → AreOfKinds (drop n xs) (drop n us) → AreOfKinds (drop n ys) (drop n vs)
@@ -262,33 +343,34 @@ of_kinds_of n xs ys us vs is same held =
 -- With no place for a variable of the body's own, or with a place too many, or with a Boolean in that of an Integer.
 no_place_refused : (body : BodyForm) (x : VariableForm) (before after : State) → body.variables ≡ x ∷ [] → Given body [] [] before after → ⊥
 no_place_refused body x before after is given =
-    of_kinds_of 0 body.variables (x ∷ []) given.1.callee.places [] is given.2 given.1.others
+    of_kinds_of 0 body.variables (x ∷ []) given.2.callee.places [] is given.3 given.2.others
 
 place_too_many_refused : (body : BodyForm) (u v : Value) (before after : State) → body.variables ≡ [] → Given body (u ∷ []) (u ∷ v ∷ []) before after → ⊥
 place_too_many_refused body u v before after is given =
-    of_kinds_of 1 body.variables [] given.1.callee.places (u ∷ v ∷ []) is given.2 given.1.others
+    of_kinds_of 1 body.variables [] given.2.callee.places (u ∷ v ∷ []) is given.3 given.2.others
 
 other_kind_refused :
     (body : BodyForm) (x : VariableForm) (b : Bool) (before after : State) → body.variables ≡ x ∷ [] → x.kind ≡ variable.Integer
     → Given body [] (Scalar (scalar.Boolean b) ∷ []) before after → ⊥
 other_kind_refused body x b before after is kind given =
     let others : AreOfKinds (x ∷ []) (Scalar (scalar.Boolean b) ∷ []) =
-    of_kinds_of 0 body.variables (x ∷ []) given.1.callee.places (Scalar (scalar.Boolean b) ∷ []) is given.2 given.1.others in
+    of_kinds_of 0 body.variables (x ∷ []) given.2.callee.places (Scalar (scalar.Boolean b) ∷ []) is given.3 given.2.others in
     let held : IsOfKind variable.Integer (Scalar (scalar.Boolean b)) = subst (λ (k : VariableKind). IsOfKind k (Scalar (scalar.Boolean b))) kind others.0 in
     let never : Scalar (scalar.Boolean b) ≡ Scalar (scalar.Integer held.0) = held.1 in
     absurd (cc)
 
 -- Callers resume: not a return that goes on in its caller, nor an exception that is lost there, nor a caller that is passed.
 passing_return_refused :
-    (actuals : List ActualForm) (callee : Activation Value) (callers : Actives) (outer : List (Frame Value)) (before after : State)
-    → before.mode ≡ Returning → after.mode ≡ Returning → HasReturned actuals callee callers outer before after → ⊥
-passing_return_refused actuals callee callers outer before after returns still returned =
+    (actuals : List ActualForm) (references : List Value) (callee : Activation Value) (callers : Actives) (outer : List (Frame Value)) (before after : State)
+    → before.mode ≡ Returning → after.mode ≡ Returning → HasReturned actuals references callee callers outer before after → ⊥
+passing_return_refused actuals references callee callers outer before after returns still returned =
     let never : Returning ≡ Running = sym still ∙ returned.runs (inr returns) in absurd (cc)
 
 lost_exception_refused :
-    (actuals : List ActualForm) (callee : Activation Value) (callers : Actives) (outer : List (Frame Value)) (e : Exception) (before after : State)
-    → before.mode ≡ Raising e → after.mode ≡ Running → HasReturned actuals callee callers outer before after → ⊥
-lost_exception_refused actuals callee callers outer e before after raises runs returned =
+    (actuals : List ActualForm) (references : List Value) (callee : Activation Value) (callers : Actives) (outer : List (Frame Value)) (e : Exception)
+    (before after : State)
+    → before.mode ≡ Raising e → after.mode ≡ Running → HasReturned actuals references callee callers outer before after → ⊥
+lost_exception_refused actuals references callee callers outer e before after raises runs returned =
     let never : Running ≡ Raising e = sym runs ∙ returned.raises e raises in absurd (cc)
 
 either_end : (mode : Mode) → EndsNormally mode ⊎ EndsAbruptly mode
@@ -297,21 +379,22 @@ either_end (Raising e) = inr tt
 either_end Exiting = inr tt
 either_end Returning = inl (inr refl)
 
-module _ (actuals : List ActualForm) (callee b c : Activation Value) (outer : List (Frame Value)) (before after : State) where
+module _ (actuals : List ActualForm) (references : List Value) (callee b c : Activation Value) (outer : List (Frame Value)) (before after : State) where
   passed_by :
-      after.activations ≡ c ∷ [] → HasReturned actuals callee (b ∷ c ∷ []) outer before after → EndsNormally before.mode ⊎ EndsAbruptly before.mode → ⊥
+      after.activations ≡ c ∷ [] → HasReturned actuals references callee (b ∷ c ∷ []) outer before after
+      → EndsNormally before.mode ⊎ EndsAbruptly before.mode → ⊥
   passed_by left returned (inl normal) =
       let back : ComesBack actuals (callee ∷ b ∷ c ∷ []) (c ∷ []) = subst (ComesBack actuals (callee ∷ b ∷ c ∷ [])) left (returned.gets_back normal) in
       unlike [] (c ∷ []) (λ is. absurd (omega (arith, is))) back.0
   passed_by left returned (inr abrupt) = unlike (c ∷ []) (b ∷ c ∷ []) (λ is. absurd (omega (arith, is))) (sym left ∙ returned.holds_on abrupt)
 
-  passed_caller_refused : after.activations ≡ c ∷ [] → HasReturned actuals callee (b ∷ c ∷ []) outer before after → ⊥
+  passed_caller_refused : after.activations ≡ c ∷ [] → HasReturned actuals references callee (b ∷ c ∷ []) outer before after → ⊥
   passed_caller_refused left returned = passed_by left returned (either_end before.mode)
 
 -- Nor a return that gives nothing back, nor an exception that gives something back.
 module _ (a b : Activation Value) (spot : Spot) (u v : Value) (outer : List (Frame Value)) (before after : State) where
   abbrev HasReturnedOne : Type 0
-  HasReturnedOne = HasReturned (first_given spot) (holding (u ∷ []) a) (holding (v ∷ []) b ∷ []) outer before after
+  HasReturnedOne = HasReturned (first_given spot) [] (holding (u ∷ []) a) (holding (v ∷ []) b ∷ []) outer before after
 
   lost_value_refused : u ≢ v → before.mode ≡ Returning → after.activations ≡ holding (v ∷ []) b ∷ [] → HasReturnedOne → ⊥
   lost_value_refused apart returns left returned =
@@ -321,3 +404,69 @@ module _ (a b : Activation Value) (spot : Spot) (u v : Value) (outer : List (Fra
   raised_value_refused : (e : Exception) → u ≢ v → before.mode ≡ Raising e → after.activations ≡ holding (u ∷ []) b ∷ [] → HasReturnedOne → ⊥
   raised_value_refused e apart raises left returned =
       apart (first_held b u v (sym left ∙ returned.holds_on (subst EndsAbruptly (sym raises) tt)))
+
+-- Where the body ends normally, a component that is given gets something back at the place that was named before the call.
+module _ (o : Id) (c : ℕ) (rs : List Value) where
+  stored_first :
+      (frames : List (Frame Value)) → AreStoredIn (Part o c ∷ rs) frames
+      → (later : List (Frame Value)) × (frames ≡ frame.StoresIn (Names o) c ∷ later) × AreStoredIn rs later
+  stored_first [] are = absurd are
+  stored_first (f ∷ later) are = (later, ap (λ (g : Frame Value). g ∷ later) (are.0 o c refl), are.1)
+
+none_stored : (frames : List (Frame Value)) → AreStoredIn [] frames → frames ≡ []
+none_stored [] are = refl
+none_stored (f ∷ later) are = absurd are
+
+module _ (path : PathForm) (callee : Activation Value) (callers : Actives) (o : Id) (c : ℕ) (outer : List (Frame Value)) (before after : State) where
+  abbrev HasStoredOne : Type 0
+  HasStoredOne = HasReturned (in_out_component path ∷ []) (Part o c ∷ []) callee callers outer before after
+
+  stores_one : EndsNormally before.mode → HasStoredOne → after.control ≡ frame.StoresIn (Names o) c ∷ outer
+  stores_one normal returned =
+      let stores = returned.stores normal in
+      let one = stored_first o c [] stores.0 stores.1 in
+      let only = ap (λ (fs : List (Frame Value)). frame.StoresIn (Names o) c ∷ fs) (none_stored one.0 one.2) in
+      stores.2 ∙ ap (λ (fs : List (Frame Value)). fs ++ outer) (one.1 ∙ only)
+
+  -- Not a return that stores nothing.
+  nothing_stored_refused : EndsNormally before.mode → after.control ≡ outer → HasStoredOne → ⊥
+  nothing_stored_refused normal left returned =
+      let more : outer ≡ frame.StoresIn (Names o) c ∷ outer = sym left ∙ stores_one normal returned in
+      let long : length outer ≡ length (frame.StoresIn (Names o) c ∷ outer) = ap length more in
+      absurd (omega (arith, long))
+
+  -- Nor one that stores in another object, or in another component.
+  other_object_refused : (p : Id) → p ≢ o → EndsNormally before.mode → after.control ≡ frame.StoresIn (Names p) c ∷ outer → HasStoredOne → ⊥
+  other_object_refused p apart normal left returned =
+      let same : frame.StoresIn (Names p) c ∷ outer ≡ frame.StoresIn (Names o) c ∷ outer = sym left ∙ stores_one normal returned in
+      apart (cc)
+
+  other_component_refused : (d : ℕ) → d ≢ c → EndsNormally before.mode → after.control ≡ frame.StoresIn (Names o) d ∷ outer → HasStoredOne → ⊥
+  other_component_refused d apart normal left returned =
+      let same : frame.StoresIn (Names o) d ∷ outer ≡ frame.StoresIn (Names o) c ∷ outer = sym left ∙ stores_one normal returned in
+      apart (cc)
+
+  -- Nor one that evaluates the path once more.
+  path_again_refused : (later : List (Frame Value)) → EndsNormally before.mode → after.control ≡ frame.Opens path ∷ later → HasStoredOne → ⊥
+  path_again_refused later normal left returned =
+      let never : frame.Opens path ∷ later ≡ frame.StoresIn (Names o) c ∷ outer = sym left ∙ stores_one normal returned in
+      absurd (cc)
+
+  -- Nor an exception that stores something.
+  raised_store_refused : (e : Exception) → before.mode ≡ Raising e → after.control ≡ frame.StoresIn (Names o) c ∷ outer → HasStoredOne → ⊥
+  raised_store_refused e raises left returned =
+      let more : frame.StoresIn (Names o) c ∷ outer ≡ outer = sym left ∙ returned.passes (subst EndsAbruptly (sym raises) tt) in
+      let long : length (frame.StoresIn (Names o) c ∷ outer) ≡ length outer = ap length more in
+      absurd (omega (arith, long))
+
+-- Two components that get something back in reverse order.
+module _ (path other : PathForm) (callee : Activation Value) (callers : Actives) (o : Id) (c d : ℕ) (outer : List (Frame Value)) (before after : State) where
+  reverse_stores_refused :
+      c ≢ d → EndsNormally before.mode → after.control ≡ frame.StoresIn (Names o) d ∷ frame.StoresIn (Names o) c ∷ outer
+      → HasReturned (in_out_component path ∷ in_out_component other ∷ []) (Part o c ∷ Part o d ∷ []) callee callers outer before after → ⊥
+  reverse_stores_refused apart normal left returned =
+      let stores = returned.stores normal in
+      let one = stored_first o c (Part o d ∷ []) stores.0 stores.1 in
+      let first : frame.StoresIn (Names o) d ∷ frame.StoresIn (Names o) c ∷ outer ≡ frame.StoresIn (Names o) c ∷ one.0 ++ outer =
+      sym left ∙ stores.2 ∙ ap (λ (fs : List (Frame Value)). fs ++ outer) one.1 in
+      apart (cc)

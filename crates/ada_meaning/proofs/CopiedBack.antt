@@ -1,12 +1,12 @@
 -- What a caller gets back where the body of its call ends.
 
-use Rattle.std.proofs.Common.{◌≡◌, ℕ, ◌<◌, inl, inr, List, [], ◌∷◌, ◌++◌, length, Some, arith, refl, sym, ap, ◌∙◌, subst}
+use Rattle.std.proofs.Common.{◌≡◌, ℕ, ◌<◌, ◌≤◌, inl, inr, List, [], ◌∷◌, ◌++◌, length, Some, arith, refl, sym, ap, ◌∙◌, subst}
 use Rattle.std.specs.List.{slice_get, slice_set}
-use Rattle.ada_program.specs.Form.{ActualForm, in_value, in_null, in_access, in_out_path, in_out_access}
+use Rattle.ada_program.specs.Form.{ActualForm, in_value, in_null, in_access, in_record, in_out_path, in_out_access, in_out_component, in_out_record}
 use Rattle.ada_meaning.specs.declared.state.Value.{Value}
 use Rattle.ada_meaning.specs.State.{Activation}
-use Rattle.ada_meaning.specs.Step.{older, places_of, with_places, copied_back}
-use Rattle.ada_meaning.specs.Calls.{callers_in, variable_given, IsGiven, GetsBack, ComesBack}
+use Rattle.ada_meaning.specs.Step.{older, places_of, operands_of, with_places, with_operands, copied_back, stored_back}
+use Rattle.ada_meaning.specs.Calls.{callers_in, variable_given, IsGiven, GoBack, none, skips, takes, GetsBack, ComesBack}
 use Rattle.ada_meaning.proofs.Records.{get_set, get_other, set_length}
 
 -- As many variables as before are there.
@@ -16,6 +16,9 @@ length_back (a ∷ rest) [] places = refl
 length_back (in_value e ∷ rest) (v ∷ vs) places = length_back rest vs places
 length_back (in_null ∷ rest) (v ∷ vs) places = length_back rest vs places
 length_back (in_access path ∷ rest) (v ∷ vs) places = length_back rest vs places
+length_back (in_record p ∷ rest) (v ∷ vs) places = length_back rest vs places
+length_back (in_out_component path ∷ rest) (v ∷ vs) places = length_back rest vs places
+length_back (in_out_record p ∷ rest) (v ∷ vs) places = length_back rest vs places
 length_back (in_out_path path ∷ rest) (v ∷ vs) places = length_back rest vs (slice_set places path.root v) ∙ set_length places path.root v
 length_back (in_out_access path ∷ rest) (v ∷ vs) places = length_back rest vs (slice_set places path.root v) ∙ set_length places path.root v
 
@@ -28,6 +31,9 @@ others_hold (a ∷ rest) [] places x apart = refl
 others_hold (in_value e ∷ rest) (v ∷ vs) places x apart = others_hold rest vs places x (λ given. apart (inr given))
 others_hold (in_null ∷ rest) (v ∷ vs) places x apart = others_hold rest vs places x (λ given. apart (inr given))
 others_hold (in_access path ∷ rest) (v ∷ vs) places x apart = others_hold rest vs places x (λ given. apart (inr given))
+others_hold (in_record p ∷ rest) (v ∷ vs) places x apart = others_hold rest vs places x (λ given. apart (inr given))
+others_hold (in_out_component path ∷ rest) (v ∷ vs) places x apart = others_hold rest vs places x (λ given. apart (inr given))
+others_hold (in_out_record p ∷ rest) (v ∷ vs) places x apart = others_hold rest vs places x (λ given. apart (inr given))
 others_hold (in_out_path path ∷ rest) (v ∷ vs) places x apart =
     others_hold rest vs (slice_set places path.root v) x (λ given. apart (inr given))
     ∙ get_other places path.root x v (λ same. apart (inl (ap Some (sym same))))
@@ -47,6 +53,9 @@ given_holds :
 given_holds (in_value e) behind x v vs places gives last within = absurd (cc)
 given_holds in_null behind x v vs places gives last within = absurd (cc)
 given_holds (in_access path) behind x v vs places gives last within = absurd (cc)
+given_holds (in_record p) behind x v vs places gives last within = absurd (cc)
+given_holds (in_out_component path) behind x v vs places gives last within = absurd (cc)
+given_holds (in_out_record p) behind x v vs places gives last within = absurd (cc)
 given_holds (in_out_path path) behind x v vs places gives last within =
     others_hold behind vs (slice_set places path.root v) x last ∙ set_holds places path.root x v gives within
 given_holds (in_out_access path) behind x v vs places gives last within =
@@ -62,17 +71,38 @@ last_holds (b ∷ front) behind a x held [] places gives last is within = absurd
 last_holds (in_value e ∷ front) behind a x held (v ∷ vs) places gives last is within = last_holds front behind a x held vs places gives last is within
 last_holds (in_null ∷ front) behind a x held (v ∷ vs) places gives last is within = last_holds front behind a x held vs places gives last is within
 last_holds (in_access path ∷ front) behind a x held (v ∷ vs) places gives last is within = last_holds front behind a x held vs places gives last is within
+last_holds (in_record p ∷ front) behind a x held (v ∷ vs) places gives last is within = last_holds front behind a x held vs places gives last is within
+last_holds (in_out_component path ∷ front) behind a x held (v ∷ vs) places gives last is within =
+    last_holds front behind a x held vs places gives last is within
+last_holds (in_out_record p ∷ front) behind a x held (v ∷ vs) places gives last is within =
+    last_holds front behind a x held vs places gives last is within
 last_holds (in_out_path path ∷ front) behind a x held (v ∷ vs) places gives last is within =
     last_holds front behind a x held vs (slice_set places path.root v) gives last is (omega (arith, within, set_length places path.root v))
 last_holds (in_out_access path ∷ front) behind a x held (v ∷ vs) places gives last is within =
     last_holds front behind a x held vs (slice_set places path.root v) gives last is (omega (arith, within, set_length places path.root v))
 
+-- What goes back to components, where there is a formal parameter for each actual one.
+go_back : (actuals : List ActualForm) (vs : List Value) → length actuals ≤ length vs → GoBack actuals vs (stored_back actuals vs)
+go_back [] vs there = none
+go_back (a ∷ rest) [] there = absurd (omega (arith, there))
+go_back (in_value e ∷ rest) (v ∷ vs) there = skips (λ never. never) (go_back rest vs (omega (arith, there)))
+go_back (in_null ∷ rest) (v ∷ vs) there = skips (λ never. never) (go_back rest vs (omega (arith, there)))
+go_back (in_access path ∷ rest) (v ∷ vs) there = skips (λ never. never) (go_back rest vs (omega (arith, there)))
+go_back (in_record p ∷ rest) (v ∷ vs) there = skips (λ never. never) (go_back rest vs (omega (arith, there)))
+go_back (in_out_path path ∷ rest) (v ∷ vs) there = skips (λ never. never) (go_back rest vs (omega (arith, there)))
+go_back (in_out_access path ∷ rest) (v ∷ vs) there = skips (λ never. never) (go_back rest vs (omega (arith, there)))
+go_back (in_out_component path ∷ rest) (v ∷ vs) there = takes tt (go_back rest vs (omega (arith, there)))
+go_back (in_out_record p ∷ rest) (v ∷ vs) there = skips (λ never. never) (go_back rest vs (omega (arith, there)))
+
 gets_back :
     (actuals : List ActualForm) (callee caller : Activation Value)
-    → GetsBack actuals callee caller (record caller { places = copied_back actuals callee.places caller.places })
+    → GetsBack actuals callee caller (record caller {
+      places = copied_back actuals callee.places caller.places;
+      operands = stored_back actuals callee.places ++ caller.operands;
+    })
 gets_back actuals callee caller = record {
   procedure = refl;
-  operands = refl;
+  operands = λ there. (stored_back actuals callee.places, go_back actuals callee.places there, refl);
   count = length_back actuals callee.places caller.places;
   others = λ x apart. others_hold actuals callee.places caller.places x apart;
   back = λ front behind a x held is gives last there within.
@@ -83,7 +113,8 @@ gets_back actuals callee caller = record {
 -- So it is among all activations, where the body ends normally; where it ends otherwise, its callers are left.
 pub comes_back :
     (actuals : List ActualForm) (before : List (Activation Value))
-    → ComesBack actuals before (with_places (copied_back actuals (places_of before) (places_of (older before))) (older before))
+    → ComesBack actuals before (with_operands (stored_back actuals (places_of before) ++ operands_of (older before))
+    (with_places (copied_back actuals (places_of before) (places_of (older before))) (older before)))
 comes_back actuals [] = refl
 comes_back actuals (callee ∷ []) = refl
 comes_back actuals (callee ∷ caller ∷ suspended) = (refl, gets_back actuals callee caller)

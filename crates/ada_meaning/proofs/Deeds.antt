@@ -4,7 +4,7 @@ use Rattle.std.proofs.Common.{◌≡◌, ℕ, ℤ, int_le, Bool, true, false, if
 use Rattle.std.specs.List.{slice_get, slice_set, slice_index_or}
 use Rattle.ada_program.specs.declared.program.Program.{Program}
 use Rattle.ada_program.specs.declared.program.TypeDefinition.{TypeDefinition}
-use Rattle.ada_program.specs.Form.{ActualForm, ExpressionForm, integer, boolean, reads, is_null, applied_to, chained, LinksForm, no_more_links, a_link, ItemForm, null_item, item_of_path, item_of_value, item_of_record, RightForm, nothing, value_of, allocates, allocates_default, computes, StmtForm, skips, assigns, assigns_record, frees, gets, writes, writes_text, chooses, repeats, counts, exits, calls, raises, encloses, StmtsForm, no_stmts, a_stmt, BranchesForm, otherwise, a_branch, HandlersForm, DeclarationForm, collects, declares, declares_record}
+use Rattle.ada_program.specs.Form.{RecordPathForm, ActualForm, ExpressionForm, integer, boolean, reads, is_null, applied_to, chained, LinksForm, no_more_links, a_link, ItemForm, null_item, item_of_path, item_of_value, item_of_record, RightForm, nothing, value_of, allocates, allocates_default, computes, StmtForm, skips, assigns, assigns_record, frees, gets, writes, writes_text, chooses, repeats, counts, exits, calls, raises, encloses, StmtsForm, no_stmts, a_stmt, BranchesForm, otherwise, a_branch, HandlersForm, DeclarationForm, collects, declares, declares_record}
 use Rattle.ada_program.specs.Form as form
 use Rattle.ada_program.specs.ProgramForm.{BodyForm, body_forms}
 use Rattle.ada_program.specs.Typed.{reached_of, words_of, width_of}
@@ -13,7 +13,7 @@ use Rattle.ada_values.specs.declared.fault.OperatorFault.{OperatorFault}
 use Rattle.ada_values.specs.declared.fault.OperatorFault.TheVariants.{Overflow, DivisionByZero, WrongType}
 use Rattle.ada_meaning.specs.declared.state.Id.{Id}
 use Rattle.ada_meaning.specs.declared.state.Value.{Value}
-use Rattle.ada_meaning.specs.declared.state.Value.TheVariants.{Null, Names, Scalar}
+use Rattle.ada_meaning.specs.declared.state.Value.TheVariants.{Null, Names, Scalar, Part}
 use Rattle.ada_meaning.specs.declared.state.Mode.{Mode}
 use Rattle.ada_meaning.specs.declared.state.Mode.TheVariants.{Running, Raising, Exiting, Returning}
 use Rattle.ada_meaning.specs.declared.event.Cause.{Cause}
@@ -25,8 +25,8 @@ use Rattle.ada_meaning.specs.Frame.{Frame, is_master, Landing, passes_on, goes_b
 use Rattle.ada_meaning.specs.Frame as frame
 use Rattle.ada_meaning.specs.State.{Owned, declared, collection, record_object, Item, Master, height, home_of, pool_of}
 use Rattle.ada_meaning.specs.Heap.{Cell, Found, on_null, on_gone, on_other, finds}
-use Rattle.ada_meaning.specs.Step.{same_pool, told_back, record_cell, record_in, stored_from, newest_ones, without_newest, initial_values, copied_next, copies_next, record_target_next, record_stored_next, store_record_next, record_next, halts, moves, tells, asks, picks, at, popped, held, newest, reading, component_next, follow_next, path_next, expression_next, null_test_next, is_decided, link_next, links_next, outcome_next, item_next, items_next, answered, new_next, new_cell, right_next, free_next, end_next, given_back, back_next, before_last, last_of, assign_next, target_next, stored_next, store_next, received_next, receive_next, frees_next, freed_next, free_component_next, free_in_next, branches_next, decided_next, turn_next, repeats_next, turned_next, count_turn_next, counts_next, ranges_next, gets_next, exit_next, exited_next, call_next, stmt_next, stmts_next, line_next, declaration_next, declarations_next, members_next, item_leave_next, master_leave_next, leave_next, frame_next, landed, pass_next, running_next, jump_next, mode_next}
-use Rattle.ada_meaning.specs.Named.{Object, State, Next, next, named, look, lent, lent_by, reads_boolean, reads_null, reads_integer, unary_given, binary_given, members, object_at, changed, on_object, new_object, parted, finished, returned, an_integer}
+use Rattle.ada_meaning.specs.Step.{same_pool, told_back, record_cell, record_in, stored_from, newest_ones, without_newest, initial_values, copied_next, copies_next, record_target_next, record_stored_next, store_record_next, record_next, halts, moves, tells, asks, picks, at, popped, held, newest, reading, component_next, follow_next, path_next, selected, named_next, holder_next, first_in, record_holder_next, referred_next, refers_next, open_next, opened_next, opens_next, expression_next, null_test_next, is_decided, link_next, links_next, outcome_next, item_next, items_next, answered, new_next, new_cell, right_next, free_next, end_next, given_back, back_next, before_last, last_of, assign_next, target_next, stored_next, store_next, received_next, receive_next, frees_next, freed_next, free_component_next, free_in_next, branches_next, decided_next, turn_next, repeats_next, turned_next, count_turn_next, counts_next, ranges_next, gets_next, exit_next, exited_next, call_next, stmt_next, stmts_next, line_next, declaration_next, declarations_next, members_next, item_leave_next, master_leave_next, leave_next, frame_next, landed, pass_next, running_next, jump_next, mode_next}
+use Rattle.ada_meaning.specs.Named.{Object, State, Next, next, named, whole, inside, look, lent, lent_by, reads_boolean, reads_null, reads_integer, unary_given, binary_given, members, object_at, changed, on_object, new_object, parted, finished, returned, an_integer}
 use Rattle.ada_meaning.specs.Run.{Event, Choice, settled, grants, takes, Leads, Step}
 use Rattle.ada_meaning.specs.Law.{back_of}
 use Rattle.ada_meaning.proofs.Jumps.{unwound_to, unwound_by}
@@ -71,11 +71,25 @@ path_does : (cs : List ℕ) (v : Value) (s : State) → Does s.heap (path_next n
 path_does [] v s = same refl refl
 path_does (c ∷ cs) v s = follow_does v c cs (look s.heap v) s
 
+-- Paths that begin with a variable.
+named_does : (cs : List ℕ) (x : ℕ) (s : State) → Does s.heap (named_next named cs x s)
+named_does cs x s = path_does (selected named (held named s x) cs) (whole (held named s x)) s
+
+holder_does : (c : ℕ) (cs : List ℕ) (x : ℕ) (frame_of : ℕ → Frame Value) (s : State) → Does s.heap (holder_next named c cs x frame_of s)
+holder_does c cs x frame_of s =
+    let first = inside (held named s x) c in
+    path_does (before_last first cs) (whole (held named s x)) (at (frame_of (last_of first cs) ∷ s.control) s)
+
+record_holder_does : (p : RecordPathForm) (frame_of : ℕ → Frame Value) (s : State) → Does s.heap (record_holder_next named p frame_of s)
+record_holder_does p frame_of s =
+    let v = held named s p.object.root in
+    path_does (selected named v p.object.selectors) (whole v) (at (frame_of (first_in named v p.object.selectors p.first) ∷ s.control) s)
+
 expression_does : (e : ExpressionForm) (s : State) → Does s.heap (expression_next named e s)
 expression_does (integer i) s = same refl refl
 expression_does (boolean b) s = same refl refl
-expression_does (reads path) s = path_does path.selectors (held named s path.root) s
-expression_does (is_null equal path) s = path_does path.selectors (held named s path.root) (at (frame.TestsNull equal ∷ s.control) s)
+expression_does (reads path) s = named_does path.selectors path.root s
+expression_does (is_null equal path) s = named_does path.selectors path.root (at (frame.TestsNull equal ∷ s.control) s)
 expression_does (applied_to operator e) s = same refl refl
 expression_does (chained e links) s = same refl refl
 
@@ -101,9 +115,9 @@ outcome_does (Err WrongType) s = tt
 -- Allocators, and what is assigned.
 item_does : (item : ItemForm) (s : State) → Does s.heap (item_next named item s)
 item_does null_item s = same refl refl
-item_does (item_of_path path) s = path_does path.selectors (held named s path.root) s
+item_does (item_of_path path) s = named_does path.selectors path.root s
 item_does (item_of_value e) s = same refl refl
-item_does (item_of_record p) s = path_does p.object.selectors (held named s p.object.root) (at (frame.Copies p.first p.record_type ∷ s.control) s)
+item_does (item_of_record p) s = record_holder_does p (λ first. frame.Copies first p.record_type) s
 
 items_do : (items : List ItemForm) (s : State) → Does s.heap (items_next named items s)
 items_do [] s = same refl refl
@@ -130,7 +144,7 @@ new_does access count words (Some item) s = answered_does access count item word
 
 right_does : (types : List TypeDefinition) (right : RightForm) (s : State) → Does s.heap (right_next named types right s)
 right_does types nothing s = same refl refl
-right_does types (value_of path) s = path_does path.selectors (held named s path.root) s
+right_does types (value_of path) s = named_does path.selectors path.root s
 right_does types (allocates access items) s = same refl refl
 right_does types (allocates_default access) s = same refl refl
 right_does types (computes e) s = same refl refl
@@ -168,11 +182,12 @@ back_does : (v : Value) (cause : Cause) (pool : Option ℕ) (s : State) → Does
 back_does Null cause pool s = tt
 back_does (Names o) cause pool s = lent_does o cause pool (object_at s.heap o) s refl
 back_does (Scalar v) cause pool s = tt
+back_does (Part o first) cause pool s = tt
 
 -- Statements and declarations.
 assign_does : (cs : List ℕ) (x : ℕ) (right : RightForm) (s : State) → Does s.heap (assign_next named cs x right s)
 assign_does [] x right s = same refl refl
-assign_does (c ∷ cs) x right s = path_does (before_last c cs) (held named s x) (at (frame.Targets (last_of c cs) right ∷ s.control) s)
+assign_does (c ∷ cs) x right s = holder_does c cs x (λ last. frame.Targets last right) s
 
 target_does : (o : Value) (c : ℕ) (right : RightForm) (found : Found (Cell Value)) (s : State) → Does s.heap (target_next named o c right found s)
 target_does o c right on_null s = same refl refl
@@ -209,7 +224,7 @@ store_record_does o first count (finds cell) s = record_stored_does o first (new
 
 frees_do : (cs : List ℕ) (access x : ℕ) (s : State) → Does s.heap (frees_next named cs access x s)
 frees_do [] access x s = free_does access x (held named s x) (look s.heap (held named s x)) s
-frees_do (c ∷ cs) access x s = path_does (before_last c cs) (held named s x) (at (frame.FreesIn access (last_of c cs) ∷ s.control) s)
+frees_do (c ∷ cs) access x s = holder_does c cs x (λ last. frame.FreesIn access last) s
 
 freed_does : (access : ℕ) (o : Value) (c : ℕ) (v : Value) (found : Found (Cell Value)) (s : State) → Does s.heap (freed_next named access o c v found s)
 freed_does access o c v on_null s = same refl refl
@@ -266,7 +281,7 @@ ranges_do x fs (Some low) None s = tt
 ranges_do x fs (Some low) (Some high) s = counts_do x low high fs s
 
 gets_do : (cs : List ℕ) (x : ℕ) (input : List ℤ) (s : State) → Does s.heap (gets_next named cs x input s)
-gets_do (c ∷ cs) x input s = path_does (before_last c cs) (held named s x) (at (frame.Receives (last_of c cs) ∷ s.control) s)
+gets_do (c ∷ cs) x input s = holder_does c cs x frame.Receives s
 gets_do [] x [] s = same refl refl
 gets_do [] x (i ∷ is) s = same refl refl
 
@@ -290,6 +305,31 @@ exited_does None s = tt
 exited_does (Some true) s = same refl refl
 exited_does (Some false) s = same refl refl
 
+-- What is given by reference.
+referred_does : (o : Value) (first : ℕ) (found : Option (List Value)) (s : State) → Does s.heap (referred_next named o first found s)
+referred_does o first None s = tt
+referred_does o first (Some vs) s = same refl refl
+
+refers_do : (o : Value) (first count : ℕ) (found : Found (Cell Value)) (s : State) → Does s.heap (refers_next named o first count found s)
+refers_do o first count on_null s = same refl refl
+refers_do o first count on_gone s = tt
+refers_do o first count on_other s = tt
+refers_do o first count (finds cell) s = referred_does o first (record_in cell.values first count) s
+
+open_does : (cs : List ℕ) (x : ℕ) (s : State) → Does s.heap (open_next named cs x s)
+open_does [] x s = tt
+open_does (c ∷ cs) x s = holder_does c cs x frame.OpensIn s
+
+opened_does : (o : Value) (c : ℕ) (found : Option Value) (s : State) → Does s.heap (opened_next named o c found s)
+opened_does o c None s = tt
+opened_does o c (Some v) s = same refl refl
+
+opens_do : (o : Value) (c : ℕ) (found : Found (Cell Value)) (s : State) → Does s.heap (opens_next named o c found s)
+opens_do o c on_null s = same refl refl
+opens_do o c on_gone s = tt
+opens_do o c on_other s = tt
+opens_do o c (finds cell) s = opened_does o c (slice_get cell.values c) s
+
 -- A call, and the end of one.
 call_does : (procedure : ℕ) (actuals : List ActualForm) (body : Option BodyForm) (s : State) → Does s.heap (call_next named procedure actuals body s)
 call_does procedure actuals None s = tt
@@ -299,7 +339,7 @@ stmt_does : (bodies : List BodyForm) (f : StmtForm) (s : State) → Does s.heap 
 stmt_does bodies skips s = same refl refl
 stmt_does bodies (assigns target right) s = assign_does target.selectors target.root right s
 stmt_does bodies (assigns_record target items) s =
-    path_does target.object.selectors (held named s target.object.root) (at (frame.TargetsRecord target.first target.record_type items ∷ s.control) s)
+    record_holder_does target (λ first. frame.TargetsRecord first target.record_type items) s
 stmt_does bodies (frees access path) s = frees_do path.selectors access path.root s
 stmt_does bodies (gets target) s = gets_do target.selectors target.root s.input s
 stmt_does bodies (writes e) s = same refl refl
@@ -367,11 +407,16 @@ frame_does types bodies (frame.Handles hs) s = same refl refl
 frame_does types bodies frame.Closes s = same refl refl
 frame_does types bodies (frame.Leaves mode) s = leave_does mode s.masters s
 frame_does types bodies (frame.Calls procedure b actuals) s = same refl refl
-frame_does types bodies (frame.Returns actuals) s = same refl refl
+frame_does types bodies (frame.Returns actuals references) s = same refl refl
 frame_does types bodies (frame.Evaluates right) s = right_does types right s
 frame_does types bodies (frame.Computes e) s = expression_does e s
 frame_does types bodies (frame.Follows cs) s = path_does cs (newest named s) (popped s)
 frame_does types bodies (frame.TestsNull equal) s = null_test_does equal (reads_null (newest named s)) (popped s)
+frame_does types bodies (frame.Refers p) s = record_holder_does p (λ first. frame.RefersIn first p.record_type) s
+frame_does types bodies (frame.RefersIn first t) s =
+    refers_do (newest named s) first (width_of types t) (look s.heap (newest named s)) (popped s)
+frame_does types bodies (frame.Opens path) s = open_does path.selectors path.root s
+frame_does types bodies (frame.OpensIn c) s = opens_do (newest named s) c (look s.heap (newest named s)) (popped s)
 frame_does types bodies (frame.Continues links) s = links_do links s
 frame_does types bodies (frame.Applies operator) s = outcome_does (binary_given operator (newest named (popped s)) (newest named s)) (popped (popped s))
 frame_does types bodies (frame.AppliesAlone operator) s = outcome_does (unary_given operator (newest named s)) (popped s)

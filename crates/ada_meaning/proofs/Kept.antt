@@ -17,14 +17,14 @@ use Rattle.ada_meaning.specs.Frame.{Frame, is_master, Landing, passes_on, goes_b
 use Rattle.ada_meaning.specs.Frame as frame
 use Rattle.ada_meaning.specs.State.{Owned, declared, collection, record_object, Item, Master, home_of, pool_of}
 use Rattle.ada_meaning.specs.Heap.{Cell, Found, on_null, on_gone, on_other, finds}
-use Rattle.ada_meaning.specs.Step.{record_in, newest_ones, without_newest, record_target_next, record_stored_next, store_record_next, record_next, moves, at, popped, held, newest, before_last, last_of, assign_next, target_next, stored_next, store_next, received_next, receive_next, frees_next, freed_next, free_component_next, free_in_next, branches_next, decided_next, turn_next, repeats_next, turned_next, count_turn_next, counts_next, ranges_next, gets_next, exit_next, exited_next, call_next, stmt_next, stmts_next, line_next, declaration_next, declarations_next, members_next, item_leave_next, master_leave_next, leave_next, frame_next}
-use Rattle.ada_meaning.specs.Named.{State, named, look, lent, reads_boolean, reads_null, reads_integer, unary_given, binary_given, members}
-use Rattle.ada_meaning.proofs.Activations.{Shape, shape, Keeps, operands_kept, less, put_kept, path_keeps, expression_keeps, null_test_keeps, links_keep, outcome_keeps, items_keep, copies_keep, new_keeps, right_keeps, free_keeps, end_keeps, back_keeps}
+use Rattle.ada_meaning.specs.Step.{referred_next, refers_next, open_next, opened_next, opens_next, record_in, newest_ones, without_newest, record_target_next, record_stored_next, store_record_next, record_next, moves, at, computed, popped, held, newest, assign_next, target_next, stored_next, store_next, received_next, receive_next, frees_next, freed_next, free_component_next, free_in_next, branches_next, decided_next, turn_next, repeats_next, turned_next, count_turn_next, counts_next, ranges_next, gets_next, exit_next, exited_next, call_next, stmt_next, stmts_next, line_next, declaration_next, declarations_next, members_next, item_leave_next, master_leave_next, leave_next, frame_next}
+use Rattle.ada_meaning.specs.Named.{State, named, refer, look, lent, reads_boolean, reads_null, reads_integer, unary_given, binary_given, members}
+use Rattle.ada_meaning.proofs.Activations.{Shape, shape, Keeps, operands_kept, less, put_kept, path_keeps, holder_keeps, record_holder_keeps, expression_keeps, null_test_keeps, links_keep, outcome_keeps, items_keep, copies_keep, new_keeps, right_keeps, free_keeps, end_keeps, back_keeps}
 
 -- Statements and declarations.
 assign_keeps : {w : Shape} (cs : List ℕ) (x : ℕ) (right : RightForm) (s : State) → shape s.activations ≡ w → Keeps w (assign_next named cs x right s)
 assign_keeps [] x right s h = h
-assign_keeps (c ∷ cs) x right s h = path_keeps (before_last c cs) (held named s x) (at (frame.Targets (last_of c cs) right ∷ s.control) s) h
+assign_keeps (c ∷ cs) x right s h = holder_keeps c cs x (λ last. frame.Targets last right) s h
 
 target_keeps :
     {w : Shape} (o : Value) (c : ℕ) (right : RightForm) (found : Found (Cell Value)) (s : State) → shape s.activations ≡ w
@@ -72,7 +72,7 @@ store_record_keeps o first count (finds cell) s h =
 
 frees_keep : {w : Shape} (cs : List ℕ) (access x : ℕ) (s : State) → shape s.activations ≡ w → Keeps w (frees_next named cs access x s)
 frees_keep [] access x s h = free_keeps access x (held named s x) (look s.heap (held named s x)) s h
-frees_keep (c ∷ cs) access x s h = path_keeps (before_last c cs) (held named s x) (at (frame.FreesIn access (last_of c cs) ∷ s.control) s) h
+frees_keep (c ∷ cs) access x s h = holder_keeps c cs x (λ last. frame.FreesIn access last) s h
 
 freed_keeps :
     {w : Shape} (access : ℕ) (o : Value) (c : ℕ) (v : Value) (found : Found (Cell Value)) (s : State) → shape s.activations ≡ w
@@ -142,7 +142,7 @@ ranges_keep x fs (Some low) None s h = tt
 ranges_keep x fs (Some low) (Some high) s h = counts_keep x low high fs s h
 
 gets_keep : {w : Shape} (cs : List ℕ) (x : ℕ) (input : List ℤ) (s : State) → shape s.activations ≡ w → Keeps w (gets_next named cs x input s)
-gets_keep (c ∷ cs) x input s h = path_keeps (before_last c cs) (held named s x) (at (frame.Receives (last_of c cs) ∷ s.control) s) h
+gets_keep (c ∷ cs) x input s h = holder_keeps c cs x frame.Receives s h
 gets_keep [] x [] s h = operands_kept _ s h
 gets_keep [] x (i ∷ is) s h = put_kept _ _ s h
 
@@ -168,6 +168,34 @@ exited_keeps None s h = tt
 exited_keeps (Some true) s h = operands_kept _ s h
 exited_keeps (Some false) s h = h
 
+-- What is given by reference.
+referred_keeps :
+    {w : Shape} (o : Value) (first : ℕ) (found : Option (List Value)) (s : State) → shape s.activations ≡ w → Keeps w (referred_next named o first found s)
+referred_keeps o first None s h = tt
+referred_keeps o first (Some vs) s h = operands_kept _ s h
+
+refers_keep :
+    {w : Shape} (o : Value) (first count : ℕ) (found : Found (Cell Value)) (s : State) → shape s.activations ≡ w
+    → Keeps w (refers_next named o first count found s)
+refers_keep o first count on_null s h = operands_kept _ s h
+refers_keep o first count on_gone s h = tt
+refers_keep o first count on_other s h = tt
+refers_keep o first count (finds cell) s h = referred_keeps o first (record_in cell.values first count) s h
+
+open_keeps : {w : Shape} (cs : List ℕ) (x : ℕ) (s : State) → shape s.activations ≡ w → Keeps w (open_next named cs x s)
+open_keeps [] x s h = tt
+open_keeps (c ∷ cs) x s h = holder_keeps c cs x frame.OpensIn s h
+
+opened_keeps : {w : Shape} (o : Value) (c : ℕ) (found : Option Value) (s : State) → shape s.activations ≡ w → Keeps w (opened_next named o c found s)
+opened_keeps o c None s h = tt
+opened_keeps o c (Some v) s h = operands_kept _ (computed (refer o c) s) (operands_kept _ s h)
+
+opens_keep : {w : Shape} (o : Value) (c : ℕ) (found : Found (Cell Value)) (s : State) → shape s.activations ≡ w → Keeps w (opens_next named o c found s)
+opens_keep o c on_null s h = operands_kept _ s h
+opens_keep o c on_gone s h = tt
+opens_keep o c on_other s h = tt
+opens_keep o c (finds cell) s h = opened_keeps o c (slice_get cell.values c) s h
+
 -- A call, and the end of one.
 call_keeps :
     {w : Shape} (procedure : ℕ) (actuals : List ActualForm) (body : Option BodyForm) (s : State) → shape s.activations ≡ w
@@ -179,7 +207,7 @@ stmt_keeps : {w : Shape} (bodies : List BodyForm) (f : StmtForm) (s : State) →
 stmt_keeps bodies skips s h = h
 stmt_keeps bodies (assigns target right) s h = assign_keeps target.selectors target.root right s h
 stmt_keeps bodies (assigns_record target items) s h =
-    path_keeps target.object.selectors (held named s target.object.root) (at (frame.TargetsRecord target.first target.record_type items ∷ s.control) s) h
+    record_holder_keeps target (λ first. frame.TargetsRecord first target.record_type items) s h
 stmt_keeps bodies (frees access path) s h = frees_keep path.selectors access path.root s h
 stmt_keeps bodies (gets target) s h = gets_keep target.selectors target.root s.input s h
 stmt_keeps bodies (writes e) s h = h
@@ -243,7 +271,7 @@ leave_keeps mode (m ∷ ms) s h = master_leave_keeps mode m.number m.items s h
 -- Neither the beginning nor the end of a call's body.
 abbrev pub IsWithin : Frame Value → Type 0
 IsWithin (frame.Calls procedure b actuals) = ⊥
-IsWithin (frame.Returns actuals) = ⊥
+IsWithin (frame.Returns actuals references) = ⊥
 IsWithin f = Unit {0}
 
 pub frame_keeps :
@@ -262,11 +290,16 @@ frame_keeps types bodies (frame.Handles hs) s i h = h
 frame_keeps types bodies frame.Closes s i h = h
 frame_keeps types bodies (frame.Leaves mode) s i h = leave_keeps mode s.masters s h
 frame_keeps types bodies (frame.Calls procedure b actuals) s i h = absurd i
-frame_keeps types bodies (frame.Returns actuals) s i h = absurd i
+frame_keeps types bodies (frame.Returns actuals references) s i h = absurd i
 frame_keeps types bodies (frame.Evaluates right) s i h = right_keeps types right s h
 frame_keeps types bodies (frame.Computes e) s i h = expression_keeps e s h
 frame_keeps types bodies (frame.Follows cs) s i h = path_keeps cs (newest named s) (popped s) (less s h)
 frame_keeps types bodies (frame.TestsNull equal) s i h = null_test_keeps equal (reads_null (newest named s)) (popped s) (less s h)
+frame_keeps types bodies (frame.Refers p) s i h = record_holder_keeps p (λ first. frame.RefersIn first p.record_type) s h
+frame_keeps types bodies (frame.RefersIn first t) s i h =
+    refers_keep (newest named s) first (width_of types t) (look s.heap (newest named s)) (popped s) (less s h)
+frame_keeps types bodies (frame.Opens path) s i h = open_keeps path.selectors path.root s h
+frame_keeps types bodies (frame.OpensIn c) s i h = opens_keep (newest named s) c (look s.heap (newest named s)) (popped s) (less s h)
 frame_keeps types bodies (frame.Continues links) s i h = links_keep links s h
 frame_keeps types bodies (frame.Applies operator) s i h =
     outcome_keeps (binary_given operator (newest named (popped s)) (newest named s)) (popped (popped s)) (less (popped s) (less s h))

@@ -23,6 +23,8 @@ pub mod CallsRefused
 pub mod Defaults
 -- records that are copied as wholes
 pub mod Records
+-- what is given by reference, and what is stored in a component
+pub mod References
 -- where a statement begins
 pub mod Beginnings
 -- what the law of the innermost master refuses

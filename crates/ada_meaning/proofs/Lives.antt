@@ -7,7 +7,7 @@ use Rattle.std.proofs.lemmas.List.Kept.{AllPairs-cons}
 use Rattle.ada_program.specs.declared.program.Program.{Program}
 use Rattle.ada_meaning.specs.declared.state.Id.{Id}
 use Rattle.ada_meaning.specs.declared.state.Value.{Value}
-use Rattle.ada_meaning.specs.declared.state.Value.TheVariants.{Null, Names, Scalar}
+use Rattle.ada_meaning.specs.declared.state.Value.TheVariants.{Null, Names, Scalar, Part}
 use Rattle.ada_meaning.specs.declared.state.Stage.TheVariants.{Gone}
 use Rattle.ada_meaning.specs.Named.{Object, State, named, object_at, changed, on_object, parted, finished, returned, filled, store}
 use Rattle.ada_meaning.specs.Step.{stored_from}
@@ -67,6 +67,7 @@ keeps_on : (change : Object → Object) (xs : Heap) (v : Value) → ((x : Object
 keeps_on change xs Null r = keeps_same xs
 keeps_on change xs (Names o) r = keeps_changed change (slice_get xs o.0) xs o r refl
 keeps_on change xs (Scalar v) r = keeps_same xs
+keeps_on change xs (Part o first) r = keeps_same xs
 
 keeps_later : (xs ys zs : Heap) → KeepsObjects xs ys → KeepsObjects ys zs → KeepsObjects xs zs
 keeps_later [] ys zs a b = tt

@@ -4,7 +4,7 @@ use Rattle.std.proofs.Common.{◌≡◌, ℕ, zero, suc, ◌+◌, ◌<◌, ◌�
 use Rattle.std.specs.List.{slice_get, slice_set, slice_index_or, AllByRecursion}
 use Rattle.ada_meaning.specs.declared.state.Id.{Id}
 use Rattle.ada_meaning.specs.declared.state.Value.{Value}
-use Rattle.ada_meaning.specs.declared.state.Value.TheVariants.{Null, Names, Scalar}
+use Rattle.ada_meaning.specs.declared.state.Value.TheVariants.{Null, Names, Scalar, Part}
 use Rattle.ada_meaning.specs.Step.{stored_from}
 use Rattle.ada_meaning.specs.Named.{Object, named, changed, on_object, parted, finished, returned, filled, store, is_member, members_from, members}
 use Rattle.ada_meaning.specs.Ending.{object_weight, heap_weight}
@@ -75,6 +75,7 @@ on_object_lighter : (change : Object → Object) (objects : List Object) (v : Va
 on_object_lighter change objects Null lighter = omega arith
 on_object_lighter change objects (Names o) lighter = changed_lighter change (slice_get objects o.0) objects o lighter refl
 on_object_lighter change objects (Scalar v) lighter = omega arith
+on_object_lighter change objects (Part o first) lighter = omega arith
 
 pub finished_lighter : (objects : List Object) (v : Value) → heap_weight (on_object finished objects v) ≤ heap_weight objects
 finished_lighter objects v = on_object_lighter finished objects v (λ object. omega arith)

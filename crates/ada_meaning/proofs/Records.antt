@@ -56,7 +56,7 @@ module _ {X : Type 0} where
   set_length (y ∷ xs) zero x = refl
   set_length (y ∷ xs) (suc i) x = ap suc (set_length xs i x)
 
-  within : (xs : List X) (i : ℕ) (x : X) → slice_get xs i ≡ Some x → i < length xs
+  pub within : (xs : List X) (i : ℕ) (x : X) → slice_get xs i ≡ Some x → i < length xs
   within [] i x is = absurd (cc)
   within (y ∷ xs) zero x is = omega arith
   within (y ∷ xs) (suc i) x is = omega (arith, within xs i x is)

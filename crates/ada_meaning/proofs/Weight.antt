@@ -1,10 +1,10 @@
 -- Each step that begins no statement makes a state lighter, so that a run comes to the next statement, or to its end.
 
-use Rattle.std.proofs.Common.{◌≡◌, ◌≢◌, ℕ, ℤ, ◌+◌, ◌<◌, ◌≤◌, int_le, Bool, true, false, ◌||◌, if◌then◌else◌, List, [], ◌∷◌, length, Option, Some, None, Result, Ok, Err, arith, refl}
+use Rattle.std.proofs.Common.{◌≡◌, ◌≢◌, ℕ, suc, ℤ, ◌+◌, ◌<◌, ◌≤◌, int_le, Bool, true, false, ◌||◌, if◌then◌else◌, List, [], ◌∷◌, length, Option, Some, None, Result, Ok, Err, arith, refl, ap}
 use Rattle.std.specs.List.{slice_get, slice_index_or}
 use Rattle.ada_program.specs.declared.program.Program.{Program}
 use Rattle.ada_program.specs.declared.program.TypeDefinition.{TypeDefinition}
-use Rattle.ada_program.specs.Form.{ActualForm, ExpressionForm, integer, boolean, reads, is_null, applied_to, chained, LinksForm, no_more_links, a_link, ItemForm, null_item, item_of_path, item_of_value, item_of_record, RightForm, nothing, value_of, allocates, allocates_default, computes, StmtForm, skips, assigns, assigns_record, frees, gets, writes, writes_text, chooses, repeats, counts, exits, calls, returns, raises, encloses, StmtsForm, no_stmts, a_stmt, BranchesForm, otherwise, a_branch, HandlersForm, DeclarationForm, collects, declares, declares_record}
+use Rattle.ada_program.specs.Form.{RecordPathForm, ActualForm, in_value, in_null, in_access, in_record, in_out_path, in_out_access, in_out_component, in_out_record, ExpressionForm, integer, boolean, reads, is_null, applied_to, chained, LinksForm, no_more_links, a_link, ItemForm, null_item, item_of_path, item_of_value, item_of_record, RightForm, nothing, value_of, allocates, allocates_default, computes, StmtForm, skips, assigns, assigns_record, frees, gets, writes, writes_text, chooses, repeats, counts, exits, calls, returns, raises, encloses, StmtsForm, no_stmts, a_stmt, BranchesForm, otherwise, a_branch, HandlersForm, DeclarationForm, collects, declares, declares_record}
 use Rattle.ada_program.specs.Handling.{handler_of}
 use Rattle.ada_program.specs.ProgramForm.{BodyForm, body_forms}
 use Rattle.ada_program.specs.Typed.{reached_of, words_of, width_of}
@@ -25,11 +25,11 @@ use Rattle.ada_meaning.specs.Frame as frame
 use Rattle.ada_meaning.specs.State.{Owned, declared, collection, record_object, Item, Master, height, home_of, pool_of, begins, begins_in, begins_among}
 use Rattle.ada_meaning.specs.Event.{Back, Quiet}
 use Rattle.ada_meaning.specs.Heap.{Cell, Found, on_null, on_gone, on_other, finds}
-use Rattle.ada_meaning.specs.Step.{same_pool, told_back, record_cell, record_in, newest_ones, without_newest, initial_values, copied_next, copies_next, record_target_next, record_stored_next, store_record_next, record_next, halts, moves, tells, asks, picks, at, older, owning, shorter, popped, held, newest, reading, component_next, follow_next, path_next, expression_next, null_test_next, is_decided, link_next, links_next, outcome_next, item_next, items_next, answered, new_next, new_cell, right_next, free_next, end_next, given_back, back_next, assign_next, frees_next, freed_next, free_component_next, free_in_next, branches_next, decided_next, turn_next, repeats_next, turned_next, count_turn_next, counts_next, ranges_next, gets_next, exit_next, exited_next, call_next, stmt_next, line_next, before_last, last_of, target_next, stored_next, store_next, received_next, receive_next, declaration_next, declarations_next, members_next, item_leave_next, master_leave_next, leave_next, frame_next, pass_next, running_next, mode_next}
-use Rattle.ada_meaning.specs.Named.{State, Next, next, named, look, lent, reads_boolean, reads_null, reads_integer, unary_given, binary_given, members, on_object, returned, new_object, an_integer}
+use Rattle.ada_meaning.specs.Step.{same_pool, told_back, record_cell, record_in, newest_ones, without_newest, initial_values, copied_next, copies_next, record_target_next, record_stored_next, store_record_next, record_next, halts, moves, tells, asks, picks, at, older, owning, shorter, popped, held, newest, reading, component_next, follow_next, path_next, selected, named_next, holder_next, first_in, record_holder_next, referred_next, refers_next, open_next, opened_next, opens_next, references_in, operand_count, storing, unwound, expression_next, null_test_next, is_decided, link_next, links_next, outcome_next, item_next, items_next, answered, new_next, new_cell, right_next, free_next, end_next, given_back, back_next, assign_next, frees_next, freed_next, free_component_next, free_in_next, branches_next, decided_next, turn_next, repeats_next, turned_next, count_turn_next, counts_next, ranges_next, gets_next, exit_next, exited_next, call_next, stmt_next, line_next, before_last, last_of, target_next, stored_next, store_next, received_next, receive_next, declaration_next, declarations_next, members_next, item_leave_next, master_leave_next, leave_next, frame_next, pass_next, running_next, mode_next}
+use Rattle.ada_meaning.specs.Named.{State, Next, next, named, whole, inside, look, lent, reads_boolean, reads_null, reads_integer, unary_given, binary_given, members, on_object, returned, new_object, an_integer}
 use Rattle.ada_meaning.specs.Run.{Event, Choice, settled, grants, takes, Leads, Step}
 use Rattle.ada_meaning.specs.Beginning.{BeginsStatement}
-use Rattle.ada_meaning.specs.Ending.{expression_weight, links_weight, item_weight, items_weight, right_weight, branches_weight, condition_weight, initial_weight, declaration_weight, declarations_weight, frame_weight, has_handlers, pass_weight, passed_weight, by_mode, behind_weight, run_weight, exit_weight, return_weight, heap_weight, masters_weight, weight, GoesOn, WithinStatement, here, there}
+use Rattle.ada_meaning.specs.Ending.{path_weight, expression_weight, links_weight, item_weight, items_weight, right_weight, branches_weight, condition_weight, initial_weight, declaration_weight, declarations_weight, frame_weight, has_handlers, stored_behind, pass_weight, passed_weight, by_mode, behind_weight, run_weight, exit_weight, return_weight, heap_weight, masters_weight, weight, GoesOn, WithinStatement, here, there}
 use Rattle.ada_meaning.proofs.Members.{member_listed, heap_append, finished_lighter, returned_lighter, filled_lighter, stored_lighter, parted_lighter, taken_lighter}
 use Rattle.ada_meaning.proofs.Beginnings.{statements_begin}
 use Rattle.ada_meaning.proofs.Jumps.{unwound_to, unwound_by, master_no_loop, master_no_return}
@@ -104,11 +104,15 @@ frame_passed (frame.Handles hs) passed exited returned run h i j = omega (arith,
 frame_passed frame.Closes passed exited returned run h i j = omega (arith, h)
 frame_passed (frame.Leaves mode) passed exited returned run h i j = omega (arith, mode_passed mode passed exited returned run h i j)
 frame_passed (frame.Calls procedure b actuals) passed exited returned run h i j = omega (arith, h)
-frame_passed (frame.Returns actuals) passed exited returned run h i j = omega (arith, h)
+frame_passed (frame.Returns actuals references) passed exited returned run h i j = omega (arith, h)
 frame_passed (frame.Evaluates right) passed exited returned run h i j = omega (arith, h, some_right right)
 frame_passed (frame.Computes e) passed exited returned run h i j = omega (arith, h, some_expression e)
 frame_passed (frame.Follows cs) passed exited returned run h i j = omega (arith, h)
 frame_passed (frame.TestsNull equal) passed exited returned run h i j = omega (arith, h)
+frame_passed (frame.Refers p) passed exited returned run h i j = omega (arith, h)
+frame_passed (frame.RefersIn first t) passed exited returned run h i j = omega (arith, h)
+frame_passed (frame.Opens path) passed exited returned run h i j = omega (arith, h)
+frame_passed (frame.OpensIn c) passed exited returned run h i j = omega (arith, h)
 frame_passed (frame.Continues links) passed exited returned run h i j = omega (arith, h, some_links links)
 frame_passed (frame.Applies operator) passed exited returned run h i j = omega (arith, h)
 frame_passed (frame.AppliesAlone operator) passed exited returned run h i j = omega (arith, h)
@@ -176,13 +180,49 @@ path_lightens : (cs : List ℕ) (v : Value) (s : State) (w : ℕ) → load (runn
 path_lightens [] v s w h = omega (arith, h)
 path_lightens (c ∷ cs) v s w h = follow_lightens v c cs (look s.heap v) s w (omega (arith, h))
 
+-- Paths that begin with a variable have as many components as are written.
+selected_length : (v : Value) (cs : List ℕ) → length (selected named v cs) ≡ length cs
+selected_length v [] = refl
+selected_length v (c ∷ cs) = refl
+
+before_length : (c : ℕ) (cs : List ℕ) → length (before_last c cs) ≡ length cs
+before_length c [] = refl
+before_length c (d ∷ cs) = ap suc (before_length d cs)
+
+-- A frame that weighs 1, whatever component it is for.
+abbrev WeighsOne : (ℕ → Frame Value) → List (Frame Value) → Type 0
+WeighsOne frame_of k = (n : ℕ) → run_weight (frame_of n ∷ k) ≡ 1 + run_weight k
+
+named_lightens : (cs : List ℕ) (x : ℕ) (s : State) (w : ℕ) → load (running s) + length cs + 1 ≤ w → Lightens (named_next named cs x (running s)) w
+named_lightens cs x s w h =
+    let v = held named s x in
+    path_lightens (selected named v cs) (whole v) s w (omega (arith, h, selected_length v cs))
+
+holder_lightens :
+    (c : ℕ) (cs : List ℕ) (x : ℕ) (frame_of : ℕ → Frame Value) (s : State) (w : ℕ) → WeighsOne frame_of s.control
+    → load (running s) + length cs + 2 ≤ w → Lightens (holder_next named c cs x frame_of (running s)) w
+holder_lightens c cs x frame_of s w one h =
+    let v = held named s x in
+    let first = inside v c in
+    path_lightens (before_last first cs) (whole v) (at (frame_of (last_of first cs) ∷ s.control) s) w
+    (omega (arith, h, before_length first cs, one (last_of first cs)))
+
+record_holder_lightens :
+    (p : RecordPathForm) (frame_of : ℕ → Frame Value) (s : State) (w : ℕ) → WeighsOne frame_of s.control
+    → load (running s) + 1 + path_weight p.object ≤ w → Lightens (record_holder_next named p frame_of (running s)) w
+record_holder_lightens p frame_of s w one h =
+    let v = held named s p.object.root in
+    let first = first_in named v p.object.selectors p.first in
+    path_lightens (selected named v p.object.selectors) (whole v) (at (frame_of first ∷ s.control) s) w
+    (omega (arith, h, selected_length v p.object.selectors, one first))
+
 -- Expressions.
 expression_lightens : (e : ExpressionForm) (s : State) (w : ℕ) → load (running s) + expression_weight e ≤ w → Lightens (expression_next named e (running s)) w
 expression_lightens (integer i) s w h = omega (arith, h)
 expression_lightens (boolean b) s w h = omega (arith, h)
-expression_lightens (reads path) s w h = path_lightens path.selectors (held named s path.root) s w (omega (arith, h))
+expression_lightens (reads path) s w h = named_lightens path.selectors path.root s w (omega (arith, h))
 expression_lightens (is_null equal path) s w h =
-    path_lightens path.selectors (held named s path.root) (at (frame.TestsNull equal ∷ s.control) s) w (omega (arith, h))
+    named_lightens path.selectors path.root (at (frame.TestsNull equal ∷ s.control) s) w (omega (arith, h))
 expression_lightens (applied_to operator e) s w h = omega (arith, h)
 expression_lightens (chained e links) s w h = omega (arith, h)
 
@@ -208,10 +248,10 @@ outcome_lightens (Err WrongType) s w h = λ memory. cc
 -- Allocators.
 item_lightens : (item : ItemForm) (s : State) (w : ℕ) → load (running s) + item_weight item ≤ w → Lightens (item_next named item (running s)) w
 item_lightens null_item s w h = omega (arith, h)
-item_lightens (item_of_path path) s w h = path_lightens path.selectors (held named s path.root) s w (omega (arith, h))
+item_lightens (item_of_path path) s w h = named_lightens path.selectors path.root s w (omega (arith, h))
 item_lightens (item_of_value e) s w h = omega (arith, h)
 item_lightens (item_of_record p) s w h =
-    path_lightens p.object.selectors (held named s p.object.root) (at (frame.Copies p.first p.record_type ∷ s.control) s) w (omega (arith, h))
+    record_holder_lightens p (λ first. frame.Copies first p.record_type) s w (λ first. refl) (omega (arith, h))
 
 items_lighten : (items : List ItemForm) (s : State) (w : ℕ) → load (running s) + items_weight items ≤ w → Lightens (items_next named items (running s)) w
 items_lighten [] s w h = omega (arith, h)
@@ -238,7 +278,7 @@ new_lightens access count words (Some item) s w h = answered_lightens access cou
 
 right_lightens : (types : List TypeDefinition) (right : RightForm) (s : State) (w : ℕ) → load (running s) + right_weight right ≤ w → Lightens (right_next named types right (running s)) w
 right_lightens types nothing s w h = omega (arith, h)
-right_lightens types (value_of path) s w h = path_lightens path.selectors (held named s path.root) s w (omega (arith, h))
+right_lightens types (value_of path) s w h = named_lightens path.selectors path.root s w (omega (arith, h))
 right_lightens types (allocates access items) s w h = omega (arith, h)
 right_lightens types (allocates_default access) s w h = omega (arith, h)
 right_lightens types (computes e) s w h = omega (arith, h)
@@ -380,6 +420,63 @@ line_lightens : (read : Option ℤ) (s : State) (w : ℕ) → load (running s) +
 line_lightens None s w h = λ memory. cc
 line_lightens (Some i) s w h = omega (arith, h)
 
+-- What is given by reference.
+referred_lightens :
+    (o : Value) (first : ℕ) (found : Option (List Value)) (s : State) (w : ℕ) → load (running s) + 1 ≤ w
+    → Lightens (referred_next named o first found (running s)) w
+referred_lightens o first None s w h = λ memory. cc
+referred_lightens o first (Some vs) s w h = omega (arith, h)
+
+refers_lighten :
+    (o : Value) (first count : ℕ) (found : Found (Cell Value)) (s : State) (w : ℕ) → load (running s) + 1 ≤ w
+    → Lightens (refers_next named o first count found (running s)) w
+refers_lighten o first count on_null s w h = omega (arith, h, passed_run s.control)
+refers_lighten o first count on_gone s w h = λ memory. cc
+refers_lighten o first count on_other s w h = λ memory. cc
+refers_lighten o first count (finds cell) s w h = referred_lightens o first (record_in cell.values first count) s w h
+
+open_lightens : (cs : List ℕ) (x : ℕ) (s : State) (w : ℕ) → load (running s) + length cs + 2 ≤ w → Lightens (open_next named cs x (running s)) w
+open_lightens [] x s w h = λ memory. cc
+open_lightens (c ∷ cs) x s w h = holder_lightens c cs x frame.OpensIn s w (λ last. refl) (omega (arith, h))
+
+opened_lightens :
+    (o : Value) (c : ℕ) (found : Option Value) (s : State) (w : ℕ) → load (running s) + 1 ≤ w → Lightens (opened_next named o c found (running s)) w
+opened_lightens o c None s w h = λ memory. cc
+opened_lightens o c (Some v) s w h = omega (arith, h)
+
+opens_lighten :
+    (o : Value) (c : ℕ) (found : Found (Cell Value)) (s : State) (w : ℕ) → load (running s) + 1 ≤ w → Lightens (opens_next named o c found (running s)) w
+opens_lighten o c on_null s w h = omega (arith, h, passed_run s.control)
+opens_lighten o c on_gone s w h = λ memory. cc
+opens_lighten o c on_other s w h = λ memory. cc
+opens_lighten o c (finds cell) s w h = opened_lightens o c (slice_get cell.values c) s w h
+
+-- A call refers to no more components than it has actual parameters.
+few_references : (actuals : List ActualForm) (vs : List Value) → length (references_in actuals vs) ≤ length actuals
+few_references [] vs = omega arith
+few_references (in_value e ∷ rest) [] = omega arith
+few_references (in_value e ∷ rest) (v ∷ vs) = omega (arith, few_references rest vs)
+few_references (in_null ∷ rest) [] = omega arith
+few_references (in_null ∷ rest) (v ∷ vs) = omega (arith, few_references rest vs)
+few_references (in_access path ∷ rest) [] = omega arith
+few_references (in_access path ∷ rest) (v ∷ vs) = omega (arith, few_references rest vs)
+few_references (in_record p ∷ rest) [] = omega arith
+few_references (in_record p ∷ rest) (v ∷ vs) = omega (arith, few_references rest vs)
+few_references (in_out_path path ∷ rest) [] = omega arith
+few_references (in_out_path path ∷ rest) (v ∷ vs) = omega (arith, few_references rest vs)
+few_references (in_out_access path ∷ rest) [] = omega arith
+few_references (in_out_access path ∷ rest) (v ∷ vs) = omega (arith, few_references rest vs)
+few_references (in_out_component path ∷ rest) [] = omega arith
+few_references (in_out_component path ∷ rest) (r ∷ []) = omega arith
+few_references (in_out_component path ∷ rest) (r ∷ v ∷ vs) = omega (arith, few_references rest vs)
+few_references (in_out_record p ∷ rest) [] = omega arith
+few_references (in_out_record p ∷ rest) (v ∷ vs) = omega (arith, few_references rest vs)
+
+-- Each component that gets something back weighs 1.
+storing_weight : (references : List Value) (k : List (Frame Value)) → run_weight (storing named references k) ≡ length references + run_weight k
+storing_weight [] k = omega arith
+storing_weight (r ∷ rs) k = omega (arith, storing_weight rs k)
+
 -- Declarations.
 record_lightens : (types : List TypeDefinition) (x t : ℕ) (initial : Option (List ItemForm)) (s : State) (w : ℕ) → load (running s) + 5 + initial_weight initial ≤ w → Lightens (record_next named types x t initial (running s)) w
 record_lightens types x t None s w h =
@@ -436,12 +533,19 @@ frame_lightens types bodies frame.Exits s w b h = exited_lightens (reads_boolean
 frame_lightens types bodies (frame.Handles hs) s w b h = omega (arith, h)
 frame_lightens types bodies frame.Closes s w b h = omega (arith, h)
 frame_lightens types bodies (frame.Leaves mode) s w b h = leave_lightens mode s.masters s w refl (omega (arith, h))
-frame_lightens types bodies (frame.Calls procedure body actuals) s w b h = omega (arith, h)
-frame_lightens types bodies (frame.Returns actuals) s w b h = omega (arith, h)
+frame_lightens types bodies (frame.Calls procedure body actuals) s w b h =
+    omega (arith, h, few_references actuals (newest_ones named (operand_count actuals) s))
+frame_lightens types bodies (frame.Returns actuals references) s w b h = omega (arith, h, storing_weight references s.control)
 frame_lightens types bodies (frame.Evaluates right) s w b h = right_lightens types right s w (omega (arith, h))
 frame_lightens types bodies (frame.Computes e) s w b h = expression_lightens e s w (omega (arith, h))
 frame_lightens types bodies (frame.Follows cs) s w b h = path_lightens cs (newest named s) (popped s) w (omega (arith, h))
 frame_lightens types bodies (frame.TestsNull equal) s w b h = null_test_lightens equal (reads_null (newest named s)) (popped s) w (omega (arith, h))
+frame_lightens types bodies (frame.Refers p) s w b h =
+    record_holder_lightens p (λ first. frame.RefersIn first p.record_type) s w (λ first. refl) (omega (arith, h))
+frame_lightens types bodies (frame.RefersIn first t) s w b h =
+    refers_lighten (newest named s) first (width_of types t) (look s.heap (newest named s)) (popped s) w (omega (arith, h))
+frame_lightens types bodies (frame.Opens path) s w b h = open_lightens path.selectors path.root s w (omega (arith, h))
+frame_lightens types bodies (frame.OpensIn c) s w b h = opens_lighten (newest named s) c (look s.heap (newest named s)) (popped s) w (omega (arith, h))
 frame_lightens types bodies (frame.Continues links) s w b h = links_lighten links s w (omega (arith, h))
 frame_lightens types bodies (frame.Applies operator) s w b h =
     outcome_lightens (binary_given operator (newest named (popped s)) (newest named s)) (popped (popped s)) w (omega (arith, h))
@@ -502,11 +606,15 @@ exception_lands e (frame.Handles hs) = handler_lands (handler_of e hs)
 exception_lands e frame.Closes = tt
 exception_lands e (frame.Leaves mode) = tt
 exception_lands e (frame.Calls procedure b actuals) = tt
-exception_lands e (frame.Returns actuals) = tt
+exception_lands e (frame.Returns actuals references) = tt
 exception_lands e (frame.Evaluates right) = tt
 exception_lands e (frame.Computes x) = tt
 exception_lands e (frame.Follows cs) = tt
 exception_lands e (frame.TestsNull equal) = tt
+exception_lands e (frame.Refers p) = tt
+exception_lands e (frame.RefersIn first t) = tt
+exception_lands e (frame.Opens path) = tt
+exception_lands e (frame.OpensIn c) = tt
 exception_lands e (frame.Continues links) = tt
 exception_lands e (frame.Applies operator) = tt
 exception_lands e (frame.AppliesAlone operator) = tt
@@ -558,6 +666,27 @@ return_lightens false true false s w apart h = omega (arith, h)
 return_lightens false false true s w apart h = omega (arith, h)
 return_lightens false false false s w apart h = omega (arith, h)
 
+-- Where a frame is passed, what is left is what was left, and behind the end of a call's body besides what goes back to components.
+raised_left : (e : Exception) (f : Frame Value) (s : State) → (unwound named (Raising e) f s).control ≡ s.control
+raised_left e (frame.Returns actuals references) s = refl
+raised_left e f s = refl
+
+exited_left : (f : Frame Value) (s : State) → (unwound named Exiting f s).control ≡ s.control
+exited_left (frame.Returns actuals references) s = refl
+exited_left f s = refl
+
+-- The weight of what is left where an exit, or a return, has passed a frame.
+abbrev behind_exit : (loop : Bool) → List (Frame Value) → ℕ
+behind_exit loop k = if loop then run_weight k else exit_weight k
+
+abbrev behind_return : (ends : Bool) → List (Frame Value) → ℕ
+behind_return ends k = if ends then run_weight k else return_weight k
+
+returned_left :
+    (f : Frame Value) (s : State) → behind_return (is_return f) (unwound named Returning f s).control ≤ stored_behind f + behind_return (is_return f) s.control
+returned_left (frame.Returns actuals references) s = omega (arith, storing_weight references s.control)
+returned_left f s = omega arith
+
 -- What is left to do, in each mode.
 control_lightens :
     (types : List TypeDefinition) (bodies : List BodyForm) (mode : Mode) (k : List (Frame Value)) (s : State) (w : ℕ) → begins_in mode k ≡ false
@@ -566,15 +695,18 @@ control_lightens types bodies Running k s w b h is = rw is (running_lightens typ
 control_lightens types bodies (Raising e) [] s w b h is = rw is (λ memory. cc)
 control_lightens types bodies (Raising e) (f ∷ k) s w b h is =
     rw (is, unwound_by (Raising e) f (in_mode (Raising e) (at k s)))
-    (raise_lightens (is_master f) (has_handlers f) (exception_landing e f) e (unwound_to (Raising e) f (in_mode (Raising e) (at k s))) w (exception_lands e f) (omega (arith, h)))
+    (raise_lightens (is_master f) (has_handlers f) (exception_landing e f) e (unwound_to (Raising e) f (in_mode (Raising e) (at k s))) w (exception_lands e f)
+    (omega (arith, h, ap passed_weight (raised_left e f (in_mode (Raising e) (at k s))))))
 control_lightens types bodies Exiting [] s w b h is = rw is (λ memory. cc)
 control_lightens types bodies Exiting (f ∷ k) s w b h is =
     rw (is, unwound_by Exiting f (in_mode Exiting (at k s)))
-    (exit_lightens (is_master f) (has_handlers f) (is_loop f) (unwound_to Exiting f (in_mode Exiting (at k s))) w (master_no_loop f) (omega (arith, h)))
+    (exit_lightens (is_master f) (has_handlers f) (is_loop f) (unwound_to Exiting f (in_mode Exiting (at k s))) w (master_no_loop f)
+    (omega (arith, h, ap (behind_exit (is_loop f)) (exited_left f (in_mode Exiting (at k s))))))
 control_lightens types bodies Returning [] s w b h is = rw is (λ memory. cc)
 control_lightens types bodies Returning (f ∷ k) s w b h is =
     rw (is, unwound_by Returning f (in_mode Returning (at k s)))
-    (return_lightens (is_master f) (has_handlers f) (is_return f) (unwound_to Returning f (in_mode Returning (at k s))) w (master_no_return f) (omega (arith, h)))
+    (return_lightens (is_master f) (has_handlers f) (is_return f) (unwound_to Returning f (in_mode Returning (at k s))) w (master_no_return f)
+    (omega (arith, h, returned_left f (in_mode Returning (at k s)))))
 
 next_lightens : (types : List TypeDefinition) (bodies : List BodyForm) (s : State) → begins s ≡ false → Lightens (next types bodies s) (load s)
 unfolding next
@@ -630,10 +762,19 @@ path_goes_on : (cs : List ℕ) (v : Value) (s : State) → GoesOn (path_next nam
 path_goes_on [] v s = tt
 path_goes_on (c ∷ cs) v s = follow_goes_on v c cs (look s.heap v) s
 
+holder_goes_on : (c : ℕ) (cs : List ℕ) (x : ℕ) (frame_of : ℕ → Frame Value) (s : State) → GoesOn (holder_next named c cs x frame_of s)
+holder_goes_on c cs x frame_of s =
+    let first = inside (held named s x) c in
+    path_goes_on (before_last first cs) (whole (held named s x)) (at (frame_of (last_of first cs) ∷ s.control) s)
+
+record_holder_goes_on : (p : RecordPathForm) (frame_of : ℕ → Frame Value) (s : State) → GoesOn (record_holder_next named p frame_of s)
+record_holder_goes_on p frame_of s =
+    let v = held named s p.object.root in
+    path_goes_on (selected named v p.object.selectors) (whole v) (at (frame_of (first_in named v p.object.selectors p.first) ∷ s.control) s)
+
 assign_goes_on : (cs : List ℕ) (x : ℕ) (right : RightForm) (s : State) → GoesOn (assign_next named cs x right s)
 assign_goes_on [] x right s = tt
-assign_goes_on (c ∷ cs) x right s =
-    path_goes_on (before_last c cs) (held named s x) (at (frame.Targets (last_of c cs) right ∷ s.control) s)
+assign_goes_on (c ∷ cs) x right s = holder_goes_on c cs x (λ last. frame.Targets last right) s
 
 free_goes_on : (access x : ℕ) (v : Value) (found : Found (Cell Value)) (s : State) → GoesOn (free_next named access x v found s)
 free_goes_on access x v on_null s = tt
@@ -643,14 +784,14 @@ free_goes_on access x v (finds cell) s = tt
 
 frees_go_on : (cs : List ℕ) (access x : ℕ) (s : State) → GoesOn (frees_next named cs access x s)
 frees_go_on [] access x s = free_goes_on access x (held named s x) (look s.heap (held named s x)) s
-frees_go_on (c ∷ cs) access x s = path_goes_on (before_last c cs) (held named s x) (at (frame.FreesIn access (last_of c cs) ∷ s.control) s)
+frees_go_on (c ∷ cs) access x s = holder_goes_on c cs x (λ last. frame.FreesIn access last) s
 
 branches_go_on : (branches : BranchesForm) (s : State) → GoesOn (branches_next named branches s)
 branches_go_on (otherwise fs) s = tt
 branches_go_on (a_branch e fs branches) s = tt
 
 gets_go_on : (cs : List ℕ) (x : ℕ) (input : List ℤ) (s : State) → GoesOn (gets_next named cs x input s)
-gets_go_on (c ∷ cs) x input s = path_goes_on (before_last c cs) (held named s x) (at (frame.Receives (last_of c cs) ∷ s.control) s)
+gets_go_on (c ∷ cs) x input s = holder_goes_on c cs x frame.Receives s
 gets_go_on [] x [] s = tt
 gets_go_on [] x (i ∷ is) s = tt
 
@@ -666,7 +807,7 @@ stmt_goes_on : (bodies : List BodyForm) (f : StmtForm) (s : State) → GoesOn (s
 stmt_goes_on bodies skips s = tt
 stmt_goes_on bodies (assigns target right) s = assign_goes_on target.selectors target.root right s
 stmt_goes_on bodies (assigns_record target items) s =
-    path_goes_on target.object.selectors (held named s target.object.root) (at (frame.TargetsRecord target.first target.record_type items ∷ s.control) s)
+    record_holder_goes_on target (λ first. frame.TargetsRecord first target.record_type items) s
 stmt_goes_on bodies (frees access path) s = frees_go_on path.selectors access path.root s
 stmt_goes_on bodies (gets target) s = gets_go_on target.selectors target.root s.input s
 stmt_goes_on bodies (writes e) s = tt

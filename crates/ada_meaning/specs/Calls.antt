@@ -1,23 +1,24 @@
 -- Calls (6.4, 6.5), in any step and any run of any program: what they do to activations, and what comes next where one begins and ends.
 
-use Rattle.std.specs.Prelude.{◌≡◌, ◌⊎◌, ℕ, ◌+◌, ◌<◌, ℤ, Bool, List, [], ◌∷◌, ◌++◌, length, map, take, drop, reverse, Option, Some, None}
+use Rattle.std.specs.Prelude.{◌≡◌, ◌⊎◌, ℕ, ◌+◌, ◌<◌, ◌≤◌, ℤ, Bool, List, [], ◌∷◌, ◌++◌, length, map, take, drop, reverse, Option, Some, None}
 use Rattle.std.specs.List.{slice_get}
 use Rattle.ada_values.specs.declared.value.Value.TheVariants as scalar
 use Rattle.ada_program.specs.declared.program.Exception.{Exception}
 use Rattle.ada_program.specs.declared.program.Program.{Program}
 use Rattle.ada_program.specs.declared.program.VariableKind.{VariableKind}
 use Rattle.ada_program.specs.declared.program.VariableKind.TheVariants as variable
-use Rattle.ada_program.specs.Form.{ActualForm, in_value, in_null, in_access, in_out_path, in_out_access, calls, StmtsForm, a_stmt}
+use Rattle.ada_program.specs.Form.{ActualForm, in_value, in_null, in_access, in_record, in_out_path, in_out_access, in_out_component, in_out_record, calls, StmtsForm, a_stmt}
 use Rattle.ada_program.specs.ProgramForm.{VariableForm, BodyForm, body_forms}
 use Rattle.ada_meaning.specs.declared.state.Mode.{Mode}
 use Rattle.ada_meaning.specs.declared.state.Mode.TheVariants.{Running, Raising, Exiting, Returning}
 use Rattle.ada_meaning.specs.declared.state.Value.{Value}
-use Rattle.ada_meaning.specs.declared.state.Value.TheVariants.{Null, Scalar}
+use Rattle.ada_meaning.specs.declared.state.Value.TheVariants.{Null, Names, Scalar, Part}
 use Rattle.ada_meaning.specs.Event.{Quiet}
 use Rattle.ada_meaning.specs.Frame.{Frame, evaluating}
 use Rattle.ada_meaning.specs.Frame as frame
 use Rattle.ada_meaning.specs.State.{Activation}
 use Rattle.ada_meaning.specs.Named.{State}
+use Rattle.ada_meaning.specs.declared.state.Id.{Id}
 use Rattle.ada_meaning.specs.Run.{Event, Choice, settled, Step}
 
 -- Callers stay.
@@ -52,8 +53,9 @@ pub record BeginsCall (s : State) : Type 0 where
 -- The body of a call ends next: all of it is done, or a jump has come to its end (6.5, 11.4).
 pub record EndsBody (s : State) : Type 0 where
   pub actuals : List ActualForm
+  pub references : List Value
   pub outer : List (Frame Value)
-  pub first : s.control ≡ frame.Returns actuals ∷ outer
+  pub first : s.control ≡ frame.Returns actuals references ∷ outer
 
 -- The body of a call ends normally: all of it is done, or a return has come to its end (6.5).
 abbrev pub EndsNormally : Mode → Type 0
@@ -71,19 +73,44 @@ abbrev pub variable_given : ActualForm → Option ℕ
 variable_given (in_value e) = None
 variable_given in_null = None
 variable_given (in_access path) = None
+variable_given (in_record p) = None
 variable_given (in_out_path path) = Some path.root
 variable_given (in_out_access path) = Some path.root
+variable_given (in_out_component path) = None
+variable_given (in_out_record p) = None
 
 -- A variable is given for a formal parameter of mode `in out` (6.4.1).
 abbrev pub IsGiven : (variable : ℕ) → List ActualForm → Type 0
 IsGiven x [] = ⊥
 IsGiven x (a ∷ rest) = (variable_given a ≡ Some x) ⊎ IsGiven x rest
 
+-- Is an actual parameter a component?
+abbrev pub IsComponent : ActualForm → Type 0
+IsComponent (in_value e) = ⊥
+IsComponent in_null = ⊥
+IsComponent (in_access path) = ⊥
+IsComponent (in_record p) = ⊥
+IsComponent (in_out_path path) = ⊥
+IsComponent (in_out_access path) = ⊥
+IsComponent (in_out_component path) = Unit {0}
+IsComponent (in_out_record p) = ⊥
+
+-- These values, of formal parameters, are given back to components (6.4.1), in order.
+pub data GoBack : List ActualForm → (formals given_back : List Value) → Type 0 where
+  none : {others : List Value} → GoBack [] others []
+  skips : {a : ActualForm} {rest : List ActualForm} {v : Value} {vs given_back : List Value}
+      → (IsComponent a → ⊥) → GoBack rest vs given_back → GoBack (a ∷ rest) (v ∷ vs) given_back
+  takes : {a : ActualForm} {rest : List ActualForm} {v : Value} {vs given_back : List Value}
+      → IsComponent a → GoBack rest vs given_back → GoBack (a ∷ rest) (v ∷ vs) (v ∷ given_back)
+
 -- What a caller gets back, once the body of its call has ended normally (6.4.1): it has the same variables, and those that are given for no formal
--- parameter of mode `in out` hold what they held. Each one that is given holds what the last formal parameter holds for which it is given.
+-- parameter of mode `in out` hold what they held. Each one that is given holds what the last formal parameter holds for which it is given. What goes to
+-- components are the newest operands, if the callee has all of its formal parameters.
 pub record GetsBack (actuals : List ActualForm) (callee caller later : Activation Value) : Type 0 where
   pub procedure : later.procedure ≡ caller.procedure
-  pub operands : later.operands ≡ caller.operands
+  pub operands :
+      length actuals ≤ length callee.places
+      → (given_back : List Value) × GoBack actuals callee.places given_back × (later.operands ≡ given_back ++ caller.operands)
   pub count : length later.places ≡ length caller.places
   pub others : (x : ℕ) → (IsGiven x actuals → ⊥) → slice_get later.places x ≡ slice_get caller.places x
   pub back :
@@ -170,8 +197,17 @@ AreOfKinds [] (v ∷ vs) = ⊥
 AreOfKinds (x ∷ xs) [] = ⊥
 AreOfKinds (x ∷ xs) (v ∷ vs) = IsOfKind x.kind v × AreOfKinds xs vs
 
--- An activation of a procedure's body has begun, with these actual parameters (6.4, 6.4.1).
-pub record HasBegun (procedure : ℕ) (body : BodyForm) (given : List ActualForm) (actuals : List Value) (caller : Activation Value)
+-- Of what has been computed for actual parameters, these values are those of the formal ones, and these refer to the components that are given (6.4.1):
+-- for a component there are two operands, what refers to it and its value.
+pub data AreGiven : List ActualForm → (computed formals references : List Value) → Type 0 where
+  nothing : AreGiven [] [] [] []
+  a_value : {a : ActualForm} {rest : List ActualForm} {v : Value} {computed formals references : List Value}
+      → (IsComponent a → ⊥) → AreGiven rest computed formals references → AreGiven (a ∷ rest) (v ∷ computed) (v ∷ formals) references
+  a_component : {a : ActualForm} {rest : List ActualForm} {r v : Value} {computed formals references : List Value}
+      → IsComponent a → AreGiven rest computed formals references → AreGiven (a ∷ rest) (r ∷ v ∷ computed) (v ∷ formals) (r ∷ references)
+
+-- An activation of a procedure's body has begun, with these actual parameters, whose formal ones get these values (6.4, 6.4.1).
+pub record HasBegun (procedure : ℕ) (body : BodyForm) (given : List ActualForm) (actuals references : List Value) (caller : Activation Value)
     (callers : List (Activation Value)) (outer : List (Frame Value)) (before after : State) : Type 0 where
   pub callee : Activation Value
   -- it runs; its caller waits, and holds what it held
@@ -185,27 +221,34 @@ pub record HasBegun (procedure : ℕ) (body : BodyForm) (given : List ActualForm
   pub masters : after.masters ≡ record { number = before.next; items = [] } ∷ before.masters
   pub next : after.next ≡ before.next + 1
   -- all of the body is left to do; then the call returns, and what was left comes
-  pub control : after.control ≡ frame.Elaborates body.declarations body.statements body.handlers ∷ frame.Returns given ∷ outer
+  pub control : after.control ≡ frame.Elaborates body.declarations body.statements body.handlers ∷ frame.Returns given references ∷ outer
   pub mode : after.mode ≡ Running
   pub alone : LeavesAlone before after
 
 -- Once the actual parameters are evaluated, the last one newest, the body begins with them. What was computed before them is dropped.
 abbrev pub ActualsArrive : Type 0
 ActualsArrive =
-    (program : Program) (procedure : ℕ) (body : BodyForm) (given : List ActualForm) (actuals pending : List Value) (caller : Activation Value)
-    (callers : List (Activation Value))
-    (outer : List (Frame Value)) (before : State)
-    → before.mode ≡ Running → before.control ≡ frame.Calls procedure body given ∷ outer → length given ≡ length actuals
-    → before.activations ≡ caller ∷ callers → caller.operands ≡ reverse actuals ++ pending
-    → ComesTo program before (HasBegun procedure body given actuals caller callers outer before)
+    (program : Program) (procedure : ℕ) (body : BodyForm) (given : List ActualForm) (computed actuals references pending : List Value)
+    (caller : Activation Value) (callers : List (Activation Value)) (outer : List (Frame Value)) (before : State)
+    → before.mode ≡ Running → before.control ≡ frame.Calls procedure body given ∷ outer → AreGiven given computed actuals references
+    → before.activations ≡ caller ∷ callers → caller.operands ≡ reverse computed ++ pending
+    → ComesTo program before (HasBegun procedure body given actuals references caller callers outer before)
+
+-- The components to which values refer get something back next (6.4.1), in order: these frames are left to do.
+abbrev pub AreStoredIn : List Value → (frames : List (Frame Value)) → Type 0
+AreStoredIn [] [] = Unit {0}
+AreStoredIn [] (f ∷ k) = ⊥
+AreStoredIn (r ∷ rs) [] = ⊥
+AreStoredIn (r ∷ rs) (f ∷ k) = ((o : Id) (c : ℕ) → r ≡ Part o c → f ≡ frame.StoresIn (Names o) c) × AreStoredIn rs k
 
 -- The body of a call has ended: its activation is gone, and what was behind the call is left. Where it has ended normally, its caller has what it gets
 -- back, and runs (6.4.1, 6.5); where an exception passes, it holds what it held, and the exception goes on in it (11.4).
-pub record HasReturned (actuals : List ActualForm) (callee : Activation Value) (callers : List (Activation Value)) (outer : List (Frame Value))
-    (before after : State) : Type 0 where
+pub record HasReturned (actuals : List ActualForm) (references : List Value) (callee : Activation Value) (callers : List (Activation Value))
+    (outer : List (Frame Value)) (before after : State) : Type 0 where
   pub gets_back : EndsNormally before.mode → ComesBack actuals (callee ∷ callers) after.activations
   pub holds_on : EndsAbruptly before.mode → after.activations ≡ callers
-  pub control : after.control ≡ outer
+  pub stores : EndsNormally before.mode → (frames : List (Frame Value)) × AreStoredIn references frames × (after.control ≡ frames ++ outer)
+  pub passes : EndsAbruptly before.mode → after.control ≡ outer
   pub runs : EndsNormally before.mode → after.mode ≡ Running
   pub raises : (e : Exception) → before.mode ≡ Raising e → after.mode ≡ Raising e
   pub masters : after.masters ≡ before.masters
@@ -215,7 +258,7 @@ pub record HasReturned (actuals : List ActualForm) (callee : Activation Value) (
 -- Where the end of a call's body is first of what is left, the caller is returned to, with what it held and what it gets back.
 abbrev pub CallersResume : Type 0
 CallersResume =
-    (program : Program) (actuals : List ActualForm) (callee : Activation Value) (callers : List (Activation Value)) (outer : List (Frame Value))
-    (before : State)
-    → before.control ≡ frame.Returns actuals ∷ outer → before.activations ≡ callee ∷ callers
-    → ComesTo program before (HasReturned actuals callee callers outer before)
+    (program : Program) (actuals : List ActualForm) (references : List Value) (callee : Activation Value) (callers : List (Activation Value))
+    (outer : List (Frame Value)) (before : State)
+    → before.control ≡ frame.Returns actuals references ∷ outer → before.activations ≡ callee ∷ callers
+    → ComesTo program before (HasReturned actuals references callee callers outer before)

@@ -87,8 +87,8 @@ frame_weight (frame.Does fs) = 1
 frame_weight (frame.Handles hs) = 2
 frame_weight frame.Closes = 2
 frame_weight (frame.Leaves mode) = 1
-frame_weight (frame.Calls procedure b actuals) = 7 + declarations_weight b.declarations
-frame_weight (frame.Returns actuals) = 1
+frame_weight (frame.Calls procedure b actuals) = 7 + length actuals + declarations_weight b.declarations
+frame_weight (frame.Returns actuals references) = 1 + length references
 frame_weight (frame.Decides fs branches) = 1 + branches_weight branches
 frame_weight (frame.Repeats condition fs) = 3 + condition_weight condition
 frame_weight (frame.Turns condition fs) = 3
@@ -99,6 +99,10 @@ frame_weight (frame.Evaluates right) = right_weight right
 frame_weight (frame.Computes e) = expression_weight e
 frame_weight (frame.Follows cs) = 1 + length cs
 frame_weight (frame.TestsNull equal) = 1
+frame_weight (frame.Refers p) = 1 + path_weight p.object
+frame_weight (frame.RefersIn first t) = 1
+frame_weight (frame.Opens path) = 1 + path_weight path
+frame_weight (frame.OpensIn c) = 1
 frame_weight (frame.Continues links) = links_weight links
 frame_weight (frame.Applies operator) = 1
 frame_weight (frame.AppliesAlone operator) = 1
@@ -125,9 +129,14 @@ abbrev pub has_handlers : {V : Type 0} → Frame V → Bool
 has_handlers (frame.Handles hs) = true
 has_handlers f = false
 
--- A frame that a jump passes: a master is left besides, and in handlers an exception may land.
+-- How many components get something back behind a frame, where a return comes to it.
+abbrev pub stored_behind : {V : Type 0} → Frame V → ℕ
+stored_behind (frame.Returns actuals references) = length references
+stored_behind f = 0
+
+-- A frame that a jump passes: a master is left besides, in handlers an exception may land, and behind a call components may get something back.
 abbrev pub pass_weight : {V : Type 0} → Frame V → ℕ
-pass_weight f = if is_master f || has_handlers f then 2 else 1
+pass_weight f = (if is_master f || has_handlers f then 2 else 1) + stored_behind f
 
 -- All frames, for an exception.
 abbrev pub passed_weight : {V : Type 0} → List (Frame V) → ℕ

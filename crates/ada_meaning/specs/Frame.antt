@@ -5,7 +5,7 @@ use Rattle.std.specs.Prelude.{ℕ, ℤ, Bool, true, false, if◌then◌else◌, 
 use Rattle.ada_values.specs.declared.operator.BinaryOperator.{BinaryOperator}
 use Rattle.ada_values.specs.declared.operator.UnaryOperator.{UnaryOperator}
 use Rattle.ada_program.specs.declared.program.Exception.{Exception}
-use Rattle.ada_program.specs.Form.{ActualForm, in_value, in_null, in_access, in_out_path, in_out_access, ExpressionForm, reads, LinksForm, ItemForm, RightForm, nothing, value_of, StmtsForm, a_stmt, BranchesForm, HandlersForm, DeclarationForm}
+use Rattle.ada_program.specs.Form.{PathForm, RecordPathForm, ActualForm, in_value, in_null, in_access, in_record, in_out_path, in_out_access, in_out_component, in_out_record, ExpressionForm, reads, LinksForm, ItemForm, RightForm, nothing, value_of, StmtsForm, a_stmt, BranchesForm, HandlersForm, DeclarationForm}
 use Rattle.ada_program.specs.Handling.{handler_of}
 use Rattle.ada_program.specs.ProgramForm.{BodyForm}
 use Rattle.ada_meaning.specs.declared.state.Mode.{Mode}
@@ -38,8 +38,9 @@ pub data Frame (V : Type 0) : Type 0 where
   Leaves : Mode → Frame V
   -- the newest operands are the values of these actual parameters of a call: the procedure's body begins (6.4)
   Calls : (procedure : ℕ) → (body : BodyForm) → (actuals : List ActualForm) → Frame V
-  -- the body of a call with these actual parameters is in front of this: its activation ends then, and that of its caller goes on (6.4, 6.5)
-  Returns : (actuals : List ActualForm) → Frame V
+  -- the body of a call with these actual parameters is in front of this: its activation ends then, and that of its caller goes on (6.4, 6.5). These values
+  -- refer to the components that are given for formal parameters of mode `in out`, in order.
+  Returns : (actuals : List ActualForm) → (references : List V) → Frame V
   -- what is assigned is to be evaluated: its value becomes the newest operand (5.2)
   Evaluates : RightForm → Frame V
   -- an expression is to be evaluated: its value becomes the newest operand (4.4)
@@ -48,6 +49,16 @@ pub data Frame (V : Type 0) : Type 0 where
   Follows : List ℕ → Frame V
   -- the newest operand is an access value: is it null, or is it not (4.5.2)?
   TestsNull : (equal : Bool) → Frame V
+  -- the record to which a path leads is to be found: what refers to it becomes the newest operand (6.2)
+  Refers : RecordPathForm → Frame V
+  -- the newest operand gives access to an object in which a record of this type lies, from a component on: what refers to the record becomes the newest
+  -- operand (6.2)
+  RefersIn : (first record_type : ℕ) → Frame V
+  -- the component to which a path leads is to be found, for a formal parameter of mode `in out` (6.4.1)
+  Opens : PathForm → Frame V
+  -- the newest operand gives access to an object, whose component is given for such a parameter: what refers to it becomes an operand, and its value the
+  -- newest one
+  OpensIn : (component : ℕ) → Frame V
   -- the operators of a chain that are left; the newest operand is the left one of the first (4.5)
   Continues : LinksForm → Frame V
   -- an operator is to be applied to the two newest operands (4.5)
@@ -91,13 +102,17 @@ pub data Frame (V : Type 0) : Type 0 where
   -- a component of an object becomes null: the end of a Free (13.11.2)
   ClearsIn : (object : V) → (component : ℕ) → Frame V
 
--- An actual parameter is to be evaluated (6.4.1): an Integer or a Boolean as an expression is, and an access value as one that is assigned.
+-- An actual parameter is to be evaluated (6.4.1): an Integer or a Boolean as an expression is, and an access value as one that is assigned. A record and a
+-- component are to be found.
 abbrev pub evaluating : {V : Type 0} → ActualForm → Frame V
 evaluating (in_value e) = Computes e
 evaluating in_null = Evaluates nothing
 evaluating (in_access path) = Evaluates (value_of path)
+evaluating (in_record p) = Refers p
 evaluating (in_out_path path) = Computes (reads path)
 evaluating (in_out_access path) = Evaluates (value_of path)
+evaluating (in_out_component path) = Opens path
+evaluating (in_out_record p) = Refers p
 
 -- Does a jump stop at this frame? A master does not let it pass before it has been left (7.6.1, 11.4).
 abbrev pub is_master : {V : Type 0} → Frame V → Bool
@@ -113,7 +128,7 @@ is_loop f = false
 
 -- Does the body of a call come to its end here?
 abbrev pub is_return : {V : Type 0} → Frame V → Bool
-is_return (Returns actuals) = true
+is_return (Returns actuals references) = true
 is_return f = false
 
 -- Where a jump lands: it passes this frame; or it ends, and what is behind the frame is next; or it ends in these statements.

@@ -39,6 +39,12 @@ pub record Ops (V H : Type 0) : Type 0 where
   -- what the predefined operators give (4.5)
   pub unary : UnaryOperator → V → Result V OperatorFault
   pub binary : BinaryOperator → V → V → Result V OperatorFault
+  -- what refers to a record, or to a component, that lies in the object of a value, from a component on (6.2); and of what refers to one the object in
+  -- which it lies, where it begins, and which component of the object a component of it is. Any other value stands for all of its object.
+  pub refer : V → (first : ℕ) → V
+  pub whole : V → V
+  pub base : V → ℕ
+  pub inside : V → (component : ℕ) → ℕ
   -- the object that a value gives access to, as long as it exists
   pub look : H → V → Found (Cell V)
   -- the same as long as its words are out

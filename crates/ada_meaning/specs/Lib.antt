@@ -26,6 +26,8 @@ pub mod Defaults
 pub mod Records
 -- calls, and what callers hold (6.4, 6.5)
 pub mod Calls
+-- what is passed by reference (6.2, 6.4.1)
+pub mod References
 -- where a statement begins (5.1)
 pub mod Beginning
 -- every run ends

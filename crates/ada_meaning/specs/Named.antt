@@ -1,6 +1,6 @@
 -- The heap of names: objects by name, for ever. A name is never used twice.
 
-use Rattle.std.specs.Prelude.{ℕ, suc, ◌==◌, ◌&&◌, ℤ, Bool, true, false, if◌then◌else◌, List, [], ◌∷◌, ◌++◌, length, map, Option, Some, None, Result, Ok, Err}
+use Rattle.std.specs.Prelude.{ℕ, suc, ◌+◌, ◌==◌, ◌&&◌, ℤ, Bool, true, false, if◌then◌else◌, List, [], ◌∷◌, ◌++◌, length, map, Option, Some, None, Result, Ok, Err}
 use Rattle.std.specs.List.{slice_get, slice_set}
 use Rattle.ada_values.specs.declared.value.Value.{Value as ScalarValue}
 use Rattle.ada_values.specs.declared.value.Value.TheVariants as scalar
@@ -13,7 +13,7 @@ use Rattle.ada_program.specs.declared.program.TypeDefinition.{TypeDefinition}
 use Rattle.ada_program.specs.ProgramForm.{BodyForm}
 use Rattle.ada_meaning.specs.declared.state.Id.{Id}
 use Rattle.ada_meaning.specs.declared.state.Value.{Value}
-use Rattle.ada_meaning.specs.declared.state.Value.TheVariants.{Null, Names, Scalar}
+use Rattle.ada_meaning.specs.declared.state.Value.TheVariants.{Null, Names, Scalar, Part}
 use Rattle.ada_meaning.specs.declared.state.Stage.{Stage}
 use Rattle.ada_meaning.specs.declared.state.Stage.TheVariants.{Building, Existing, Gone}
 use Rattle.ada_meaning.specs.State.{State as StateOver}
@@ -60,6 +60,7 @@ abbrev pub look : List Object → Value → Found (Cell Value)
 look objects Null = on_null
 look objects (Names o) = seen (object_at objects o)
 look objects (Scalar v) = on_other
+look objects (Part o first) = on_other
 
 -- The cell of an object as long as its words are out.
 abbrev pub lent_by : Option Object → Found (Cell Value)
@@ -71,6 +72,7 @@ abbrev pub lent : List Object → Value → Found (Cell Value)
 lent objects Null = on_null
 lent objects (Names o) = lent_by (object_at objects o)
 lent objects (Scalar v) = on_other
+lent objects (Part o first) = on_other
 
 -- A new object exists, is in its collection, and its words are out.
 abbrev pub new_object : Cell Value → Object
@@ -105,6 +107,7 @@ abbrev pub on_object : (Object → Object) → List Object → Value → List Ob
 on_object change objects Null = objects
 on_object change objects (Names o) = changed change (object_at objects o) objects o
 on_object change objects (Scalar v) = objects
+on_object change objects (Part o first) = objects
 
 -- A component of the object that a value names gets another value (5.2).
 abbrev pub store : List Object → Value → ℕ → Value → List Object
@@ -142,18 +145,21 @@ abbrev pub reads_integer : Value → Option ℤ
 reads_integer Null = None
 reads_integer (Names o) = None
 reads_integer (Scalar v) = integer_in v
+reads_integer (Part o first) = None
 
 -- The truth that a value is, if it is one (3.5.3).
 abbrev pub reads_boolean : Value → Option Bool
 reads_boolean Null = None
 reads_boolean (Names o) = None
 reads_boolean (Scalar v) = boolean_in v
+reads_boolean (Part o first) = None
 
 -- Whether an access value is null (4.5.2): the object that it names need not exist.
 abbrev pub reads_null : Value → Option Bool
 reads_null Null = Some true
 reads_null (Names o) = Some false
 reads_null (Scalar v) = None
+reads_null (Part o first) = None
 
 -- What an operator gives of values (4.5): Integers and Booleans have operators, access values have none yet.
 abbrev pub as_value : Result ScalarValue OperatorFault → Result Value OperatorFault
@@ -169,6 +175,34 @@ unary_given operator a = Err WrongType
 abbrev pub binary_given : BinaryOperator → Value → Value → Result Value OperatorFault
 binary_given operator (Scalar a) (Scalar b) = as_value (outcome_of operator a b)
 binary_given operator a b = Err WrongType
+
+-- What refers to a record, or to a component, of the object of a name (6.2).
+abbrev pub refer : Value → (first : ℕ) → Value
+refer Null first = Null
+refer (Names o) first = Part o first
+refer (Scalar v) first = Scalar v
+refer (Part o base) first = Part o base
+
+-- The object in which it lies.
+abbrev pub whole : Value → Value
+whole Null = Null
+whole (Names o) = Names o
+whole (Scalar v) = Scalar v
+whole (Part o first) = Names o
+
+-- Where it begins there.
+abbrev pub base : Value → ℕ
+base Null = 0
+base (Names o) = 0
+base (Scalar v) = 0
+base (Part o first) = first
+
+-- Which component of the object a component of it is.
+abbrev pub inside : Value → (component : ℕ) → ℕ
+inside Null c = c
+inside (Names o) c = c
+inside (Scalar v) c = c
+inside (Part o first) c = first + c
 
 -- A number as a value.
 abbrev pub an_integer : ℤ → Value
@@ -189,6 +223,10 @@ named = record {
   reads_null = reads_null;
   unary = unary_given;
   binary = binary_given;
+  refer = refer;
+  whole = whole;
+  base = base;
+  inside = inside;
   look = look;
   lent = lent;
   create = create;

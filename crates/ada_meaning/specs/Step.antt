@@ -11,7 +11,7 @@ use Rattle.ada_program.specs.declared.program.ComponentKind.TheVariants as compo
 use Rattle.ada_program.specs.declared.program.TypeDefinition.{TypeDefinition}
 use Rattle.ada_program.specs.declared.program.VariableKind.{VariableKind}
 use Rattle.ada_program.specs.declared.program.VariableKind.TheVariants as variable
-use Rattle.ada_program.specs.Form.{ActualForm, in_value, in_null, in_access, in_out_path, in_out_access, ExpressionForm, integer, boolean, reads, is_null, applied_to, chained, LinksForm, no_more_links, a_link, ItemForm, null_item, item_of_path, item_of_value, item_of_record, RightForm, nothing, value_of, allocates, allocates_default, computes, StmtForm, skips, assigns, assigns_record, frees, gets, writes, writes_text, chooses, repeats, counts, exits, calls, returns, raises, encloses, StmtsForm, no_stmts, a_stmt, BranchesForm, otherwise, a_branch, HandlersForm, DeclarationForm, collects, declares, declares_record}
+use Rattle.ada_program.specs.Form.{RecordPathForm, ActualForm, in_value, in_null, in_access, in_record, in_out_path, in_out_access, in_out_component, in_out_record, ExpressionForm, integer, boolean, reads, is_null, applied_to, chained, LinksForm, no_more_links, a_link, ItemForm, null_item, item_of_path, item_of_value, item_of_record, RightForm, nothing, value_of, allocates, allocates_default, computes, StmtForm, skips, assigns, assigns_record, frees, gets, writes, writes_text, chooses, repeats, counts, exits, calls, returns, raises, encloses, StmtsForm, no_stmts, a_stmt, BranchesForm, otherwise, a_branch, HandlersForm, DeclarationForm, collects, declares, declares_record}
 use Rattle.ada_program.specs.ProgramForm.{VariableForm, BodyForm}
 use Rattle.ada_program.specs.Typed.{reached_of, words_of, width_of}
 use Rattle.ada_meaning.specs.declared.state.Mode.{Mode}
@@ -131,24 +131,82 @@ copied_back (a ∷ rest) [] places = places
 copied_back (in_value e ∷ rest) (v ∷ vs) places = copied_back rest vs places
 copied_back (in_null ∷ rest) (v ∷ vs) places = copied_back rest vs places
 copied_back (in_access path ∷ rest) (v ∷ vs) places = copied_back rest vs places
+copied_back (in_record p ∷ rest) (v ∷ vs) places = copied_back rest vs places
 copied_back (in_out_path path ∷ rest) (v ∷ vs) places = copied_back rest vs (slice_set places path.root v)
 copied_back (in_out_access path ∷ rest) (v ∷ vs) places = copied_back rest vs (slice_set places path.root v)
+copied_back (in_out_component path ∷ rest) (v ∷ vs) places = copied_back rest vs places
+copied_back (in_out_record p ∷ rest) (v ∷ vs) places = copied_back rest vs places
 
--- The running activation ends normally (6.4.1, 6.5): its caller gets back what it is to get, and goes on.
-abbrev pub returned : {V H : Type 0} → List ActualForm → State V H → State V H
-returned actuals s = set_places (copied_back actuals (places s) (places (resumed s))) (resumed s)
+-- What the formal parameters hold that give it back to components (6.4.1), in order.
+abbrev pub stored_back : {V : Type 0} → List ActualForm → (formals : List V) → List V
+stored_back [] vs = []
+stored_back (a ∷ rest) [] = []
+stored_back (in_value e ∷ rest) (v ∷ vs) = stored_back rest vs
+stored_back (in_null ∷ rest) (v ∷ vs) = stored_back rest vs
+stored_back (in_access path ∷ rest) (v ∷ vs) = stored_back rest vs
+stored_back (in_record p ∷ rest) (v ∷ vs) = stored_back rest vs
+stored_back (in_out_path path ∷ rest) (v ∷ vs) = stored_back rest vs
+stored_back (in_out_access path ∷ rest) (v ∷ vs) = stored_back rest vs
+stored_back (in_out_component path ∷ rest) (v ∷ vs) = v ∷ stored_back rest vs
+stored_back (in_out_record p ∷ rest) (v ∷ vs) = stored_back rest vs
 
--- A jump comes to the end of a call's body: a return ends it normally, and any other jump gives nothing back (6.4.1, 11.4).
-abbrev pub left_by : {V H : Type 0} → Mode → List ActualForm → State V H → State V H
-left_by Running actuals s = resumed s
-left_by (Raising e) actuals s = resumed s
-left_by Exiting actuals s = resumed s
-left_by Returning actuals s = returned actuals s
+-- How many operands the values of actual parameters are (6.4.1): for a component there are two, what refers to it and its value.
+abbrev pub operand_count : List ActualForm → ℕ
+operand_count [] = 0
+operand_count (in_value e ∷ rest) = 1 + operand_count rest
+operand_count (in_null ∷ rest) = 1 + operand_count rest
+operand_count (in_access path ∷ rest) = 1 + operand_count rest
+operand_count (in_record p ∷ rest) = 1 + operand_count rest
+operand_count (in_out_path path ∷ rest) = 1 + operand_count rest
+operand_count (in_out_access path ∷ rest) = 1 + operand_count rest
+operand_count (in_out_component path ∷ rest) = 2 + operand_count rest
+operand_count (in_out_record p ∷ rest) = 1 + operand_count rest
 
--- A jump passes a frame: behind the body of a call the activation of its caller goes on.
-abbrev pub unwound : {V H : Type 0} → Mode → Frame V → State V H → State V H
-unwound mode (frame.Returns actuals) s = left_by mode actuals s
-unwound mode f s = s
+-- The first of some operands is that of an actual parameter that is no component.
+abbrev pub one_given : {V : Type 0} → (more : List V → List V) → List V → List V
+one_given more [] = []
+one_given more (v ∷ vs) = v ∷ more vs
+
+-- The first two are those of a component.
+abbrev pub value_given : {V : Type 0} → (more : List V → List V) → List V → List V
+value_given more [] = []
+value_given more (r ∷ []) = []
+value_given more (r ∷ v ∷ vs) = v ∷ more vs
+
+-- Which values the formal parameters get of these operands (6.4.1), in order.
+abbrev pub given_values : {V : Type 0} → List ActualForm → (operands : List V) → List V
+given_values [] vs = []
+given_values (in_value e ∷ rest) vs = one_given (given_values rest) vs
+given_values (in_null ∷ rest) vs = one_given (given_values rest) vs
+given_values (in_access path ∷ rest) vs = one_given (given_values rest) vs
+given_values (in_record p ∷ rest) vs = one_given (given_values rest) vs
+given_values (in_out_path path ∷ rest) vs = one_given (given_values rest) vs
+given_values (in_out_access path ∷ rest) vs = one_given (given_values rest) vs
+given_values (in_out_component path ∷ rest) vs = value_given (given_values rest) vs
+given_values (in_out_record p ∷ rest) vs = one_given (given_values rest) vs
+
+-- The first operand is no reference.
+abbrev pub none_referred : {V : Type 0} → (more : List V → List V) → List V → List V
+none_referred more [] = []
+none_referred more (v ∷ vs) = more vs
+
+-- The first of two refers to a component.
+abbrev pub one_referred : {V : Type 0} → (more : List V → List V) → List V → List V
+one_referred more [] = []
+one_referred more (r ∷ []) = []
+one_referred more (r ∷ v ∷ vs) = r ∷ more vs
+
+-- Which of these operands refer to components that are given (6.4.1), in order.
+abbrev pub references_in : {V : Type 0} → List ActualForm → (operands : List V) → List V
+references_in [] vs = []
+references_in (in_value e ∷ rest) vs = none_referred (references_in rest) vs
+references_in (in_null ∷ rest) vs = none_referred (references_in rest) vs
+references_in (in_access path ∷ rest) vs = none_referred (references_in rest) vs
+references_in (in_record p ∷ rest) vs = none_referred (references_in rest) vs
+references_in (in_out_path path ∷ rest) vs = none_referred (references_in rest) vs
+references_in (in_out_access path ∷ rest) vs = none_referred (references_in rest) vs
+references_in (in_out_component path ∷ rest) vs = one_referred (references_in rest) vs
+references_in (in_out_record p ∷ rest) vs = none_referred (references_in rest) vs
 
 -- A variable gets a value (5.2).
 abbrev pub put : {V H : Type 0} → ℕ → V → State V H → State V H
@@ -237,12 +295,38 @@ module _ {V H : Type 0} (ops : Ops V H) where
   path_next [] v s = moves Quiet (computed v s)
   path_next (c ∷ cs) v s = follow_next v c cs (ops.look s.heap v) s
 
+  -- Where a path begins (4.1, 6.2): a record parameter stands for a record that lies in an object, so what is selected behind it is a component of that
+  -- object, from where the record begins.
+  abbrev pub selected : V → List ℕ → List ℕ
+  selected v [] = []
+  selected v (c ∷ cs) = ops.inside v c ∷ cs
+
+  -- The value that a path names.
+  abbrev pub named_next : List ℕ → (x : ℕ) → State V H → Next V H
+  named_next cs x s = path_next (selected (held s x) cs) (ops.whole (held s x)) s
+
+  -- The object in which the last component of a path lies (4.1.3) is found first, and then this frame comes, for the number of that component.
+  abbrev pub holder_next : (c : ℕ) → List ℕ → (x : ℕ) → (ℕ → Frame V) → State V H → Next V H
+  holder_next c cs x frame_of s =
+      path_next (before_last (ops.inside (held s x) c) cs) (ops.whole (held s x)) (at (frame_of (last_of (ops.inside (held s x) c) cs) ∷ s.control) s)
+
+  -- Where a record begins in its object: in that of a record parameter, if the path is that alone.
+  abbrev pub first_in : V → List ℕ → (first : ℕ) → ℕ
+  first_in v [] first = ops.inside v first
+  first_in v (c ∷ cs) first = first
+
+  -- The object in which a record lies is found first, and then this frame comes, for the number of the record's first component there.
+  abbrev pub record_holder_next : RecordPathForm → (ℕ → Frame V) → State V H → Next V H
+  record_holder_next p frame_of s =
+      path_next (selected (held s p.object.root) p.object.selectors) (ops.whole (held s p.object.root))
+      (at (frame_of (first_in (held s p.object.root) p.object.selectors p.first) ∷ s.control) s)
+
   -- Expressions (4.4); the left operand comes before the right one.
   abbrev pub expression_next : ExpressionForm → State V H → Next V H
   expression_next (integer i) s = moves Quiet (computed (ops.integer i) s)
   expression_next (boolean b) s = moves Quiet (computed (ops.boolean b) s)
-  expression_next (reads path) s = path_next path.selectors (held s path.root) s
-  expression_next (is_null equal path) s = path_next path.selectors (held s path.root) (at (frame.TestsNull equal ∷ s.control) s)
+  expression_next (reads path) s = named_next path.selectors path.root s
+  expression_next (is_null equal path) s = named_next path.selectors path.root (at (frame.TestsNull equal ∷ s.control) s)
   expression_next (applied_to operator e) s = moves Quiet (at (frame.Computes e ∷ frame.AppliesAlone operator ∷ s.control) s)
   expression_next (chained e links) s = moves Quiet (at (frame.Computes e ∷ frame.Continues links ∷ s.control) s)
 
@@ -277,10 +361,9 @@ module _ {V H : Type 0} (ops : Ops V H) where
   -- Allocators (4.8): their items are evaluated one by one, in the order of the components, before the object is asked for.
   abbrev pub item_next : ItemForm → State V H → Next V H
   item_next null_item s = moves Quiet (computed ops.null s)
-  item_next (item_of_path path) s = path_next path.selectors (held s path.root) s
+  item_next (item_of_path path) s = named_next path.selectors path.root s
   item_next (item_of_value e) s = moves Quiet (at (frame.Computes e ∷ s.control) s)
-  item_next (item_of_record p) s =
-      path_next p.object.selectors (held s p.object.root) (at (frame.Copies p.first p.record_type ∷ s.control) s)
+  item_next (item_of_record p) s = record_holder_next p (λ first. frame.Copies first p.record_type) s
 
   abbrev pub items_next : List ItemForm → State V H → Next V H
   items_next [] s = moves Quiet s
@@ -348,7 +431,7 @@ module _ {V H : Type 0} (ops : Ops V H) where
   -- What is assigned (5.2).
   abbrev pub right_next : List TypeDefinition → RightForm → State V H → Next V H
   right_next types nothing s = moves Quiet (computed ops.null s)
-  right_next types (value_of path) s = path_next path.selectors (held s path.root) s
+  right_next types (value_of path) s = named_next path.selectors path.root s
   right_next types (allocates access items) s = moves Quiet (at (frame.Fills items ∷ frame.Creates access (words_of types access) ∷ s.control) s)
   right_next types (allocates_default access) s =
       moves Quiet (at (frame.Creates access (words_of types access) ∷ s.control) (initialized types access s))
@@ -395,7 +478,7 @@ module _ {V H : Type 0} (ops : Ops V H) where
   -- name leads. Null there raises Constraint_Error before the right side is evaluated, and a target in an object that is gone is erroneous.
   abbrev pub assign_next : List ℕ → ℕ → RightForm → State V H → Next V H
   assign_next [] x right s = moves Quiet (at (frame.Evaluates right ∷ frame.Stores x ∷ s.control) s)
-  assign_next (c ∷ cs) x right s = path_next (before_last c cs) (held s x) (at (frame.Targets (last_of c cs) right ∷ s.control) s)
+  assign_next (c ∷ cs) x right s = holder_next c cs x (λ last. frame.Targets last right) s
 
   abbrev pub target_next : V → (c : ℕ) → RightForm → Found (Cell V) → State V H → Next V H
   target_next o c right on_null s = moves Quiet (raised ConstraintError s)
@@ -441,7 +524,7 @@ module _ {V H : Type 0} (ops : Ops V H) where
 
   abbrev pub frees_next : List ℕ → (access x : ℕ) → State V H → Next V H
   frees_next [] access x s = free_next access x (held s x) (ops.look s.heap (held s x)) s
-  frees_next (c ∷ cs) access x s = path_next (before_last c cs) (held s x) (at (frame.FreesIn access (last_of c cs) ∷ s.control) s)
+  frees_next (c ∷ cs) access x s = holder_next c cs x (λ last. frame.FreesIn access last) s
 
   -- Free (P.C): the object that P leads to is found first, as that of a target. What its component gives access to is freed as by Free (X), and
   -- the component becomes null.
@@ -502,7 +585,7 @@ module _ {V H : Type 0} (ops : Ops V H) where
 
   -- The next number of the input goes to a variable, or to a component, whose object is found first; where there is none, End_Error is raised.
   abbrev pub gets_next : List ℕ → ℕ → List ℤ → State V H → Next V H
-  gets_next (c ∷ cs) x input s = path_next (before_last c cs) (held s x) (at (frame.Receives (last_of c cs) ∷ s.control) s)
+  gets_next (c ∷ cs) x input s = holder_next c cs x (λ last. frame.Receives last) s
   gets_next [] x [] s = moves Quiet (raised EndError s)
   gets_next [] x (i ∷ is) s = moves Quiet (put x (ops.integer i) (record s { input = is }))
 
@@ -550,9 +633,61 @@ module _ {V H : Type 0} (ops : Ops V H) where
   }
 
   -- The body is a master of its own (7.6.1), and all of it is left to do before the caller goes on.
-  abbrev pub begun : (procedure : ℕ) → BodyForm → (actuals : List ActualForm) → (values : List V) → State V H → State V H
-  begun procedure b actuals values s =
-      entered (activated procedure b values (at (frame.Elaborates b.declarations b.statements b.handlers ∷ frame.Returns actuals ∷ s.control) s))
+  abbrev pub begun : (procedure : ℕ) → BodyForm → (actuals : List ActualForm) → (operands : List V) → State V H → State V H
+  begun procedure b actuals vs s =
+      entered (activated procedure b (given_values actuals vs)
+      (at (frame.Elaborates b.declarations b.statements b.handlers ∷ frame.Returns actuals (references_in actuals vs) ∷ s.control) s))
+
+  -- A record that is given (6.2): its object is found, and what refers to it is the value of the formal parameter. Null in its place raises
+  -- Constraint_Error.
+  abbrev pub referred_next : V → (first : ℕ) → Option (List V) → State V H → Next V H
+  referred_next o first None s = halts Stuck
+  referred_next o first (Some vs) s = moves (Followed o) (computed (ops.refer o first) s)
+
+  abbrev pub refers_next : V → (first count : ℕ) → Found (Cell V) → State V H → Next V H
+  refers_next o first count on_null s = moves Quiet (raised ConstraintError s)
+  refers_next o first count on_gone s = halts (Erroneous FollowsGone)
+  refers_next o first count on_other s = halts Stuck
+  refers_next o first count (finds cell) s = referred_next o first (record_in cell.values first count) s
+
+  -- A component that is given (6.4.1): what refers to it is kept, so that it gets back what the formal parameter holds whatever is assigned meanwhile.
+  abbrev pub open_next : List ℕ → (x : ℕ) → State V H → Next V H
+  open_next [] x s = halts Stuck
+  open_next (c ∷ cs) x s = holder_next c cs x frame.OpensIn s
+
+  abbrev pub opened_next : V → (c : ℕ) → Option V → State V H → Next V H
+  opened_next o c None s = halts Stuck
+  opened_next o c (Some v) s = moves (Followed o) (computed v (computed (ops.refer o c) s))
+
+  abbrev pub opens_next : V → (c : ℕ) → Found (Cell V) → State V H → Next V H
+  opens_next o c on_null s = moves Quiet (raised ConstraintError s)
+  opens_next o c on_gone s = halts (Erroneous FollowsGone)
+  opens_next o c on_other s = halts Stuck
+  opens_next o c (finds cell) s = opened_next o c (slice_get cell.values c) s
+
+  -- The running activation ends normally (6.4.1, 6.5): its caller gets back what it is to get, and goes on. What goes to components is stored in them next,
+  -- in order.
+  abbrev pub storing : (references : List V) → List (Frame V) → List (Frame V)
+  storing [] k = k
+  storing (r ∷ rs) k = frame.StoresIn (ops.whole r) (ops.base r) ∷ storing rs k
+
+  abbrev pub returned : List ActualForm → (references : List V) → State V H → State V H
+  returned actuals references s =
+      at (storing references s.control)
+      (set_operands (stored_back actuals (places s) ++ operands (resumed s))
+      (set_places (copied_back actuals (places s) (places (resumed s))) (resumed s)))
+
+  -- A jump comes to the end of a call's body: a return ends it normally, and any other jump gives nothing back (6.4.1, 11.4).
+  abbrev pub left_by : Mode → List ActualForm → (references : List V) → State V H → State V H
+  left_by Running actuals references s = resumed s
+  left_by (Raising e) actuals references s = resumed s
+  left_by Exiting actuals references s = resumed s
+  left_by Returning actuals references s = returned actuals references s
+
+  -- A jump passes a frame: behind the body of a call the activation of its caller goes on.
+  abbrev pub unwound : Mode → Frame V → State V H → State V H
+  unwound mode (frame.Returns actuals references) s = left_by mode actuals references s
+  unwound mode f s = s
 
   -- Actual parameters are evaluated one after another before what comes behind them.
   abbrev pub computing : List ActualForm → List (Frame V) → List (Frame V)
@@ -567,8 +702,7 @@ module _ {V H : Type 0} (ops : Ops V H) where
   abbrev pub stmt_next : List BodyForm → StmtForm → State V H → Next V H
   stmt_next bodies skips s = moves Quiet s
   stmt_next bodies (assigns target right) s = assign_next target.selectors target.root right s
-  stmt_next bodies (assigns_record target items) s =
-      path_next target.object.selectors (held s target.object.root) (at (frame.TargetsRecord target.first target.record_type items ∷ s.control) s)
+  stmt_next bodies (assigns_record target items) s = record_holder_next target (λ first. frame.TargetsRecord first target.record_type items) s
   stmt_next bodies (frees access path) s = frees_next path.selectors access path.root s
   stmt_next bodies (gets target) s = gets_next target.selectors target.root s.input s
   stmt_next bodies (writes e) s = moves Quiet (at (frame.Computes e ∷ frame.Writes ∷ s.control) s)
@@ -662,12 +796,16 @@ module _ {V H : Type 0} (ops : Ops V H) where
   frame_next types bodies (frame.Handles hs) s = moves Quiet s
   frame_next types bodies frame.Closes s = moves Quiet (at (frame.Leaves Running ∷ s.control) s)
   frame_next types bodies (frame.Leaves mode) s = leave_next mode s.masters s
-  frame_next types bodies (frame.Calls procedure b actuals) s = moves Quiet (begun procedure b actuals (newest_ones (length actuals) s) s)
-  frame_next types bodies (frame.Returns actuals) s = moves Quiet (returned actuals s)
+  frame_next types bodies (frame.Calls procedure b actuals) s = moves Quiet (begun procedure b actuals (newest_ones (operand_count actuals) s) s)
+  frame_next types bodies (frame.Returns actuals references) s = moves Quiet (returned actuals references s)
   frame_next types bodies (frame.Evaluates right) s = right_next types right s
   frame_next types bodies (frame.Computes e) s = expression_next e s
   frame_next types bodies (frame.Follows cs) s = path_next cs (newest s) (popped s)
   frame_next types bodies (frame.TestsNull equal) s = null_test_next equal (ops.reads_null (newest s)) (popped s)
+  frame_next types bodies (frame.Refers p) s = record_holder_next p (λ first. frame.RefersIn first p.record_type) s
+  frame_next types bodies (frame.RefersIn first t) s = refers_next (newest s) first (width_of types t) (ops.look s.heap (newest s)) (popped s)
+  frame_next types bodies (frame.Opens path) s = open_next path.selectors path.root s
+  frame_next types bodies (frame.OpensIn c) s = opens_next (newest s) c (ops.look s.heap (newest s)) (popped s)
   frame_next types bodies (frame.Continues links) s = links_next links s
   frame_next types bodies (frame.Applies operator) s = outcome_next (ops.binary operator (newest (popped s)) (newest s)) (popped (popped s))
   frame_next types bodies (frame.AppliesAlone operator) s = outcome_next (ops.unary operator (newest s)) (popped s)

@@ -2,6 +2,7 @@
 
 ghost use Rattle.ada_meaning.specs.Beginning.{StatementsBegin};
 ghost use Rattle.ada_meaning.specs.Calls.{StepsKeepCallers, CallersHold, CallsEvaluate, ActualsArrive, CallersResume};
+ghost use Rattle.ada_meaning.specs.References.{RecordsAreReferredTo, ComponentsAreOpened, ParametersShareRecords, PathsGoOnThere, ComponentsAreFoundThere, RecordsBeginThere, StoresAreKept};
 ghost use Rattle.ada_meaning.specs.Defaults.{MakesByDefault, MakesRecords};
 ghost use Rattle.ada_meaning.specs.Life.{NamesAreUsedOnce, GoneForEver, BackOnce};
 ghost use Rattle.ada_meaning.specs.Ending.{StepsMakeLighter, StatesGoOn, StatementsEnd};
@@ -88,10 +89,28 @@ pub fn actuals_arrive()
     ensures { ActualsArrive }
 {}
 
+/// A record that is given for a formal parameter is passed by reference, and so is the place of a component (6.2,
+/// 6.4.1): the formal parameter stands for the record in its object, so what is read, assigned, freed, copied and given
+/// once more through it lies there.
+pub fn records_are_referred_to()
+    ensures records { RecordsAreReferredTo }
+    ensures components { ComponentsAreOpened }
+    ensures shared { ParametersShareRecords }
+    ensures goes_on { PathsGoOnThere }
+    ensures found { ComponentsAreFoundThere }
+    ensures wholes { RecordsBeginThere }
+{}
+
+/// What is stored in a component lies there afterwards, and nothing else has changed (5.2).
+pub fn stores_are_kept()
+    ensures { StoresAreKept }
+{}
+
 /// Behind the body of a call, where it is done or a return has come to its end, the caller runs
 /// with what it held and what it gets back: a variable that is given for a formal parameter of mode
 /// `in out` holds what the last one holds for which it is given (6.4.1, 6.5). An exception that comes
-/// there goes on in the caller, which holds what it held (11.4).
+/// there goes on in the caller, which holds what it held (11.4). The components that are given get what the parameters
+/// hold next, in order, each at the place that was named before the call (6.4.1).
 pub fn callers_resume()
     ensures { CallersResume }
 {}

@@ -13,6 +13,9 @@ pub enum Value {
     Names(Id),
     /// An Integer or a Boolean.
     Scalar(ada_values::Value),
+    /// What refers to a record that lies in an object, from its component `first` on, as a record parameter does (6.2); or to
+    /// that component, where it is given for a formal parameter of mode `in out`.
+    Part { object: Id, first: usize },
 }
 
 /// The stages of an object's life; none comes back (7.6.1, 13.11.2).

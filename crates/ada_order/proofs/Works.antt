@@ -4,7 +4,7 @@ use Rattle.std.proofs.Common.{◌≡◌, ℕ, ℤ, Bool, true, false, if◌then�
 use Rattle.std.specs.Prelude.{int_le}
 use Rattle.std.specs.List.{slice_get}
 use Rattle.ada_program.specs.declared.program.TypeDefinition.{TypeDefinition}
-use Rattle.ada_program.specs.Form.{ActualForm, in_value, in_null, in_access, in_out_path, in_out_access, ExpressionForm, integer, boolean, reads, is_null, applied_to, chained, LinksForm, no_more_links, a_link, ItemForm, null_item, item_of_path, item_of_value, item_of_record, RightForm, nothing, value_of, allocates, allocates_default, computes, StmtForm, skips, assigns, assigns_record, frees, gets, writes, writes_text, chooses, repeats, counts, exits, calls, raises, encloses, StmtsForm, no_stmts, a_stmt, BranchesForm, otherwise, a_branch, HandlersForm, DeclarationForm, collects, declares, declares_record}
+use Rattle.ada_program.specs.Form.{RecordPathForm, ActualForm, in_value, in_null, in_access, in_record, in_out_path, in_out_access, in_out_component, in_out_record, ExpressionForm, integer, boolean, reads, is_null, applied_to, chained, LinksForm, no_more_links, a_link, ItemForm, null_item, item_of_path, item_of_value, item_of_record, RightForm, nothing, value_of, allocates, allocates_default, computes, StmtForm, skips, assigns, assigns_record, frees, gets, writes, writes_text, chooses, repeats, counts, exits, calls, raises, encloses, StmtsForm, no_stmts, a_stmt, BranchesForm, otherwise, a_branch, HandlersForm, DeclarationForm, collects, declares, declares_record}
 use Rattle.ada_program.specs.Form as form
 use Rattle.ada_program.specs.ProgramForm.{BodyForm}
 use Rattle.ada_program.specs.Typed.{words_of, width_of}
@@ -14,6 +14,7 @@ use Rattle.ada_values.specs.declared.fault.OperatorFault.TheVariants.{Overflow, 
 use Rattle.ada_meaning.specs.declared.state.Value.{Value}
 use Rattle.ada_meaning.specs.declared.state.Value.TheVariants.{Null}
 use Rattle.ada_meaning.specs.declared.state.Mode.{Mode}
+use Rattle.ada_meaning.specs.declared.state.Mode.TheVariants.{Running, Raising, Exiting, Returning}
 use Rattle.ada_meaning.specs.declared.event.Cause.{Cause}
 use Rattle.ada_meaning.specs.declared.event.Cause.TheVariants.{Leaving, Freeing, Assigning, Undoing}
 use Rattle.ada_meaning.specs.declared.event.Halt.TheVariants.{Erroneous}
@@ -23,8 +24,8 @@ use Rattle.ada_meaning.specs.Frame.{Frame, is_master, Landing, passes_on, goes_b
 use Rattle.ada_meaning.specs.Frame as frame
 use Rattle.ada_meaning.specs.State.{declared, collection, record_object, home_of}
 use Rattle.ada_meaning.specs.Heap.{Cell, Found, on_null, on_gone, on_other, finds}
-use Rattle.ada_meaning.specs.Step.{record_in, newest_ones, without_newest, copied_next, copies_next, record_target_next, record_stored_next, store_record_next, record_next, halts, at, popped, held, newest, reading, component_next, follow_next, path_next, expression_next, null_test_next, is_decided, link_next, links_next, outcome_next, item_next, items_next, answered, new_next, right_next, free_next, end_next, same_pool, told_back, given_back, back_next, before_last, last_of, assign_next, target_next, stored_next, store_next, received_next, receive_next, frees_next, freed_next, free_component_next, free_in_next, branches_next, decided_next, turn_next, repeats_next, turned_next, count_turn_next, counts_next, ranges_next, gets_next, exit_next, exited_next, computing, call_next, stmt_next, stmts_next, line_next, declaration_next, declarations_next, frame_next, landed, unwound, pass_next, jump_next}
-use Rattle.ada_meaning.specs.Named.{Object, State, Next, named, look, lent, reads_boolean, reads_null, reads_integer, unary_given, binary_given}
+use Rattle.ada_meaning.specs.Step.{record_in, newest_ones, without_newest, copied_next, copies_next, record_target_next, record_stored_next, store_record_next, record_next, halts, at, popped, held, newest, reading, component_next, follow_next, path_next, selected, named_next, holder_next, first_in, record_holder_next, referred_next, refers_next, open_next, opened_next, opens_next, storing, expression_next, null_test_next, is_decided, link_next, links_next, outcome_next, item_next, items_next, answered, new_next, right_next, free_next, end_next, same_pool, told_back, given_back, back_next, before_last, last_of, assign_next, target_next, stored_next, store_next, received_next, receive_next, frees_next, freed_next, free_component_next, free_in_next, branches_next, decided_next, turn_next, repeats_next, turned_next, count_turn_next, counts_next, ranges_next, gets_next, exit_next, exited_next, computing, call_next, stmt_next, stmts_next, line_next, declaration_next, declarations_next, frame_next, landed, unwound, pass_next, jump_next}
+use Rattle.ada_meaning.specs.Named.{Object, State, Next, named, whole, inside, look, lent, reads_boolean, reads_null, reads_integer, unary_given, binary_given}
 use Rattle.ada_meaning.specs.Run.{Event}
 use Rattle.ada_meaning.specs.Law.{left_by}
 use Rattle.ada_meaning.proofs.Jumps.{unwound_to, unwound_by}
@@ -53,11 +54,26 @@ path_works : (cs : List ℕ) (v : Value) (s : State) → Plain s.control → Wor
 path_works [] v s p = stays refl p refl refl
 path_works (c ∷ cs) v s p = follow_works v c cs (look s.heap v) s p
 
+-- Where a path begins.
+named_works : (cs : List ℕ) (x : ℕ) (s : State) → Plain s.control → Works s (named_next named cs x s)
+named_works cs x s p = path_works (selected named (held named s x) cs) (whole (held named s x)) s p
+
+holder_works : (c : ℕ) (cs : List ℕ) (x : ℕ) (frame_of : ℕ → Frame Value) (s : State) → ((n : ℕ) → IsPlain (frame_of n)) → Plain s.control → Works s (holder_next named c cs x frame_of s)
+holder_works c cs x frame_of s plain p =
+    path_works (before_last (inside (held named s x) c) cs) (whole (held named s x))
+    (at (frame_of (last_of (inside (held named s x) c) cs) ∷ s.control) s) (plain (last_of (inside (held named s x) c) cs), p)
+
+record_holder_works : (r : RecordPathForm) (frame_of : ℕ → Frame Value) (s : State) → ((n : ℕ) → IsPlain (frame_of n)) → Plain s.control → Works s (record_holder_next named r frame_of s)
+record_holder_works r frame_of s plain p =
+    path_works (selected named (held named s r.object.root) r.object.selectors) (whole (held named s r.object.root))
+    (at (frame_of (first_in named (held named s r.object.root) r.object.selectors r.first) ∷ s.control) s)
+    (plain (first_in named (held named s r.object.root) r.object.selectors r.first), p)
+
 expression_works : (e : ExpressionForm) (s : State) → Plain s.control → Works s (expression_next named e s)
 expression_works (integer i) s p = stays refl p refl refl
 expression_works (boolean b) s p = stays refl p refl refl
-expression_works (reads path) s p = path_works path.selectors (held named s path.root) s p
-expression_works (is_null equal path) s p = path_works path.selectors (held named s path.root) (at (frame.TestsNull equal ∷ s.control) s) (tt, p)
+expression_works (reads path) s p = named_works path.selectors path.root s p
+expression_works (is_null equal path) s p = named_works path.selectors path.root (at (frame.TestsNull equal ∷ s.control) s) (tt, p)
 expression_works (applied_to operator e) s p = stays refl (tt, (tt, p)) refl refl
 expression_works (chained e links) s p = stays refl (tt, (tt, p)) refl refl
 
@@ -83,10 +99,9 @@ outcome_works (Err WrongType) s p = tt
 -- Allocators, and what is assigned.
 item_works : (item : ItemForm) (s : State) → Plain s.control → Works s (item_next named item s)
 item_works null_item s p = stays refl p refl refl
-item_works (item_of_path path) s p = path_works path.selectors (held named s path.root) s p
+item_works (item_of_path path) s p = named_works path.selectors path.root s p
 item_works (item_of_value e) s p = stays refl (tt, p) refl refl
-item_works (item_of_record r) s p =
-    path_works r.object.selectors (held named s r.object.root) (at (frame.Copies r.first r.record_type ∷ s.control) s) (tt, p)
+item_works (item_of_record r) s p = record_holder_works r (λ first. frame.Copies first r.record_type) s (λ n. tt) p
 
 items_work : (items : List ItemForm) (s : State) → Plain s.control → Works s (items_next named items s)
 items_work [] s p = stays refl p refl refl
@@ -113,7 +128,7 @@ new_works access count words (Some item) s p = λ granted. answered_works access
 
 right_works : (types : List TypeDefinition) (right : RightForm) (s : State) → Plain s.control → Works s (right_next named types right s)
 right_works types nothing s p = stays refl p refl refl
-right_works types (value_of path) s p = path_works path.selectors (held named s path.root) s p
+right_works types (value_of path) s p = named_works path.selectors path.root s p
 right_works types (allocates access items) s p = stays refl (tt, (tt, p)) refl refl
 right_works types (allocates_default access) s p = stays refl (tt, p) refl refl
 right_works types (computes e) s p = stays refl (tt, p) refl refl
@@ -151,8 +166,7 @@ back_works v cause pool (finds cell) s is p = given_works (same_pool pool cell.h
 -- Statements and declarations.
 assign_works : (cs : List ℕ) (x : ℕ) (right : RightForm) (s : State) → Plain s.control → Works s (assign_next named cs x right s)
 assign_works [] x right s p = stays refl (tt, (tt, p)) refl refl
-assign_works (c ∷ cs) x right s p =
-    path_works (before_last c cs) (held named s x) (at (frame.Targets (last_of c cs) right ∷ s.control) s) (tt, p)
+assign_works (c ∷ cs) x right s p = holder_works c cs x (λ last. frame.Targets last right) s (λ n. tt) p
 
 target_works : (o : Value) (c : ℕ) (right : RightForm) (found : Found (Cell Value)) (s : State) → Plain s.control → Works s (target_next named o c right found s)
 target_works o c right on_null s p = stays refl p refl refl
@@ -190,8 +204,7 @@ store_record_works o first count (finds cell) s p =
 
 frees_work : (cs : List ℕ) (access x : ℕ) (s : State) → Plain s.control → Works s (frees_next named cs access x s)
 frees_work [] access x s p = free_works access x (held named s x) (look s.heap (held named s x)) s p
-frees_work (c ∷ cs) access x s p =
-    path_works (before_last c cs) (held named s x) (at (frame.FreesIn access (last_of c cs) ∷ s.control) s) (tt, p)
+frees_work (c ∷ cs) access x s p = holder_works c cs x (λ last. frame.FreesIn access last) s (λ n. tt) p
 
 freed_works : (access : ℕ) (o : Value) (c : ℕ) (v : Value) (found : Found (Cell Value)) (s : State) → Plain s.control → Works s (freed_next named access o c v found s)
 freed_works access o c v on_null s p = stays refl p refl refl
@@ -248,8 +261,7 @@ ranges_work x fs (Some low) None s p = tt
 ranges_work x fs (Some low) (Some high) s p = counts_work x low high fs s p
 
 gets_work : (cs : List ℕ) (x : ℕ) (input : List ℤ) (s : State) → Plain s.control → Works s (gets_next named cs x input s)
-gets_work (c ∷ cs) x input s p =
-    path_works (before_last c cs) (held named s x) (at (frame.Receives (last_of c cs) ∷ s.control) s) (tt, p)
+gets_work (c ∷ cs) x input s p = holder_works c cs x (λ last. frame.Receives last) s (λ n. tt) p
 gets_work [] x [] s p = stays refl p refl refl
 gets_work [] x (i ∷ is) s p = stays refl p refl refl
 
@@ -279,8 +291,40 @@ computing_is_plain [] k p = p
 computing_is_plain (in_value e ∷ rest) k p = (tt, computing_is_plain rest k p)
 computing_is_plain (in_null ∷ rest) k p = (tt, computing_is_plain rest k p)
 computing_is_plain (in_access path ∷ rest) k p = (tt, computing_is_plain rest k p)
+computing_is_plain (in_record r ∷ rest) k p = (tt, computing_is_plain rest k p)
 computing_is_plain (in_out_path path ∷ rest) k p = (tt, computing_is_plain rest k p)
 computing_is_plain (in_out_access path ∷ rest) k p = (tt, computing_is_plain rest k p)
+computing_is_plain (in_out_component path ∷ rest) k p = (tt, computing_is_plain rest k p)
+computing_is_plain (in_out_record r ∷ rest) k p = (tt, computing_is_plain rest k p)
+
+-- What is passed by reference, and the components that get something back.
+referred_works : (o : Value) (first : ℕ) (found : Option (List Value)) (s : State) → Plain s.control → Works s (referred_next named o first found s)
+referred_works o first None s p = tt
+referred_works o first (Some vs) s p = stays refl p refl refl
+
+refers_work : (o : Value) (first count : ℕ) (found : Found (Cell Value)) (s : State) → Plain s.control → Works s (refers_next named o first count found s)
+refers_work o first count on_null s p = stays refl p refl refl
+refers_work o first count on_gone s p = tt
+refers_work o first count on_other s p = tt
+refers_work o first count (finds cell) s p = referred_works o first (record_in cell.values first count) s p
+
+open_works : (cs : List ℕ) (x : ℕ) (s : State) → Plain s.control → Works s (open_next named cs x s)
+open_works [] x s p = tt
+open_works (c ∷ cs) x s p = holder_works c cs x frame.OpensIn s (λ n. tt) p
+
+opened_works : (o : Value) (c : ℕ) (found : Option Value) (s : State) → Plain s.control → Works s (opened_next named o c found s)
+opened_works o c None s p = tt
+opened_works o c (Some v) s p = stays refl p refl refl
+
+opens_work : (o : Value) (c : ℕ) (found : Found (Cell Value)) (s : State) → Plain s.control → Works s (opens_next named o c found s)
+opens_work o c on_null s p = stays refl p refl refl
+opens_work o c on_gone s p = tt
+opens_work o c on_other s p = tt
+opens_work o c (finds cell) s p = opened_works o c (slice_get cell.values c) s p
+
+storing_is_plain : (references : List Value) (k : List (Frame Value)) → Plain k → Plain (storing named references k)
+storing_is_plain [] k p = p
+storing_is_plain (r ∷ rs) k p = (tt, storing_is_plain rs k p)
 
 call_works : (procedure : ℕ) (actuals : List ActualForm) (body : Option BodyForm) (s : State) → Plain s.control → Works s (call_next named procedure actuals body s)
 call_works procedure actuals None s p = tt
@@ -290,7 +334,7 @@ stmt_works : (bodies : List BodyForm) (f : StmtForm) (s : State) → Plain s.con
 stmt_works bodies skips s p = stays refl p refl refl
 stmt_works bodies (assigns target right) s p = assign_works target.selectors target.root right s p
 stmt_works bodies (assigns_record target items) s p =
-    path_works target.object.selectors (held named s target.object.root) (at (frame.TargetsRecord target.first target.record_type items ∷ s.control) s) (tt, p)
+    record_holder_works target (λ first. frame.TargetsRecord first target.record_type items) s (λ n. tt) p
 stmt_works bodies (frees access path) s p = frees_work path.selectors access path.root s p
 stmt_works bodies (gets target) s p = gets_work target.selectors target.root s.input s p
 stmt_works bodies (writes e) s p = stays refl (tt, (tt, p)) refl refl
@@ -351,11 +395,16 @@ frame_works types bodies (frame.Handles hs) s is p = stays refl p refl refl
 frame_works types bodies frame.Closes s is p = stays refl (tt, p) refl refl
 frame_works types bodies (frame.Leaves mode) s is p = absurd is
 frame_works types bodies (frame.Calls procedure b actuals) s is p = enters refl (tt, (tt, p)) refl refl
-frame_works types bodies (frame.Returns actuals) s is p = stays refl p refl refl
+frame_works types bodies (frame.Returns actuals references) s is p = stays refl (storing_is_plain references s.control p) refl refl
 frame_works types bodies (frame.Evaluates right) s is p = right_works types right s p
 frame_works types bodies (frame.Computes e) s is p = expression_works e s p
 frame_works types bodies (frame.Follows cs) s is p = path_works cs (newest named s) (popped s) p
 frame_works types bodies (frame.TestsNull equal) s is p = null_test_works equal (reads_null (newest named s)) (popped s) p
+frame_works types bodies (frame.Refers r) s is p = record_holder_works r (λ first. frame.RefersIn first r.record_type) s (λ n. tt) p
+frame_works types bodies (frame.RefersIn first t) s is p =
+    refers_work (newest named s) first (width_of types t) (look s.heap (newest named s)) (popped s) p
+frame_works types bodies (frame.Opens path) s is p = open_works path.selectors path.root s p
+frame_works types bodies (frame.OpensIn c) s is p = opens_work (newest named s) c (look s.heap (newest named s)) (popped s) p
 frame_works types bodies (frame.Continues links) s is p = links_work links s p
 frame_works types bodies (frame.Applies operator) s is p = outcome_works (binary_given operator (newest named (popped s)) (newest named s)) (popped (popped s)) p
 frame_works types bodies (frame.AppliesAlone operator) s is p = outcome_works (unary_given operator (newest named s)) (popped s) p
@@ -389,8 +438,19 @@ pass_works : (master : Bool) (l : Landing) (mode : Mode) (s : State) → Plain s
 pass_works true l mode s p = stays refl (tt, p) refl refl
 pass_works false l mode s p = landed_works l s p
 
-unwound_works : (f : Frame Value) (mode : Mode) (s : State) → Plain s.control → Works s (pass_next named (is_master f) (landing mode f) mode (unwound mode f s))
-unwound_works f mode s p = rw (unwound_by mode f s) (pass_works (is_master f) (landing mode f) mode (unwound_to mode f s) p)
+left_plain : (mode : Mode) (actuals : List ActualForm) (references : List Value) (s : State) → Plain s.control → Plain (unwound_to mode (frame.Returns actuals references) s).control
+left_plain Running actuals references s p = p
+left_plain (Raising e) actuals references s p = p
+left_plain Exiting actuals references s p = p
+left_plain Returning actuals references s p = storing_is_plain references s.control p
+
+unwound_plain : (mode : Mode) (f : Frame Value) (s : State) → Plain s.control → Plain (unwound_to mode f s).control
+unwound_plain mode (frame.Returns actuals references) s p = left_plain mode actuals references s p
+unwound_plain mode f s p = p
+
+unwound_works : (f : Frame Value) (mode : Mode) (s : State) → Plain s.control → Works s (pass_next named (is_master f) (landing mode f) mode (unwound named mode f s))
+unwound_works f mode s p =
+    rw (unwound_by mode f s) (pass_works (is_master f) (landing mode f) mode (unwound_to mode f s) (unwound_plain mode f s p))
 
 pub jump_works : (mode : Mode) (k : List (Frame Value)) (s : State) → Plain k → Works s (jump_next named mode k s)
 jump_works mode [] s p = tt

@@ -8,7 +8,7 @@ use Rattle.ada_flow.specs.declared.rule.Hold.{Hold}
 use Rattle.ada_flow.specs.declared.rule.Hold.TheVariants as held
 use Rattle.ada_meaning.specs.declared.state.Id.{Id}
 use Rattle.ada_meaning.specs.declared.state.Value.{Value}
-use Rattle.ada_meaning.specs.declared.state.Value.TheVariants.{Null, Names, Scalar}
+use Rattle.ada_meaning.specs.declared.state.Value.TheVariants.{Null, Names, Scalar, Part}
 use Rattle.ada_meaning.specs.Heap.{Cell, Found, on_null, on_gone, on_other, finds}
 use Rattle.ada_meaning.specs.State.{Activation}
 use Rattle.ada_meaning.specs.Named.{Object, State, object_at, seen, look, create, named}
@@ -62,6 +62,7 @@ looks_right objects kind Null exist right = tt
 looks_right objects None (Names o) exist right = absurd (right o refl)
 looks_right objects (Some t) (Names o) exist right = looks_named objects t o exist (right o refl)
 looks_right objects kind (Scalar n) exist right = tt
+looks_right objects kind (Part o first) exist right = tt
 
 -- A component's value lies in the component's place.
 pub record LiesIn (objects : List Object) (activations : List (Activation Value)) (kind : Option ℕ) (v : Value) (c : ℕ) (w : Value) : Type 0 where
@@ -149,6 +150,7 @@ pub null_walk : (objects : List Object) (v : Value) (c : ℕ) (cs : List ℕ) (w
 null_walk objects Null c cs w none e = cc e
 null_walk objects (Names o) c cs w none e = none o refl
 null_walk objects (Scalar n) c cs w none e = cc e
+null_walk objects (Part o first) c cs w none e = cc e
 
 -- All components may be relied on where none is lent.
 pub every_may : (kinds : Kinds) (kind : Option ℕ) (cs : List ℕ) → FollowsOnly kinds (λ t. Unit {0}) kind cs
@@ -161,6 +163,7 @@ module _ (objects : List Object) (words : ℕ) (cell : Cell Value) where
   behind_created : (v : Value) (c : ℕ) (w : Value) → behind objects v c ≡ finds w → behind (create objects words cell) v c ≡ finds w
   behind_created Null c w e = absurd (cc e)
   behind_created (Scalar n) c w e = absurd (cc e)
+  behind_created (Part o first) c w e = absurd (cc e)
   behind_created (Names o) c w e = go (object_at objects o) refl e
     where
       go : (x : Option Object) → object_at objects o ≡ x → then_found (seen x) (λ cell. value_found (slice_get cell.values c)) ≡ finds w → behind (create objects words cell) (Names o) c ≡ finds w

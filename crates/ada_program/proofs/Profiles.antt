@@ -9,7 +9,7 @@ use Rattle.ada_program.specs.declared.program.Procedure.{Procedure}
 use Rattle.ada_program.specs.declared.program.Variable.{Variable}
 use Rattle.ada_program.specs.Kept.{profiles_in, variables_in}
 use Rattle.ada_program.specs.ProgramForm.{TypeForm, variable_form, body_form}
-use Rattle.ada_program.specs.WellFormed.{Profile, kind_held, profile_of, body_fits, bodies_fit}
+use Rattle.ada_program.specs.WellFormed.{Profile, profile_of, body_fits, bodies_fit}
 
 -- the first variables of a body, as it keeps them
 pub first_forms : (n : ℕ) (xs : List Variable) → take n (map variable_form xs) ≡ variables_in (take n xs)

@@ -71,14 +71,18 @@ pub data ItemForm : Type 0 where
   item_of_value : ExpressionForm → ItemForm
   item_of_record : RecordPathForm → ItemForm
 
--- An actual parameter (6.4.1). For a formal one of mode `in`: the value of an expression, which is an Integer or a Boolean, null, or the access value
--- that a path names. For one of mode `in out`: the path to a variable, an Integer or Boolean one, or one of an access type.
+-- An actual parameter (6.4.1). For a formal one of mode `in`: the value of an expression, which is an Integer or a Boolean, null, the access value
+-- that a path names, or a record. For one of mode `in out`: the path to a variable, an Integer or Boolean one, or one of an access type, the path to a
+-- component, or a record. A record is passed by reference (6.2).
 pub data ActualForm : Type 0 where
   in_value : ExpressionForm → ActualForm
   in_null : ActualForm
   in_access : PathForm → ActualForm
+  in_record : RecordPathForm → ActualForm
   in_out_path : PathForm → ActualForm
   in_out_access : PathForm → ActualForm
+  in_out_component : PathForm → ActualForm
+  in_out_record : RecordPathForm → ActualForm
 
 -- What is assigned (5.2): null, the access value that a path names, a new object of an access type (4.8) with items for its components, or with
 -- what they hold at first (3.3.1), or an expression.
@@ -170,8 +174,11 @@ abbrev pub actual_form : Actual → ActualForm
 actual_form (actual.In e) = in_value (expression_form e)
 actual_form actual.InNull = in_null
 actual_form (actual.InAccess path) = in_access (path_form path)
+actual_form (actual.InRecord path) = in_record (record_path_form path)
 actual_form (actual.InOut path) = in_out_path (path_form path)
 actual_form (actual.InOutAccess path) = in_out_access (path_form path)
+actual_form (actual.InOutComponent path) = in_out_component (path_form path)
+actual_form (actual.InOutRecord path) = in_out_record (record_path_form path)
 
 -- An item.
 abbrev pub item_form : Item → ItemForm

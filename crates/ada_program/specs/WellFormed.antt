@@ -18,7 +18,7 @@ use Rattle.ada_program.specs.declared.program.VariableKind.{VariableKind}
 use Rattle.ada_program.specs.declared.program.VariableKind.TheVariants as variable
 use Rattle.ada_program.specs.declared.program.ScalarType.{ScalarType}
 use Rattle.ada_program.specs.declared.program.ScalarType.TheVariants.{Integer, Boolean}
-use Rattle.ada_program.specs.Form.{PathForm, ActualForm, in_value, in_null, in_access, in_out_path, in_out_access, RecordPathForm, ExpressionForm, integer, boolean, reads, is_null, applied_to, chained, LinksForm, no_more_links, a_link, ItemForm, null_item, item_of_path, item_of_value, item_of_record, RightForm, nothing, value_of, allocates, allocates_default, computes, StmtForm, skips, assigns, assigns_record, frees, gets, writes, writes_text, chooses, repeats, counts, exits, calls, returns, raises, encloses, StmtsForm, no_stmts, a_stmt, BranchesForm, otherwise, a_branch, HandlersForm, no_handlers, a_handler, DeclarationForm, collects, declares, declares_record}
+use Rattle.ada_program.specs.Form.{PathForm, ActualForm, in_value, in_null, in_access, in_record, in_out_path, in_out_access, in_out_component, in_out_record, RecordPathForm, ExpressionForm, integer, boolean, reads, is_null, applied_to, chained, LinksForm, no_more_links, a_link, ItemForm, null_item, item_of_path, item_of_value, item_of_record, RightForm, nothing, value_of, allocates, allocates_default, computes, StmtForm, skips, assigns, assigns_record, frees, gets, writes, writes_text, chooses, repeats, counts, exits, calls, returns, raises, encloses, StmtsForm, no_stmts, a_stmt, BranchesForm, otherwise, a_branch, HandlersForm, no_handlers, a_handler, DeclarationForm, collects, declares, declares_record}
 use Rattle.ada_program.specs.ProgramForm.{TypeForm, record_of, access_to, object_of, VariableForm, BodyForm, ProgramForm, main_body}
 
 -- The type that an access type designates (3.10): none, if it is no access type.
@@ -621,33 +621,53 @@ abbrev pub stands_alone : List ℕ → Bool
 stands_alone [] = true
 stands_alone (c ∷ cs) = false
 
--- An actual parameter is an Integer or a Boolean (6.4.1): an expression of that type, or a variable. No component is given to a formal parameter of mode
--- `in out` yet.
+-- An actual parameter is an Integer or a Boolean (6.4.1): an expression of that type, a variable, or a component.
 abbrev pub is_scalar_given : List TypeForm → List VariableForm → ScalarType → ActualForm → Bool
 is_scalar_given types variables t (in_value e) = has_type types variables t e
 is_scalar_given types variables t in_null = false
 is_scalar_given types variables t (in_access path) = false
+is_scalar_given types variables t (in_record p) = false
 is_scalar_given types variables t (in_out_path path) = has_type types variables t (reads path) && stands_alone path.selectors
 is_scalar_given types variables t (in_out_access path) = false
+is_scalar_given types variables t (in_out_component path) = has_type types variables t (reads path) && not (stands_alone path.selectors)
+is_scalar_given types variables t (in_out_record p) = false
 
 -- A path names a value of an access type (3.10), and is no borrower: one is of an anonymous type.
 abbrev pub names_access : List TypeForm → List VariableForm → (access : ℕ) → PathForm → Bool
 names_access types variables access path = is_this access (path_access types variables path) && not (names_borrower variables path)
 
--- An actual parameter is a value of an access type (6.4.1): null, what a path names, or a variable.
+-- An actual parameter is a value of an access type (6.4.1): null, what a path names, a variable, or a component.
 abbrev pub is_access_given : List TypeForm → List VariableForm → (access : ℕ) → ActualForm → Bool
 is_access_given types variables access (in_value e) = false
 is_access_given types variables access in_null = true
 is_access_given types variables access (in_access path) = names_access types variables access path
+is_access_given types variables access (in_record p) = false
 is_access_given types variables access (in_out_path path) = false
 is_access_given types variables access (in_out_access path) = names_access types variables access path && stands_alone path.selectors
+is_access_given types variables access (in_out_component path) = names_access types variables access path && not (stands_alone path.selectors)
+is_access_given types variables access (in_out_record p) = false
 
--- An actual parameter has the type of its formal one (6.4.1): an Integer, a Boolean or of an access type, as no formal parameter is a record yet.
+-- A path leads to a record of the type that a formal parameter has which is known by an object's type (6.2).
+abbrev pub names_record : List TypeForm → List VariableForm → (object_type : ℕ) → RecordPathForm → Bool
+names_record types variables object p = is_record_path types variables p && is_this p.record_type (object_in (slice_get types object))
+
+-- An actual parameter is a record of the type of a formal one that is known by an object's type (6.4.1).
+abbrev pub is_record_given : List TypeForm → List VariableForm → (object_type : ℕ) → ActualForm → Bool
+is_record_given types variables object (in_value e) = false
+is_record_given types variables object in_null = false
+is_record_given types variables object (in_access path) = false
+is_record_given types variables object (in_record p) = names_record types variables object p
+is_record_given types variables object (in_out_path path) = false
+is_record_given types variables object (in_out_access path) = false
+is_record_given types variables object (in_out_component path) = false
+is_record_given types variables object (in_out_record p) = names_record types variables object p
+
+-- An actual parameter has the type of its formal one (6.4.1).
 abbrev pub actual_fits : List TypeForm → List VariableForm → VariableKind → ActualForm → Bool
 actual_fits types variables variable.Integer a = is_scalar_given types variables Integer a
 actual_fits types variables variable.Boolean a = is_scalar_given types variables Boolean a
 actual_fits types variables (variable.Access access) a = is_access_given types variables access.0 a
-actual_fits types variables (variable.Record object) a = false
+actual_fits types variables (variable.Record object) a = is_record_given types variables object.0 a
 
 -- There is an actual parameter for each formal one, in order (6.4.1).
 abbrev pub actuals_fit : List TypeForm → List VariableForm → List VariableKind → List ActualForm → Bool
@@ -661,8 +681,11 @@ abbrev pub mode_of : ActualForm → FormalMode
 mode_of (in_value e) = In
 mode_of in_null = In
 mode_of (in_access path) = In
+mode_of (in_record p) = In
 mode_of (in_out_path path) = InOut
 mode_of (in_out_access path) = InOut
+mode_of (in_out_component path) = InOut
+mode_of (in_out_record p) = InOut
 
 -- Are two modes one?
 abbrev pub same_mode : FormalMode → FormalMode → Bool

@@ -3,16 +3,18 @@
 
 ghost use Rattle.std.specs.Prelude.{◌≡◌, ◌&&◌, Some, length, map, take};
 ghost use Rattle.std.specs.List.{slice_get};
-ghost use Rattle.ada_program.specs.Form.{actual_form, path_form};
+ghost use Rattle.ada_program.specs.Form.{actual_form, path_form, record_path_form};
 ghost use Rattle.ada_program.specs.Kept.{profiles_in, types_in, variables_in};
 ghost use Rattle.ada_program.specs.ProgramForm.{body_form};
 ghost use Rattle.ada_program.specs.WellFormed as fits;
 
 use crate::borrowers::names_borrower;
-use crate::lookup::{is_this, path_access};
+use crate::lookup::{is_this, path_access, record_of};
 use crate::program::{
-    Actual, FormalMode, Path, Procedure, ScalarType, TypeDefinition, Variable, VariableKind,
+    Actual, FormalMode, Path, Procedure, RecordPath, ScalarType, TypeDefinition, Variable,
+    VariableKind,
 };
+use crate::records::is_record_path;
 use crate::typing::{has_type, is_type, read_type};
 
 /// Whether a procedure that may be called has the number, and the actual parameters suit it (6.4.1).
@@ -99,11 +101,12 @@ fn actual_fits(
         VariableKind::Integer => is_scalar_given(types, variables, ScalarType::Integer, actual),
         VariableKind::Boolean => is_scalar_given(types, variables, ScalarType::Boolean, actual),
         VariableKind::Access(access) => is_access_given(types, variables, access.0, actual),
-        VariableKind::Record(_) => false,
+        VariableKind::Record(object) => is_record_given(types, variables, object.0, actual),
     }
 }
 
-/// Whether an actual parameter is of this type, an Integer or a Boolean; one that gets a value back is a variable (6.4.1).
+/// Whether an actual parameter is of this type, an Integer or a Boolean; one that gets a value back is a variable or a
+/// component (6.4.1).
 #[tactic(auto, using(std::proofs::lemmas::Grind::common_steps, crate::specs::Form::expression_rules))]
 fn is_scalar_given(
     types: &[TypeDefinition],
@@ -119,11 +122,19 @@ fn is_scalar_given(
         Actual::InOut(path) => {
             is_type(type_wanted, read_type(types, variables, path)) && path.selectors.is_empty()
         }
-        Actual::InNull | Actual::InAccess(_) | Actual::InOutAccess(_) => false,
+        Actual::InOutComponent(path) => {
+            is_type(type_wanted, read_type(types, variables, path)) && !path.selectors.is_empty()
+        }
+        Actual::InNull
+        | Actual::InAccess(_)
+        | Actual::InRecord(_)
+        | Actual::InOutAccess(_)
+        | Actual::InOutRecord(_) => false,
     }
 }
 
-/// Whether an actual parameter is a value of this access type; one that gets a value back is a variable (6.4.1).
+/// Whether an actual parameter is a value of this access type; one that gets a value back is a variable or a component
+/// (6.4.1).
 fn is_access_given(
     types: &[TypeDefinition],
     variables: &[Variable],
@@ -139,8 +150,47 @@ fn is_access_given(
         Actual::InOutAccess(path) => {
             names_access(types, variables, access, path) && path.selectors.is_empty()
         }
-        Actual::In(_) | Actual::InOut(_) => false,
+        Actual::InOutComponent(path) => {
+            names_access(types, variables, access, path) && !path.selectors.is_empty()
+        }
+        Actual::In(_) | Actual::InRecord(_) | Actual::InOut(_) | Actual::InOutRecord(_) => false,
     }
+}
+
+/// Whether an actual parameter is a record of the type that this object's type stands for (6.2, 6.4.1).
+fn is_record_given(
+    types: &[TypeDefinition],
+    variables: &[Variable],
+    object: usize,
+    actual: &Actual,
+) -> bool
+    ensures { let given = actual_form actual.now in
+        result ≡ fits.is_record_given (types_in types.now) (variables_in variables.now) object given }
+{
+    match actual {
+        Actual::InRecord(path) | Actual::InOutRecord(path) => {
+            names_record(types, variables, object, path)
+        }
+        Actual::In(_)
+        | Actual::InNull
+        | Actual::InAccess(_)
+        | Actual::InOut(_)
+        | Actual::InOutAccess(_)
+        | Actual::InOutComponent(_) => false,
+    }
+}
+
+/// Whether a path leads to a record of the type that this object's type stands for (6.2).
+fn names_record(
+    types: &[TypeDefinition],
+    variables: &[Variable],
+    object: usize,
+    path: &RecordPath,
+) -> bool
+    ensures { let named = record_path_form path.now in
+        result ≡ fits.names_record (types_in types.now) (variables_in variables.now) object named }
+{
+    is_record_path(types, variables, path) && is_this(path.record.0, record_of(types, object))
 }
 
 /// Whether a path names a value of this access type, and is no borrower (3.10).
@@ -178,9 +228,24 @@ fn is_passed(mode: FormalMode, actual: &Actual) -> bool
     ensures { result ≡ fits.same_mode mode (fits.mode_of (actual_form actual.now)) }
 {
     match (mode, actual) {
-        (FormalMode::In, Actual::In(_) | Actual::InNull | Actual::InAccess(_))
-        | (FormalMode::InOut, Actual::InOut(_) | Actual::InOutAccess(_)) => true,
-        (FormalMode::In, Actual::InOut(_) | Actual::InOutAccess(_))
-        | (FormalMode::InOut, Actual::In(_) | Actual::InNull | Actual::InAccess(_)) => false,
+        (FormalMode::In, Actual::In(_) | Actual::InNull | Actual::InAccess(_) | Actual::InRecord(_))
+        | (
+            FormalMode::InOut,
+            Actual::InOut(_)
+            | Actual::InOutAccess(_)
+            | Actual::InOutComponent(_)
+            | Actual::InOutRecord(_),
+        ) => true,
+        (
+            FormalMode::In,
+            Actual::InOut(_)
+            | Actual::InOutAccess(_)
+            | Actual::InOutComponent(_)
+            | Actual::InOutRecord(_),
+        )
+        | (
+            FormalMode::InOut,
+            Actual::In(_) | Actual::InNull | Actual::InAccess(_) | Actual::InRecord(_),
+        ) => false,
     }
 }

@@ -28,9 +28,16 @@ pub(crate) fn designated_type(types: &[TypeDefinition], number: usize) -> Option
 pub(crate) fn is_object_type(types: &[TypeDefinition], number: usize) -> bool
     ensures { result ≡ fits.is_object_type (types_in types.now) number }
 {
+    record_of(types, number).is_some()
+}
+
+/// The record type of what an object's type stands for: none, if it is no object's type.
+pub(crate) fn record_of(types: &[TypeDefinition], number: usize) -> Option<usize>
+    ensures { result ≡ fits.object_in (slice_get (types_in types.now) number) }
+{
     match types.get(number) {
-        Some(TypeDefinition::Object { .. }) => true,
-        Some(TypeDefinition::Record { .. } | TypeDefinition::Access { .. }) | None => false,
+        Some(TypeDefinition::Object { record }) => Some(record.0),
+        Some(TypeDefinition::Record { .. } | TypeDefinition::Access { .. }) | None => None,
     }
 }
 

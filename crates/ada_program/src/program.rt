@@ -64,9 +64,10 @@ pub struct Procedure {
 /// The mode of a formal parameter (6.2).
 #[derive(Clone, Copy, Debug, PartialEq, Eq)]
 pub enum FormalMode {
-    /// The actual parameter gives a value.
+    /// The actual parameter gives a value, or is the record that the formal one stands for.
     In,
-    /// The actual parameter is a variable. Where the body ends normally, it gets what the formal parameter holds.
+    /// The actual parameter is a variable or a component, and gets what the formal one holds where the body ends normally, or
+    /// it is the record that the formal one stands for.
     InOut,
 }
 
@@ -86,7 +87,8 @@ pub enum TypeDefinition {
         name: String,
         designated: TypeNo,
     },
-    /// What one record object is known by (3.3.1), and its record type. Its variable alone is of this type.
+    /// What one record object or record parameter is known by (3.3.1, 6.2), and its record type. Its variable alone is of
+    /// this type.
     Object {
         record: TypeNo,
     },
@@ -137,7 +139,8 @@ pub enum VariableKind {
     Boolean,
     /// A value of an access type.
     Access(TypeNo),
-    /// A record object, known by the type that is its own. It is the same one as long as the variable is there.
+    /// A record object, known by the type that is its own. It is the same one as long as the variable is there. A formal
+    /// parameter stands for a record that lies in another object.
     Record(TypeNo),
 }
 
@@ -263,11 +266,18 @@ pub enum Actual {
     InNull,
     /// The access value that a path names, for a formal parameter of mode `in`: what it names stays with its owner.
     InAccess(Path),
+    /// The record that a formal parameter of mode `in` stands for: it is passed by reference (6.2).
+    InRecord(RecordPath),
     /// The Integer or Boolean variable for which a formal parameter of mode `in out` stands.
     InOut(Path),
     /// The variable of an access type for which a formal parameter of mode `in out` stands: what it owns goes to the formal
     /// parameter, and comes back where the body ends normally.
     InOutAccess(Path),
+    /// The component for which a formal parameter of mode `in out` stands: it gets back what that holds where the body ends
+    /// normally.
+    InOutComponent(Path),
+    /// The record that a formal parameter of mode `in out` stands for: it is passed by reference (6.2).
+    InOutRecord(RecordPath),
 }
 
 /// A branch of an `if` (5.3).

@@ -13,7 +13,7 @@ use Rattle.ada_program.specs.declared.program.VariableKind.{VariableKind}
 use Rattle.ada_tree.specs.ExpressionView.{expression_of, linked}
 use Rattle.ada_resolve.specs.declared.calls.Callee.{Callee}
 use Rattle.ada_resolve.specs.declared.fault.NameRule.TheVariants.{WrongType, NoInitialValue}
-use Rattle.ada_resolve.specs.Actuals.{given_meant, given_remark}
+use Rattle.ada_resolve.specs.Actuals.{given_meant, given_remark, is_path}
 use Rattle.ada_resolve.specs.Borrowers.{lender_found, lender_remark}
 use Rattle.ada_resolve.specs.Calls.{actual_found, actual_remark}
 use Rattle.ada_resolve.specs.Expressions.{expression_remark}
@@ -60,6 +60,15 @@ linked_given known left (link ∷ links) e = binary_given known link.operator le
 pub linked_given_remark : (known : Known) (kind : VariableKind) (left : ExpressionTree) (links : List Link) → (length links == 0) ≡ false → given_remark known InOut kind (expression_argument (linked left links)) ≡ both (wrong (expression_spot (linked left links)) WrongType) (expression_remark known (linked left links))
 linked_given_remark known kind left [] e = absurd cc
 linked_given_remark known kind left (link ∷ links) e = binary_given_remark known kind link.operator left (expression_of link.operand) links
+
+binary_path : (operator : BinaryOperator) (left right : ExpressionTree) (links : List Link) → is_path (linked (binary_expression operator left right) links) ≡ false
+binary_path operator left right [] = refl
+binary_path operator left right (link ∷ links) = binary_path link.operator (binary_expression operator left right) (expression_of link.operand) links
+
+-- a chain of operators is no path
+pub linked_path : (left : ExpressionTree) (links : List Link) → (length links == 0) ≡ false → is_path (linked left links) ≡ false
+linked_path left [] e = absurd cc
+linked_path left (link ∷ links) e = binary_path link.operator left (expression_of link.operand) links
 
 binary_lender_found : (known : Known) (operator : BinaryOperator) (left right : ExpressionTree) (links : List Link) → lender_found known (Some (expression_right (linked (binary_expression operator left right) links))) ≡ None
 binary_lender_found known operator left right [] = refl

@@ -723,17 +723,17 @@ part_first p (access_type spot name designated aspect) ds at after single s w no
     let k = at.0 in
     let q = next.quiet in
     let completes = completed_type k name in
-    let r = access_done k next.then.0 p name designated (record_found k designated) (record_read k p designated s.names w q.1.1.1.1.0) next.is in
-    let slot = slot_of k name spot q.1.1.1.0 in
+    let r = access_done k next.then.0 p name designated (record_found k designated) (record_read k p designated s.names w q.1.1.1.0) next.is in
+    let slot = slot_of k name spot q.1.1.0 in
     let place = type_place completes name p.place in
     let agrees : Agrees next.then.0 place = subst (λ u. Agrees u place) (sym r.is)
     (agrees_type k p.place name completes (access_to name.text r.r.0) (entity.Access (number_of completes k.types)) refl w) in
     let on = rest (read_at place p) next.then next.sound agrees (ap (λ (v : Known). types_go_on v) r.is ∙ none) (ahead_at after.0 p place ahead) fit next.rest in
     let legible = legible_at k after.0 p s w (declarations_keep (a_declaration d ds) at after s e) ahead in
     let lasts = lasts_on next.then.0 after.0 p next.sound next.to_end (lasts_ahead after.0 p ahead) in
-    let own = access_type_read k next.then.0 p spot name designated aspect legible lasts slot fit (no_aspect aspect q.1.1.1.1.1) r in
+    let own = access_type_read k next.then.0 p spot name designated aspect legible lasts slot fit (no_aspect aspect q.1.1.1.1) r in
     plain_first k next.then.0 after.0 p (read_at place p) d ds (ap (λ (v : Known). v.here.elaborated) r.is) on
-    (λ made m. (place, type_first k p name completes d spot w slot q.1.1.1.0 own, m))
+    (λ made m. (place, type_first k p name completes d spot w slot q.1.1.0 own, m))
 part_first p (record_type spot name definition) ds at after single s w none c ahead fit e rest =
     let d = record_type spot name definition in
     let next = next_of d ds at after tt s e in

@@ -12,22 +12,23 @@ use Rattle.ada_program.specs.declared.program.FormalMode.{FormalMode}
 use Rattle.ada_program.specs.declared.program.FormalMode.TheVariants.{In, InOut}
 use Rattle.ada_program.specs.declared.program.TypeNo.{TypeNo}
 use Rattle.ada_program.specs.declared.program.VariableKind.{VariableKind}
+use Rattle.ada_program.specs.declared.program.VariableKind.TheVariants as variable
 use Rattle.ada_program.specs.declared.program.VariableNo.{VariableNo}
 use Rattle.ada_program.specs.Form.{StmtsForm, HandlersForm}
-use Rattle.ada_program.specs.ProgramForm.{TypeForm, access_to, VariableForm, BodyForm}
+use Rattle.ada_program.specs.ProgramForm.{TypeForm, record_of, access_to, object_of, VariableForm, BodyForm}
 use Rattle.ada_resolve.specs.declared.fault.NameRule.TheVariants.{DeclaredTwice}
 use Rattle.ada_resolve.specs.declared.scope.Entity.{Entity}
 use Rattle.ada_resolve.specs.declared.scope.Entity.TheVariants as entity
 use Rattle.ada_resolve.specs.Known.{Known, Named, declared, entered, first_named, from_within, named, named_in, next_procedure, parts, visible}
-use Rattle.ada_resolve.specs.Procedures.{Formals, no_formals, formal_type, formal_kind, formal_mode, formal_entity, formal_type_wanted, formal_remark, formals_remark, mode_remark, with_formal, with_formals, overriding_remark, body_head_remark, with_body, behind_head, body_of, body_ended}
+use Rattle.ada_resolve.specs.Procedures.{Formals, no_formals, formal_type, formal_types, formal_kind, known_by, formal_mode, formal_entity, formal_type_wanted, formal_remark, formals_remark, mode_remark, with_formal, with_formals, overriding_remark, body_head_remark, with_body, behind_head, body_of, body_ended}
 use Rattle.ada_resolve.specs.Spots.{first_or}
-use Rattle.ada_resolve.specs.Naming.{Context, Place, Binding, Meaning, a_parameter, a_variable, a_procedure, a_procedure_around, a_type, meaning_among, IsAccessNamed}
-use Rattle.ada_resolve.specs.Reading.{read_at, with_binding, with_new_formal, from_body, bound_outside, body_place, behind_body, in_body, in_profile, IsHeadRead, IsModeRead, IsFormalNamed, AreFormalsRead}
+use Rattle.ada_resolve.specs.Naming.{Context, Place, Binding, Meaning, a_parameter, a_variable, a_procedure, a_procedure_around, a_type, meaning_among, IsBound, IsAccessNamed, IsFullRecordNamed}
+use Rattle.ada_resolve.specs.Reading.{read_at, with_binding, with_named_formal, with_own_type, with_new_formal, from_body, bound_outside, body_place, behind_body, in_body, in_profile, IsHeadRead, IsModeRead, IsFormalNamed, AreFormalsRead}
 use Rattle.ada_resolve.proofs.WellFormed.Names.{named_entered, visible_fits}
 use Rattle.ada_resolve.proofs.WellFormed.Remarks.{Quiet, quiet_if}
 use Rattle.ada_resolve.proofs.WellFormed.Tables.{get_more, get_last}
 use Rattle.ada_resolve.proofs.Standing.{Sound, around_body, InBody, left_body, ended_is}
-use Rattle.ada_resolve.proofs.Standing.Procedures.{FormalsSound, formal_sound, no_formal}
+use Rattle.ada_resolve.proofs.Standing.Procedures.{get_front, IsFormal, FormalsSound, formal_sound, no_formal}
 use Rattle.ada_resolve.proofs.Agreeing.{bound_behind, bound_to, Stands, Agrees, Ahead, EntityRead, stands_among, stands_entered, stands_more, visible_read, not_predefined}
 use Rattle.ada_resolve.proofs.Elaborated.{new_there}
 
@@ -79,15 +80,15 @@ around_agrees k place head w = record {
 
 -- where its body begins, before its formals
 body_agrees : (k : Known) (place : Place) (head : HeadTree) → Agrees k place → Agrees (with_body no_formals (around_body k head)) (body_place head.name place)
-body_agrees k place head w = record {
+body_agrees k place head w = let none = ap (λ (ts : List TypeForm). length ts) (sym (append-nil k.types)) in record {
   here = λ text. refl;
   outer = λ text.
       subst (λ (m : Option Meaning). Stands (from_within k.variables (named_in text (parts (around_body k head)))) m)
       (sym (among_outside text (record { text = head.name.text; meaning = a_procedure_around } ∷ place.here ++ place.outer)))
       (stands_within k.variables (named_in text (parts (around_body k head))) (meaning_among text (record { text = head.name.text; meaning = a_procedure_around } ∷ place.here ++ place.outer))
       (stands_among (around_body k head) (with_binding head.name a_procedure_around place) (around_agrees k place head w) text));
-  first_type = w.types;
-  types = w.types;
+  first_type = w.types ∙ none;
+  types = w.types ∙ none;
   bodies = w.bodies;
   variables = refl;
   exceptions = w.exceptions;
@@ -103,66 +104,150 @@ formal_bound : (mode : FormalMode) (x : VariableNo) (kind : VariableKind) (n : �
 formal_bound In x kind n same = ap (λ (i : ℕ). Some (a_parameter i)) (sym same)
 formal_bound InOut x kind n same = ap (λ (i : ℕ). Some (a_variable i)) (sym same)
 
-formal_place : (mode : FormalMode) (name : Ident) (place : Place) → with_new_formal mode name place ≡ record (with_binding name (meaning_of mode place.variables) place) { variables = place.variables + 1 }
-formal_place In name place = refl
-formal_place InOut name place = refl
+formal_place : (mode : FormalMode) (kind : VariableKind) (name : Ident) (place : Place) → with_new_formal mode kind name place ≡ record (with_binding name (meaning_of mode place.variables) (with_own_type kind place)) { variables = place.variables + 1 }
+formal_place mode kind name place = by_kind kind
+  where
+    by_mode : (mode : FormalMode) (q : Place) → with_named_formal mode name q ≡ record (with_binding name (meaning_of mode q.variables) q) { variables = q.variables + 1 }
+    by_mode In q = refl
+    by_mode InOut q = refl
 
--- a formal is the next variable
-formal_agrees : (k m : Known) (place : Place) (f : FormalTree) (before : Formals) → Agrees (with_body before m) place → Agrees (with_body (with_formal k f before) m) (with_new_formal (formal_mode f.input f.output) f.name place)
+    by_kind : (kind : VariableKind) → with_named_formal mode name (with_own_type kind place) ≡ record (with_binding name (meaning_of mode place.variables) (with_own_type kind place)) { variables = place.variables + 1 }
+    by_kind variable.Integer = by_mode mode place
+    by_kind variable.Boolean = by_mode mode place
+    by_kind (variable.Access t) = by_mode mode place
+    by_kind (variable.Record object) = by_mode mode (with_own_type (variable.Record object) place)
+
+-- how many types there are behind a formal, which begin those of its body
+own_types_count : (own : TypeNo) (o : Option Entity) (types : List TypeForm) (place : Place) → place.types ≡ length types → (with_own_type (formal_kind own o) place).types ≡ length (types ++ formal_types o)
+own_types_count own (Some (entity.Record t size)) types place same = ap (λ (n : ℕ). n + 1) same ∙ sym (length-append types (object_of t.0 ∷ []))
+own_types_count own (Some entity.Boolean) types place same = same ∙ ap (λ (ts : List TypeForm). length ts) (sym (append-nil types))
+own_types_count own (Some (entity.Access t)) types place same = same ∙ ap (λ (ts : List TypeForm). length ts) (sym (append-nil types))
+own_types_count own (Some e) types place same = same ∙ ap (λ (ts : List TypeForm). length ts) (sym (append-nil types))
+own_types_count own None types place same = same ∙ ap (λ (ts : List TypeForm). length ts) (sym (append-nil types))
+
+own_first_type : (kind : VariableKind) (place : Place) → place.first_type ≡ place.types → (with_own_type kind place).first_type ≡ (with_own_type kind place).types
+own_first_type variable.Integer place same = same
+own_first_type variable.Boolean place same = same
+own_first_type (variable.Access t) place same = same
+own_first_type (variable.Record object) place same = refl
+
+-- all else stays
+record SamePlace (p q : Place) : Type 0 where
+  here : p.here ≡ q.here
+  outer : p.outer ≡ q.outer
+  bodies : p.bodies ≡ q.bodies
+  exceptions : p.exceptions ≡ q.exceptions
+  texts : p.texts ≡ q.texts
+
+own_same : (kind : VariableKind) (place : Place) → SamePlace (with_own_type kind place) place
+own_same variable.Integer place = record { here = refl; outer = refl; bodies = refl; exceptions = refl; texts = refl }
+own_same variable.Boolean place = record { here = refl; outer = refl; bodies = refl; exceptions = refl; texts = refl }
+own_same (variable.Access t) place = record { here = refl; outer = refl; bodies = refl; exceptions = refl; texts = refl }
+own_same (variable.Record object) place = record { here = refl; outer = refl; bodies = refl; exceptions = refl; texts = refl }
+
+-- a formal is the next variable, and, where it is a record, is known by the next type
+formal_agrees : (k m : Known) (place : Place) (f : FormalTree) (before : Formals) → Agrees (with_body before m) place → Agrees (with_body (with_formal k f before) m) (with_new_formal (formal_mode f.input f.output) (formal_kind (known_by k before) (formal_type k before f.type_name)) f.name place)
 unfolding with_formal
 formal_agrees k m place f before w =
+    let o = formal_type k before f.type_name in
     let mode = formal_mode f.input f.output in
-    let kind = formal_kind (formal_type k before f.type_name) in
+    let kind = formal_kind (known_by k before) o in
     let x : VariableNo = record { 0 = length before.variables } in
-    subst (λ (p : Place). Agrees (with_body (with_formal k f before) m) p) (sym (formal_place mode f.name place)) (record {
-      here = stands_entered before.names place.here f.name (formal_entity mode x kind) (meaning_of mode place.variables)
-          (formal_bound mode x kind place.variables w.variables) w.here;
-      outer = w.outer;
-      first_type = w.first_type;
-      types = w.types;
-      bodies = w.bodies;
-      variables = ap (λ (n : ℕ). n + 1) w.variables ∙ sym (length-append before.variables (record { name = f.name.text; spot = f.name.spot; kind = kind; borrows = false } ∷ []));
-      exceptions = w.exceptions;
-      texts = w.texts;
+    let v : VariableForm = record { name = f.name.text; spot = f.name.spot; kind = kind; borrows = false } in
+    let next = with_own_type kind place in
+    let same = own_same kind place in
+    let types : next.types ≡ length (m.types ++ (before.types ++ formal_types o)) =
+    own_types_count (known_by k before) o (m.types ++ before.types) place w.types ∙ ap (λ (ts : List TypeForm). length ts) (append_assoc m.types before.types (formal_types o)) in
+    subst (λ (p : Place). Agrees (with_body (with_formal k f before) m) p) (sym (formal_place mode kind f.name place)) (record {
+      here = stands_entered before.names next.here f.name (formal_entity mode x kind) (meaning_of mode place.variables)
+          (formal_bound mode x kind place.variables w.variables)
+          (subst (λ (bs : List Binding). (text : List ℕ) → Stands (named text before.names) (meaning_among text bs)) (sym same.here) w.here);
+      outer = subst (λ (bs : List Binding). (text : List ℕ) → Stands (from_within m.variables (named_in text (parts m))) (meaning_among text bs)) (sym same.outer) w.outer;
+      first_type = own_first_type kind place (w.first_type ∙ sym w.types) ∙ types;
+      types = types;
+      bodies = same.bodies ∙ w.bodies;
+      variables = ap (λ (n : ℕ). n + 1) w.variables ∙ sym (length-append before.variables (v ∷ []));
+      exceptions = same.exceptions ∙ w.exceptions;
+      texts = same.texts ∙ w.texts;
     })
 
 formal_modes : (k : Known) (f : FormalTree) (before : Formals) → (with_formal k f before).modes ≡ before.modes ++ formal_mode f.input f.output ∷ []
 unfolding with_formal
 formal_modes k f before = refl
 
-formal_there : (k : Known) (f : FormalTree) (before : Formals) → slice_get (with_formal k f before).variables (length before.variables) ≡ Some (record { name = f.name.text; spot = f.name.spot; kind = formal_kind (formal_type k before f.type_name); borrows = false })
+formal_there : (k : Known) (f : FormalTree) (before : Formals) → slice_get (with_formal k f before).variables (length before.variables) ≡ Some (record { name = f.name.text; spot = f.name.spot; kind = formal_kind (known_by k before) (formal_type k before f.type_name); borrows = false })
 unfolding with_formal
-formal_there k f before = get_last before.variables (record { name = f.name.text; spot = f.name.spot; kind = formal_kind (formal_type k before f.type_name); borrows = false })
+formal_there k f before = get_last before.variables (record { name = f.name.text; spot = f.name.spot; kind = formal_kind (known_by k before) (formal_type k before f.type_name); borrows = false })
 
 formal_grows : (k : Known) (f : FormalTree) (before : Formals) (x : ℕ) (v : VariableForm) → slice_get before.variables x ≡ Some v → slice_get (with_formal k f before).variables x ≡ Some v
 unfolding with_formal
-formal_grows k f before x v is = get_more before.variables (record { name = f.name.text; spot = f.name.spot; kind = formal_kind (formal_type k before f.type_name); borrows = false }) x v is
+formal_grows k f before x v is = get_more before.variables (record { name = f.name.text; spot = f.name.spot; kind = formal_kind (known_by k before) (formal_type k before f.type_name); borrows = false }) x v is
 
 formals_grow : (k : Known) (fs : List FormalTree) (before : Formals) (x : ℕ) (v : VariableForm) → slice_get before.variables x ≡ Some v → slice_get (with_formals k fs before).variables x ≡ Some v
 formals_grow k [] before x v is = is
 formals_grow k (f ∷ fs) before x v is = formals_grow k fs (with_formal k f before) x v (formal_grows k f before x v is)
 
--- the type of a formal is the one that is written
-kind_named : (p : Context) (text : List ℕ) (o : Option Entity) (first : Spot) (name : Ident) → (o ≡ Some entity.Integer → text ≡ codes "INTEGER") → (o ≡ Some entity.Boolean → text ≡ codes "BOOLEAN") → ((t : TypeNo) → o ≡ Some (entity.Access t) → IsAccessNamed p text t.0) → Quiet (formal_type_wanted o first name) → IsFormalNamed p text (formal_kind o)
-kind_named p text (Some entity.Integer) first name i b a q = i refl
-kind_named p text (Some entity.Boolean) first name i b a q = b refl
-kind_named p text (Some (entity.Access t)) first name i b a q = a t refl
-kind_named p text (Some (entity.Record t size)) first name i b a q = absurd q
-kind_named p text (Some e) first name i b a q = absurd q
-kind_named p text None first name i b a q = absurd q
+-- types that are there stay as there are more formals
+types_grow : (k : Known) (f : FormalTree) (before : Formals) (n : ℕ) (form : TypeForm) → slice_get (k.types ++ before.types) n ≡ Some form → slice_get (k.types ++ (with_formal k f before).types) n ≡ Some form
+unfolding with_formal
+types_grow k f before n form is =
+    let own = formal_types (formal_type k before f.type_name) in
+    subst (λ (ts : List TypeForm). slice_get ts n ≡ Some form) (append_assoc k.types before.types own) (get_front (k.types ++ before.types) own n form is)
 
--- an access type that is named for a formal is bound around the body
-access_read : (k : Known) (p : Context) (around : Place) (before : Formals) (name : Ident) (t : TypeNo) → Sound k → FormalsSound before → Agrees k around → ((text : List ℕ) → Stands (named text before.names) (meaning_among text p.place.here)) → ((n : ℕ) (form : TypeForm) → slice_get k.types n ≡ Some form → slice_get p.types n ≡ Some form) → formal_type k before name ≡ Some (entity.Access t) → IsAccessNamed (read_at (in_profile around p.place) p) name.text t.0
-access_read k p around before name t s f v here types is = by_own (named name.text before.names) refl (here name.text) is
+all_types_grow : (k : Known) (fs : List FormalTree) (before : Formals) (n : ℕ) (form : TypeForm) → slice_get (k.types ++ before.types) n ≡ Some form → slice_get (k.types ++ (with_formals k fs before).types) n ≡ Some form
+all_types_grow k [] before n form is = is
+all_types_grow k (f ∷ fs) before n form is = all_types_grow k fs (with_formal k f before) n form (types_grow k f before n form is)
+
+-- a formal that is a record is known by the next type
+own_type_there : (k : Known) (f : FormalTree) (before : Formals) (t : TypeNo) (size : ℕ) → formal_type k before f.type_name ≡ Some (entity.Record t size) → slice_get (k.types ++ (with_formal k f before).types) (length (k.types ++ before.types)) ≡ Some (object_of t.0)
+unfolding with_formal
+own_type_there k f before t size is =
+    let types = k.types ++ before.types in
+    subst (λ (ts : List TypeForm). slice_get ts (length types) ≡ Some (object_of t.0)) (append_assoc k.types before.types (object_of t.0 ∷ []) ∙ ap (λ (o : Option Entity). k.types ++ (before.types ++ formal_types o)) (sym is))
+    (get_last types (object_of t.0))
+
+-- a record type that is named for a formal, and the type by which that is known
+abbrev IsOwnNamed : Context → ℕ → List ℕ → ℕ → Type 0
+IsOwnNamed p own text t = (slice_get p.types own ≡ Some (object_of t)) × IsFullRecordNamed p text t
+
+-- the type of a formal is the one that is written
+kind_named : (p : Context) (n : ℕ) (text : List ℕ) (own : TypeNo) (o : Option Entity) (name : Ident) → own.0 ≡ n → (o ≡ Some entity.Integer → text ≡ codes "INTEGER") → (o ≡ Some entity.Boolean → text ≡ codes "BOOLEAN") → ((t : TypeNo) → o ≡ Some (entity.Access t) → IsAccessNamed p text t.0) → ((t : TypeNo) (size : ℕ) → o ≡ Some (entity.Record t size) → IsOwnNamed p n text t.0) → Quiet (formal_type_wanted o name) → IsFormalNamed p n text (formal_kind own o)
+kind_named p n text own (Some entity.Integer) name same i b a r q = i refl
+kind_named p n text own (Some entity.Boolean) name same i b a r q = b refl
+kind_named p n text own (Some (entity.Access t)) name same i b a r q = a t refl
+kind_named p n text own (Some (entity.Record t size)) name same i b a r q = let there = r t size refl in (same, t.0, there.0, there.1)
+kind_named p n text own (Some e) name same i b a r q = absurd q
+kind_named p n text own None name same i b a r q = absurd q
+
+-- no formal is a type: one that is named for a formal is bound around the body
+abbrev IsType : Entity → Type 0
+IsType (entity.Access t) = Unit {0}
+IsType (entity.Record t size) = Unit {0}
+IsType e = ⊥
+
+formal_no_type : (variables : List VariableForm) (text : List ℕ) (e : Entity) → IsFormal variables text e → IsType e → ⊥
+formal_no_type variables text (entity.Parameter x kind) f is = is
+formal_no_type variables text (entity.Variable x kind) f is = is
+formal_no_type variables text e f is = f
+
+around_named : (k : Known) (p : Context) (around : Place) (before : Formals) (name : Ident) (e : Entity) (meaning : Meaning) → IsType e → bound_to e ≡ Some meaning → FormalsSound before → Agrees k around → ((text : List ℕ) → Stands (named text before.names) (meaning_among text p.place.here)) → (EntityRead (read_at around p) name.text e → IsBound (read_at around p) name.text meaning) → formal_type k before name ≡ Some e → (visible k name.text ≡ Some e) × IsBound (read_at (in_profile around p.place) p) name.text meaning
+around_named k p around before name e meaning typed bound f v here read is = by_own (named name.text before.names) refl (here name.text) is
   where
-    by_own : (o : Option Entity) → named name.text before.names ≡ o → Stands o (meaning_among name.text p.place.here) → first_named o (visible k name.text) ≡ Some (entity.Access t) → IsAccessNamed (read_at (in_profile around p.place) p) name.text t.0
-    by_own None own none is =
-        let there = visible_fits k s.names name.text (entity.Access t) is in (
-          bound_behind name.text p.place.here (around.here ++ around.outer) (a_type t.0) none (visible_read k (read_at around p) v name.text (entity.Access t) is),
-          there.0,
-          types t.0 (access_to name.text there.0) there.1,
-        )
-    by_own (Some x) own stands is = absurd (f.names name.text (entity.Access t) (own ∙ is))
+    by_own : (o : Option Entity) → named name.text before.names ≡ o → Stands o (meaning_among name.text p.place.here) → first_named o (visible k name.text) ≡ Some e → (visible k name.text ≡ Some e) × IsBound (read_at (in_profile around p.place) p) name.text meaning
+    by_own None own none is = (is, bound_behind name.text p.place.here (around.here ++ around.outer) meaning none (read (visible_read k (read_at around p) v name.text e is)))
+    by_own (Some x) own stands is = absurd (formal_no_type before.variables name.text e (f.names name.text e (own ∙ is)) typed)
+
+access_read : (k : Known) (p : Context) (around : Place) (before : Formals) (name : Ident) (t : TypeNo) → Sound k → FormalsSound before → Agrees k around → ((text : List ℕ) → Stands (named text before.names) (meaning_among text p.place.here)) → ((n : ℕ) (form : TypeForm) → slice_get k.types n ≡ Some form → slice_get p.types n ≡ Some form) → formal_type k before name ≡ Some (entity.Access t) → IsAccessNamed (read_at (in_profile around p.place) p) name.text t.0
+access_read k p around before name t s f v here types is =
+    let there = around_named k p around before name (entity.Access t) (a_type t.0) tt refl f v here (λ r. r) is in
+    let found = visible_fits k s.names name.text (entity.Access t) there.0 in
+    (there.1, found.0, types t.0 (access_to name.text found.0) found.1)
+
+record_read : (k : Known) (p : Context) (around : Place) (before : Formals) (name : Ident) (t : TypeNo) (size : ℕ) → Sound k → FormalsSound before → Agrees k around → ((text : List ℕ) → Stands (named text before.names) (meaning_among text p.place.here)) → ((n : ℕ) (form : TypeForm) → slice_get k.types n ≡ Some form → slice_get p.types n ≡ Some form) → formal_type k before name ≡ Some (entity.Record t size) → IsFullRecordNamed (read_at (in_profile around p.place) p) name.text t.0
+record_read k p around before name t size s f v here types is =
+    let there = around_named k p around before name (entity.Record t size) (a_type t.0) tt refl f v here (λ r. r) is in
+    let found = visible_fits k s.names name.text (entity.Record t size) there.0 in
+    (there.1, found.0, found.1, types t.0 (record_of name.text found.0 found.1) found.2)
 
 -- no formal has the name of a type
 type_read : (k : Known) (p : Context) (own : Option Entity) (m : Option Meaning) (name : Ident) (e : Entity) → bound_to e ≡ None → Agrees k p.place → Stands own m → first_named own (visible k name.text) ≡ Some e → EntityRead p name.text e
@@ -192,21 +277,25 @@ pub record FormalsRead (p : Context) (around : Place) (fs : List FormalTree) (be
   pub in_all : all ≡ before ++ modes
   pub agrees : Agrees m end
 
-formals_read : (k m : Known) (p : Context) (around : Place) (first : Spot) (fs : List FormalTree) (before : Formals) → Sound k → FormalsSound before → Agrees k around → Agrees (with_body before m) p.place → ((n : ℕ) (form : TypeForm) → slice_get k.types n ≡ Some form → slice_get p.types n ≡ Some form) → Quiet (formals_remark k first before fs) → ((x : ℕ) (v : VariableForm) → slice_get (with_formals k fs before).variables x ≡ Some v → slice_get p.variables x ≡ Some v) → FormalsRead p around fs before.modes (with_formals k fs before).modes (with_body (with_formals k fs before) m)
+formals_read : (k m : Known) (p : Context) (around : Place) (fs : List FormalTree) (before : Formals) → Sound k → FormalsSound before → Agrees k around → m.types ≡ k.types → Agrees (with_body before m) p.place → ((n : ℕ) (form : TypeForm) → slice_get (k.types ++ (with_formals k fs before).types) n ≡ Some form → slice_get p.types n ≡ Some form) → Quiet (formals_remark k before fs) → ((x : ℕ) (v : VariableForm) → slice_get (with_formals k fs before).variables x ≡ Some v → slice_get p.variables x ≡ Some v) → FormalsRead p around fs before.modes (with_formals k fs before).modes (with_body (with_formals k fs before) m)
 unfolding formal_remark
-formals_read k m p around first [] before s g v w types q ahead = record { end = p.place; modes = []; read = refl; in_all = sym (append-nil before.modes); agrees = w }
-formals_read k m p around first (f ∷ fs) before s g v w types q ahead =
+formals_read k m p around [] before s g v alike w types q ahead = record { end = p.place; modes = []; read = refl; in_all = sym (append-nil before.modes); agrees = w }
+formals_read k m p around (f ∷ fs) before s g v alike w types q ahead =
     let more = with_formal k f before in
     let mode = formal_mode f.input f.output in
-    let next = with_new_formal mode f.name p.place in
-    let rest = formals_read k m (read_at next p) around first fs more s (formal_sound k f before g) v (formal_agrees k m p.place f before w) types q.1 ahead in
-    let kind = formal_kind (formal_type k before f.type_name) in
+    let found = formal_type k before f.type_name in
+    let number = known_by k before in
+    let kind = formal_kind number found in
+    let next = with_new_formal mode kind f.name p.place in
+    let rest = formals_read k m (read_at next p) around fs more s (formal_sound k f before g) v alike (formal_agrees k m p.place f before w) types q.1 ahead in
     let there : slice_get p.variables (length before.variables) ≡ Some (record { name = f.name.text; spot = f.name.spot; kind = kind; borrows = false }) =
     ahead (length before.variables) (record { name = f.name.text; spot = f.name.spot; kind = kind; borrows = false })
     (formals_grow k fs more (length before.variables) (record { name = f.name.text; spot = f.name.spot; kind = kind; borrows = false }) (formal_there k f before)) in
     let o = read_at around p in
     let own = named f.type_name.text before.names in
     let bound = meaning_among f.type_name.text p.place.here in
+    let old : (n : ℕ) (form : TypeForm) → slice_get k.types n ≡ Some form → slice_get p.types n ≡ Some form = λ n form is. types n form (get_front k.types (with_formals k fs more).types n form is) in
+    let count : p.place.types ≡ length (k.types ++ before.types) = w.types ∙ ap (λ (ts : List TypeForm). length (ts ++ before.types)) alike in
     record {
       end = rest.end;
       modes = mode ∷ rest.modes;
@@ -214,10 +303,17 @@ formals_read k m p around first (f ∷ fs) before s g v w types q ahead =
         kind,
         (not_bound (quiet_if (is_some (named f.name.text before.names)) f.name.spot DeclaredTwice q.0.1.1.0), not_predefined f.name q.0.1.0),
         mode_read f f.input f.output refl refl q.0.1.1.1.1.0,
-        kind_named (read_at (in_profile around p.place) p) f.type_name.text (formal_type k before f.type_name) first f.type_name
+        kind_named (read_at (in_profile around p.place) p) p.place.types f.type_name.text number found f.type_name
+            (sym (count ∙ length-append k.types before.types))
             (λ is. type_read k o own bound f.type_name entity.Integer refl v (w.here f.type_name.text) is)
             (λ is. type_read k o own bound f.type_name entity.Boolean refl v (w.here f.type_name.text) is)
-            (λ t is. access_read k p around before f.type_name t s g v w.here types is)
+            (λ t is. access_read k p around before f.type_name t s g v w.here old is)
+            (λ t size is. (
+              ap (λ (n : ℕ). slice_get p.types n) count ∙
+                  types (length (k.types ++ before.types)) (object_of t.0)
+                  (all_types_grow k fs more (length (k.types ++ before.types)) (object_of t.0) (own_type_there k f before t size is)),
+              record_read k p around before f.type_name t size s g v w.here old is,
+            ))
             q.0.1.1.1.1.1,
         ap (λ (n : ℕ). slice_get p.variables n) w.variables ∙ there,
         rest.read,
@@ -244,7 +340,7 @@ pub head_read : (k : Known) (p : Context) (head : HeadTree) (b : BodyForm) → S
 unfolding body_head_remark behind_head
 head_read k p head b s w q ahead =
     let first = first_or head.overriding head.spot in
-    let r = formals_read k (around_body k head) (in_body head.name b p) p.place first head.formals no_formals s no_formal w
+    let r = formals_read k (around_body k head) (in_body head.name b p) p.place head.formals no_formals s no_formal w refl
     (body_agrees k p.place head w) ahead.types q.1.1.1.0 ahead.variables in
     record {
       end = r.end;

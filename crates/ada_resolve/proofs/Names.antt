@@ -1,6 +1,6 @@
 -- Names and numbers in lists, and what they stand for.
 
-use Rattle.std.proofs.Common.{◌≡◌, ◌∙◌, ◌≤◌, ℕ, zero, suc, List, [], ◌∷◌, ◌++◌, map, reverse, length, refl, ap, sym, ◌+◌, bytes_eq, Option, Some, None, slice_get, slice_set, true, false, ◌==◌, ◌&&◌, arith}
+use Rattle.std.proofs.Common.{◌≡◌, ◌∙◌, ◌≤◌, ℕ, zero, suc, List, [], ◌∷◌, ◌++◌, map, reverse, length, refl, ap, sym, ◌+◌, bytes_eq, Option, Some, None, slice_get, slice_set, true, false, ◌==◌, ◌&&◌, arith, append-nil}
 use Rattle.std.specs.Map.{lookup}
 use Rattle.std.specs.Prelude.{if◌then◌else◌, option_map, Bool}
 use Rattle.std.proofs.lemmas.List.{length-append, length-map, reverse-append}
@@ -103,3 +103,7 @@ reversed_snoc f xs x = ap reverse (map_snoc f xs x) ∙ reverse-append (map f xs
 -- as many as before, in what is made of each
 pub mapped_length : {X Y : Type 0} (f : X → Y) (xs : List X) → length (map f xs) ≡ length xs
 mapped_length f xs = length-map xs f
+
+-- a list with nothing behind it
+pub nothing_behind : {X : Type 0} (xs : List X) → xs ++ [] ≡ xs
+nothing_behind xs = append-nil xs

@@ -4,8 +4,6 @@
 pub mod Open
 -- calls of procedures
 pub mod Callees
--- bodies that create no collection
-pub mod Plain
 -- the procedures that may be called at a place
 pub mod Calls
 -- statements with no others in them
@@ -44,6 +42,7 @@ first_state types withs procedure = early (record {
     objects = λ o e. absurd (cc e);
   };
   calls = (λ text e is. absurd (cc is), tt);
+  fresh = λ a behind. refl;
 })
 
 -- a program in whose parts the collections nest

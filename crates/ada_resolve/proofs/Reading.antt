@@ -26,7 +26,7 @@ use Rattle.ada_program.specs.declared.program.VariableKind.{VariableKind}
 use Rattle.ada_program.specs.declared.program.VariableKind.TheVariants as variable
 use Rattle.ada_program.specs.declared.program.VariableNo.{VariableNo}
 use Rattle.ada_program.specs.declared.program.TypeNo.{TypeNo}
-use Rattle.ada_program.specs.Form.{ActualForm, PathForm, RecordPathForm, reads, ItemForm, RightForm, allocates, StmtForm, calls}
+use Rattle.ada_program.specs.Form.{ActualForm, in_record, in_out_path, in_out_access, in_out_component, PathForm, RecordPathForm, reads, ItemForm, RightForm, allocates, StmtForm, calls}
 use Rattle.ada_program.specs.ProgramForm.{PartForm, TypeForm, VariableForm, record_of, access_to, object_of}
 use Rattle.ada_program.specs.WellFormed as fits
 use Rattle.ada_resolve.specs.declared.components.KnownComponent.{KnownComponent}
@@ -39,7 +39,7 @@ use Rattle.ada_resolve.specs.declared.selectors.Reached.TheVariants as reached
 use Rattle.ada_resolve.specs.declared.fault.NameRule.TheVariants.{UnknownName, WrongType, NotInProfile}
 use Rattle.ada_resolve.specs.Known.{Known, parts, visible, is_empty, is_with, if_with, parts_of, library_wrong, library_remark, library_found, library_path_remark, library_path_found}
 use Rattle.ada_resolve.specs.Library.{is_library_root, library_name}
-use Rattle.ada_resolve.specs.Paths.{constant_wanted, written_wanted, component_at, component_in, component_named, component_wanted, component_within_remark, complete_behind, held_by, known_component, number_by, Meant, unknown, lent_value, null_value, access_value, integer_value, boolean_value, record_value, aggregate_value, selected_path, components_of, record_known_by, record_of_object, whole_object, designated_of, is_incomplete_type, held_in, object_in, selectors_reached, number_in, components_selected, reached_meant, variable_meant, entity_meant, path_meant, selectors_remark, record_type_wanted, variable_path_remark, value_wanted, path_remark}
+use Rattle.ada_resolve.specs.Paths.{constant_wanted, follows_to, follows_value, record_of_object, written_wanted, component_at, component_in, component_named, component_wanted, component_within_remark, complete_behind, held_by, known_component, number_by, Meant, unknown, lent_value, null_value, access_value, integer_value, boolean_value, record_value, aggregate_value, selected_path, components_of, record_known_by, record_of_object, whole_object, designated_of, is_incomplete_type, held_in, object_in, selectors_reached, number_in, components_selected, reached_meant, variable_meant, entity_meant, path_meant, selectors_remark, record_type_wanted, variable_path_remark, value_wanted, path_remark}
 use Rattle.ada_resolve.specs.Operators.{record_value_wanted, Signature, arithmetic, ordering, equality, logical, signature_of, integer_in, boolean_in, asks_equal, equality_meant, binary_by, unary_meant, integer_wanted, boolean_wanted, equal_wanted, operands_by, operand_remark}
 use Rattle.ada_resolve.specs.Expressions.{after_items, all_items_remark, expression_meant, expression_remark, filling_of, items_remark}
 use Rattle.ada_resolve.specs.declared.library.LibraryName.{LibraryName}
@@ -51,8 +51,8 @@ use Rattle.ada_resolve.specs.declared.calls.Callee.TheVariants as callee
 use Rattle.ada_resolve.specs.Exceptions.{exception_of_library, end_error_wanted, exception_in, exception_wanted, exception_name_remark, exception_found, raising, choice_remark, exception_or_others, choice_meant, choices_remark, choices_meant}
 use Rattle.ada_resolve.specs.Lines.{line_remark, line_found, put_line_remark, put_line_found}
 use Rattle.ada_resolve.specs.Arguments.{image_wanted, image_remark, image_value_remark}
-use Rattle.ada_resolve.specs.Naming.{Context, a_parameter, IsBound, IsFullTypeNamed, IsExceptionNamed, IsInstanceNamed, IsProcedureNamed, IsObjectNamed, IsVariableNamed}
-use Rattle.ada_resolve.specs.Reading.{IsPutLine, IsGet, AreActualsRead, IsExpressionRead, IsCallRead, IsImage, type_behind, Way, at_value, at_object, IsBegun, IsWayRead, IsRecordTargetRead, IsCopyRead, IsAggregate, how_many, IsGiven, to_elementary, by_copy, by_aggregate, AreGiven, none_given, one_given, IsWholeRead, IsComponentNamed, AreSelectorsRead, at_end, by_all, by_value, to_value, to_record, IsPathRead, IsTargetRead, IsVariableRead, MayChange, IsValueRead, read_path, read_number, read_truth, AsksEqual, null_on_right, null_on_left, IsNull, IsMoveRead, IsConditionRead, IsItemFor, at_place, by_name, further, AreItemsRead, IsAllocationRead, IsRightRead, IsSimpleRead, IsChoiceRead, AreChoicesRead}
+use Rattle.ada_resolve.specs.Naming.{Context, IsFullTypeNamed, IsExceptionNamed, IsInstanceNamed, IsProcedureNamed, IsObjectNamed, IsVariableNamed}
+use Rattle.ada_resolve.specs.Reading.{IsPutLine, IsGet, AreActualsRead, IsExpressionRead, IsCallRead, IsImage, type_behind, Way, at_value, at_object, IsBegun, IsWayRead, IsRecordTargetRead, IsCopyRead, IsAggregate, how_many, IsGiven, to_elementary, by_copy, by_aggregate, AreGiven, none_given, one_given, IsWholeRead, IsComponentNamed, AreSelectorsRead, at_end, by_all, by_value, to_value, to_record, IsPathRead, IsTargetRead, IsVariableRead, IsComponentRead, MayChange, IsValueRead, read_path, read_number, read_truth, AsksEqual, null_on_right, null_on_left, IsNull, IsMoveRead, IsConditionRead, IsItemFor, at_place, by_name, further, AreItemsRead, IsAllocationRead, IsRightRead, IsSimpleRead, IsChoiceRead, AreChoicesRead}
 use Rattle.ada_resolve.specs.Allocators.{allocated_wanted, allocated_remark, aggregate_remark, allocation, aggregate_found, default_allocation, default_found, allocator_remark, allocator_found}
 use Rattle.ada_resolve.specs.Rights.{Assigned, a_value, a_whole, assigned_wanted, assigned, new_assigned, right_remark, right_found}
 use Rattle.ada_resolve.specs.Assignments.{Target, value_target, record_target, target_meant, target_found, target_wanted, target_remark, held_by_target, target_borrows, assignment_remark, assignment_of, assignment_found}
@@ -60,7 +60,7 @@ use Rattle.ada_resolve.specs.Statements.{condition_remark, condition_meant, opti
 use Rattle.ada_resolve.specs.Types.{complete_found, complete_in, complete_remark, complete_type_wanted, designates}
 use Rattle.ada_resolve.specs.Remark.{Remark, wrong, ◌also◌, wrong_if}
 use Rattle.ada_resolve.specs.Spots.{expression_spot}
-use Rattle.ada_resolve.specs.Actuals.{alone_wanted, first_mode, given_all, given_all_remark, given_meant, given_remark, given_variable, given_value, kind_wanted, other_modes, profile, variable_wanted}
+use Rattle.ada_resolve.specs.Actuals.{first_mode, given_all, given_all_remark, given_meant, given_remark, given_variable, given_value, kind_wanted, other_modes, path_wanted, profile, reference_wanted, variable_or_component, variable_wanted}
 use Rattle.ada_resolve.specs.Items.{Filling, component_for, item_meant, fits_remark, for_remark, is_alike, filled_for, filled_components, after_item, aggregate_meant, component_item_remark, first_filling, flattened, names_component, count_remark}
 use Rattle.ada_resolve.proofs.Agreeing.{Ahead, EntityRead, Readable, visible_read, parameter_visible}
 use Rattle.ada_resolve.proofs.WellFormed.Remarks.{Quiet, quiet_unless}
@@ -681,40 +681,33 @@ FoundStatement p s (Some form) = IsSimpleRead p s form
 path_of_value : (p : Context) (tree : PathTree) (path : PathForm) → IsValueRead p tree (reads path) → IsPathRead p tree path
 path_of_value p tree path (read_path r) = r
 
--- a constant to whose path something is written is of an access type, and something is selected from it
-record Followed (kind : VariableKind) (ss : List SelectorTree) : Type 0 where
-  access : TypeNo
-  holds : kind ≡ variable.Access access
-  selects : ss ≡ [] → ⊥
+-- what is meant by the path of something that is written may change
+abbrev MayWrite : Context → PathTree → Meant → Type 0
+MayWrite p tree (integer_value (reads path)) = MayChange p tree path.root (follows_value path.of_record path.selectors)
+MayWrite p tree (boolean_value (reads path)) = MayChange p tree path.root (follows_value path.of_record path.selectors)
+MayWrite p tree (access_value path t) = MayChange p tree path.root (follows_value path.of_record path.selectors)
+MayWrite p tree (record_value path) = MayChange p tree path.object.root (follows_to path.object.of_record path.object.selectors)
+MayWrite p tree m = Unit {0}
 
-constant_followed : (kind : VariableKind) (ss : List SelectorTree) (spot : Spot) → Quiet (constant_wanted kind ss spot) → Followed kind ss
-constant_followed (variable.Access t) (s ∷ ss) spot q = record { access = t; holds = refl; selects = λ e. cc e }
-constant_followed (variable.Access t) [] spot q = absurd q
-constant_followed variable.Integer ss spot q = absurd q
-constant_followed variable.Boolean ss spot q = absurd q
-constant_followed (variable.Record t) ss spot q = absurd q
-
-parameter_followed : (o : Option Entity) (ss : List SelectorTree) (spot : Spot) (n : VariableNo) (kind : VariableKind) → o ≡ Some (entity.Parameter n kind) → Quiet (written_wanted o ss spot) → Followed kind ss
-parameter_followed o ss spot n kind is q =
-    constant_followed kind ss spot (subst (λ (e : Option Entity). Quiet (written_wanted e ss spot)) is q)
-
--- what is bound to a constant of a number holds what the constant holds
-constant_holds : (k : Known) (p : Context) (text : List ℕ) (x : ℕ) (n : VariableNo) (kind : VariableKind) → Readable k p → visible k text ≡ Some (entity.Parameter n kind) → IsBound p text (a_parameter x) → fits.variable_kind p.variables x ≡ Some kind
-constant_holds k p text x n kind w is b =
-    let there = visible_fits k w.fits text (entity.Parameter n kind) is in
-    let own = visible_read k p w.agrees text (entity.Parameter n kind) is in
-    let same : n.0 ≡ x = cc (own, b) in
-    rw (sym same) (rw (w.ahead.variables n.0 (record { name = text; spot = there.0.0; kind = kind; borrows = false }) there.0.1) refl)
-
-may_change : (k : Known) (p : Context) (tree : PathTree) (x : ℕ) → Readable k p → Quiet (written_wanted (visible k tree.root.text) tree.selectors tree.root.spot) → IsObjectNamed p tree.root.text x → MayChange p tree x
-may_change k p tree x w q (inl b) = inl b
-may_change k p tree x w q (inr b) =
+may_change : (k : Known) (p : Context) (tree : PathTree) (m : Meant) (x : ℕ) (follows : Bool) → Readable k p → Quiet (written_wanted (visible k tree.root.text) m tree.root.spot) → (Quiet (constant_wanted m tree.root.spot) → follows ≡ true) → IsObjectNamed p tree.root.text x → MayChange p tree x follows
+may_change k p tree m x follows w q on (inl b) = inl b
+may_change k p tree m x follows w q on (inr b) =
     let n = parameter_visible k p w.agrees tree.root.text x b in
-    let f = parameter_followed (visible k tree.root.text) tree.selectors tree.root.spot n.0 n.1 n.2 q in
-    inr (b, f.access, constant_holds k p tree.root.text x n.0 n.1 w n.2 b ∙ ap (λ (kind : VariableKind). Some kind) f.holds, f.selects)
+    inr (b, on (subst (λ (o : Option Entity). Quiet (written_wanted o m tree.root.spot)) n.2 q))
 
-target_read : (k : Known) (p : Context) (tree : PathTree) (path : PathForm) → Readable k p → Quiet (written_wanted (visible k tree.root.text) tree.selectors tree.root.spot) → IsPathRead p tree path → IsTargetRead p tree path
-target_read k p tree path w q r = (r, may_change k p tree path.root w q r.leads.root)
+value_written : (k : Known) (p : Context) (tree : PathTree) (m : Meant) (path : PathForm) → Readable k p → Quiet (written_wanted (visible k tree.root.text) m tree.root.spot) → (Quiet (constant_wanted m tree.root.spot) → Quiet (wrong_if (not (follows_value path.of_record path.selectors)) tree.root.spot WrongType)) → IsPathRead p tree path → MayChange p tree path.root (follows_value path.of_record path.selectors)
+value_written k p tree m path w q on r =
+    may_change k p tree m path.root (follows_value path.of_record path.selectors) w q
+    (λ c. quiet_unless (follows_value path.of_record path.selectors) tree.root.spot WrongType (on c)) r.leads.root
+
+written_read : (k : Known) (p : Context) (tree : PathTree) (m : Meant) → Readable k p → Quiet (written_wanted (visible k tree.root.text) m tree.root.spot) → MeantRead p (path_expression tree) m → MayWrite p tree m
+written_read k p tree (integer_value (reads path)) w q r = value_written k p tree (integer_value (reads path)) path w q (λ c. c) (path_of_value p tree path r)
+written_read k p tree (boolean_value (reads path)) w q r = value_written k p tree (boolean_value (reads path)) path w q (λ c. c) (path_of_value p tree path r)
+written_read k p tree (access_value path t) w q r = value_written k p tree (access_value path t) path w q (λ c. c) r
+written_read k p tree (record_value path) w q r =
+    let follows = follows_to path.object.of_record path.object.selectors in
+    may_change k p tree (record_value path) path.object.root follows w q (λ c. quiet_unless follows tree.root.spot WrongType c) r.root
+written_read k p tree m w q r = tt
 
 -- a path to a value that selects no component is a name
 object_selects : (p : Context) (t before : ℕ) (ss : List SelectorTree) (cs : List ℕ) (kind : Option VariableKind) → AreSelectorsRead p (at_object t before) ss cs (at_value kind) → cs ≡ [] → ⊥
@@ -730,19 +723,25 @@ way_alone : (p : Context) (way : Way) (ss : List SelectorTree) (cs : List ℕ) (
 way_alone p (at_value of) ss cs kind r e = value_alone p of ss cs kind r e
 way_alone p (at_object t before) ss cs kind r e = absurd (object_selects p t before ss cs kind r e)
 
-no_component : (cs : List ℕ) (spot : Spot) → Quiet (alone_wanted cs spot) → cs ≡ []
-no_component [] spot q = refl
-no_component (c ∷ cs) spot q = absurd q
-
 -- a variable that is given alone
-variable_alone : (p : Context) (tree : PathTree) (path : PathForm) (spot : Spot) → Quiet (alone_wanted path.selectors spot) → IsTargetRead p tree path → IsVariableRead p tree path
-variable_alone p tree path spot q r =
-    let alone : tree.selectors ≡ [] = way_alone p r.0.leads.way tree.selectors path.selectors r.0.kind r.0.leads.selectors (no_component path.selectors spot q) in
-    (alone, r.0, by_change r.1 alone)
+variable_alone : (p : Context) (tree : PathTree) (path : PathForm) → path.selectors ≡ [] → IsTargetRead p tree path → IsVariableRead p tree path
+variable_alone p tree path alone r =
+    (way_alone p r.0.leads.way tree.selectors path.selectors r.0.kind r.0.leads.selectors alone, r.0, by_change r.1)
   where
-    by_change : MayChange p tree path.root → tree.selectors ≡ [] → IsVariableNamed p tree.root.text path.root
-    by_change (inl b) alone = b
-    by_change (inr f) alone = absurd (f.3 alone)
+    by_change : MayChange p tree path.root (follows_value path.of_record path.selectors) → IsVariableNamed p tree.root.text path.root
+    by_change (inl b) = b
+    by_change (inr f) = absurd (cc (sym (ap (λ (cs : List ℕ). follows_value path.of_record cs) alone) ∙ f.1))
+
+-- where nothing is selected, no component is
+selects_none : (p : Context) (way end : Way) (ss : List SelectorTree) (cs : List ℕ) → AreSelectorsRead p way ss cs end → ss ≡ [] → cs ≡ []
+selects_none p way end ss cs at_end none = refl
+selects_none p way end ss cs (by_all is rest) none = absurd (cc none)
+selects_none p way end ss cs (by_value is rest) none = absurd (cc none)
+selects_none p way end ss cs (to_value is rest) none = absurd (cc none)
+selects_none p way end ss cs (to_record is rest) none = absurd (cc none)
+
+component_within : (p : Context) (tree : PathTree) (path : PathForm) (c : ℕ) (cs : List ℕ) → path.selectors ≡ c ∷ cs → IsTargetRead p tree path → IsComponentRead p tree path
+component_within p tree path c cs within r = (λ none. absurd (cc (selects_none p r.0.leads.way (at_value r.0.kind) tree.selectors path.selectors r.0.leads.selectors none, within)), r)
 
 -- what is assigned to
 abbrev FoundTarget : Context → PathTree → Option Target → Type 0
@@ -751,18 +750,21 @@ FoundTarget p target (Some (value_target path (held.Record t))) = ⊥
 FoundTarget p target (Some (value_target path kind)) = IsTargetRead p target path
 FoundTarget p target (Some (record_target path)) = IsRecordTargetRead p target path
 
-target_meant_read : (k : Known) (p : Context) (tree : PathTree) (m : Meant) (spot : Spot) → Readable k p → Quiet (written_wanted (visible k tree.root.text) tree.selectors tree.root.spot) → IsMeant m → MeantRead p (path_expression tree) m → Quiet (target_wanted m spot) → FoundTarget p tree (target_meant m)
-target_meant_read k p tree (integer_value (reads path)) spot w v f r q = target_read k p tree path w v (path_of_value p tree path r)
-target_meant_read k p tree (boolean_value (reads path)) spot w v f r q = target_read k p tree path w v (path_of_value p tree path r)
-target_meant_read k p tree (access_value path t) spot w v f r q = target_read k p tree path w v r
-target_meant_read k p tree (record_value path) spot w v f r q = (r, may_change k p tree path.object.root w v r.root)
-target_meant_read k p tree unknown spot w v f r q = absurd f
-target_meant_read k p tree (lent_value u) spot w v f r q = absurd f
-target_meant_read k p tree m spot w v f r q = absurd q
+target_meant_read : (p : Context) (tree : PathTree) (m : Meant) (spot : Spot) → MayWrite p tree m → IsMeant m → MeantRead p (path_expression tree) m → Quiet (target_wanted m spot) → FoundTarget p tree (target_meant m)
+target_meant_read p tree (integer_value (reads path)) spot v f r q = (path_of_value p tree path r, v)
+target_meant_read p tree (boolean_value (reads path)) spot v f r q = (path_of_value p tree path r, v)
+target_meant_read p tree (access_value path t) spot v f r q = (r, v)
+target_meant_read p tree (record_value path) spot v f r q = (r, v)
+target_meant_read p tree unknown spot v f r q = absurd f
+target_meant_read p tree (lent_value u) spot v f r q = absurd f
+target_meant_read p tree m spot v f r q = absurd q
 
 found_target_read : (k : Known) (p : Context) (tree : PathTree) → Readable k p → Quiet (target_remark k tree) → FoundTarget p tree (target_found k tree)
 unfolding target_remark target_found
-found_target_read k p tree w q = target_meant_read k p tree (path_meant k tree) tree.root.spot w q.1.1 (path_known k tree w.fits q.0) (path_read k p tree w q.0) q.1.0
+found_target_read k p tree w q =
+    let m = path_meant k tree in
+    let r = path_read k p tree w q.0 in
+    target_meant_read p tree m tree.root.spot (written_read k p tree m w q.1.0 r) (path_known k tree w.fits q.0) r q.1.1
 
 -- `X := ..;`
 value_read : (p : Context) (target : PathTree) (right : RightTree) (path : PathForm) (kind : Held) (o : Option Assigned) → FoundTarget p target (Some (value_target path kind)) → FoundRight p kind right o → FoundStatement p (assignment target right) (assignment_of (Some (value_target path kind)) o)
@@ -797,15 +799,15 @@ assignment_read k p target right w q =
     assigned_there k p target right (target_found k target) w (found_target_read k p target w q.1.0) q.1.1
 
 -- `Free (X);`
-freed_read : (p : Context) (variables : List VariableForm) (procedure tree : PathTree) (access : TypeNo) (m : Meant) (spot : Spot) → procedure.selectors ≡ [] → IsInstanceNamed p procedure.root.text access.0 → IsMeant m → MeantRead p (path_expression tree) m → ((path : PathForm) → IsPathRead p tree path → IsTargetRead p tree path) → Quiet (freed_wanted variables access m spot) → FoundStatement p (call procedure (expression_argument (path_expression tree) ∷ [])) (freeing access m)
-freed_read p variables procedure tree access (access_value path t) spot alone called f r target q = (alone, called, target path r)
+freed_read : (p : Context) (variables : List VariableForm) (procedure tree : PathTree) (access : TypeNo) (m : Meant) (spot : Spot) → procedure.selectors ≡ [] → IsInstanceNamed p procedure.root.text access.0 → IsMeant m → MeantRead p (path_expression tree) m → MayWrite p tree m → Quiet (freed_wanted variables access m spot) → FoundStatement p (call procedure (expression_argument (path_expression tree) ∷ [])) (freeing access m)
+freed_read p variables procedure tree access (access_value path t) spot alone called f r target q = (alone, called, (r, target))
 freed_read p variables procedure tree access unknown spot alone called f r target q = absurd f
 freed_read p variables procedure tree access (lent_value u) spot alone called f r target q = absurd f
 freed_read p variables procedure tree access m spot alone called f r target q = absurd q
 
 -- `Run_Input.Get (X);`
-got_read : (p : Context) (procedure tree : PathTree) (m : Meant) (spot : Spot) → IsGet procedure → IsMeant m → MeantRead p (path_expression tree) m → ((path : PathForm) → IsPathRead p tree path → IsTargetRead p tree path) → Quiet (got_wanted m spot) → FoundStatement p (call procedure (expression_argument (path_expression tree) ∷ [])) (getting m)
-got_read p procedure tree (integer_value (reads path)) spot is f r target q = (is, target path (path_of_value p tree path r))
+got_read : (p : Context) (procedure tree : PathTree) (m : Meant) (spot : Spot) → IsGet procedure → IsMeant m → MeantRead p (path_expression tree) m → MayWrite p tree m → Quiet (got_wanted m spot) → FoundStatement p (call procedure (expression_argument (path_expression tree) ∷ [])) (getting m)
+got_read p procedure tree (integer_value (reads path)) spot is f r target q = (is, (path_of_value p tree path r, target))
 got_read p procedure tree unknown spot is f r target q = absurd f
 got_read p procedure tree (lent_value u) spot is f r target q = absurd f
 got_read p procedure tree m spot is f r target q = absurd q
@@ -815,15 +817,16 @@ abbrev IsTaker : Context → PathTree → Callee → Type 0
 IsTaker p procedure (callee.Free access) = (procedure.selectors ≡ []) × IsInstanceNamed p procedure.root.text access.0
 IsTaker p procedure callee.Get = IsGet procedure
 
-taken_read : (p : Context) (variables : List VariableForm) (procedure tree : PathTree) (taker : Callee) (m : Meant) (spot : Spot) → IsTaker p procedure taker → IsMeant m → MeantRead p (path_expression tree) m → ((path : PathForm) → IsPathRead p tree path → IsTargetRead p tree path) → Quiet (actual_wanted variables taker m spot) → FoundStatement p (call procedure (expression_argument (path_expression tree) ∷ [])) (taking taker m)
+taken_read : (p : Context) (variables : List VariableForm) (procedure tree : PathTree) (taker : Callee) (m : Meant) (spot : Spot) → IsTaker p procedure taker → IsMeant m → MeantRead p (path_expression tree) m → MayWrite p tree m → Quiet (actual_wanted variables taker m spot) → FoundStatement p (call procedure (expression_argument (path_expression tree) ∷ [])) (taking taker m)
 taken_read p variables procedure tree (callee.Free access) m spot is f r target q = freed_read p variables procedure tree access m spot is.0 is.1 f r target q
 taken_read p variables procedure tree callee.Get m spot is f r target q = got_read p procedure tree m spot is f r target q
 
 actual_read : (k : Known) (p : Context) (procedure : PathTree) (taker : Callee) (argument : ArgumentTree) → IsTaker p procedure taker → Readable k p → Quiet (actual_remark k taker argument) → FoundStatement p (call procedure (argument ∷ [])) (actual_found k taker argument)
 unfolding expression_remark
 actual_read k p procedure taker (expression_argument (path_expression tree)) is w q =
-    taken_read p k.variables procedure tree taker (path_meant k tree) tree.root.spot is (path_known k tree w.fits q.0.1) (path_read k p tree w q.0.1)
-    (λ path r. target_read k p tree path w q.1.1 r) q.1.0
+    let m = path_meant k tree in
+    let r = path_read k p tree w q.0.1 in
+    taken_read p k.variables procedure tree taker m tree.root.spot is (path_known k tree w.fits q.0.1) r (written_read k p tree m w q.1.0 r) q.1.1
 actual_read k p procedure taker argument is w q = absurd q.0
 
 taker_read : (k : Known) (p : Context) (procedure : PathTree) (taker : Callee) (called : Spot) (arguments : List ArgumentTree) → IsTaker p procedure taker → Readable k p → Quiet (taker_remark k taker called arguments) → FoundStatement p (call procedure arguments) (taker_found k taker arguments)
@@ -893,37 +896,68 @@ library_read k p n procedure arguments (Some Get) is w here q r =
     (with_is (is_name procedure.selectors) (is_with k.withs (library_name procedure.root.text (parts_of procedure.selectors))) (library_name procedure.root.text (parts_of procedure.selectors)) Get is) w r
 library_read k p n procedure arguments (Some other) is w here q r = absurd r
 
+-- a record is named by a path
+path_given : (p : Context) (e : ExpressionTree) (object : TypeNo) (path : RecordPathForm) (more : List ArgumentTree) (forms : List ActualForm) → Quiet (path_wanted (variable.Record object) e) → IsCopyRead p e path → AreActualsRead p more forms → AreActualsRead p (expression_argument e ∷ more) (in_record path ∷ forms)
+path_given p (path_expression tree) object path more forms q r rest = (r, rest)
+path_given p e object path more forms q r rest = absurd q
+
+-- a record is wanted of the type of a formal parameter
+abbrev IsRecordMeant : Meant → Type 0
+IsRecordMeant (record_value path) = Unit {0}
+IsRecordMeant m = ⊥
+
+record_meant : (o : Option ℕ) (m : Meant) (spot : Spot) → IsMeant m → Quiet (reference_wanted o m spot) → IsRecordMeant m
+record_meant None m spot f q = absurd q
+record_meant (Some t) (record_value path) spot f q = tt
+record_meant (Some t) unknown spot f q = absurd f
+record_meant (Some t) m spot f q = absurd q
+
 -- `P (..);`, where P is a procedure
-value_given : (p : Context) (variables : List VariableForm) (e : ExpressionTree) (kind : VariableKind) (m : Meant) (spot : Spot) (more : List ArgumentTree) (forms : List ActualForm) → IsMeant m → MeantRead p e m → Quiet (kind_wanted variables kind m spot) → AreActualsRead p more forms → AreActualsRead p (expression_argument e ∷ more) (given_value m ∷ forms)
-value_given p variables e kind unknown spot more forms f r q rest = absurd f
-value_given p variables e kind (lent_value t) spot more forms f r q rest = absurd f
-value_given p variables e variable.Integer (integer_value form) spot more forms f r q rest = (r, rest)
-value_given p variables e variable.Integer m spot more forms f r q rest = absurd q
-value_given p variables e variable.Boolean (boolean_value form) spot more forms f r q rest = (r, rest)
-value_given p variables e variable.Boolean m spot more forms f r q rest = absurd q
-value_given p variables e (variable.Access t) null_value spot more forms f r q rest = (r, rest)
-value_given p variables e (variable.Access t) (access_value path u) spot more forms f r q rest = (r, rest)
-value_given p variables e (variable.Access t) m spot more forms f r q rest = absurd q.0
-value_given p variables e (variable.Record t) m spot more forms f r q rest = absurd q
+value_given : (p : Context) (types : List TypeForm) (variables : List VariableForm) (e : ExpressionTree) (kind : VariableKind) (m : Meant) (spot : Spot) (more : List ArgumentTree) (forms : List ActualForm) → IsMeant m → MeantRead p e m → Quiet (kind_wanted types variables kind m spot) → Quiet (path_wanted kind e) → AreActualsRead p more forms → AreActualsRead p (expression_argument e ∷ more) (given_value m ∷ forms)
+value_given p types variables e kind unknown spot more forms f r q n rest = absurd f
+value_given p types variables e kind (lent_value t) spot more forms f r q n rest = absurd f
+value_given p types variables e variable.Integer (integer_value form) spot more forms f r q n rest = (r, rest)
+value_given p types variables e variable.Integer m spot more forms f r q n rest = absurd q
+value_given p types variables e variable.Boolean (boolean_value form) spot more forms f r q n rest = (r, rest)
+value_given p types variables e variable.Boolean m spot more forms f r q n rest = absurd q
+value_given p types variables e (variable.Access t) null_value spot more forms f r q n rest = (r, rest)
+value_given p types variables e (variable.Access t) (access_value path u) spot more forms f r q n rest = (r, rest)
+value_given p types variables e (variable.Access t) m spot more forms f r q n rest = absurd q.0
+value_given p types variables e (variable.Record t) (record_value path) spot more forms f r q n rest = path_given p e t path more forms n r rest
+value_given p types variables e (variable.Record t) m spot more forms f r q n rest = absurd (record_meant (record_of_object types t.0) m spot f q)
+
+-- a variable or a component, before other actual parameters that are read
+scalar_placed : (p : Context) (tree : PathTree) (path : PathForm) (more : List ArgumentTree) (forms : List ActualForm) → IsTargetRead p tree path → AreActualsRead p more forms → AreActualsRead p (expression_argument (path_expression tree) ∷ more) (variable_or_component (in_out_path path) (in_out_component path) path.selectors ∷ forms)
+scalar_placed p tree path more forms r rest = by_selectors path.selectors refl
+  where
+    by_selectors : (cs : List ℕ) → path.selectors ≡ cs → AreActualsRead p (expression_argument (path_expression tree) ∷ more) (variable_or_component (in_out_path path) (in_out_component path) cs ∷ forms)
+    by_selectors [] alone = (variable_alone p tree path alone r, rest)
+    by_selectors (c ∷ cs) within = (component_within p tree path c cs within r, rest)
+
+access_placed : (p : Context) (tree : PathTree) (path : PathForm) (more : List ArgumentTree) (forms : List ActualForm) → IsTargetRead p tree path → AreActualsRead p more forms → AreActualsRead p (expression_argument (path_expression tree) ∷ more) (variable_or_component (in_out_access path) (in_out_component path) path.selectors ∷ forms)
+access_placed p tree path more forms r rest = by_selectors path.selectors refl
+  where
+    by_selectors : (cs : List ℕ) → path.selectors ≡ cs → AreActualsRead p (expression_argument (path_expression tree) ∷ more) (variable_or_component (in_out_access path) (in_out_component path) cs ∷ forms)
+    by_selectors [] alone = (variable_alone p tree path alone r, rest)
+    by_selectors (c ∷ cs) within = (component_within p tree path c cs within r, rest)
 
 -- an actual parameter, before others that are read
-variable_given : (p : Context) (variables : List VariableForm) (tree : PathTree) (kind : VariableKind) (m : Meant) (spot : Spot) (more : List ArgumentTree) (forms : List ActualForm) → IsMeant m → MeantRead p (path_expression tree) m → ((path : PathForm) → IsPathRead p tree path → IsTargetRead p tree path) → Quiet (variable_wanted variables kind m spot) → AreActualsRead p more forms → AreActualsRead p (expression_argument (path_expression tree) ∷ more) (given_variable m ∷ forms)
-variable_given p variables tree kind unknown spot more forms f r target q rest = absurd f
-variable_given p variables tree variable.Integer (integer_value (reads path)) spot more forms f r target q rest =
-    (variable_alone p tree path spot q (target path (path_of_value p tree path r)), rest)
-variable_given p variables tree variable.Boolean (boolean_value (reads path)) spot more forms f r target q rest =
-    (variable_alone p tree path spot q (target path (path_of_value p tree path r)), rest)
-variable_given p variables tree (variable.Access t) (access_value path u) spot more forms f r target q rest =
-    (variable_alone p tree path spot q.1.1 (target path r), rest)
-variable_given p variables tree kind m spot more forms f r target q rest = absurd q
+variable_given : (p : Context) (types : List TypeForm) (variables : List VariableForm) (tree : PathTree) (kind : VariableKind) (m : Meant) (spot : Spot) (more : List ArgumentTree) (forms : List ActualForm) → IsMeant m → MeantRead p (path_expression tree) m → MayWrite p tree m → Quiet (variable_wanted types variables kind m spot) → AreActualsRead p more forms → AreActualsRead p (expression_argument (path_expression tree) ∷ more) (given_variable m ∷ forms)
+variable_given p types variables tree kind unknown spot more forms f r v q rest = absurd f
+variable_given p types variables tree variable.Integer (integer_value (reads path)) spot more forms f r v q rest = scalar_placed p tree path more forms (path_of_value p tree path r, v) rest
+variable_given p types variables tree variable.Boolean (boolean_value (reads path)) spot more forms f r v q rest = scalar_placed p tree path more forms (path_of_value p tree path r, v) rest
+variable_given p types variables tree (variable.Access t) (access_value path u) spot more forms f r v q rest = access_placed p tree path more forms (r, v) rest
+variable_given p types variables tree (variable.Record t) (record_value path) spot more forms f r v q rest = ((r, v), rest)
+variable_given p types variables tree kind m spot more forms f r v q rest = absurd q
 
 actual_given : (k : Known) (p : Context) (mode : FormalMode) (kind : VariableKind) (argument : ArgumentTree) (more : List ArgumentTree) (forms : List ActualForm) → Readable k p → Quiet (given_remark k mode kind argument) → AreActualsRead p more forms → AreActualsRead p (argument ∷ more) (given_meant k mode argument ∷ forms)
 unfolding expression_remark
 actual_given k p In kind (expression_argument e) more forms w q rest =
-    value_given p k.variables e kind (expression_meant k e) (expression_spot e) more forms (expression_known k e w.fits q.0) (expression_read k p e w q.0) q.1 rest
+    value_given p k.types k.variables e kind (expression_meant k e) (expression_spot e) more forms (expression_known k e w.fits q.0) (expression_read k p e w q.0) q.1.0 q.1.1 rest
 actual_given k p InOut kind (expression_argument (path_expression tree)) more forms w q rest =
-    variable_given p k.variables tree kind (path_meant k tree) tree.root.spot more forms (path_known k tree w.fits q.0.1) (path_read k p tree w q.0.1)
-    (λ path r. target_read k p tree path w q.1.1 r) q.1.0 rest
+    let m = path_meant k tree in
+    let r = path_read k p tree w q.0.1 in
+    variable_given p k.types k.variables tree kind m tree.root.spot more forms (path_known k tree w.fits q.0.1) r (written_read k p tree m w q.1.1 r) q.1.0 rest
 actual_given k p mode kind argument more forms w q rest = absurd q.0
 
 actuals_read : (k : Known) (p : Context) (called : Spot) (kinds : List VariableKind) (modes : List FormalMode) (arguments : List ArgumentTree) → Readable k p → Quiet (given_all_remark k called kinds modes arguments) → AreActualsRead p arguments (given_all k kinds modes arguments)

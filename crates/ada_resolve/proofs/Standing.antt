@@ -26,6 +26,6 @@ pub use Rattle.ada_resolve.proofs.Standing.Kept.{IsSlot, new_slot, slot_of, old_
 pub use Rattle.ada_resolve.proofs.Standing.Declared.{none_ended, elaborated_sound, variable_sound, ended_sound, ended_keeps, declaration_sound, declaration_keeps}
 pub use Rattle.ada_resolve.proofs.Standing.Declarations.{gives_same, begin_open, begin_complete}
 pub use Rattle.ada_resolve.proofs.Standing.Inner.{part_sound, part_complete, part_inside, parameter_sound, parameter_complete, parameter_inside, inside_on, begun_inside, leave_sound, leave_complete, leave_stays}
-pub use Rattle.ada_resolve.proofs.Standing.Procedures.{IsFormal, FormalsSound, head_formals, around_body, around_sound, InBody, head_in_body, types_keep, left_body, longer_bodies, ended_is, body_ended_sound, body_ended_names, body_ended_some, body_ended_keeps}
-pub use Rattle.ada_resolve.proofs.Standing.Stated.{SequenceStays, sequence_inside, BodyStays, sequence_stays, body_stays, told_sound, told_keeps, declarations_sound, declarations_keep, head_new, OthersStay, get_front, texts_stay, simple_stays, head_sound, head_complete, loop_stays, statement_stays, statements_stay, branches_stay, handlers_stay}
+pub use Rattle.ada_resolve.proofs.Standing.Procedures.{get_front, IsFormal, FormalsSound, AllObjects, head_formals, head_objects, around_body, around_sound, InBody, head_in_body, types_keep, left_body, longer_bodies, ended_is, body_ended_sound, body_ended_names, body_ended_some, body_ended_keeps}
+pub use Rattle.ada_resolve.proofs.Standing.Stated.{SequenceStays, sequence_inside, BodyStays, sequence_stays, body_stays, told_sound, told_keeps, declarations_sound, declarations_keep, head_new, OthersStay, texts_stay, simple_stays, head_sound, head_complete, loop_stays, statement_stays, statements_stay, branches_stay, handlers_stay}
 pub use Rattle.ada_resolve.proofs.Standing.Body.{BodyDone, body_done, before_sound, behind_sound}

@@ -62,9 +62,9 @@ use Rattle.ada_resolve.specs.Known.{Known}
 use Rattle.ada_resolve.specs.Resolution.{SequenceForm, known_first, program_of, Resolves}
 use Rattle.ada_resolve.proofs.Standing.{Sound, Complete, first_sound, declarations_keep, sequence_stays, BodyDone, body_done, before_sound, behind_sound}
 use Rattle.ada_resolve.proofs.WellFormed.Tables.{first_part, second_part}
-use Rattle.ada_resolve.proofs.WellFormed.Created.{accesses, collected, Creates, has_each}
+use Rattle.ada_resolve.proofs.WellFormed.Created.{accesses, bodies_collect, collected_both, Creates, has_each}
 use Rattle.ada_resolve.proofs.WellFormed.Elaborated.{InOrder, first_order}
-use Rattle.ada_resolve.proofs.WellFormed.Lasting.{Ended, ended_all, collected_both}
+use Rattle.ada_resolve.proofs.WellFormed.Lasting.{Ended, ended_all}
 use Rattle.ada_resolve.proofs.WellFormed.Doing.{SequenceFits}
 use Rattle.ada_resolve.proofs.WellFormed.Stated.{declarations_ordered, sequence_fit}
 
@@ -76,46 +76,46 @@ all_in_order k z cs none c =
     let first : length k.variables ≡ 0 = ap (λ (vs : List VariableForm). length vs) none in
     sym (ap (λ v. creates_from n v cs) first) ∙ (sym (ap (λ es. creates_from n (length k.variables) es) (append-nil cs)) ∙ (all ∙ eq-eqb n n refl))
 
--- each access type has one collection, and bodies create none
-each_collected : (k z : Known) (cs : List Creation) → k.types ≡ [] → Creates k z cs → Ended z → has_collections (created_in_all z.bodies ++ cs) 0 z.types ≡ true
-each_collected k z cs none c e =
+-- each access type has one collection, where its declaration stands: in a body, or in the main part or a block of it
+each_collected : (k z : Known) (cs : List Creation) → k.types ≡ [] → k.bodies ≡ [] → Creates k z cs → has_collections (created_in_all z.bodies ++ cs) 0 z.types ≡ true
+each_collected k z cs none empty c =
     has_each (created_in_all z.bodies ++ cs) z.types
     (λ a.
     let all = c.collections a in
     let first : accesses k.types a ≡ 0 = ap (λ (ts : List TypeForm). accesses ts a) none in
-    let bodies = e.none a in
+    let bodies : bodies_collect k.bodies a ≡ 0 = ap (λ bs. bodies_collect bs a) empty in
     let both = collected_both a (created_in_all z.bodies) cs in
     omega (arith, all, first, bodies, both))
 
 -- no body has ended at first
 pub first_ended : (withs : Withs) (procedure : List ℕ) → Ended (known_first withs procedure)
-first_ended withs procedure = record { fit = λ ts w. refl; none = λ a. refl }
+first_ended withs procedure = record { fit = λ ts w. refl; below = λ a past. refl }
 
 -- a program whose parts fit
-program_fits : (k m z : Known) (body : SequenceForm) → k.types ≡ [] → k.variables ≡ [] → m.here.first_type ≡ length k.types → m.here.first_variable ≡ length k.variables → Sound z → Complete z → Ended z → SequenceFits m z false body → IsWellFormed (program_of z body.0 body.1)
-program_fits k m z body no_types no_variables first_type first_variable w c e f =
+program_fits : (k m z : Known) (body : SequenceForm) → k.types ≡ [] → k.variables ≡ [] → k.bodies ≡ [] → m.here.first_type ≡ length k.types → m.here.first_variable ≡ length k.variables → m.here.first_body ≡ length k.bodies → Sound z → Complete z → Ended z → SequenceFits m z false body → IsWellFormed (program_of z body.0 body.1)
+program_fits k m z body no_types no_variables no_bodies first_type first_variable first_body w c e f =
     let p = program_of z body.0 body.1 in
     let es = z.here.elaborated in
     let front = collections_first es && list_all (collection_fits z.types) es in
     let initials = list_all (initial_fits z.types z.variables) es in
     let both : front ≡ true = first_part front initials f.declares in
     let creates : Creates k z (creations p) =
-    f.creates k (λ i x is. absurd (no_type k.types i x no_types is)) first_type first_variable in
+    f.creates k (λ i x is. absurd (not_there k.types i x no_types is)) (λ i x is. absurd (not_there k.bodies i x no_bodies is)) first_type first_variable first_body in
     record {
       types_fit = w.types_fit;
       variables_fit = w.variables_fit;
       creates_in_order = all_in_order k z (creations p) no_variables creates;
       collections_first = first_part (collections_first es) (list_all (collection_fits z.types) es) both;
       collections_fit = second_part (collections_first es) (list_all (collection_fits z.types) es) both;
-      has_one_each = each_collected k z (creations p) no_types creates e;
+      has_one_each = each_collected k z (creations p) no_types no_bodies creates;
       initials_fit = second_part front initials f.declares;
       statements_fit = f.own;
       handlers_fit = f.handled;
       bodies_fit = ended_all z c e;
     }
   where
-    no_type : (types : List TypeForm) (i : ℕ) (x : TypeForm) → types ≡ [] → slice_get types i ≡ Some x → ⊥
-    no_type types i x none is = let no : slice_get types i ≡ None = ap (λ (ts : List TypeForm). slice_get ts i) none in cc (no, is)
+    not_there : {X : Type 0} (xs : List X) (i : ℕ) (x : X) → xs ≡ [] → slice_get xs i ≡ Some x → ⊥
+    not_there xs i x none is = let no : slice_get xs i ≡ None = ap (λ ys. slice_get ys i) none in cc (no, is)
 
 -- the program that a tree means is well formed
 pub well_formed : (tree : UnitTree) (program : ProgramForm) → Resolves tree program → IsWellFormed program
@@ -131,5 +131,5 @@ well_formed tree program e =
     let stays = (sequence_stays false tree.body b.behind b.done sound b.told).stays in
     let ended : Ended b.done.1.0 = f.follows.ended (o.follows.ended (subst Ended (sym b.first_known) (first_ended b.withs tree.name.text))) in
     subst IsWellFormed (sym b.form)
-    (program_fits k b.behind.0 b.done.1.0 b.done.0 refl refl (keeps.first_type ∙ ap (λ (v : Known). v.here.first_type) b.first_known)
-    (keeps.first_variable ∙ ap (λ (v : Known). v.here.first_variable) b.first_known) stays.sound stays.complete ended f)
+    (program_fits k b.behind.0 b.done.1.0 b.done.0 refl refl refl (keeps.first_type ∙ ap (λ (v : Known). v.here.first_type) b.first_known)
+    (keeps.first_variable ∙ ap (λ (v : Known). v.here.first_variable) b.first_known) (keeps.first_body ∙ ap (λ (v : Known). v.here.first_body) b.first_known) stays.sound stays.complete ended f)

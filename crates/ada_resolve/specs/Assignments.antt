@@ -56,8 +56,8 @@ target_wanted other spot = wrong spot WrongType
 unfoldable pub target_remark : Known → PathTree → Remark
 target_remark known target =
     path_remark known target also
-    target_wanted (path_meant known target) target.root.spot also
-    written_wanted (visible known target.root.text) target.selectors target.root.spot
+    written_wanted (visible known target.root.text) (path_meant known target) target.root.spot also
+    target_wanted (path_meant known target) target.root.spot
 
 -- What is held where a target is, where it is known.
 abbrev pub held_by_target : Option Target → Option Held

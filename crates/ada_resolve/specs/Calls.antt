@@ -51,8 +51,8 @@ no_path_remark known value = wrong (expression_spot value) WrongType also expres
 abbrev pub actual_remark : Known → Callee → ArgumentTree → Remark
 actual_remark known taker (expression_argument (path_expression path)) =
     expression_remark known (path_expression path) also
-    actual_wanted known.variables taker (path_meant known path) path.root.spot also
-    written_wanted (visible known path.root.text) path.selectors path.root.spot
+    written_wanted (visible known path.root.text) (path_meant known path) path.root.spot also
+    actual_wanted known.variables taker (path_meant known path) path.root.spot
 actual_remark known taker other = wrong (argument_spot other) WrongType also argument_remark known other
 
 -- What the path gives access to is freed, by the instance of this access type.

@@ -1,6 +1,6 @@
 -- What is known at a place in the procedures of a tree, and what the names stand for there.
 
-use Rattle.std.specs.Prelude.{ℕ, ◌-◌, Bool, true, false, ◌==◌, ◌||◌, not, nat_lt, ◌&&◌, if◌then◌else◌, List, [], ◌∷◌, length, Option, Some, None, is_some, codes, bytes_eq}
+use Rattle.std.specs.Prelude.{ℕ, ◌-◌, Bool, true, false, ◌==◌, not, nat_lt, ◌&&◌, if◌then◌else◌, List, [], ◌∷◌, length, Option, Some, None, is_some, codes, bytes_eq}
 use Rattle.ada_text.specs.declared.spot.Spot.{Spot}
 use Rattle.ada_tree.specs.Names.{Ident, SelectorTree, component, dereference, PathTree, is_name}
 use Rattle.ada_program.specs.Form.{DeclarationForm}
@@ -238,8 +238,3 @@ types_go_on known = no_variable_yet known && no_body_yet known
 -- A type, a number, an exception or an instance begins: it is a node of the source, and none follows a variable or a body of its part.
 abbrev pub type_begins : Known → Spot → Remark
 type_begins known spot = node spot also wrong_if (not (types_go_on known)) spot Layout
-
--- Whether one of these parts is that of a procedure's body.
-abbrev pub is_in_procedure : List Part → Bool
-is_in_procedure [] = false
-is_in_procedure (part ∷ outer) = is_some part.around || is_in_procedure outer

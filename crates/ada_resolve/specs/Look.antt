@@ -306,10 +306,10 @@ procedure_call_look seen procedure called arguments = record {
   meaning = procedure_call_found (known seen) procedure (map argument_of arguments);
 }
 
--- The formals of a body that begins at the spot (6.1).
-abbrev pub formals_look : Seen → Spot → List Formal → Look Formals
-formals_look seen first formals = record {
-  remark = formals_remark (known seen) first no_formals (map formal_of formals);
+-- The formals of a body (6.1).
+abbrev pub formals_look : Seen → List Formal → Look Formals
+formals_look seen formals = record {
+  remark = formals_remark (known seen) no_formals (map formal_of formals);
   meaning = with_formals (known seen) (map formal_of formals) no_formals;
 }
 

@@ -9,7 +9,7 @@ use Rattle.ada_text.specs.declared.spot.Spot.{Spot}
 use Rattle.ada_tree.specs.Declarations.{formal_of, optional_aspect_of}
 use Rattle.ada_tree.specs.ExpressionView.{argument_of, expression_of, optional_right_of}
 use Rattle.ada_tree.specs.Expressions.{ExpressionTree}
-use Rattle.ada_tree.specs.Names.{Ident, ident_of, name_of, optional_ident_of, selector_of}
+use Rattle.ada_tree.specs.Names.{Ident, ident_of, name_of, optional_ident_of}
 use Rattle.ada_tree.specs.Records.{component_of, record_of, static_of}
 use Rattle.ada_tree.specs.Statements.{DeclarationTree, access_type, borrower_declaration, constant_declaration, instance, object_declaration, record_type, HandlersTree, branches_from, handlers_from}
 use Rattle.ada_tree.specs.StatementView.{branch_of, handler_of, unit_of}
@@ -61,7 +61,7 @@ use Rattle.ada_resolve.specs.Items.{Filling, after_item, filled_components, firs
 use Rattle.ada_resolve.specs.Kept.{composition_in, kept_with, known_type_form}
 use Rattle.ada_resolve.specs.Known.{Known, Named, Part, entered, new_name_remark, visible}
 use Rattle.ada_resolve.specs.Objects.{initial_source, record_created, variable_created}
-use Rattle.ada_resolve.specs.Paths.{written_wanted}
+use Rattle.ada_resolve.specs.Paths.{Meant, written_wanted}
 use Rattle.ada_resolve.specs.Records.{Composition, further_component_remark, with_record_defined}
 use Rattle.ada_resolve.specs.Remark.{Remark, ◌also◌, noted}
 use Rattle.ada_resolve.specs.Procedures.{Formals, body_begun, body_ended, body_of, formal_remark, variables_around, with_formal, with_procedure, without_body}
@@ -81,9 +81,9 @@ known resolver = known_of resolver.entry.now
 abbrev pub entity_of : Seen → Identifier → Option Entity
 entity_of resolver name = visible (known resolver) name.text.now
 
--- What is wrong with a path that is written to: it is no constant, with what is selected from it.
-abbrev pub path_written_remark : Seen → Path → Remark
-path_written_remark resolver path = written_wanted (entity_of resolver path.root) (map selector_of path.selectors.items) path.root.spot
+-- What is wrong with a path that is written to, and means this: it is no constant, with what is selected from it.
+abbrev pub path_written_remark : Seen → Path → Meant → Remark
+path_written_remark resolver path meant = written_wanted (entity_of resolver path.root) meant path.root.spot
 
 -- The value of the answer means this. A call that runs out of memory answers no value.
 abbrev pub Finds : {X Y : Type 0} → (X → Y) → Result X NameFault → Y → Type 0
@@ -309,9 +309,9 @@ part_of_body names types formals bodies modes around =
 abbrev pub Declaring : Both (MutBor FormalsOf) (MutBor FormalsOf) → (Formals → Formals) → Type 0
 Declaring formals change = formals_in formals.exit.now ≡ change (formals_in formals.entry.now)
 
--- What is wrong with a formal behind others, in a body that begins at the spot.
-abbrev pub next_formal_remark : Seen → Spot → Both (MutBor FormalsOf) (MutBor FormalsOf) → Formal → Remark
-next_formal_remark seen first before formal = formal_remark (known seen) first (formals_in before.entry.now) (formal_of formal)
+-- What is wrong with a formal behind others.
+abbrev pub next_formal_remark : Seen → Both (MutBor FormalsOf) (MutBor FormalsOf) → Formal → Remark
+next_formal_remark seen before formal = formal_remark (known seen) (formals_in before.entry.now) (formal_of formal)
 
 -- The formals with one more.
 abbrev pub with_next_formal : Seen → Formal → Formals → Formals

@@ -1,6 +1,6 @@
 -- What paths mean where a value is wanted, and what is wrong with each.
 
-use Rattle.std.specs.Prelude.{ℕ, ◌+◌, Bool, true, false, ◌||◌, ◌==◌, if◌then◌else◌, List, [], ◌∷◌, ◌++◌, slice_get, Option, Some, None, bytes_eq}
+use Rattle.std.specs.Prelude.{ℕ, ◌+◌, Bool, true, false, not, ◌||◌, ◌==◌, if◌then◌else◌, List, [], ◌∷◌, ◌++◌, slice_get, Option, Some, None, bytes_eq}
 use Rattle.ada_text.specs.declared.spot.Spot.{Spot}
 use Rattle.ada_tree.specs.Names.{Ident, SelectorTree, component, dereference, PathTree}
 use Rattle.ada_program.specs.Form.{PathForm, RecordPathForm, ExpressionForm, integer, boolean, reads, ItemForm}
@@ -81,14 +81,14 @@ designated_in None = None
 unfoldable pub designated_of : List TypeForm → ℕ → Option ℕ
 designated_of types access = designated_in (slice_get types access)
 
--- The record type of the record object that is known by a type (3.3.1).
+-- The record type of the record object or parameter that is known by a type (3.3.1, 6.2).
 abbrev pub record_known_by : Option TypeForm → Option ℕ
 record_known_by (Some (object_of record_type)) = Some record_type
 record_known_by (Some (record_of name parts components)) = None
 record_known_by (Some (access_to name designated)) = None
 record_known_by None = None
 
--- The record type of the record object that is known by the type of a number.
+-- The record type of the record object or parameter that is known by the type of a number.
 unfoldable pub record_of_object : List TypeForm → ℕ → Option ℕ
 record_of_object types object = record_known_by (slice_get types object)
 
@@ -199,7 +199,7 @@ abbrev pub components_selected : Known → Reached → List SelectorTree → Lis
 components_selected known at [] = []
 components_selected known at (s ∷ ss) = component_selected known at s ++ components_selected known (selector_reached known at s) ss
 
--- Whether a variable is a record object (3.3.1).
+-- Whether a variable is a record object or parameter (3.3.1, 6.2).
 abbrev pub is_record_kind : VariableKind → Bool
 is_record_kind variable.Integer = false
 is_record_kind variable.Boolean = false
@@ -339,17 +339,40 @@ abbrev pub library_is_no_value : Option LibraryName → Spot → Remark
 library_is_no_value (Some name) spot = wrong spot WrongType
 library_is_no_value None spot = fine
 
--- Nothing is written to a constant that holds this (3.3); but what its access value gives access to, which is selected from it, may be (3.10).
-abbrev pub constant_wanted : VariableKind → List SelectorTree → Spot → Remark
-constant_wanted (variable.Access access) (s ∷ ss) spot = fine
-constant_wanted kind selectors spot = wrong spot WrongType
+-- Whether a path to a value follows an access value on its way (4.1), from a variable that is a record object or not: each component lies behind the
+-- access value before it, and the first of a record object is its own.
+abbrev pub follows_value : (of_record : Bool) → (selectors : List ℕ) → Bool
+follows_value of_record [] = false
+follows_value false (c ∷ cs) = true
+follows_value true (c ∷ []) = false
+follows_value true (c ∷ (d ∷ cs)) = true
 
--- A loop parameter and a formal parameter of mode `in` are constants (3.3, 5.5, 6.2): what is written is none of these, with what is selected from it.
-abbrev pub written_wanted : Option Entity → List SelectorTree → Spot → Remark
-written_wanted (Some (entity.Parameter x kind)) selectors spot = constant_wanted kind selectors spot
-written_wanted (Some (entity.Outer kind role.Constant)) selectors spot = constant_wanted kind selectors spot
-written_wanted (Some other) selectors spot = fine
-written_wanted None selectors spot = fine
+-- Whether a path to an object follows an access value (4.1): the object is not the record object with which the path begins.
+abbrev pub follows_to : (of_record : Bool) → (selectors : List ℕ) → Bool
+follows_to false selectors = true
+follows_to true [] = false
+follows_to true (c ∷ cs) = true
+
+-- The value of a constant, or of a component of one, is not written.
+abbrev pub constant_read : ExpressionForm → Spot → Remark
+constant_read (reads path) spot = wrong_if (not (follows_value path.of_record path.selectors)) spot WrongType
+constant_read other spot = fine
+
+-- Nothing is written to a constant, nor to a component of one that is a record (3.3); but what an access value gives access to may be written (3.10).
+abbrev pub constant_wanted : Meant → Spot → Remark
+constant_wanted (integer_value e) spot = constant_read e spot
+constant_wanted (boolean_value e) spot = constant_read e spot
+constant_wanted (access_value path t) spot = wrong_if (not (follows_value path.of_record path.selectors)) spot WrongType
+constant_wanted (record_value path) spot = wrong_if (not (follows_to path.object.of_record path.object.selectors)) spot WrongType
+constant_wanted other spot = fine
+
+-- A loop parameter and a formal parameter of mode `in` are constants (3.3, 5.5, 6.2): what is written is none of these, with what is selected from it,
+-- which is meant so.
+abbrev pub written_wanted : Option Entity → Meant → Spot → Remark
+written_wanted (Some (entity.Parameter x kind)) meant spot = constant_wanted meant spot
+written_wanted (Some (entity.Outer kind role.Constant)) meant spot = constant_wanted meant spot
+written_wanted (Some other) meant spot = fine
+written_wanted None meant spot = fine
 
 -- What is wrong with a path where a value is wanted.
 unfoldable pub path_remark : Known → PathTree → Remark

@@ -1,13 +1,14 @@
 -- Procedures: what is wrong with the head of a body, what is known where the body begins, and what is known behind it.
 
-use Rattle.std.specs.Prelude.{false, not, List, [], ◌∷◌, ◌++◌, length, Option, Some, None, is_some}
+use Rattle.std.specs.Prelude.{◌+◌, false, not, List, [], ◌∷◌, ◌++◌, length, Option, Some, None, is_some}
 use Rattle.ada_text.specs.declared.spot.Spot.{Spot}
 use Rattle.ada_tree.specs.Declarations.{FormalTree, HeadTree}
 use Rattle.ada_tree.specs.Names.{Ident}
 use Rattle.ada_program.specs.Form.{StmtsForm, HandlersForm}
-use Rattle.ada_program.specs.ProgramForm.{VariableForm, BodyForm}
+use Rattle.ada_program.specs.ProgramForm.{TypeForm, object_of, VariableForm, BodyForm}
 use Rattle.ada_program.specs.declared.program.FormalMode.{FormalMode}
 use Rattle.ada_program.specs.declared.program.FormalMode.TheVariants.{In, InOut}
+use Rattle.ada_program.specs.declared.program.TypeNo.{TypeNo}
 use Rattle.ada_program.specs.declared.program.VariableKind.{VariableKind}
 use Rattle.ada_program.specs.declared.program.VariableKind.TheVariants as variable
 use Rattle.ada_program.specs.declared.program.VariableNo.{VariableNo}
@@ -19,15 +20,17 @@ use Rattle.ada_resolve.specs.Library.{is_primitive, is_taken}
 use Rattle.ada_resolve.specs.Remark.{Remark, fine, wrong, node, ◌also◌, wrong_if}
 use Rattle.ada_resolve.specs.Spots.{first_or}
 
--- The formal parameters of a procedure, as far as they are looked at (6.1): what their names stand for, the variables that they are, and their modes.
+-- The formal parameters of a procedure, as far as they are looked at (6.1): what their names stand for, the variables that they are, their modes, and
+-- the types that those that are records are known by.
 pub record Formals : Type 0 where
   pub names : List Named
   pub variables : List VariableForm
   pub modes : List FormalMode
+  pub types : List TypeForm
 
 -- No formal is looked at yet.
 abbrev pub no_formals : Formals
-no_formals = record { names = []; variables = []; modes = [] }
+no_formals = record { names = []; variables = []; modes = []; types = [] }
 
 -- What the type's name of a formal stands for: the formals before it are visible.
 abbrev pub formal_type : Known → Formals → Ident → Option Entity
@@ -45,55 +48,71 @@ formal_mode input None = In
 formal_mode None (Some out) = In
 formal_mode (Some input) (Some out) = InOut
 
--- A type is wanted that is complete, in a body that begins at the spot: formals of record types are not in use yet.
-abbrev pub formal_type_wanted : Option Entity → Spot → Ident → Remark
-formal_type_wanted (Some entity.Integer) first name = fine
-formal_type_wanted (Some entity.Boolean) first name = fine
-formal_type_wanted (Some (entity.Access t)) first name = fine
-formal_type_wanted (Some (entity.Record t size)) first name = wrong first NotInProfile
-formal_type_wanted (Some other) first name = wrong name.spot WrongType
-formal_type_wanted None first name = missing None name
+-- A type is wanted that is complete.
+abbrev pub formal_type_wanted : Option Entity → Ident → Remark
+formal_type_wanted (Some entity.Integer) name = fine
+formal_type_wanted (Some entity.Boolean) name = fine
+formal_type_wanted (Some (entity.Access t)) name = fine
+formal_type_wanted (Some (entity.Record t size)) name = fine
+formal_type_wanted (Some other) name = wrong name.spot WrongType
+formal_type_wanted None name = missing None name
 
--- What is wrong with a formal, behind others, in a body that begins at the spot (6.1): it is a node of the source, its name is neither predefined
--- nor that of one before it nor that of a primitive, and it has a mode and a type.
-unfoldable pub formal_remark : Known → Spot → Formals → FormalTree → Remark
-formal_remark known first before f =
+-- What is wrong with a formal, behind others (6.1): it is a node of the source, its name is neither predefined nor that of one before it nor that of a
+-- primitive, and it has a mode and a type.
+unfoldable pub formal_remark : Known → Formals → FormalTree → Remark
+formal_remark known before f =
     node f.name.spot also
     wrong_if (is_taken f.name.text) f.name.spot DeclaredTwice also
     wrong_if (is_some (named f.name.text before.names)) f.name.spot DeclaredTwice also
     wrong_if (is_primitive f.name.text) f.name.spot NotInProfile also
     mode_remark f.input f.output also
-    formal_type_wanted (formal_type known before f.type_name) first f.type_name
+    formal_type_wanted (formal_type known before f.type_name) f.type_name
 
--- What a formal of a type holds: an Integer, where something is wrong.
-abbrev pub formal_kind : Option Entity → VariableKind
-formal_kind (Some entity.Boolean) = variable.Boolean
-formal_kind (Some (entity.Access t)) = variable.Access t
-formal_kind (Some other) = variable.Integer
-formal_kind None = variable.Integer
+-- The number of the type that a formal is known by which is a record, behind others: the next one.
+abbrev pub known_by : Known → Formals → TypeNo
+known_by known before = record { 0 = length known.types + length before.types }
+
+-- What a formal of a type holds: an Integer, where something is wrong. One that is a record is known by a type of this number.
+abbrev pub formal_kind : TypeNo → Option Entity → VariableKind
+formal_kind own (Some entity.Boolean) = variable.Boolean
+formal_kind own (Some (entity.Access t)) = variable.Access t
+formal_kind own (Some (entity.Record t size)) = variable.Record own
+formal_kind own (Some other) = variable.Integer
+formal_kind own None = variable.Integer
+
+-- The type that a formal of a type is known by, where that is a record.
+abbrev pub formal_types : Option Entity → List TypeForm
+formal_types (Some (entity.Record t size)) = object_of t.0 ∷ []
+formal_types (Some other) = []
+formal_types None = []
 
 -- What a formal of a mode is, which is the variable of a number and holds this (6.2): a constant, or a variable.
 abbrev pub formal_entity : FormalMode → VariableNo → VariableKind → Entity
 formal_entity In x kind = entity.Parameter x kind
 formal_entity InOut x kind = entity.Variable x kind
 
--- The formals with one more, of a mode, which holds this (6.2).
-abbrev pub with_next : Ident → FormalMode → VariableKind → Formals → Formals
-with_next name mode kind before = record {
+-- The formals with one more, of a mode, which holds this, and is known by such a type (6.2).
+abbrev pub with_next : Ident → FormalMode → VariableKind → List TypeForm → Formals → Formals
+with_next name mode kind types before = record {
   names = entered name.text (formal_entity mode (record { 0 = length before.variables }) kind) before.names;
   variables = before.variables ++ record { name = name.text; spot = name.spot; kind = kind; borrows = false } ∷ [];
   modes = before.modes ++ mode ∷ [];
+  types = before.types ++ types;
 }
+
+-- The formals with one more, whose type's name stands for this.
+abbrev pub with_found : Known → FormalTree → Option Entity → Formals → Formals
+with_found known f found before =
+    with_next f.name (formal_mode f.input f.output) (formal_kind (known_by known before) found) (formal_types found) before
 
 -- The formals with one more.
 unfoldable pub with_formal : Known → FormalTree → Formals → Formals
-with_formal known f before =
-    with_next f.name (formal_mode f.input f.output) (formal_kind (formal_type known before f.type_name)) before
+with_formal known f before = with_found known f (formal_type known before f.type_name) before
 
 -- What is wrong with formals behind others.
-abbrev pub formals_remark : Known → Spot → Formals → List FormalTree → Remark
-formals_remark known first before [] = fine
-formals_remark known first before (f ∷ fs) = formal_remark known first before f also formals_remark known first (with_formal known f before) fs
+abbrev pub formals_remark : Known → Formals → List FormalTree → Remark
+formals_remark known before [] = fine
+formals_remark known before (f ∷ fs) = formal_remark known before f also formals_remark known (with_formal known f before) fs
 
 -- The formals with more.
 abbrev pub with_formals : Known → List FormalTree → Formals → Formals
@@ -112,14 +131,15 @@ body_head_remark known head =
     node (first_or head.overriding head.spot) also
     wrong_if (not (no_variable_yet known)) (first_or head.overriding head.spot) Layout also
     overriding_remark head.overriding also
-    formals_remark known (first_or head.overriding head.spot) no_formals head.formals also
+    formals_remark known no_formals head.formals also
     new_name_remark known head.name (first_or head.overriding head.spot)
 
--- The declarative part of a procedure's body, in which the formals are declared; the variables of the body around are put aside.
+-- The declarative part of a procedure's body, in which the formals are declared, behind the types that they are known by; the variables of the body
+-- around are put aside.
 abbrev pub body_part : Known → Formals → Part
 body_part known formals = record {
   names = formals.names;
-  first_type = length known.types;
+  first_type = length (known.types ++ formals.types);
   first_variable = length formals.variables;
   first_body = length known.bodies;
   elaborated = [];
@@ -129,7 +149,12 @@ body_part known formals = record {
 
 -- What is known where the body of a procedure begins (6.3).
 abbrev pub with_body : Formals → Known → Known
-with_body formals known = record known { here = body_part known formals; outer = parts known; variables = formals.variables }
+with_body formals known = record known {
+  here = body_part known formals;
+  outer = parts known;
+  types = known.types ++ formals.types;
+  variables = formals.variables;
+}
 
 -- The name stands for a procedure whose body has not ended, and the body begins.
 abbrev pub body_begun : Ident → Formals → Known → Known

@@ -19,7 +19,7 @@ use Rattle.ada_program.specs.declared.program.PartKind.TheVariants as part
 use Rattle.ada_program.specs.declared.program.TypeNo.{TypeNo}
 use Rattle.ada_program.specs.declared.program.VariableKind.{VariableKind}
 use Rattle.ada_program.specs.declared.program.VariableKind.TheVariants as variable
-use Rattle.ada_program.specs.Form.{ActualForm, in_value, in_null, in_access, in_out_path, in_out_access, DeclarationForm, collects, declares, declares_record, PathForm, RecordPathForm, ExpressionForm, integer, boolean, reads, is_null, applied_to, ItemForm, null_item, item_of_path, item_of_value, item_of_record, RightForm, nothing, value_of, allocates, allocates_default, computes, StmtForm, skips, assigns, assigns_record, frees, gets, writes, writes_text, chooses, repeats, counts, exits, calls, returns, raises, encloses, StmtsForm, no_stmts, a_stmt, BranchesForm, otherwise, HandlersForm}
+use Rattle.ada_program.specs.Form.{ActualForm, in_value, in_null, in_access, in_record, in_out_path, in_out_access, in_out_component, in_out_record, DeclarationForm, collects, declares, declares_record, PathForm, RecordPathForm, ExpressionForm, integer, boolean, reads, is_null, applied_to, ItemForm, null_item, item_of_path, item_of_value, item_of_record, RightForm, nothing, value_of, allocates, allocates_default, computes, StmtForm, skips, assigns, assigns_record, frees, gets, writes, writes_text, chooses, repeats, counts, exits, calls, returns, raises, encloses, StmtsForm, no_stmts, a_stmt, BranchesForm, otherwise, HandlersForm}
 use Rattle.ada_program.specs.Form as form
 use Rattle.ada_program.specs.ProgramForm.{PartForm, TypeForm, record_of, object_of, BodyForm, ProgramForm}
 use Rattle.ada_program.specs.WellFormed as fits
@@ -28,6 +28,7 @@ use Rattle.ada_resolve.specs.declared.library.LibraryName.TheVariants.{PutLine, 
 use Rattle.ada_resolve.specs.Naming.{Context, Place, Binding, Meaning, an_incomplete_type, a_type, a_number, an_exception, an_instance, a_variable, a_parameter, a_procedure, a_procedure_around, an_outer_object, meaning_among, IsPredefined, IsExceptionNamed, IsNumberNamed, IsRecordNamed, IsVariableNamed, IsObjectNamed, IsAccessNamed, IsBound, IsFullRecordNamed, IsFullTypeNamed, IsStaticRead, IsTypeRead, IsInstanceRead, IsInstanceNamed, IsProcedureNamed, IsKindNamed, truth_name}
 use Rattle.ada_resolve.specs.Known.{parts_of}
 use Rattle.ada_resolve.specs.Operators.{joined}
+use Rattle.ada_resolve.specs.Paths.{follows_to, follows_value}
 use Rattle.ada_resolve.specs.Spots.{end_of}
 use Rattle.ada_resolve.specs.Statics.{at_most_greatest, integer_of}
 
@@ -95,27 +96,31 @@ pub record IsPathRead (p : Context) (tree : PathTree) (path : PathForm) : Type 0
 abbrev pub IsRecordPathRead : Context → PathTree → RecordPathForm → Type 0
 IsRecordPathRead p tree path = IsWayRead p tree path.object (at_object path.record_type path.first)
 
--- A path begins at a constant of an access type, and selects what the access value of that gives access to, or something of it (3.10, 4.1).
-abbrev pub FollowsConstant : Context → PathTree → (root : ℕ) → Type 0
-FollowsConstant p tree x =
-    IsBound p tree.root.text (a_parameter x) × (access : TypeNo) × (fits.variable_kind p.variables x ≡ Some (variable.Access access)) ×
-    (tree.selectors ≡ [] → ⊥)
+-- A path begins at a constant, and follows an access value on its way (3.10, 4.1).
+abbrev pub FollowsConstant : Context → PathTree → (root : ℕ) → (follows : Bool) → Type 0
+FollowsConstant p tree x follows = IsBound p tree.root.text (a_parameter x) × (follows ≡ true)
 
--- What a path names may change: it begins at a variable, or it follows the access value of a constant, which keeps its own value (3.3, 3.10).
-abbrev pub MayChange : Context → PathTree → (root : ℕ) → Type 0
-MayChange p tree x = IsVariableNamed p tree.root.text x ⊎ FollowsConstant p tree x
+-- What a path names may change: it begins at a variable, or it follows an access value from a constant, which keeps its own value and, where it is a
+-- record, its components at any depth (3.3, 3.10).
+abbrev pub MayChange : Context → PathTree → (root : ℕ) → (follows : Bool) → Type 0
+MayChange p tree x follows = IsVariableNamed p tree.root.text x ⊎ FollowsConstant p tree x follows
 
--- A record that is assigned: it may change (5.2).
+-- A record that is assigned, or given for a formal parameter of mode `in out`: it may change (5.2, 6.4.1).
 abbrev pub IsRecordTargetRead : Context → PathTree → RecordPathForm → Type 0
-IsRecordTargetRead p tree path = IsRecordPathRead p tree path × MayChange p tree path.object.root
+IsRecordTargetRead p tree path =
+    IsRecordPathRead p tree path × MayChange p tree path.object.root (follows_to path.object.of_record path.object.selectors)
 
--- A path whose object is assigned, read from the input or freed: it may change (5.2, 6.4.1).
+-- A path whose object is assigned, read from the input, freed, or given for a formal parameter of mode `in out`: it may change (5.2, 6.4.1).
 abbrev pub IsTargetRead : Context → PathTree → PathForm → Type 0
-IsTargetRead p tree path = IsPathRead p tree path × MayChange p tree path.root
+IsTargetRead p tree path = IsPathRead p tree path × MayChange p tree path.root (follows_value path.of_record path.selectors)
 
 -- A variable that is given for a formal parameter of mode `in out`, by its name (6.4.1).
 abbrev pub IsVariableRead : Context → PathTree → PathForm → Type 0
 IsVariableRead p tree path = (tree.selectors ≡ []) × IsPathRead p tree path × IsVariableNamed p tree.root.text path.root
+
+-- A component that is given for one (6.4.1): something is selected, and it may change.
+abbrev pub IsComponentRead : Context → PathTree → PathForm → Type 0
+IsComponentRead p tree path = (tree.selectors ≡ [] → ⊥) × IsTargetRead p tree path
 
 -- A path where a value is wanted (4.1): a variable, a loop parameter or a component is read; a lone name may also be that of a number
 -- declaration, whose value it has (3.3.2), or True or False (3.5.3).
@@ -268,8 +273,8 @@ IsGet procedure = library_name procedure.root.text (parts_of procedure.selectors
 abbrev pub IsImage : Ident → Ident → Type 0
 IsImage prefix attribute = (prefix.text ≡ codes "INTEGER") × (attribute.text ≡ codes "IMAGE")
 
--- The actual parameters of a procedure, one for one (6.4.1): each is an expression, null, an access value that a path names, or a variable for a
--- formal parameter of mode `in out`.
+-- The actual parameters of a procedure, one for one (6.4.1): each is an expression, null, an access value that a path names, a record to which one leads,
+-- or, for a formal parameter of mode `in out`, a variable, a component or a record.
 abbrev pub AreActualsRead : Context → List ArgumentTree → List ActualForm → Type 0
 AreActualsRead p [] [] = Unit {0}
 AreActualsRead p (expression_argument e ∷ arguments) (in_value form ∷ forms) = IsExpressionRead p e form × AreActualsRead p arguments forms
@@ -279,6 +284,12 @@ AreActualsRead p (expression_argument (path_expression tree) ∷ arguments) (in_
     IsVariableRead p tree path × AreActualsRead p arguments forms
 AreActualsRead p (expression_argument (path_expression tree) ∷ arguments) (in_out_access path ∷ forms) =
     IsVariableRead p tree path × AreActualsRead p arguments forms
+AreActualsRead p (expression_argument (path_expression tree) ∷ arguments) (in_record path ∷ forms) =
+    IsRecordPathRead p tree path × AreActualsRead p arguments forms
+AreActualsRead p (expression_argument (path_expression tree) ∷ arguments) (in_out_component path ∷ forms) =
+    IsComponentRead p tree path × AreActualsRead p arguments forms
+AreActualsRead p (expression_argument (path_expression tree) ∷ arguments) (in_out_record path ∷ forms) =
+    IsRecordTargetRead p tree path × AreActualsRead p arguments forms
 AreActualsRead p arguments forms = ⊥
 
 -- A call (6.4) of an instance frees what its one actual names, by the access type that the instance is for (13.11.2); a call of Get reads a
@@ -496,12 +507,14 @@ IsRangeRead p name low high x from to =
 abbrev pub in_profile : (around formals : Place) → Place
 in_profile around formals = record (inside around) { here = formals.here }
 
--- What a formal parameter holds has the name that is written (6.1): Integer, Boolean, or an access type.
-abbrev pub IsFormalNamed : Context → List ℕ → VariableKind → Type 0
-IsFormalNamed p text variable.Integer = text ≡ codes "INTEGER"
-IsFormalNamed p text variable.Boolean = text ≡ codes "BOOLEAN"
-IsFormalNamed p text (variable.Access t) = IsAccessNamed p text t.0
-IsFormalNamed p text (variable.Record object) = ⊥
+-- What a formal parameter holds has the name that is written (6.1): Integer, Boolean, an access type, or a record type that is complete there. A record
+-- is known by the type of this number, which so is that of no other object and of no declared type.
+abbrev pub IsFormalNamed : Context → (own : ℕ) → List ℕ → VariableKind → Type 0
+IsFormalNamed p own text variable.Integer = text ≡ codes "INTEGER"
+IsFormalNamed p own text variable.Boolean = text ≡ codes "BOOLEAN"
+IsFormalNamed p own text (variable.Access t) = IsAccessNamed p text t.0
+IsFormalNamed p own text (variable.Record object) =
+    (object.0 ≡ own) × (t : ℕ) × (slice_get p.types own ≡ Some (object_of t)) × IsFullRecordNamed p text t
 
 -- The mode that is written (6.1): `in out`, or `in`, perhaps without the word.
 abbrev pub IsModeRead : FormalTree → FormalMode → Type 0
@@ -509,9 +522,18 @@ IsModeRead f In = f.output ≡ None
 IsModeRead f InOut = (input : Spot) × (output : Spot) × (f.input ≡ Some input) × (f.output ≡ Some output)
 
 -- A formal parameter of a mode is declared: one of mode `in` is a constant (6.2).
-abbrev pub with_new_formal : FormalMode → Ident → Place → Place
-with_new_formal In name place = with_new_constant name place
-with_new_formal InOut name place = with_new_variable name place
+abbrev pub with_named_formal : FormalMode → Ident → Place → Place
+with_named_formal In name place = with_new_constant name place
+with_named_formal InOut name place = with_new_variable name place
+
+-- Behind a formal parameter that is a record the types of the part begin behind the one that it is known by.
+abbrev pub with_own_type : VariableKind → Place → Place
+with_own_type (variable.Record object) place = record place { first_type = place.types + 1; types = place.types + 1 }
+with_own_type other place = place
+
+-- The place once there is a formal parameter of a mode, which holds this.
+abbrev pub with_new_formal : FormalMode → VariableKind → Ident → Place → Place
+with_new_formal mode kind name place = with_named_formal mode name (with_own_type kind place)
 
 -- Formal parameters of a body at a place, up to the last (6.1): each is the next variable, of a new name, and has the mode and the type that are
 -- written.
@@ -521,9 +543,9 @@ AreFormalsRead p around [] (mode ∷ modes) end = ⊥
 AreFormalsRead p around (f ∷ fs) [] end = ⊥
 AreFormalsRead p around (f ∷ fs) (mode ∷ modes) end =
     (kind : VariableKind) × IsNew p.place f.name × IsModeRead f mode ×
-    IsFormalNamed (read_at (in_profile around p.place) p) f.type_name.text kind ×
+    IsFormalNamed (read_at (in_profile around p.place) p) p.place.types f.type_name.text kind ×
     (slice_get p.variables p.place.variables ≡ Some (record { name = f.name.text; spot = f.name.spot; kind = kind; borrows = false })) ×
-    AreFormalsRead (read_at (with_new_formal mode f.name p.place) p) around fs modes end
+    AreFormalsRead (read_at (with_new_formal mode kind f.name p.place) p) around fs modes end
 
 -- What a name means in the body of a procedure, which means this around it: objects of the bodies around are out of reach there (the profile's).
 abbrev pub from_body : Meaning → Meaning
@@ -687,7 +709,8 @@ pub record AreCounted (program : ProgramForm) (end : Place) : Type 0 where
 -- name, literal, operator and text is the one that is written. Types, exceptions and the texts of Put_Line are numbered in the order of the text,
 -- procedures in the order in which their bodies end, and the variables of each body in the order of the text; each has a number of its own. A name
 -- stands for what its innermost declaration declares; a part declares a name once (8.3), no declaration has a predefined one (A.1), a body uses no
--- object of the bodies around, and nothing is written to a loop parameter or a formal parameter of mode `in` (5.5, 6.2).
+-- object of the bodies around, and nothing is written to a loop parameter or a formal parameter of mode `in`, nor to its components at any depth that
+-- are reached without following an access value (5.5, 6.2).
 pub record IsReadAs (tree : UnitTree) (program : ProgramForm) : Type 0 where
   pub own_name : IsNew first_place tree.name
   pub end_name : IsEndName tree.name.text tree.end_name

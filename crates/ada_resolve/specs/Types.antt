@@ -9,7 +9,7 @@ use Rattle.ada_program.specs.declared.program.TypeNo.{TypeNo}
 use Rattle.ada_resolve.specs.declared.fault.NameRule.TheVariants.{WrongType, NotInProfile}
 use Rattle.ada_resolve.specs.declared.scope.Entity.{Entity}
 use Rattle.ada_resolve.specs.declared.scope.Entity.TheVariants as entity
-use Rattle.ada_resolve.specs.Known.{Known, named, declared, visible, missing, new_name_remark, type_begins, is_in_procedure, parts}
+use Rattle.ada_resolve.specs.Known.{Known, named, declared, visible, missing, new_name_remark, type_begins}
 use Rattle.ada_resolve.specs.Remark.{Remark, fine, wrong, ◌also◌, wrong_if}
 
 -- The incomplete type that a name stands for (3.10.1): a type declaration of that name completes it.
@@ -122,11 +122,10 @@ abbrev pub aspect_remark : Option AspectTree → Remark
 aspect_remark (Some aspect) = wrong aspect.spot NotInProfile
 aspect_remark None = fine
 
--- `type A is access T;` (3.10): its name is new or completes such a type, and it designates a record type. None is declared in a procedure yet.
+-- `type A is access T;` (3.10): its name is new or completes such a type, and it designates a record type.
 abbrev pub access_remark : Known → Spot → Ident → Ident → Option AspectTree → Remark
 access_remark known spot name designated aspect =
     type_begins known spot also
-    wrong_if (is_in_procedure (parts known)) spot NotInProfile also
     completion_remark (completed_type known name) known name designated also
     new_unless (completed_type known name) (new_name_remark known name spot) also
     record_remark known designated also

@@ -1,9 +1,9 @@
 -- What the values of the resolver stand for, and how its answers are tied to the definition.
 
-use Rattle.std.specs.Prelude.{◌≡◌, ℕ, List, map, reverse, Option, Some, None, option_map, Result, Ok, Err}
+use Rattle.std.specs.Prelude.{◌≡◌, ℕ, List, [], ◌∷◌, map, reverse, Option, Some, None, option_map, Result, Ok, Err}
 use Rattle.ada_tree.specs.Statements.{UnitTree}
 use Rattle.ada_program.specs.Form.{PathForm, RightForm, StmtForm, StmtsForm, ItemForm, LinksForm, a_link, no_more_links, path_form, record_path_form, expression_form, right_form, item_form, stmt_form, stmts_form, branches_form, condition_form, BranchesForm, ExpressionForm, declaration_form, HandlersForm, handlers_form}
-use Rattle.ada_program.specs.ProgramForm.{VariableForm, body_form, variable_form}
+use Rattle.ada_program.specs.ProgramForm.{TypeForm, VariableForm, body_form, variable_form}
 use Rattle.ada_program.specs.declared.program.Item.{Item}
 use Rattle.ada_program.specs.declared.program.Link.{Link}
 use Rattle.ada_program.specs.declared.program.Path.{Path}
@@ -20,6 +20,7 @@ use Rattle.ada_resolve.specs.declared.fault.NameFault.TheVariants.{Broken, NoMem
 use Rattle.ada_resolve.specs.declared.fault.NameRule.{NameRule}
 use Rattle.ada_resolve.specs.declared.resolver.Resolver.{Resolver}
 use Rattle.ada_resolve.specs.declared.scope.Entity.{Entity}
+use Rattle.ada_resolve.specs.declared.components.KnownType.{KnownType}
 use Rattle.ada_resolve.specs.declared.meant.Meant.{Meant as MeantOf}
 use Rattle.ada_resolve.specs.declared.meant.Meant.TheVariants as meant
 use Rattle.ada_resolve.specs.declared.meant.Comparable.{Comparable as ComparableOf}
@@ -56,9 +57,19 @@ named_of entry = record { text = entry.0.now; entity = entry.1 }
 abbrev pub names_in : List (Bor (List ℕ) × Entity) → List Named
 names_in entries = map named_of entries
 
+-- The type that a formal parameter is known by, where it is a record.
+abbrev pub own_types : Option KnownType → List TypeForm
+own_types (Some own) = known_type_form own ∷ []
+own_types None = []
+
 -- The formal parameters of a procedure, as far as they are looked at.
 abbrev pub formals_in : FormalsOf → Formals
-formals_in f = record { names = names_in f.names.entries; variables = map variable_form f.variables.items; modes = f.modes.items }
+formals_in f = record {
+  names = names_in f.names.entries;
+  variables = map variable_form f.variables.items;
+  modes = f.modes.items;
+  types = map known_type_form f.types.items;
+}
 
 -- The variables of the body around, where there is one.
 abbrev pub optional_variables : Option (Vec Variable) → Option (List VariableForm)

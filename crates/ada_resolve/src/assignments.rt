@@ -53,9 +53,8 @@ impl<'t> Resolver<'t> {
         ensures { Looks target_in result notes (target_look self target.now) }
     {
         let meant = self.path(target, notes)?;
-        let found = target_meant(meant, target.root.spot, notes);
-        self.written(target, notes);
-        Ok(found)
+        self.written(target, &meant, notes);
+        Ok(target_meant(meant, target.root.spot, notes))
     }
 }
 

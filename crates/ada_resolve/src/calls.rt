@@ -161,9 +161,8 @@ impl<'t> Resolver<'t> {
                 let spot = path.root.spot;
                 notes.node(spot);
                 let meant = self.path(path, notes)?;
-                let done = taking(&self.variables, callee, meant, spot, notes);
-                self.written(path, notes);
-                Ok(done)
+                self.written(path, &meant, notes);
+                Ok(taking(&self.variables, callee, meant, spot, notes))
             }
             Expression::Chain { first, links } if links.is_empty() => {
                 self.actual_value(callee, first, notes)

@@ -45,7 +45,7 @@ pub(crate) enum KnownType<'t> {
         name: &'t str,
         designated: TypeNo,
     },
-    /// What one record object is known by (3.3.1), and its record type.
+    /// What one record object or record parameter is known by (3.3.1, 6.2), and its record type.
     Object {
         record: TypeNo,
     },

@@ -1,21 +1,22 @@
 //! Formal parameters of procedures (6.1).
 
-ghost use Rattle.std.specs.Prelude.{◌≡◌, map, OnOk, IfErr};
+ghost use Rattle.std.specs.Prelude.{◌≡◌, map, IfOk, OnOk, IfErr};
 ghost use Rattle.ada_tree.specs.Declarations.{formal_of};
 ghost use Rattle.ada_tree.specs.Names.{ident_of};
 ghost use Rattle.ada_resolve.specs.Known.{named};
 ghost use Rattle.ada_resolve.specs.Look.{Looks, formals_look};
 ghost use Rattle.ada_resolve.specs.Method.{known, IsNoted, Declaring, next_formal_remark, with_next_formal};
-ghost use Rattle.ada_resolve.specs.Procedures.{formal_kind, formal_type, formal_entity, formal_mode, formal_type_wanted, mode_remark, no_formals, with_next};
-ghost use Rattle.ada_resolve.specs.View.{formals_in};
+ghost use Rattle.ada_resolve.specs.Procedures.{formal_kind, formal_type, formal_types, formal_entity, formal_mode, formal_type_wanted, mode_remark, no_formals, known_by, with_next};
+ghost use Rattle.ada_resolve.specs.View.{formals_in, own_types};
 
+use crate::components::KnownType;
 use crate::fault::{NameFault, NameRule};
 use crate::library::{is_primitive, missing_rule};
 use crate::notes::Notes;
 use crate::resolver::Resolver;
 use crate::scope::{Entity, is_taken};
 use ada_program::program::{FormalMode, Variable, VariableKind};
-use ada_program::{Spot, VariableNo};
+use ada_program::{Spot, TypeNo, VariableNo};
 use ada_tree::declarations::Formal;
 use ada_tree::names::Identifier;
 use indexmap::IndexMap;
@@ -29,6 +30,8 @@ pub(crate) struct Formals<'t> {
     pub(crate) variables: Vec<Variable>,
     /// Their modes, in order.
     pub(crate) modes: Vec<FormalMode>,
+    /// The types by which those that are records are known, in order.
+    pub(crate) types: Vec<KnownType<'t>>,
 }
 
 impl<'t> Formals<'t> {
@@ -40,6 +43,7 @@ impl<'t> Formals<'t> {
             names: IndexMap::new(alloc),
             variables: Vec::new(alloc),
             modes: Vec::new(alloc),
+            types: Vec::new(alloc),
         }
     }
 
@@ -51,16 +55,18 @@ impl<'t> Formals<'t> {
         self.names.get(text).copied()
     }
 
-    /// One more of a mode, which holds this.
-    #[tactic(auto, using(crate::proofs::Names::entered_map, crate::proofs::Names::map_snoc, crate::proofs::Names::mapped_length))]
+    /// One more of a mode, which holds this, and is known by this type, where it is a record.
+    #[tactic(auto, using(crate::proofs::Names::entered_map, crate::proofs::Names::map_snoc, crate::proofs::Names::mapped_length, crate::proofs::Names::nothing_behind))]
     fn add(
         &mut self,
         alloc: Global,
         name: Identifier<'t>,
         mode: FormalMode,
         kind: VariableKind,
+        own: Option<KnownType<'t>>,
     ) -> Result<(), NameFault>
-        ensures known { OnOk result (Declaring self (with_next (ident_of name.entry) mode kind)) }
+        ensures known { OnOk result
+            (Declaring self (with_next (ident_of name.entry) mode kind (own_types own.entry))) }
         ensures memory { IfErr result (λ e. e ≡ NameFault.NoMemory) }
     {
         let variable = VariableNo(self.variables.len());
@@ -74,23 +80,25 @@ impl<'t> Formals<'t> {
             borrows: false,
         })?;
         self.modes.push(mode)?;
+        if let Some(own) = own {
+            self.types.push(own)?;
+        }
         Ok(())
     }
 }
 
 impl<'t> Resolver<'t> {
-    /// The formals of a body that begins at the spot.
+    /// The formals of a body.
     pub(crate) fn formals(
         &self,
-        first: Spot,
         formals: &[Formal<'t>],
         notes: &mut Notes,
     ) -> Result<Formals<'t>, NameFault>
-        ensures { Looks formals_in result notes (formals_look self first formals.now) }
+        ensures { Looks formals_in result notes (formals_look self formals.now) }
     {
         let mut made = Formals::new(self.alloc);
         for formal in formals {
-            self.formal(first, *formal, &mut made, notes)?;
+            self.formal(*formal, &mut made, notes)?;
         }
         Ok(made)
     }
@@ -99,13 +107,12 @@ impl<'t> Resolver<'t> {
     #[tactic(auto, unfolding(crate::specs::Procedures::formal_remark, crate::specs::Procedures::with_formal))]
     fn formal(
         &self,
-        first: Spot,
         formal: Formal<'t>,
         before: &mut Formals<'t>,
         notes: &mut Notes,
     ) -> Result<(), NameFault>
         ensures known { OnOk result (Declaring before (with_next_formal self formal.entry)) }
-        ensures remark { OnOk result (IsNoted notes (next_formal_remark self first before formal.entry)) }
+        ensures remark { OnOk result (IsNoted notes (next_formal_remark self before formal.entry)) }
         ensures memory { IfErr result (λ e. e ≡ NameFault.NoMemory) }
     {
         let name = formal.name;
@@ -119,9 +126,20 @@ impl<'t> Resolver<'t> {
         notes.note_if(is_primitive(name.text), name.spot, NameRule::NotInProfile);
         mode_remark(formal.input, formal.output, notes);
         let found = self.formal_type(before, formal.type_name);
-        formal_type_wanted(found, first, formal.type_name, notes);
+        formal_type_wanted(found, formal.type_name, notes);
         let mode = formal_mode(formal.input, formal.output);
-        before.add(self.alloc, name, mode, formal_kind(found))
+        let kind = formal_kind(self.known_by(before)?, found);
+        before.add(self.alloc, name, mode, kind, formal_types(found))
+    }
+
+    /// The number of the type by which the next formal is known, if it is a record.
+    #[tactic(auto, unfolding(crate::specs::View::known_of), using(crate::proofs::Names::mapped_length))]
+    fn known_by(&self, before: &Formals<'t>) -> Result<TypeNo, NameFault>
+        ensures number { IfOk result (λ t. t ≡ known_by (known self) (formals_in before.now)) }
+        ensures memory { IfErr result (λ e. e ≡ NameFault.NoMemory) }
+    {
+        let number = self.types.len().checked_add(before.types.len());
+        Ok(TypeNo(number.ok_or(NameFault::NoMemory)?))
     }
 
     /// What the type's name of a formal stands for: the formals before it are visible.
@@ -164,25 +182,35 @@ fn formal_entity(mode: FormalMode, variable: VariableNo, kind: VariableKind) -> 
     }
 }
 
-/// A type is wanted that is complete, in a body that begins at the spot: record types are not in use.
-fn formal_type_wanted(found: Option<Entity>, first: Spot, name: Identifier<'_>, notes: &mut Notes)
-    ensures { IsNoted notes (formal_type_wanted found first (ident_of name.entry)) }
+/// A type is wanted that is complete.
+fn formal_type_wanted(found: Option<Entity>, name: Identifier<'_>, notes: &mut Notes)
+    ensures { IsNoted notes (formal_type_wanted found (ident_of name.entry)) }
 {
     match found {
-        Some(Entity::Integer | Entity::Boolean | Entity::Access(_)) => {}
-        Some(Entity::Record { .. }) => notes.note(first, NameRule::NotInProfile),
+        Some(Entity::Integer | Entity::Boolean | Entity::Access(_) | Entity::Record { .. }) => {}
         Some(_) => notes.note(name.spot, NameRule::WrongType),
         None => notes.note(name.spot, missing_rule(name.text)),
     }
 }
 
-/// What a formal of a type holds: an Integer, where something is wrong.
-fn formal_kind(found: Option<Entity>) -> VariableKind
-    ensures { result ≡ formal_kind found }
+/// What a formal of a type holds: an Integer, where something is wrong. One that is a record is known by a type of this number.
+fn formal_kind(own: TypeNo, found: Option<Entity>) -> VariableKind
+    ensures { result ≡ formal_kind own found }
 {
     match found {
         Some(Entity::Boolean) => VariableKind::Boolean,
         Some(Entity::Access(access)) => VariableKind::Access(access),
+        Some(Entity::Record { .. }) => VariableKind::Record(own),
         _ => VariableKind::Integer,
+    }
+}
+
+/// The type by which a formal of a type is known, where that is a record.
+fn formal_types<'t>(found: Option<Entity>) -> Option<KnownType<'t>>
+    ensures { own_types result ≡ formal_types found }
+{
+    match found {
+        Some(Entity::Record { number, size: _ }) => Some(KnownType::Object { record: number }),
+        _ => None,
     }
 }

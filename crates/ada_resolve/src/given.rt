@@ -1,24 +1,26 @@
 //! The actual parameters of calls of procedures (6.4.1).
 
 ghost use Rattle.std.specs.Prelude.{◌≡◌, pos, take, IfErr};
-ghost use Rattle.ada_program.specs.Form.{actual_form, expression_form, in_value, integer, path_form};
-ghost use Rattle.ada_program.specs.Kept.{variables_in};
-ghost use Rattle.ada_resolve.specs.Actuals.{alone_wanted, first_mode, given_value, given_variable, kind_wanted, other_modes, variable_wanted};
+ghost use Rattle.ada_tree.specs.ExpressionView.{expression_of};
+ghost use Rattle.ada_program.specs.Form.{actual_form, expression_form, in_out_access, in_out_component, in_out_path, in_value, integer, path_form};
+ghost use Rattle.ada_resolve.specs.Actuals.{first_mode, given_read, given_value, given_variable, is_path, kind_wanted, other_modes, path_wanted, reference_wanted, variable_or_component, variable_wanted};
+ghost use Rattle.ada_resolve.specs.Assignments.{read_wanted};
 ghost use Rattle.ada_resolve.specs.Look.{Looks, actuals_look, given_look, given_variable_look, procedure_call_look, profile_look};
-ghost use Rattle.ada_resolve.specs.Method.{each, IsNoted, Remarks, too_many_remark};
-ghost use Rattle.ada_resolve.specs.Paths.{boolean_value, integer_value};
+ghost use Rattle.ada_resolve.specs.Method.{known, each, IsNoted, Remarks, too_many_remark};
+ghost use Rattle.ada_resolve.specs.Paths.{record_of_object};
 ghost use Rattle.ada_resolve.specs.View.{meant_of, stmt_in};
 
 use crate::arguments::none_wanted;
 use crate::fault::{NameFault, NameRule};
 use crate::meant::Meant;
 use crate::notes::Notes;
+use crate::paths::is_record_kind;
 use crate::resolver::Resolver;
 use crate::spots::{argument_spot, expression_spot};
-use ada_program::Spot;
 use ada_program::program::{
     Actual, Expression, FormalMode, Path, ProcedureNo, Stmt, Variable, VariableKind,
 };
+use ada_program::{Spot, TypeNo};
 use ada_tree::expressions::{Argument, Expression as Value};
 
 impl<'t> Resolver<'t> {
@@ -109,7 +111,8 @@ impl<'t> Resolver<'t> {
         match (mode, argument) {
             (FormalMode::In, Argument::Expression(value)) => {
                 let meant = self.expression(value, notes)?;
-                kind_wanted(&self.variables, kind, &meant, expression_spot(value), notes);
+                self.kind_wanted(kind, &meant, expression_spot(value), notes);
+                path_wanted(kind, value, notes);
                 Ok(given_value(meant))
             }
             (FormalMode::InOut, Argument::Expression(value)) => {
@@ -138,8 +141,8 @@ impl<'t> Resolver<'t> {
                 let spot = path.root.spot;
                 notes.node(spot);
                 let meant = self.path(path, notes)?;
-                variable_wanted(&self.variables, kind, &meant, spot, notes);
-                self.written(path, notes);
+                self.variable_wanted(kind, &meant, spot, notes);
+                self.written(path, &meant, notes);
                 Ok(given_variable(meant))
             }
             Value::Chain { first, links } if links.is_empty() => {
@@ -154,6 +157,59 @@ impl<'t> Resolver<'t> {
                 self.no_path(value, notes)?;
                 Ok(no_actual())
             }
+        }
+    }
+
+    /// A value of what a formal parameter holds is wanted, where the meaning is known.
+    #[tactic(auto, unfolding(crate::specs::View::known_of))]
+    fn kind_wanted(&self, kind: VariableKind, meant: &Meant, spot: Spot, notes: &mut Notes)
+        ensures { let found = known self in
+            IsNoted notes (kind_wanted found.types found.variables kind (meant_of meant.now) spot) }
+    {
+        match kind {
+            VariableKind::Integer => meant.integer_wanted(spot, notes),
+            VariableKind::Boolean => meant.boolean_wanted(spot, notes),
+            VariableKind::Access(access) => {
+                meant.access_wanted(access, spot, notes);
+                meant.owner_wanted(&self.variables, spot, notes);
+            }
+            VariableKind::Record(object) => self.reference_wanted(object, meant, spot, notes),
+        }
+    }
+
+    /// A record of the type is wanted that a formal parameter has which is known by this type.
+    fn reference_wanted(&self, object: TypeNo, meant: &Meant, spot: Spot, notes: &mut Notes)
+        ensures { let wanted = record_of_object (known self).types object.0 in
+            IsNoted notes (reference_wanted wanted (meant_of meant.now) spot) }
+    {
+        match (self.record_of_object(object), meant) {
+            (Some(_), Meant::Unknown) => {}
+            (Some(record), Meant::Record(path)) => {
+                notes.note_if(record.0 != path.record.0, spot, NameRule::WrongType);
+            }
+            (Some(_), _) => notes.note(spot, NameRule::WrongType),
+            (None, _) => notes.note(spot, NameRule::NotInProfile),
+        }
+    }
+
+    /// A variable, a component or a record is wanted that holds this, for a formal parameter of mode `in out`.
+    #[tactic(auto, unfolding(crate::specs::View::known_of))]
+    fn variable_wanted(&self, kind: VariableKind, meant: &Meant, spot: Spot, notes: &mut Notes)
+        ensures { let found = known self in
+            IsNoted notes (variable_wanted found.types found.variables kind (meant_of meant.now) spot) }
+    {
+        match (kind, meant) {
+            (_, Meant::Unknown) => {}
+            (VariableKind::Integer, Meant::Integer(value))
+            | (VariableKind::Boolean, Meant::Boolean(value)) => read_wanted(value, spot, notes),
+            (VariableKind::Access(access), Meant::Access(_, _)) => {
+                meant.access_wanted(access, spot, notes);
+                meant.owner_wanted(&self.variables, spot, notes);
+            }
+            (VariableKind::Record(object), Meant::Record(_)) => {
+                self.reference_wanted(object, meant, spot, notes);
+            }
+            _ => notes.note(spot, NameRule::WrongType),
         }
     }
 }
@@ -186,7 +242,7 @@ fn no_actual() -> Actual
     Actual::In(Expression::Integer(0))
 }
 
-/// The value that a formal parameter of mode `in` gets; 0 where something is wrong.
+/// What a formal parameter of mode `in` gets; 0 where something is wrong.
 #[tactic(auto, using(std::proofs::lemmas::Grind::common_steps, ada_program::specs::Form::expression_rules))]
 fn given_value(meant: Meant) -> Actual
     ensures { actual_form result ≡ given_value (meant_of meant) }
@@ -194,29 +250,30 @@ fn given_value(meant: Meant) -> Actual
     match meant {
         Meant::Null => Actual::InNull,
         Meant::Access(path, _) => Actual::InAccess(path),
+        Meant::Record(path) => Actual::InRecord(path),
         _ => Actual::In(meant.into_scalar()),
     }
 }
 
-/// The variable for which a formal parameter of mode `in out` stands; 0 where something is wrong.
+/// What a formal parameter of mode `in out` stands for; 0 where something is wrong.
 fn given_variable(meant: Meant) -> Actual
     ensures { actual_form result ≡ given_variable (meant_of meant) }
 {
     match meant {
-        Meant::Integer(value) | Meant::Boolean(value) => given_path(value),
-        Meant::Access(path, _) => Actual::InOutAccess(path),
+        Meant::Integer(value) | Meant::Boolean(value) => given_read(value),
+        Meant::Access(path, _) => given_access(path),
+        Meant::Record(path) => Actual::InOutRecord(path),
         _ => no_actual(),
     }
 }
 
-/// The variable whose value this is; 0 where it isn't that of a variable.
+/// The Integer or Boolean variable, or the component, whose value this is; 0 where it is that of neither.
 #[tactic(auto, using(std::proofs::lemmas::Grind::common_steps, ada_program::specs::Form::expression_rules))]
-fn given_path(value: Expression) -> Actual
-    ensures integer { actual_form result ≡ given_variable (integer_value (expression_form value)) }
-    ensures boolean { actual_form result ≡ given_variable (boolean_value (expression_form value)) }
+fn given_read(value: Expression) -> Actual
+    ensures { actual_form result ≡ given_read (expression_form value) }
 {
     match value {
-        Expression::Path(path) => Actual::InOut(path),
+        Expression::Path(path) => given_scalar(path),
         Expression::Integer(_)
         | Expression::Boolean(_)
         | Expression::NullTest { .. }
@@ -225,41 +282,13 @@ fn given_path(value: Expression) -> Actual
     }
 }
 
-/// A variable is wanted that holds this, for a formal parameter of mode `in out`.
-fn variable_wanted(
-    variables: &[Variable],
-    kind: VariableKind,
-    meant: &Meant,
-    spot: Spot,
-    notes: &mut Notes,
-)
-    ensures { IsNoted notes (variable_wanted (variables_in variables.now) kind (meant_of meant.now) spot) }
-{
-    match (kind, meant) {
-        (_, Meant::Unknown) => {}
-        (VariableKind::Integer, Meant::Integer(value))
-        | (VariableKind::Boolean, Meant::Boolean(value)) => path_wanted(
-            variables, value, spot, notes,
-        ),
-        (VariableKind::Access(access), Meant::Access(path, _)) => {
-            meant.access_wanted(access, spot, notes);
-            meant.owner_wanted(variables, spot, notes);
-            alone_wanted(path, spot, notes);
-        }
-        _ => notes.note(spot, NameRule::WrongType),
-    }
-}
-
-/// The value, of the type that is wanted, is that of a variable alone.
+/// What is read somewhere is wanted: a path names it.
 #[tactic(auto, using(std::proofs::lemmas::Grind::common_steps, ada_program::specs::Form::expression_rules))]
-fn path_wanted(variables: &[Variable], value: &Expression, spot: Spot, notes: &mut Notes)
-    ensures integer { let found = integer_value (expression_form value.now) in
-        IsNoted notes (variable_wanted (variables_in variables.now) VariableKind.Integer found spot) }
-    ensures boolean { let found = boolean_value (expression_form value.now) in
-        IsNoted notes (variable_wanted (variables_in variables.now) VariableKind.Boolean found spot) }
+fn read_wanted(value: &Expression, spot: Spot, notes: &mut Notes)
+    ensures { IsNoted notes (read_wanted (expression_form value.now) spot) }
 {
     match value {
-        Expression::Path(path) => alone_wanted(path, spot, notes),
+        Expression::Path(_) => {}
         Expression::Integer(_)
         | Expression::Boolean(_)
         | Expression::NullTest { .. }
@@ -268,11 +297,53 @@ fn path_wanted(variables: &[Variable], value: &Expression, spot: Spot, notes: &m
     }
 }
 
-/// No component is given to a formal parameter of mode `in out` yet.
-fn alone_wanted(path: &Path, spot: Spot, notes: &mut Notes)
-    ensures { IsNoted notes (alone_wanted (path_form path.now).selectors spot) }
+/// The Integer or Boolean variable, or the component, to which a path leads.
+fn given_scalar(path: Path) -> Actual
+    ensures { let given = path_form path in
+        actual_form result ≡ variable_or_component (in_out_path given) (in_out_component given) given.selectors }
 {
-    notes.note_if(!path.selectors.is_empty(), spot, NameRule::NotInProfile);
+    if path.selectors.is_empty() {
+        Actual::InOut(path)
+    } else {
+        Actual::InOutComponent(path)
+    }
+}
+
+/// The variable or the component of an access type to which a path leads.
+fn given_access(path: Path) -> Actual
+    ensures { let given = path_form path in
+        actual_form result ≡ variable_or_component (in_out_access given) (in_out_component given) given.selectors }
+{
+    if path.selectors.is_empty() {
+        Actual::InOutAccess(path)
+    } else {
+        Actual::InOutComponent(path)
+    }
+}
+
+/// A record is passed by reference: a path leads to it.
+fn path_wanted(kind: VariableKind, value: &Value<'_>, notes: &mut Notes)
+    ensures { IsNoted notes (path_wanted kind (expression_of value.now)) }
+{
+    let is_wrong = is_record_kind(kind) && !is_path(value);
+    notes.note_if(is_wrong, expression_spot(value), NameRule::WrongType);
+}
+
+/// Whether an expression is a path, without parentheses.
+#[tactic(auto, using(std::proofs::lemmas::Grind::common_steps, ada_tree::specs::ExpressionView::tree_rules, crate::proofs::Actuals::linked_path))]
+fn is_path(value: &Value<'_>) -> bool
+    ensures { result ≡ is_path (expression_of value.now) }
+{
+    match value {
+        Value::Path(_) => true,
+        Value::Chain { first, links } if links.is_empty() => is_path(first),
+        Value::Number { .. }
+        | Value::Null(_)
+        | Value::Aggregate { .. }
+        | Value::Enclosed { .. }
+        | Value::Unary { .. }
+        | Value::Chain { .. } => false,
+    }
 }
 
 /// The first of some variables, up to a count.
@@ -284,26 +355,5 @@ fn first_variables(variables: &[Variable], count: usize) -> &[Variable]
         &variables[..count]
     } else {
         variables
-    }
-}
-
-/// A value of what a formal parameter holds is wanted, where the meaning is known.
-fn kind_wanted(
-    variables: &[Variable],
-    kind: VariableKind,
-    meant: &Meant,
-    spot: Spot,
-    notes: &mut Notes,
-)
-    ensures { IsNoted notes (kind_wanted (variables_in variables.now) kind (meant_of meant.now) spot) }
-{
-    match kind {
-        VariableKind::Integer => meant.integer_wanted(spot, notes),
-        VariableKind::Boolean => meant.boolean_wanted(spot, notes),
-        VariableKind::Access(access) => {
-            meant.access_wanted(access, spot, notes);
-            meant.owner_wanted(variables, spot, notes);
-        }
-        VariableKind::Record(_) => notes.note(spot, NameRule::NotInProfile),
     }
 }

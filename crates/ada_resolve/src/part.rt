@@ -5,7 +5,7 @@ ghost use Rattle.ada_program.specs.Form.{collects, declares, declares_record, de
 ghost use Rattle.ada_program.specs.Kept.{variables_in};
 ghost use Rattle.ada_program.specs.ProgramForm.{variable_form};
 ghost use Rattle.ada_resolve.specs.Instances.{is_collected};
-ghost use Rattle.ada_resolve.specs.Known.{formals_of, from_part, from_within, is_in_procedure, named, named_in, own_names, part_from, role_of};
+ghost use Rattle.ada_resolve.specs.Known.{formals_of, from_part, from_within, named, named_in, own_names, part_from, role_of};
 ghost use Rattle.ada_resolve.specs.Method.{each, part_of_body, Elaborates, Enters};
 ghost use Rattle.ada_resolve.specs.Paths.{is_incomplete_entity, is_incomplete_in};
 ghost use Rattle.ada_resolve.specs.Resolution.{some_incomplete, entity_in};
@@ -128,7 +128,7 @@ impl<'t> Part<'t> {
 
     /// Whether it is that of a procedure's body.
     #[tactic(auto, unfolding(crate::specs::View::part_of))]
-    pub(crate) fn is_of_body(&self) -> bool
+    fn is_of_body(&self) -> bool
         ensures { result ≡ is_some (part_of self.now).around }
     {
         self.around.is_some()
@@ -304,17 +304,6 @@ fn role_of(borrows: bool) -> Role
         Role::Borrower
     } else {
         Role::Variable
-    }
-}
-
-/// Whether one of these parts is that of a procedure's body; the last of them is the innermost.
-#[tactic(auto, using(crate::proofs::Names::reversed_snoc))]
-pub(crate) fn is_in_procedure(parts: &[Part<'_>]) -> bool
-    ensures { result ≡ is_in_procedure (reverse (map part_of parts.now)) }
-{
-    match parts.split_last() {
-        Some((inner, outer)) => inner.is_of_body() || is_in_procedure(outer),
-        None => false,
     }
 }
 

@@ -2,12 +2,12 @@
 
 ghost use Rattle.std.specs.Prelude.{◌≡◌, map, slice_get, option_copied, IfErr};
 ghost use Rattle.ada_tree.specs.Names.{ident_of, selector_of};
-ghost use Rattle.ada_program.specs.Form.{path_form};
+ghost use Rattle.ada_program.specs.Form.{expression_form, path_form};
 ghost use Rattle.ada_resolve.specs.Kept.{forms_in, kinds_in};
 ghost use Rattle.ada_resolve.specs.Known.{next_variable, parts_of};
 ghost use Rattle.ada_resolve.specs.Look.{Looks, library_path_look, named_look, outer_look, path_look, variable_look};
 ghost use Rattle.ada_resolve.specs.Method.{known, Finds, IsNoted, each, path_written_remark};
-ghost use Rattle.ada_resolve.specs.Paths.{component_named, constant_wanted, components_of, designated_of, elementary_of, is_incomplete_type, is_record_kind, lent_by, name_of_type, reached_meant, record_of_object, variable_reached};
+ghost use Rattle.ada_resolve.specs.Paths.{component_named, constant_read, constant_wanted, components_of, designated_of, elementary_of, follows_to, follows_value, is_incomplete_type, is_record_kind, lent_by, name_of_type, reached_meant, record_of_object, variable_reached};
 ghost use Rattle.ada_resolve.specs.View.{meant_of, optional_number, itself};
 
 use crate::components::{Components, KnownComponent, KnownType};
@@ -67,19 +67,19 @@ impl<'t> Resolver<'t> {
         }
     }
 
-    /// What is written to is no constant, with what is selected from it.
-    pub(crate) fn written(&self, path: &Path<'t>, notes: &mut Notes)
-        ensures { IsNoted notes (path_written_remark self path.now) }
+    /// What is written to, which means this, is no constant, with what is selected from it.
+    pub(crate) fn written(&self, path: &Path<'t>, meant: &Meant, notes: &mut Notes)
+        ensures { IsNoted notes (path_written_remark self path.now (meant_of meant.now)) }
     {
         if let Some(
-            Entity::Parameter { kind, .. }
+            Entity::Parameter { .. }
             | Entity::Outer {
-                kind,
                 role: Role::Constant,
+                ..
             },
         ) = self.visible(path.root.text)
         {
-            constant_wanted(kind, &path.selectors, path.root.spot, notes);
+            constant_wanted(meant, path.root.spot, notes);
         }
     }
 
@@ -152,9 +152,9 @@ impl<'t> Resolver<'t> {
         Reached::Value(kind)
     }
 
-    /// The record type of the record object that is known by a type.
+    /// The record type of the record object or parameter that is known by a type.
     #[tactic(auto, unfolding(crate::specs::View::known_of, crate::specs::Paths::record_of_object), using(crate::proofs::Names::map_get))]
-    fn record_of_object(&self, object: TypeNo) -> Option<TypeNo>
+    pub(crate) fn record_of_object(&self, object: TypeNo) -> Option<TypeNo>
         ensures { optional_number result ≡ record_of_object (known self).types object.0 }
     {
         match self.types.get(object.0) {
@@ -284,14 +284,57 @@ fn reached_meant(reached: Reached, path: program::Path) -> Meant
     }
 }
 
-/// Nothing is written to a constant that holds this, but to what its access value gives access to.
-fn constant_wanted(kind: VariableKind, selectors: &[Selector<'_>], spot: Spot, notes: &mut Notes)
-    ensures { IsNoted notes (constant_wanted kind (map selector_of selectors.now) spot) }
+/// Nothing is written to a constant, nor to a component of one, but to what an access value gives access to.
+fn constant_wanted(meant: &Meant, spot: Spot, notes: &mut Notes)
+    ensures { IsNoted notes (constant_wanted (meant_of meant.now) spot) }
 {
-    match (kind, selectors) {
-        (VariableKind::Access(_), [_, ..]) => {}
-        _ => notes.note(spot, NameRule::WrongType),
+    match meant {
+        Meant::Integer(value) | Meant::Boolean(value) => constant_read(value, spot, notes),
+        Meant::Access(path, _) => {
+            notes.note_if(!follows_value(path), spot, NameRule::WrongType);
+        }
+        Meant::Record(path) => {
+            notes.note_if(!follows_to(&path.object), spot, NameRule::WrongType);
+        }
+        Meant::Unknown | Meant::Null | Meant::Aggregate(_, _) | Meant::Lent(_) => {}
     }
+}
+
+/// The value of a constant, or of a component of one, is not written.
+#[tactic(auto, using(std::proofs::lemmas::Grind::common_steps, ada_program::specs::Form::expression_rules))]
+fn constant_read(value: &Expression, spot: Spot, notes: &mut Notes)
+    ensures { IsNoted notes (constant_read (expression_form value.now) spot) }
+{
+    match value {
+        Expression::Path(path) => {
+            notes.note_if(!follows_value(path), spot, NameRule::WrongType);
+        }
+        Expression::Integer(_)
+        | Expression::Boolean(_)
+        | Expression::NullTest { .. }
+        | Expression::Unary { .. }
+        | Expression::Chain { .. } => {}
+    }
+}
+
+/// Whether a path to a value follows an access value on its way: the first component of a record object is its own.
+fn follows_value(path: &program::Path) -> bool
+    ensures { let followed = path_form path.now in
+        result ≡ follows_value followed.of_record followed.selectors }
+{
+    match path.selectors.as_slice() {
+        [] => false,
+        [_] => !path.of_record,
+        _ => true,
+    }
+}
+
+/// Whether a path to an object follows an access value: the object is not the record object with which the path begins.
+fn follows_to(path: &program::Path) -> bool
+    ensures { let followed = path_form path.now in
+        result ≡ follows_to followed.of_record followed.selectors }
+{
+    !path.of_record || !path.selectors.is_empty()
 }
 
 /// What a borrower of a body around holds.
@@ -304,8 +347,8 @@ fn lent_by(kind: VariableKind) -> Meant
     }
 }
 
-/// Whether a variable is a record object.
-fn is_record_kind(kind: VariableKind) -> bool
+/// Whether a variable is a record object or parameter.
+pub(crate) fn is_record_kind(kind: VariableKind) -> bool
     ensures { result ≡ is_record_kind kind }
 {
     matches!(kind, VariableKind::Record(_))

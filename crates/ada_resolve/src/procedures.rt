@@ -43,7 +43,7 @@ impl<'t> Resolver<'t> {
         notes.node(first);
         notes.note_if(!self.no_object_yet(), first, NameRule::Layout);
         no_overriding(head.overriding, notes);
-        let formals = self.formals(first, &head.formals, notes)?;
+        let formals = self.formals(&head.formals, notes)?;
         self.new_name(head.name, first, notes);
         notes.settle()?;
         self.begin_body(head.name, formals)

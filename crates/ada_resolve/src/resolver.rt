@@ -4,7 +4,7 @@ ghost use Rattle.std.specs.Prelude.{◌≡◌, map, length, IfOk, OnOk, IfErr, b
 ghost use Rattle.ada_tree.specs.Names.{ident_of};
 ghost use Rattle.ada_program.specs.Form.{declaration_form};
 ghost use Rattle.ada_program.specs.ProgramForm.{body_form, variable_form};
-ghost use Rattle.ada_resolve.specs.Known.{named, named_in, next_part, no_body_yet, own_names, is_in_procedure, parts, declared, visible, name_remark, new_name_remark, library_remark, library_found, is_with, no_variable_yet, outermost, type_begins, types_go_on, with_part, without_part};
+ghost use Rattle.ada_resolve.specs.Known.{named, named_in, next_part, no_body_yet, own_names, parts, declared, visible, name_remark, new_name_remark, library_remark, library_found, is_with, no_variable_yet, outermost, type_begins, types_go_on, with_part, without_part};
 ghost use Rattle.ada_resolve.specs.Method.{at_work_again, known, each, IsNoted, Changes, with_type, without_body_of};
 ghost use Rattle.ada_resolve.specs.Procedures.{with_body, with_procedure};
 ghost use Rattle.ada_resolve.specs.Resolution.{known_first};
@@ -15,7 +15,7 @@ use crate::fault::{NameFault, NameRule};
 use crate::formals::Formals;
 use crate::library::{LibraryName, Withs, is_primitive, library_name, missing_rule};
 use crate::notes::Notes;
-use crate::part::{Contents, Part, is_in_procedure, named_in};
+use crate::part::{Contents, Part, named_in};
 use crate::procedures::Sequence;
 use crate::scope::{Entity, is_taken, predefined};
 use ada_program::program::{Declaration, Procedure, Variable};
@@ -126,7 +126,9 @@ impl<'t> Resolver<'t> {
             names,
             variables,
             modes,
+            mut types,
         } = formals;
+        self.types.append(&mut types)?;
         let first = variables.len();
         let around = mem::replace(&mut self.variables, variables);
         let inner = Part::of_body(
@@ -214,14 +216,6 @@ impl<'t> Resolver<'t> {
         ensures { result ≡ own_names (known self).here }
     {
         self.here.own_names()
-    }
-
-    /// Whether the place is in a procedure's body.
-    #[tactic(auto, unfolding(crate::specs::View::known_of))]
-    pub(crate) fn is_in_procedure(&self) -> bool
-        ensures { result ≡ is_in_procedure (parts (known self)) }
-    {
-        self.here.is_of_body() || is_in_procedure(&self.outer)
     }
 
     /// Whether it is the main procedure's name.

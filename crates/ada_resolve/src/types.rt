@@ -51,7 +51,6 @@ impl<'t> Resolver<'t> {
             (access_tree spot name.entry designated.entry aspect.entry) }
     {
         self.type_begins(spot, notes);
-        notes.note_if(self.is_in_procedure(), spot, NameRule::NotInProfile);
         let completes = self.completed_type(name);
         self.completion(completes, name, designated, notes);
         self.new_unless(completes, name, spot, notes);

@@ -237,20 +237,20 @@ outlived program well nest input events last run o x c target listed names =
     ]
 
 -- Which access type a name belongs to that a component holds.
-kind_named : (cells : Cells) (kind : ComponentKind) (p : Id) → HasKind cells (held_kind kind) (Names p) → (target : TypeNo) × (held_kind kind ≡ variable.Access target) × Designates cells target.0 p
-kind_named cells (component.Integer initial) p has = absurd has
-kind_named cells (component.Boolean initial) p has = absurd has
-kind_named cells (component.Access access) p has = (access, refl, has)
+kind_named : (types : List TypeForm) (cells : Cells) (kind : ComponentKind) (p : Id) → HasKind types cells (held_kind kind) (Names p) → (target : TypeNo) × (held_kind kind ≡ variable.Access target) × Designates cells target.0 p
+kind_named types cells (component.Integer initial) p has = absurd has
+kind_named types cells (component.Boolean initial) p has = absurd has
+kind_named types cells (component.Access access) p has = (access, refl, has)
 
-component_named : (cells : Cells) (cs : List ComponentKind) (vs : List Value) (c : ℕ) (p : Id) → HaveKinds cells cs vs → slice_get vs c ≡ Some (Names p) → (target : TypeNo) × (component_kind (slice_get cs c) ≡ Some (variable.Access target)) × Designates cells target.0 p
-component_named cells [] [] c p have is = absurd (cc)
-component_named cells [] (v ∷ vs) c p have is = absurd have
-component_named cells (k ∷ cs) [] c p have is = absurd have
-component_named cells (k ∷ cs) (v ∷ vs) zero p have is =
+component_named : (types : List TypeForm) (cells : Cells) (cs : List ComponentKind) (vs : List Value) (c : ℕ) (p : Id) → HaveKinds types cells cs vs → slice_get vs c ≡ Some (Names p) → (target : TypeNo) × (component_kind (slice_get cs c) ≡ Some (variable.Access target)) × Designates cells target.0 p
+component_named types cells [] [] c p have is = absurd (cc)
+component_named types cells [] (v ∷ vs) c p have is = absurd have
+component_named types cells (k ∷ cs) [] c p have is = absurd have
+component_named types cells (k ∷ cs) (v ∷ vs) zero p have is =
     let same : v ≡ Names p = cc in
-    let named = kind_named cells k p (subst (λ (w : Value). HasKind cells (held_kind k) w) same have.0) in
+    let named = kind_named types cells k p (subst (λ (w : Value). HasKind types cells (held_kind k) w) same have.0) in
     (named.0, ap Some named.1, named.2)
-component_named cells (k ∷ cs) (v ∷ vs) (suc c) p have is = component_named cells cs vs c p have.1 is
+component_named types cells (k ∷ cs) (v ∷ vs) (suc c) p have is = component_named types cells cs vs c p have.1 is
 
 -- The one collection of its type is where what is named lies.
 not_twice : (types : List TypeForm) (access m : ℕ) (x : Master) (ms : List Master) (le : ℕ) → ItemsFit types x.items → is_access types access ≡ true → le ≤ times access (all_of (scopes ms)) → 1 ≤ le → Lone (scopes (x ∷ ms)) → HasItem m access x.items → ⊥
@@ -303,7 +303,7 @@ held_outside program s scoped kinds holder held holds =
     let listed = holds.3 in
     let own = holds.4 in
     let filled = kinds o holder listed.0 in
-    let named = component_named (cells_of s.heap) filled.0 holder.cell.values holds.2 p filled.2 holds.5 in
+    let named = component_named types (cells_of s.heap) filled.0 holder.cell.values holds.2 p filled.2 holds.5 in
     let names : HoldsNames types holder.cell.access holds.2 named.0 = ap (λ (found : Option (List ComponentKind)). kind_among found holds.2) filled.1 ∙ named.1 in
     let here : slice_get (cells_of s.heap) p.0 ≡ Some held.cell = cell_at s.heap p.0 held own.0 in
     let twice : Some named.2.0 ≡ Some held.cell = sym named.2.1 ∙ here in

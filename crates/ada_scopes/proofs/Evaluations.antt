@@ -3,7 +3,7 @@
 use Rattle.std.proofs.Common.{◌≡◌, ℕ, ◌<◌, ◌+◌, Bool, true, false, if◌then◌else◌, List, [], ◌∷◌, Option, Some, None, Result, Ok, Err, refl}
 use Rattle.std.specs.List.{slice_get}
 use Rattle.ada_program.specs.declared.program.TypeDefinition.{TypeDefinition}
-use Rattle.ada_program.specs.Form.{ExpressionForm, integer, boolean, reads, is_null, applied_to, chained, LinksForm, no_more_links, a_link, ItemForm, null_item, item_of_path, item_of_value, item_of_record, RightForm, nothing, value_of, allocates, allocates_default, computes}
+use Rattle.ada_program.specs.Form.{RecordPathForm, ExpressionForm, integer, boolean, reads, is_null, applied_to, chained, LinksForm, no_more_links, a_link, ItemForm, null_item, item_of_path, item_of_value, item_of_record, RightForm, nothing, value_of, allocates, allocates_default, computes}
 use Rattle.ada_program.specs.ProgramForm.{TypeForm}
 use Rattle.ada_program.specs.Nested.{Callees}
 use Rattle.ada_values.specs.declared.operator.BinaryOperator.{BinaryOperator}
@@ -19,8 +19,8 @@ use Rattle.ada_meaning.specs.Frame.{Frame, is_master, is_loop, is_return, Landin
 use Rattle.ada_meaning.specs.Frame as frame
 use Rattle.ada_meaning.specs.State.{home_of}
 use Rattle.ada_meaning.specs.Heap.{Cell, Found, on_null, on_gone, on_other, finds}
-use Rattle.ada_meaning.specs.Step.{halts, moves, tells, asks, picks, at, held, newest, reading, component_next, follow_next, path_next, expression_next, null_test_next, is_decided, link_next, links_next, outcome_next, item_next, items_next, copied_next, copies_next, newest_ones, without_newest, record_in, record_target_next, stored_from, record_stored_next, store_record_next, new_cell, answered, new_next, right_next, free_next, end_next, same_pool, told_back, given_back, back_next, freeing, freed_next, free_component_next, free_in_next}
-use Rattle.ada_meaning.specs.Named.{Object, State, Next, named, look, parted, finished, filled, returned, on_object, reads_boolean}
+use Rattle.ada_meaning.specs.Step.{halts, moves, tells, asks, picks, at, held, newest, reading, component_next, follow_next, path_next, before_last, last_of, selected, named_next, holder_next, first_in, record_holder_next, referred_next, refers_next, open_next, opened_next, opens_next, expression_next, null_test_next, is_decided, link_next, links_next, outcome_next, item_next, items_next, copied_next, copies_next, newest_ones, without_newest, record_in, record_target_next, stored_from, record_stored_next, store_record_next, new_cell, answered, new_next, right_next, free_next, end_next, same_pool, told_back, given_back, back_next, freeing, freed_next, free_component_next, free_in_next}
+use Rattle.ada_meaning.specs.Named.{Object, State, Next, named, whole, inside, look, parted, finished, filled, returned, on_object, reads_boolean}
 use Rattle.ada_meaning.specs.Run.{Event}
 use Rattle.ada_meaning.specs.Law.{items_of}
 use Rattle.ada_scopes.proofs.Counts.{scopes}
@@ -83,11 +83,26 @@ module _ (types : List TypeForm) (callees : Callees) where
   path_good [] v s h = standing h.0 h.1
   path_good (c ∷ cs) v s h = follow_good v c cs (look s.heap v) s h
 
+  -- Where a path begins.
+  pub named_good : (cs : List ℕ) (x : ℕ) (s : State) → Stands types callees s → Good types callees (named_next named cs x s)
+  named_good cs x s h = path_good (selected named (held named s x) cs) (whole (held named s x)) s h
+
+  pub holder_good : (c : ℕ) (cs : List ℕ) (x : ℕ) (frame_of : ℕ → Frame Value) (s : State) → ((n : ℕ) → Nests types callees (scopes s.masters) (frame_of n ∷ s.control)) → Stands types callees s → Good types callees (holder_next named c cs x frame_of s)
+  holder_good c cs x frame_of s n h =
+      path_good (before_last (inside (held named s x) c) cs) (whole (held named s x))
+      (at (frame_of (last_of (inside (held named s x) c) cs) ∷ s.control) s) (h.0, n (last_of (inside (held named s x) c) cs))
+
+  pub record_holder_good : (p : RecordPathForm) (frame_of : ℕ → Frame Value) (s : State) → ((n : ℕ) → Nests types callees (scopes s.masters) (frame_of n ∷ s.control)) → Stands types callees s → Good types callees (record_holder_next named p frame_of s)
+  record_holder_good p frame_of s n h =
+      path_good (selected named (held named s p.object.root) p.object.selectors) (whole (held named s p.object.root))
+      (at (frame_of (first_in named (held named s p.object.root) p.object.selectors p.first) ∷ s.control) s)
+      (h.0, n (first_in named (held named s p.object.root) p.object.selectors p.first))
+
   pub expression_good : (e : ExpressionForm) (s : State) → Stands types callees s → Good types callees (expression_next named e s)
   expression_good (integer i) s h = standing h.0 h.1
   expression_good (boolean b) s h = standing h.0 h.1
-  expression_good (reads path) s h = path_good path.selectors (held named s path.root) s h
-  expression_good (is_null equal path) s h = path_good path.selectors (held named s path.root) (at (frame.TestsNull equal ∷ s.control) s) (h.0, (tt, h.1))
+  expression_good (reads path) s h = named_good path.selectors path.root s h
+  expression_good (is_null equal path) s h = named_good path.selectors path.root (at (frame.TestsNull equal ∷ s.control) s) (h.0, (tt, h.1))
   expression_good (applied_to operator e) s h = standing h.0 (tt, (tt, h.1))
   expression_good (chained e links) s h = standing h.0 (tt, (tt, h.1))
 
@@ -113,9 +128,9 @@ module _ (types : List TypeForm) (callees : Callees) where
   -- Allocators, and what is assigned: a new object lies in the collection of its access type.
   item_good : (item : ItemForm) (s : State) → Stands types callees s → Good types callees (item_next named item s)
   item_good null_item s h = standing h.0 h.1
-  item_good (item_of_path path) s h = path_good path.selectors (held named s path.root) s h
+  item_good (item_of_path path) s h = named_good path.selectors path.root s h
   item_good (item_of_value e) s h = standing h.0 (tt, h.1)
-  item_good (item_of_record p) s h = path_good p.object.selectors (held named s p.object.root) (at (frame.Copies p.first p.record_type ∷ s.control) s) (h.0, (tt, h.1))
+  item_good (item_of_record p) s h = record_holder_good p (λ first. frame.Copies first p.record_type) s (λ n. (tt, h.1)) h
 
   pub items_good : (items : List ItemForm) (s : State) → Stands types callees s → Good types callees (items_next named items s)
   items_good [] s h = standing h.0 h.1
@@ -162,9 +177,34 @@ module _ (types : List TypeForm) (callees : Callees) where
   new_good access count words None s is h = standing h.0 h.1
   new_good access count words (Some item) s is h = λ granted. answered_good access count item words s granted is h
 
+  -- What is passed by reference, and the components that get something back.
+  referred_good : (o : Value) (first : ℕ) (found : Option (List Value)) (s : State) → Stands types callees s → Good types callees (referred_next named o first found s)
+  referred_good o first None s h = tt
+  referred_good o first (Some vs) s h = standing h.0 h.1
+
+  pub refers_good : (o : Value) (first count : ℕ) (found : Found (Cell Value)) (s : State) → Stands types callees s → Good types callees (refers_next named o first count found s)
+  refers_good o first count on_null s h = standing h.0 h.1
+  refers_good o first count on_gone s h = tt
+  refers_good o first count on_other s h = tt
+  refers_good o first count (finds cell) s h = referred_good o first (record_in cell.values first count) s h
+
+  pub open_good : (cs : List ℕ) (x : ℕ) (s : State) → Stands types callees s → Good types callees (open_next named cs x s)
+  open_good [] x s h = tt
+  open_good (c ∷ cs) x s h = holder_good c cs x frame.OpensIn s (λ n. (tt, h.1)) h
+
+  opened_good : (o : Value) (c : ℕ) (found : Option Value) (s : State) → Stands types callees s → Good types callees (opened_next named o c found s)
+  opened_good o c None s h = tt
+  opened_good o c (Some v) s h = standing h.0 h.1
+
+  pub opens_good : (o : Value) (c : ℕ) (found : Found (Cell Value)) (s : State) → Stands types callees s → Good types callees (opens_next named o c found s)
+  opens_good o c on_null s h = standing h.0 h.1
+  opens_good o c on_gone s h = tt
+  opens_good o c on_other s h = tt
+  opens_good o c (finds cell) s h = opened_good o c (slice_get cell.values c) s h
+
   pub right_good : (definitions : List TypeDefinition) (right : RightForm) (s : State) → Stands types callees s → Good types callees (right_next named definitions right s)
   right_good definitions nothing s h = standing h.0 h.1
-  right_good definitions (value_of path) s h = path_good path.selectors (held named s path.root) s h
+  right_good definitions (value_of path) s h = named_good path.selectors path.root s h
   right_good definitions (allocates access items) s h = standing h.0 (tt, (tt, h.1))
   right_good definitions (allocates_default access) s h = standing h.0 (tt, h.1)
   right_good definitions (computes e) s h = standing h.0 (tt, h.1)

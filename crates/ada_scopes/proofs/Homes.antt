@@ -7,7 +7,7 @@ use Rattle.ada_program.specs.ProgramForm.{TypeForm}
 use Rattle.ada_program.specs.WellFormed.{is_access}
 use Rattle.ada_meaning.specs.declared.state.Id.{Id}
 use Rattle.ada_meaning.specs.declared.state.Value.{Value}
-use Rattle.ada_meaning.specs.declared.state.Value.TheVariants.{Null, Names, Scalar}
+use Rattle.ada_meaning.specs.declared.state.Value.TheVariants.{Null, Names, Scalar, Part}
 use Rattle.ada_meaning.specs.Heap.{Cell}
 use Rattle.ada_meaning.specs.State.{Owned, declared, collection, record_object, type_housed, Item, Master, collection_in, home_among, home_of}
 use Rattle.ada_meaning.specs.Step.{owning, shorter}
@@ -174,6 +174,7 @@ pub housed_on : (change : Object → Object) (heap : List Object) (v : Value) (i
 housed_on change heap Null is keeps h = h
 housed_on change heap (Names o) is keeps h = housed_changed change (slice_get heap o.0) heap o is keeps refl h
 housed_on change heap (Scalar v) is keeps h = h
+housed_on change heap (Part o first) is keeps h = h
 
 -- A new object.
 more_get : (xs : List Object) (j : ℕ) (y z : Object) → slice_get (xs ++ y ∷ []) j ≡ Some z → (slice_get xs j ≡ Some z) ⊎ (z ≡ y)

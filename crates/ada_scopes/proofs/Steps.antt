@@ -1,12 +1,12 @@
 -- Each step of a state that nests leads to one that nests, whatever is answered.
 
-use Rattle.std.proofs.Common.{◌≡◌, ℕ, ℤ, ◌≤◌, ◌+◌, ◌==◌, Bool, true, false, if◌then◌else◌, List, [], ◌∷◌, ◌++◌, length, Option, Some, None, arith, refl, sym, ap, subst}
+use Rattle.std.proofs.Common.{◌≡◌, ℕ, ℤ, ◌≤◌, ◌+◌, ◌==◌, Bool, true, false, if◌then◌else◌, List, [], ◌∷◌, ◌++◌, Option, Some, None, arith, refl, sym, ap, subst}
 use Rattle.std.specs.Prelude.{int_le}
 use Rattle.std.proofs.lemmas.Bool.{eq-eqb}
 use Rattle.std.specs.List.{slice_get, list_all}
 use Rattle.ada_program.specs.declared.program.TypeDefinition.{TypeDefinition}
 use Rattle.ada_program.specs.declared.program.Exception.{Exception}
-use Rattle.ada_program.specs.Form.{ActualForm, in_value, in_null, in_access, in_out_path, in_out_access, ExpressionForm, ItemForm, RightForm, StmtForm, skips, assigns, assigns_record, frees, gets, writes, writes_text, chooses, repeats, counts, exits, calls, returns, raises, encloses, StmtsForm, no_stmts, a_stmt, BranchesForm, otherwise, a_branch, HandlersForm, no_handlers, a_handler, DeclarationForm, collects, declares, declares_record}
+use Rattle.ada_program.specs.Form.{ActualForm, in_value, in_null, in_access, in_record, in_out_path, in_out_access, in_out_component, in_out_record, ExpressionForm, ItemForm, RightForm, StmtForm, skips, assigns, assigns_record, frees, gets, writes, writes_text, chooses, repeats, counts, exits, calls, returns, raises, encloses, StmtsForm, no_stmts, a_stmt, BranchesForm, otherwise, a_branch, HandlersForm, no_handlers, a_handler, DeclarationForm, collects, declares, declares_record}
 use Rattle.ada_program.specs.Handling.{some_takes, handler_of}
 use Rattle.ada_program.specs.ProgramForm.{TypeForm, BodyForm}
 use Rattle.ada_program.specs.Typed.{reached_of, words_of, width_of}
@@ -21,12 +21,12 @@ use Rattle.ada_meaning.specs.Frame.{Frame, is_master, is_loop, is_return, Landin
 use Rattle.ada_meaning.specs.Frame as frame
 use Rattle.ada_meaning.specs.State.{collection, Master, height, home_of}
 use Rattle.ada_meaning.specs.Heap.{Cell, Found, on_null, on_gone, on_other, finds}
-use Rattle.ada_meaning.specs.Step.{moves, at, older, owning, popped, held, newest, newest_ones, without_newest, initial_values, record_cell, made, record_next, before_last, last_of, assign_next, target_next, stored_next, store_next, frees_next, branches_next, decided_next, turn_next, repeats_next, turned_next, count_turn_next, ranges_next, gets_next, received_next, receive_next, exit_next, exited_next, begun, computing, call_next, stmt_next, stmts_next, line_next, declarations_next, frame_next, resumed, returned, left_by, unwound, landed, pass_next, running_next, jump_next, mode_next}
+use Rattle.ada_meaning.specs.Step.{moves, at, older, owning, popped, held, newest, newest_ones, without_newest, initial_values, record_cell, made, record_next, operand_count, references_in, storing, assign_next, target_next, stored_next, store_next, frees_next, branches_next, decided_next, turn_next, repeats_next, turned_next, count_turn_next, ranges_next, gets_next, received_next, receive_next, exit_next, exited_next, begun, computing, call_next, stmt_next, stmts_next, line_next, declarations_next, frame_next, resumed, returned, left_by, unwound, landed, pass_next, running_next, jump_next, mode_next}
 use Rattle.ada_meaning.specs.Named.{Object, State, next, named, look, lent, an_integer, filled, reads_boolean, reads_null, reads_integer, unary_given, binary_given}
 use Rattle.ada_scopes.proofs.Counts.{one, times, opened, Scopes, scopes, all_of}
 use Rattle.ada_scopes.proofs.Texts.{StatementNests, StatementsNest, BranchesNest, HandlersNest, BodyNests, BodiesNest}
 use Rattle.ada_scopes.proofs.Control.{Alike, Where, HasOne, RecordHere, FrameNests, behind, Nests, Whole, Growing, Begins, Nested, standing, beginning, parting, whole_declared, nests_declared, whole_recorded, nests_recorded, whole_parts, grows, grown}
-use Rattle.ada_scopes.proofs.Evaluations.{Good, Stands, keeps_filled, whole_on, path_good, expression_good, null_test_good, links_good, outcome_good, items_good, copies_good, record_target_good, store_record_good, new_good, right_good, free_good, free_in_good, end_good, back_good}
+use Rattle.ada_scopes.proofs.Evaluations.{Good, Stands, keeps_filled, whole_on, path_good, holder_good, record_holder_good, refers_good, open_good, opens_good, expression_good, null_test_good, links_good, outcome_good, items_good, copies_good, record_target_good, store_record_good, new_good, right_good, free_good, free_in_good, end_good, back_good}
 use Rattle.ada_scopes.proofs.Leavings.{parts_good}
 
 module _ (types : List TypeForm) (callees : Callees) (bodies : List BodyForm) (nesting : BodiesNest types callees bodies) where
@@ -36,7 +36,7 @@ module _ (types : List TypeForm) (callees : Callees) (bodies : List BodyForm) (n
 
   assign_good : (cs : List ℕ) (x : ℕ) (right : RightForm) (s : State) → Stands types callees s → Good types callees (assign_next named cs x right s)
   assign_good [] x right s h = standing h.0 (tt, (tt, h.1))
-  assign_good (c ∷ cs) x right s h = path_good types callees (before_last c cs) (held named s x) (at (frame.Targets (last_of c cs) right ∷ s.control) s) (h.0, (tt, h.1))
+  assign_good (c ∷ cs) x right s h = holder_good types callees c cs x (λ last. frame.Targets last right) s (λ n. (tt, h.1)) h
 
   target_good : (o : Value) (c : ℕ) (right : RightForm) (found : Found (Cell Value)) (s : State) → Stands types callees s → Good types callees (target_next named o c right found s)
   target_good o c right on_null s h = standing h.0 h.1
@@ -56,7 +56,7 @@ module _ (types : List TypeForm) (callees : Callees) (bodies : List BodyForm) (n
 
   frees_good : (cs : List ℕ) (access x : ℕ) (s : State) → Stands types callees s → Good types callees (frees_next named cs access x s)
   frees_good [] access x s h = free_good types callees access x (held named s x) (look s.heap (held named s x)) s h
-  frees_good (c ∷ cs) access x s h = path_good types callees (before_last c cs) (held named s x) (at (frame.FreesIn access (last_of c cs) ∷ s.control) s) (h.0, (tt, h.1))
+  frees_good (c ∷ cs) access x s h = holder_good types callees c cs x (λ last. frame.FreesIn access last) s (λ n. (tt, h.1)) h
 
   branches_good : (branches : BranchesForm) (s : State) (around : List ℕ) → Alike around (all_of (scopes s.masters)) → BranchesNest types callees around branches → Stands types callees s → Good types callees (branches_next named branches s)
   branches_good (otherwise fs) s around alike nest h = standing h.0 ((around, alike, nest), h.1)
@@ -94,7 +94,7 @@ module _ (types : List TypeForm) (callees : Callees) (bodies : List BodyForm) (n
   ranges_good x fs (Some low) (Some high) s nest h = counting_good (int_le low high) x low high fs s nest h
 
   gets_good : (cs : List ℕ) (x : ℕ) (input : List ℤ) (s : State) → Stands types callees s → Good types callees (gets_next named cs x input s)
-  gets_good (c ∷ cs) x input s h = path_good types callees (before_last c cs) (held named s x) (at (frame.Receives (last_of c cs) ∷ s.control) s) (h.0, (tt, h.1))
+  gets_good (c ∷ cs) x input s h = holder_good types callees c cs x (λ last. frame.Receives last) s (λ n. (tt, h.1)) h
   gets_good [] x [] s h = standing h.0 h.1
   gets_good [] x (i ∷ is) s h = standing h.0 h.1
 
@@ -124,8 +124,15 @@ module _ (types : List TypeForm) (callees : Callees) (bodies : List BodyForm) (n
   computing_nests (in_value e ∷ rest) ss k n = (tt, computing_nests rest ss k n)
   computing_nests (in_null ∷ rest) ss k n = (tt, computing_nests rest ss k n)
   computing_nests (in_access path ∷ rest) ss k n = (tt, computing_nests rest ss k n)
+  computing_nests (in_record p ∷ rest) ss k n = (tt, computing_nests rest ss k n)
   computing_nests (in_out_path path ∷ rest) ss k n = (tt, computing_nests rest ss k n)
   computing_nests (in_out_access path ∷ rest) ss k n = (tt, computing_nests rest ss k n)
+  computing_nests (in_out_component path ∷ rest) ss k n = (tt, computing_nests rest ss k n)
+  computing_nests (in_out_record p ∷ rest) ss k n = (tt, computing_nests rest ss k n)
+
+  storing_nests : (references : List Value) (ss : Scopes) (k : List (Frame Value)) → Nests types callees ss k → Nests types callees ss (storing named references k)
+  storing_nests [] ss k n = n
+  storing_nests (r ∷ rs) ss k n = (tt, storing_nests rs ss k n)
 
   call_good : (procedure : ℕ) (actuals : List ActualForm) (body : Option BodyForm) (s : State) (around : List ℕ) → slice_get bodies procedure ≡ body → Alike around (all_of (scopes s.masters)) → call_nests (slice_get callees procedure) around ≡ true → Stands types callees s → Good types callees (call_next named procedure actuals body s)
   call_good procedure actuals None s around at_body alike nest h = tt
@@ -140,7 +147,7 @@ module _ (types : List TypeForm) (callees : Callees) (bodies : List BodyForm) (n
     ds = b.declarations;
     fs = b.statements;
     hs = b.handlers;
-    k = frame.Returns actuals ∷ s.control;
+    k = frame.Returns actuals (references_in actuals values) ∷ s.control;
     there = collected b.declarations ++ nest.0;
     masters = refl;
     control = refl;
@@ -155,7 +162,7 @@ module _ (types : List TypeForm) (callees : Callees) (bodies : List BodyForm) (n
   stmt_good skips s around runs alike nest h = standing h.0 h.1
   stmt_good (assigns target right) s around runs alike nest h = assign_good target.selectors target.root right s h
   stmt_good (assigns_record target items) s around runs alike nest h =
-      path_good types callees target.object.selectors (held named s target.object.root) (at (frame.TargetsRecord target.first target.record_type items ∷ s.control) s) (h.0, (tt, h.1))
+      record_holder_good types callees target (λ first. frame.TargetsRecord first target.record_type items) s (λ n. (tt, h.1)) h
   stmt_good (frees access path) s around runs alike nest h = frees_good path.selectors access path.root s h
   stmt_good (gets target) s around runs alike nest h = gets_good target.selectors target.root s.input s h
   stmt_good (writes e) s around runs alike nest h = standing h.0 (tt, (tt, h.1))
@@ -226,12 +233,18 @@ module _ (types : List TypeForm) (callees : Callees) (bodies : List BodyForm) (n
   frame_good definitions (frame.Handles hs) s runs w nest n = standing w n
   frame_good definitions frame.Closes s runs w nest n = parting (whole_parts types s.masters s.heap w) runs n
   frame_good definitions (frame.Leaves mode) s runs w nest n = absurd nest
-  frame_good definitions (frame.Calls procedure b actuals) s runs w nest n = body_begins procedure b actuals (newest_ones named (length actuals) s) s runs nest (w, n)
-  frame_good definitions (frame.Returns actuals) s runs w nest n = standing w n
+  frame_good definitions (frame.Calls procedure b actuals) s runs w nest n = body_begins procedure b actuals (newest_ones named (operand_count actuals) s) s runs nest (w, n)
+  frame_good definitions (frame.Returns actuals references) s runs w nest n = standing w (storing_nests references (scopes s.masters) s.control n)
   frame_good definitions (frame.Evaluates right) s runs w nest n = right_good types callees definitions right s (w, n)
   frame_good definitions (frame.Computes e) s runs w nest n = expression_good types callees e s (w, n)
   frame_good definitions (frame.Follows cs) s runs w nest n = path_good types callees cs (newest named s) (popped s) (w, n)
   frame_good definitions (frame.TestsNull equal) s runs w nest n = null_test_good types callees equal (reads_null (newest named s)) (popped s) (w, n)
+  frame_good definitions (frame.Refers p) s runs w nest n =
+      record_holder_good types callees p (λ first. frame.RefersIn first p.record_type) s (λ m. (tt, n)) (w, n)
+  frame_good definitions (frame.RefersIn first t) s runs w nest n =
+      refers_good types callees (newest named s) first (width_of definitions t) (look s.heap (newest named s)) (popped s) (w, n)
+  frame_good definitions (frame.Opens path) s runs w nest n = open_good types callees path.selectors path.root s (w, n)
+  frame_good definitions (frame.OpensIn c) s runs w nest n = opens_good types callees (newest named s) c (look s.heap (newest named s)) (popped s) (w, n)
   frame_good definitions (frame.Continues links) s runs w nest n = links_good types callees links s (w, n)
   frame_good definitions (frame.Applies operator) s runs w nest n = outcome_good types callees (binary_given operator (newest named (popped s)) (newest named s)) (popped (popped s)) (w, n)
   frame_good definitions (frame.AppliesAlone operator) s runs w nest n = outcome_good types callees (unary_given operator (newest named s)) (popped s) (w, n)
@@ -299,16 +312,18 @@ module _ (types : List TypeForm) (callees : Callees) (bodies : List BodyForm) (n
   pass_good true l mode s lands w n = parting (whole_parts types s.masters s.heap w) refl n
   pass_good false l mode s lands w n = landed_good l s lands (w, n)
 
-  -- The end of a call changes nothing but the activations.
-  left_good : (mode : Mode) (actuals : List ActualForm) (l : Landing) (s : State) → LandsHere (all_of (scopes s.masters)) l → Whole types s.masters s.heap → Nests types callees (scopes s.masters) s.control → Good types callees (pass_next named false l mode (left_by mode actuals s))
-  left_good Running actuals l s lands w n = pass_good false l Running (resumed s) lands w n
-  left_good (Raising e) actuals l s lands w n = pass_good false l (Raising e) (resumed s) lands w n
-  left_good Exiting actuals l s lands w n = pass_good false l Exiting (resumed s) lands w n
-  left_good Returning actuals l s lands w n = pass_good false l Returning (returned actuals s) lands w n
+  -- The end of a call changes the activations, and behind a normal one components get something back.
+  left_good : (mode : Mode) (actuals : List ActualForm) (references : List Value) (l : Landing) (s : State) → LandsHere (all_of (scopes s.masters)) l → Whole types s.masters s.heap → Nests types callees (scopes s.masters) s.control → Good types callees (pass_next named false l mode (left_by named mode actuals references s))
+  left_good Running actuals references l s here w n = pass_good false l Running (resumed s) here w n
+  left_good (Raising e) actuals references l s here w n = pass_good false l (Raising e) (resumed s) here w n
+  left_good Exiting actuals references l s here w n = pass_good false l Exiting (resumed s) here w n
+  left_good Returning actuals references l s here w n =
+      pass_good false l Returning (returned named actuals references s) here w (storing_nests references (scopes s.masters) s.control n)
 
-  unwound_good : (f : Frame Value) (mode : Mode) (s : State) → LandsHere (all_of (scopes s.masters)) (landing mode f) → Whole types s.masters s.heap → Nests types callees (behind (is_master f) (scopes s.masters)) s.control → Good types callees (pass_next named (is_master f) (landing mode f) mode (unwound mode f s))
-  unwound_good (frame.Returns actuals) mode s lands w n = left_good mode actuals (landing {V = Value} mode (frame.Returns actuals)) s lands w n
-  unwound_good f mode s lands w n = pass_good (is_master f) (landing mode f) mode s lands w n
+  unwound_good : (f : Frame Value) (mode : Mode) (s : State) → LandsHere (all_of (scopes s.masters)) (landing mode f) → Whole types s.masters s.heap → Nests types callees (behind (is_master f) (scopes s.masters)) s.control → Good types callees (pass_next named (is_master f) (landing mode f) mode (unwound named mode f s))
+  unwound_good (frame.Returns actuals references) mode s here w n =
+      left_good mode actuals references (landing {V = Value} mode (frame.Returns actuals references)) s here w n
+  unwound_good f mode s here w n = pass_good (is_master f) (landing mode f) mode s here w n
 
   jump_good : (mode : Mode) (k : List (Frame Value)) (s : State) → Whole types s.masters s.heap → Nests types callees (scopes s.masters) k → Good types callees (jump_next named mode k s)
   jump_good mode [] s w n = tt

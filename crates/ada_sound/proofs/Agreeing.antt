@@ -1,6 +1,6 @@
 -- Where a statement begins, variables and components are as they are relied on to be.
 
-use Rattle.std.proofs.Common.{◌≡◌, ◌≢◌, ℕ, zero, suc, true, List, [], ◌∷◌, refl, sym, ap, subst, ◌∙◌, ◌⊎◌, inl, inr}
+use Rattle.std.proofs.Common.{◌≡◌, ◌≢◌, ℕ, zero, suc, true, List, [], ◌∷◌, refl, sym, ap, subst, ◌∙◌, ◌⊎◌, inl, inr, false}
 use Rattle.std.specs.Prelude.{Option, Some, None}
 use Rattle.std.specs.List.{slice_get, slice_index_or}
 use Rattle.ada_program.specs.declared.program.Program.{Program}
@@ -12,17 +12,16 @@ use Rattle.ada_program.specs.ProgramForm.{TypeForm, ProgramForm, program_form, s
 use Rattle.ada_program.specs.WellFormed.{access_of, variable_kind, held_kind, component_kind, kind_among}
 use Rattle.ada_flow.specs.declared.rule.Hold.{Hold}
 use Rattle.ada_flow.specs.declared.rule.Hold.TheVariants as hold
-use Rattle.ada_flow.specs.declared.rule.Region.{Region}
 use Rattle.ada_flow.specs.Flow.{Holds, hold_at, variable_access}
 use Rattle.ada_meaning.specs.declared.state.Id.{Id}
 use Rattle.ada_meaning.specs.declared.state.Value.{Value}
-use Rattle.ada_meaning.specs.declared.state.Value.TheVariants.{Null, Names, Scalar}
+use Rattle.ada_meaning.specs.declared.state.Value.TheVariants.{Null, Names, Scalar, Part}
 use Rattle.ada_meaning.specs.Frame.{Does}
 use Rattle.ada_meaning.specs.State.{Master}
 use Rattle.ada_meaning.specs.Heap.{finds}
-use Rattle.ada_meaning.specs.Step.{places, last_of}
+use Rattle.ada_meaning.specs.Step.{places, last_of, selected}
 use Rattle.ada_meaning.specs.Beginning.{BeginsStatement}
-use Rattle.ada_meaning.specs.Named.{Object, State, object_at, store}
+use Rattle.ada_meaning.specs.Named.{Object, State, object_at, store, named, whole, inside}
 use Rattle.ada_meaning.specs.Law.{items_of}
 use Rattle.ada_typed.specs.Holding.{Cells, Designates, HasKind, HaveKinds, cells_of}
 use Rattle.ada_typed.proofs.Values.{AreFilled, filled_at, active_held}
@@ -40,7 +39,8 @@ use Rattle.ada_sound.specs.Agreement as agreement
 use Rattle.ada_sound.proofs.Items as items
 use Rattle.ada_sound.proofs.Stored.{Stored, exists_out}
 use Rattle.ada_sound.proofs.Back.{stored_before}
-use Rattle.ada_sound.proofs.Fits.{Outer, Outsiders, Fit, IsRelied, none_spared, hold_in, stacked, component_value, access_is}
+use Rattle.ada_sound.proofs.Steps.{heap_typed}
+use Rattle.ada_sound.proofs.Fits.{Outsiders, Fit, IsRelied, none_spared, hold_in, stacked, component_value, access_is, names_object}
 use Rattle.ada_sound.proofs.Scalars.{scalars_lost}
 use Rattle.ada_sound.proofs.Invariant.{Known, Control, RunsOn, Working, Half, Resumes, outers, front, final}
 use Rattle.ada_typed.proofs.Bodies.{SeenFits, seen_fits}
@@ -64,29 +64,29 @@ typed_filled : (p : ProgramForm) (s : State) → typed.TypedIn p s → AreFilled
 typed_filled p s (typed.running kinds r fits) = r.filled
 typed_filled p s (typed.on_jump mode j goes) = j.filled
 
-typed_held : (p : ProgramForm) (s : State) (x : ℕ) (kind : VariableKind) → typed.TypedIn p s → variable_kind p.variables x ≡ Some kind → HasKind (cells_of s.heap) kind (slice_index_or (places s) x Null)
-typed_held p s x kind (typed.running kinds r fits) is = active_held (cells_of s.heap) p.variables kinds s.activations x kind r.active is
-typed_held p s x kind (typed.on_jump mode j goes) is = active_held (cells_of s.heap) p.variables [] s.activations x kind j.active is
+typed_held : (p : ProgramForm) (s : State) (x : ℕ) (kind : VariableKind) → typed.TypedIn p s → variable_kind p.variables x ≡ Some kind → HasKind p.types (cells_of s.heap) kind (slice_index_or (places s) x Null)
+typed_held p s x kind (typed.running kinds r fits) is = active_held p.types (cells_of s.heap) p.variables kinds s.activations x kind r.active is
+typed_held p s x kind (typed.on_jump mode j goes) is = active_held p.types (cells_of s.heap) p.variables [] s.activations x kind j.active is
 
 -- A component names an object of its access type, as typing has it.
-named_by : (cells : Cells) (kind : VariableKind) (k : Id) → HasKind cells kind (Names k) → (t : ℕ) × (access_of (Some kind) ≡ Some t) × Designates cells t k
-named_by cells variable.Integer k has = absurd has
-named_by cells variable.Boolean k has = absurd has
-named_by cells (variable.Access access) k has = (access.0, refl, has)
-named_by cells (variable.Record t) k has = (t.0, refl, has)
+named_by : (types : List TypeForm) (cells : Cells) (kind : VariableKind) (k : Id) → HasKind types cells kind (Names k) → (t : ℕ) × (access_of (Some kind) ≡ Some t) × Designates cells t k
+named_by types cells variable.Integer k has = absurd has
+named_by types cells variable.Boolean k has = absurd has
+named_by types cells (variable.Access access) k has = (access.0, refl, has)
+named_by types cells (variable.Record t) k has = (t.0, refl, has)
 
-named_at : (cells : Cells) (cs : List ComponentKind) (vs : List Value) (c : ℕ) (k : Id) → HaveKinds cells cs vs → slice_get vs c ≡ Some (Names k) → (t : ℕ) × (access_of (component_kind (slice_get cs c)) ≡ Some t) × Designates cells t k
-named_at cells [] [] c k have is = absurd (cc is)
-named_at cells [] (v ∷ vs) c k have is = absurd have
-named_at cells (d ∷ cs) [] c k have is = absurd have
-named_at cells (d ∷ cs) (v ∷ vs) zero k have is = let same : v ≡ Names k = cc is in named_by cells (held_kind d) k (rw same at (have.0))
-named_at cells (d ∷ cs) (v ∷ vs) (suc c) k have is = named_at cells cs vs c k have.1 is
+named_at : (types : List TypeForm) (cells : Cells) (cs : List ComponentKind) (vs : List Value) (c : ℕ) (k : Id) → HaveKinds types cells cs vs → slice_get vs c ≡ Some (Names k) → (t : ℕ) × (access_of (component_kind (slice_get cs c)) ≡ Some t) × Designates cells t k
+named_at types cells [] [] c k have is = absurd (cc is)
+named_at types cells [] (v ∷ vs) c k have is = absurd have
+named_at types cells (d ∷ cs) [] c k have is = absurd have
+named_at types cells (d ∷ cs) (v ∷ vs) zero k have is = let same : v ≡ Names k = cc is in named_by types cells (held_kind d) k (rw same at (have.0))
+named_at types cells (d ∷ cs) (v ∷ vs) (suc c) k have is = named_at types cells cs vs c k have.1 is
 
 -- What a component of an object names exists if it is there.
 kept_exists : (own : ProgramForm) (s : State) (o : Id) (object : Object) (c : ℕ) (k : Id) → typed.TypedIn own s → Stored None s.heap s.masters → object_at s.heap o ≡ Some object → slice_get object.cell.values c ≡ Some (Names k) → IsThere s.heap k → Exists s.heap s.masters (component_access own.types object c) k
 kept_exists own s o object c k t stored found at (x, there, listed) =
     let filled = filled_at own.types (cells_of s.heap) (cells_of s.heap) o.0 object.cell (typed_filled own s t) (cell_at s.heap o.0 object found) in
-    let named = named_at (cells_of s.heap) filled.0 object.cell.values c k filled.2 at in
+    let named = named_at own.types (cells_of s.heap) filled.0 object.cell.values c k filled.2 at in
     let of_type : component_access own.types object c ≡ Some named.0 = ap (λ components. access_of (kind_among components c)) filled.1 ∙ named.1 in
     let same : Some x.cell ≡ Some named.2.0 = sym (cell_at s.heap k.0 x there) ∙ named.2.1 in
     let access : x.cell.access ≡ named.0 = cc (same, named.2.2) in
@@ -133,6 +133,11 @@ module _ (own : ProgramForm) (outer : Outsiders) (s : State) (holds : Holds) (ty
   valid_by x Null is kept v = tt
   valid_by x (Names o) is kept v = relied_exists (variable_access own.variables x) (hold_at holds x) o is (fit.owners.fit.relied (variable x) o v)
   valid_by x (Scalar n) is kept v = no_scalar x (variable_kind own.variables x) refl kept n v
+  valid_by x (Part o first) is kept v =
+      let place = fit.objects x kept in
+      let here = rw v at place in
+      let there = exists_here (Some here.1) o (fit.referred o here.1 here.2) in
+      (there.0, there.1, there.2, there.4)
 
   each_is : (x : ℕ) (h : Hold) → hold_at holds x ≡ h → IsAs s.heap s.masters (variable_access own.variables x) h (value_in s x)
   each_is x hold.Null e = rw e at (fit.said x)
@@ -155,6 +160,7 @@ module _ (own : ProgramForm) (outer : Outsiders) (s : State) (holds : Holds) (ty
   component_holds o object c Null found listed at = tt
   component_holds o object c (Names k) found listed at = named_is o object c k found listed at
   component_holds o object c (Scalar n) found listed at = tt
+  component_holds o object c (Part k first) found listed at = (heap_typed own s types).1 o object c (Part k first) found at
 
   variables_apart : (x y : ℕ) (o : Id) → x ≢ y → Owns (hold_at holds x) → Owns (hold_at holds y) → value_in s x ≡ Names o → value_in s y ≡ Names o → ⊥
   variables_apart x y o ne a b c d =
@@ -176,16 +182,21 @@ module _ (own : ProgramForm) (outer : Outsiders) (s : State) (holds : Holds) (ty
   agrees_by = record {
     each = λ x. each_is x (hold_at holds x) refl;
     one_owner = variables_apart;
-    records = λ x t is kept null. fit.objects x (rw is refl) kept null;
+    records = λ x t is kept null. (
+        let place = fit.objects x kept in
+        let none : names_object (variable_kind own.variables x) ≡ false = rw null at place in
+        let never : names_object (Some (variable.Record t)) ≡ false = rw is at none in
+        cc never
+        );
     components = component_holds;
     one_owner_each = owners_apart;
   }
 
 -- The component that the second half of a take pair sets to null.
-cleared_is : (s : State) (path : PathForm) (later : StmtsForm) (outer : Control) (o : Id) (c : ℕ) (cs : List ℕ) → path.selectors ≡ cs → s.control ≡ Does (a_stmt (assigns path nothing) later) ∷ outer → final cs ≡ Some c → walk s.heap (value_in s path.root) (front cs) ≡ finds (Names o) → IsCleared s (component o c)
+cleared_is : (s : State) (path : PathForm) (later : StmtsForm) (outer : Control) (o : Id) (c : ℕ) (cs : List ℕ) → path.selectors ≡ cs → s.control ≡ Does (a_stmt (assigns path nothing) later) ∷ outer → final (selected named (value_in s path.root) cs) ≡ Some c → walk s.heap (whole (value_in s path.root)) (front (selected named (value_in s path.root) cs)) ≡ finds (Names o) → IsCleared s (component o c)
 cleared_is s path later outer o c [] is begins last leads = absurd (cc last)
 cleared_is s path later outer o c (d ∷ ds) is begins last leads =
-    let same : last_of d ds ≡ c = cc last in
+    let same : last_of (inside (value_in s path.root) d) ds ≡ c = cc last in
     record { path = path; later = later; outer = outer; c = d; cs = ds; object = o; begins = begins; selects = is; leads = leads; is = ap (component o) (sym same) }
 
 -- Flow at a place is flow at what is left to do there.

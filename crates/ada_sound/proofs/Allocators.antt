@@ -16,16 +16,16 @@ use Rattle.ada_flow.specs.declared.rule.Hold.TheVariants as hold
 use Rattle.ada_flow.specs.declared.rule.Region.TheVariants.{Whole}
 use Rattle.ada_flow.specs.Flow.{Holds, hold_at, variable_access, uses_in_item, copies_to, reaches_it, is_owning_record, is_target, lost_by, lost_behind, moved_behind, without_values, moved_by_items}
 use Rattle.ada_meaning.specs.declared.state.Value.{Value}
-use Rattle.ada_meaning.specs.declared.state.Value.TheVariants.{Null, Names, Scalar}
+use Rattle.ada_meaning.specs.declared.state.Value.TheVariants.{Null, Names, Scalar, Part}
 use Rattle.ada_meaning.specs.declared.state.Mode.TheVariants.{Running, Raising}
 use Rattle.ada_meaning.specs.Frame.{Computes, Fills, Copies, Creates, Stores, Declares, StoresIn, StoresRecord, DeclaresRecord}
 use Rattle.ada_meaning.specs.Event.{Quiet}
 use Rattle.ada_meaning.specs.Heap.{Cell}
 use Rattle.ada_meaning.specs.State.{Activation, home_of}
-use Rattle.ada_meaning.specs.Step.{path_next, items_next, new_next, new_cell, answered}
-use Rattle.ada_meaning.specs.Named.{Object, State, object_at, new_object, create, created, store, named}
+use Rattle.ada_meaning.specs.Step.{path_next, items_next, new_next, new_cell, answered, selected, first_in, record_holder_next}
+use Rattle.ada_meaning.specs.Named.{Object, State, object_at, new_object, create, created, store, named, inside}
 use Rattle.ada_typed.specs.Holding.{HaveKinds, cells_of}
-use Rattle.ada_typed.proofs.Values.{AreComputed}
+use Rattle.ada_typed.proofs.Values.{OperandKind, AreComputed}
 use Rattle.ada_typed.proofs.Control as typed
 use Rattle.ada_meaning.specs.declared.state.Id.{Id}
 use Rattle.ada_owners.specs.Places.{Place}
@@ -35,11 +35,12 @@ use Rattle.ada_sound.proofs.Objects.{get_more}
 use Rattle.ada_sound.proofs.Items.{home_has}
 use Rattle.ada_sound.proofs.Stored.{Stored, stored_new, stored_filled}
 use Rattle.ada_sound.proofs.Alters.{alters_new}
-use Rattle.ada_sound.proofs.Fits.{Fit, Hand, stacked, none_spared, hold_in, place_at, component_access, is_object, no_object, as_reliance, root_follows, lose_all, put_owner, create_fit, insert_fit}
-use Rattle.ada_sound.proofs.Invariant.{outers, HasRoom, RoomFor, Known, Control, Rooms, NoneBroken, MayRaise, back_onto, named_of, FilledBy, GoesInto, LeadsTo, Filling, FillsTo, Accepts, StoresTo, StoringIn, RunsOn, Working, ReadyIn, Stepped, Fine}
+use Rattle.ada_sound.proofs.Fits.{Fit, Hand, stacked, none_spared, hold_in, place_at, component_access, is_object, plain_place, as_reliance, lose_all, put_owner, create_fit, insert_fit}
+use Rattle.ada_sound.proofs.Begins.{root_follows}
+use Rattle.ada_sound.proofs.Invariant.{begun, along, outers, HasRoom, RoomFor, Known, Control, Rooms, NoneBroken, MayRaise, back_onto, named_of, FilledBy, GoesInto, LeadsTo, Filling, FillsTo, Accepts, StoresTo, StoringIn, RunsOn, Working, ReadyIn, Stepped, Fine}
 use Rattle.ada_sound.proofs.Ready.{running, at_work, ready_on, jumps_less}
 use Rattle.ada_sound.proofs.Followings.{first_kept}
-use Rattle.ada_sound.proofs.Roots.{root_object, object_there, rest_raises, record_raises}
+use Rattle.ada_sound.proofs.Roots.{root_object, object_there, rest_raises, record_raises, selected_raises}
 use Rattle.ada_sound.proofs.Filled.{Lends, kept_by, filled_length, filled_in_hand}
 use Rattle.ada_sound.proofs.Copied.{give_next, fill_one, raise_back, copies_on, copied_plain, RecordThere, record_there}
 use Rattle.ada_sound.proofs.Lendings.{lends_none, lends_some}
@@ -99,25 +100,27 @@ module _ (known : Known) (k : Control) (a : Activation Value) (rest : List (Acti
       ready_on known (Fills items ∷ k) a rest s (v ∷ a.operands) (at_work w (fills_on known s.heap a.places i items k a.operands v w.rooms w.holds is w.rest))
 
   -- The value of a path is: of a variable, or of the target, which is followed.
-  path_item : (path : PathForm) (items : List ItemForm) (cs : List ℕ) → path.selectors ≡ cs → (w : Working known s.heap a.places s.masters (FillsTo known s.heap a.places (item_of_path path ∷ items) k a.operands)) → (path.of_record ≡ true → is_object known.program.variables path.root ≡ true) → lost_behind cs (hold_at w.holds path.root) path.spot ≡ None → Fine known s.heap s.masters (path_next named cs (place_at a.places path.root) (running (Fills items ∷ k) a rest s))
-  path_item path items [] e w whole kept = item_there (item_of_path path) items (place_at a.places path.root) (rw e refl) w
+  path_item : (path : PathForm) (items : List ItemForm) (cs : List ℕ) → path.selectors ≡ cs → (w : Working known s.heap a.places s.masters (FillsTo known s.heap a.places (item_of_path path ∷ items) k a.operands)) → (path.of_record ≡ true → is_object known.program.variables path.root ≡ true) → lost_behind cs (hold_at w.holds path.root) path.spot ≡ None → Fine known s.heap s.masters (path_next named (selected named (place_at a.places path.root) cs) (begun a.places path) (running (Fills items ∷ k) a rest s))
+  path_item path items [] e w whole kept = item_there (item_of_path path) items (begun a.places path) (rw e refl) w
   path_item path items (c ∷ cs) e w whole kept =
-      fills_fine known a rest s a.operands items k c cs (place_at a.places path.root)
+      fills_fine known a rest s a.operands items k (inside (place_at a.places path.root) c) cs (begun a.places path)
       (at_work w (λ v is. fills_on known s.heap a.places (item_of_path path) items k a.operands v w.rooms w.holds (rw e is) w.rest))
       (root_follows path.root path.spot kept w.fit)
-      (rest_raises known (place_at a.places path.root) (Fills items ∷ k) w.rooms w.holds path.of_record c cs (λ is. object_there path.root path.spot kept (whole is) w.fit)
+      (rest_raises known (begun a.places path) (Fills items ∷ k) w.rooms w.holds path.of_record c cs (λ is. object_there path.root path.spot kept (whole is) w.fit)
       (rw e at (next_raises known s.heap a.places (item_of_path path) items k a.operands w.rooms w.holds w.rest)))
 
   -- The object in which a record lies is found, and then its components are copied.
-  record_item : (p : RecordPathForm) (items : List ItemForm) → RecordThere known.program.types known.program.variables p → (w : Working known s.heap a.places s.masters (FillsTo known s.heap a.places (item_of_record p ∷ items) k a.operands)) → (is_owning_record known.program.types p.record_type ≡ false) × (lost_by (hold_at w.holds p.object.root) p.object.spot ≡ None) → Fine known s.heap s.masters (path_next named p.object.selectors (place_at a.places p.object.root) (running (Copies p.first p.record_type ∷ Fills items ∷ k) a rest s))
+  record_item : (p : RecordPathForm) (items : List ItemForm) → RecordThere known.program.types known.program.variables p → (w : Working known s.heap a.places s.masters (FillsTo known s.heap a.places (item_of_record p ∷ items) k a.operands)) → (is_owning_record known.program.types p.record_type ≡ false) × (lost_by (hold_at w.holds p.object.root) p.object.spot ≡ None) → Fine known s.heap s.masters (record_holder_next named p (λ first. Copies first p.record_type) (running (Fills items ∷ k) a rest s))
   record_item p items there w kept =
       let path = p.object in
-      let v = place_at a.places path.root in
-      finds_fine known a rest s a.operands (Copies p.first p.record_type ∷ Fills items ∷ k) path.selectors v
+      let v = begun a.places path in
+      let first = first_in named (place_at a.places path.root) path.selectors p.first in
+      finds_fine known a rest s a.operands (Copies first p.record_type ∷ Fills items ∷ k) (along a.places path) v
       (at_work w (
-        record_raises known v (Fills items ∷ k) w.rooms w.holds path.of_record path.selectors
+        selected_raises known (place_at a.places path.root) v path.selectors (Fills items ∷ k) w.rooms w.holds
+            (record_raises known v (Fills items ∷ k) w.rooms w.holds path.of_record path.selectors
             (λ is. object_there path.root path.spot kept.1 (root_object known.program.types known.program.variables path there.to there.leads is) w.fit)
-            (next_raises known s.heap a.places (item_of_record p) items k a.operands w.rooms w.holds w.rest),
+            (next_raises known s.heap a.places (item_of_record p) items k a.operands w.rooms w.holds w.rest)),
         (there.kinds, there.components, copies_on known s.heap a.places p there.kinds items k a.operands w.rooms w.holds there.components kept.0 w.rest),
       )) (root_follows path.root path.spot kept.1 w.fit)
 
@@ -175,7 +178,7 @@ module _ (known : Known) (k : Control) (a : Activation Value) (rest : List (Acti
       record_item p items (record_fits cs p items fits) w (record_kept w.holds p (next_keeps known s.heap a.places (item_of_record p) items k a.operands w.rooms w.holds w.rest))
 
   -- A new object is granted, or refused.
-  module _ (access count words item : ℕ) (home : home_of access s.masters ≡ Some item) (w : Working known s.heap a.places s.masters (Filling known s.heap a.places access count [] k a.operands)) (kinds : HaveKinds (cells_of s.heap) w.rest.leads.components (reverse (take count a.operands))) where
+  module _ (access count words item : ℕ) (home : home_of access s.masters ≡ Some item) (w : Working known s.heap a.places s.masters (Filling known s.heap a.places access count [] k a.operands)) (kinds : HaveKinds known.program.types (cells_of s.heap) w.rest.leads.components (reverse (take count a.operands))) where
     cell : Cell Value
     cell = new_cell named access count item (running k a rest s)
 
@@ -187,7 +190,7 @@ module _ (known : Known) (k : Control) (a : Activation Value) (rest : List (Acti
     counted = w.rest.counted ∙ sym (filled_length known.program.types known.program.variables s.heap a.places w.rest.leads.components w.rest.done a.operands w.rest.filled w.rest.leads.fit)
 
     -- The values of the items are in hand, as far as nothing more is relied on than what they leave.
-    in_hand_by : (after : Place → Hold) → Lends (outers known) s.heap a.places w.holds w.rest.target (moved_by_items (back_onto w.rest.done [])) after → (n : ℕ) → n ≡ length (back_onto w.rest.done []) → HaveKinds (cells_of s.heap) w.rest.leads.components (reverse (take n a.operands)) → AreInHand s.heap (stacked a.places (outers known)) after (λ c. access_of (kind_among (reached_components known.program.types access) c)) 0 (reverse (take n a.operands))
+    in_hand_by : (after : Place → Hold) → Lends (outers known) s.heap a.places w.holds w.rest.target (moved_by_items (back_onto w.rest.done [])) after → (n : ℕ) → n ≡ length (back_onto w.rest.done []) → HaveKinds known.program.types (cells_of s.heap) w.rest.leads.components (reverse (take n a.operands)) → AreInHand s.heap (stacked a.places (outers known)) after (λ c. access_of (kind_among (reached_components known.program.types access) c)) 0 (reverse (take n a.operands))
     in_hand_by after lends n e h =
         rw e (filled_in_hand known.program.types known.program.variables (outers known) s.heap a.places w.holds w.rest.spot w.rest.target (moved_by_items (back_onto w.rest.done [])) after w.fit lends access w.rest.leads.components w.rest.done a.operands (λ x is. is) w.rest.leads.reached w.rest.leads.fit w.rest.before w.rest.filled (rw e at h))
 
@@ -210,7 +213,7 @@ module _ (known : Known) (k : Control) (a : Activation Value) (rest : List (Acti
       holds = slice_set lost x (hold.Own Whole);
       stored = stored;
       roomed = w.roomed;
-      fit = put_owner x (created s.heap words) Whole (λ object. no_object known.program.variables x other object) (rw is (made none).1) (made none).0;
+      fit = put_owner x (created s.heap words) Whole (plain_place known.program.types (outers known).referenced known.program.variables a.places x (created s.heap words) other tt) (rw is (made none).1) (made none).0;
       rest = runs;
     }
 
@@ -224,6 +227,7 @@ module _ (known : Known) (k : Control) (a : Activation Value) (rest : List (Acti
     stored_in : (o : Value) (c : ℕ) (k' : Control) → ((path : PathForm) → w.rest.target ≡ Some path → LeadsTo s.heap a.places o [] c path) → Accepts known s.heap o c (Some access) → RunsOn known k' w.rooms lost → StoringIn known o c (created s.heap words) k' (create s.heap words cell) a.places s.masters
     stored_in Null c k' leads into runs = absurd into
     stored_in (Scalar n) c k' leads into runs = absurd into
+    stored_in (Part object_id base) c k' leads into runs = absurd into
     stored_in (Names o) c k' leads into runs =
         let found : object_at (create s.heap words cell) o ≡ Some into.0 = get_more s.heap (new_object cell) o.0 into.0 into.1 in
         let kept : Stored None (store (create s.heap words cell) (Names o) c (created s.heap words)) s.masters =
@@ -252,12 +256,12 @@ module _ (known : Known) (k : Control) (a : Activation Value) (rest : List (Acti
     answered_fine true = record { ready = (tt, granted_ready k (drop count a.operands) w.rest.leads.room w.rest.into w.rest.leads.to); alters = alters_new s.heap Quiet (new_object cell) refl; says = tt }
     answered_fine false = jumps_less known k a rest s (Raising StorageError) (at_work w (w.rest.leads.refused refl))
 
-  creates_by : (access count words : ℕ) (home : Option ℕ) → home_of access s.masters ≡ home → (w : Working known s.heap a.places s.masters (Filling known s.heap a.places access count [] k a.operands)) → HaveKinds (cells_of s.heap) w.rest.leads.components (reverse (take count a.operands)) → Fine known s.heap s.masters (new_next named access count words home (running k a rest s))
+  creates_by : (access count words : ℕ) (home : Option ℕ) → home_of access s.masters ≡ home → (w : Working known s.heap a.places s.masters (Filling known s.heap a.places access count [] k a.operands)) → HaveKinds known.program.types (cells_of s.heap) w.rest.leads.components (reverse (take count a.operands)) → Fine known s.heap s.masters (new_next named access count words home (running k a rest s))
   creates_by access count words None e w kinds = jumps_less known k a rest s (Raising StorageError) (at_work w (w.rest.leads.refused refl))
   creates_by access count words (Some item) e w kinds = answered_fine access count words item e w kinds
 
-  pub creates_fine : (access count words : ℕ) (kinds : List VariableKind) → typed.Fits known.program (cells_of s.heap) kinds (Creates access count ∷ k) → AreComputed (cells_of s.heap) kinds a.operands → Working known s.heap a.places s.masters (Filling known s.heap a.places access count [] k a.operands) → Fine known s.heap s.masters (new_next named access count words (home_of access s.masters) (running k a rest s))
+  pub creates_fine : (access count words : ℕ) (kinds : List OperandKind) → typed.Fits known.program (cells_of s.heap) kinds (Creates access count ∷ k) → AreComputed known.program.types (cells_of s.heap) kinds a.operands → Working known s.heap a.places s.masters (Filling known s.heap a.places access count [] k a.operands) → Fine known s.heap s.masters (new_next named access count words (home_of access s.masters) (running k a rest s))
   creates_fine access count words kinds fits computed w =
-      let split_kinds = (typed.split (cells_of s.heap) fits.1 fits.0 a.operands (rw fits.2 at computed)).0 in
+      let split_kinds = (typed.split known.program.types (cells_of s.heap) fits.1 fits.0 a.operands (rw fits.2 at computed)).0 in
       let same : fits.1 ≡ w.rest.leads.components = let reached = fits.3 in let other = w.rest.leads.reached in cc (reached, other) in
       creates_by access count words (home_of access s.masters) refl w (rw (← same, fits.4) split_kinds)

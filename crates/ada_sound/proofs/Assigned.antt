@@ -25,18 +25,18 @@ access_is heap access o object has found =
     let same : has.0 ≡ object.cell = cc (has.1, cell) in
     ap (λ (c : Cell Value). c.access) (sym same) ∙ has.2
 
-pub kind_names : (heap : List Object) (kind : VariableKind) (o : Id) (object : Object) → HasKind (cells_of heap) kind (Names o) → object_at heap o ≡ Some object → access_of (Some kind) ≡ Some object.cell.access
-kind_names heap variable.Integer o object has found = absurd has
-kind_names heap variable.Boolean o object has found = absurd has
-kind_names heap (variable.Access access) o object has found = ap Some (sym (access_is heap access.0 o object has found))
-kind_names heap (variable.Record t) o object has found = ap Some (sym (access_is heap t.0 o object has found))
+pub kind_names : (types : List TypeForm) (heap : List Object) (kind : VariableKind) (o : Id) (object : Object) → HasKind types (cells_of heap) kind (Names o) → object_at heap o ≡ Some object → access_of (Some kind) ≡ Some object.cell.access
+kind_names types heap variable.Integer o object has found = absurd has
+kind_names types heap variable.Boolean o object has found = absurd has
+kind_names types heap (variable.Access access) o object has found = ap Some (sym (access_is heap access.0 o object has found))
+kind_names types heap (variable.Record t) o object has found = ap Some (sym (access_is heap t.0 o object has found))
 
 -- What a kind without access values holds names nothing.
-pub kind_blank : (cells : Cells) (kind : VariableKind) (v : Value) → access_of (Some kind) ≡ None → HasKind cells kind v → (o : Id) → v ≡ Names o → ⊥
-kind_blank cells variable.Integer v none has o is = rw is at has
-kind_blank cells variable.Boolean v none has o is = rw is at has
-kind_blank cells (variable.Access access) v none has o is = cc none
-kind_blank cells (variable.Record t) v none has o is = cc none
+pub kind_blank : (types : List TypeForm) (cells : Cells) (kind : VariableKind) (v : Value) → access_of (Some kind) ≡ None → HasKind types cells kind v → (o : Id) → v ≡ Names o → ⊥
+kind_blank types cells variable.Integer v none has o is = rw is at has
+kind_blank types cells variable.Boolean v none has o is = rw is at has
+kind_blank types cells (variable.Access access) v none has o is = cc none
+kind_blank types cells (variable.Record t) v none has o is = cc none
 
 -- A component selected behind a value of a kind is that of the object that the value names.
 pub selected_of : (types : List TypeForm) (from : Option VariableKind) (object : Object) (c : ℕ) (to : VariableKind) → access_of from ≡ Some object.cell.access → selected_kind types from c ≡ Some to → component_access types object c ≡ access_of (Some to)

@@ -5,7 +5,7 @@ use Rattle.std.specs.Prelude.{Option, Some, None}
 use Rattle.std.specs.List.{slice_set}
 use Rattle.ada_meaning.specs.declared.state.Id.{Id}
 use Rattle.ada_meaning.specs.declared.state.Value.{Value}
-use Rattle.ada_meaning.specs.declared.state.Value.TheVariants.{Null, Names, Scalar}
+use Rattle.ada_meaning.specs.declared.state.Value.TheVariants.{Null, Names, Scalar, Part}
 use Rattle.ada_meaning.specs.State.{Item, Master}
 use Rattle.ada_meaning.specs.Named.{Object, object_at, changed, filled, store}
 use Rattle.ada_meaning.specs.Law.{items_of}
@@ -38,3 +38,4 @@ pub stored_before : {under : Option Id} (heap : List Object) (ms : List Master) 
 stored_before heap ms Null c v s = s
 stored_before heap ms (Names o) c v s = changed_before heap ms o c v (object_at heap o) refl s
 stored_before heap ms (Scalar n) c v s = s
+stored_before heap ms (Part object_id base) c v s = s

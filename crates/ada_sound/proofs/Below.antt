@@ -1,6 +1,6 @@
 -- What callers rely on lies in masters that were entered before their calls: none of it goes while a body is left.
 
-use Rattle.std.proofs.Common.{◌≡◌, ℕ, zero, suc, ◌≤◌, Bool, true, false, List, [], ◌∷◌, ◌++◌, length, refl, sym, ◌∙◌, arith, length-append}
+use Rattle.std.proofs.Common.{◌≡◌, ℕ, zero, suc, ◌≤◌, Bool, true, false, List, [], ◌∷◌, ◌++◌, length, refl, sym, ◌∙◌, arith, length-append, ◌⊎◌, inl, inr}
 use Rattle.std.specs.Prelude.{Some, ◌==◌}
 use Rattle.std.specs.List.{slice_get}
 use Rattle.std.proofs.lemmas.Bool.{eqb-true}
@@ -14,10 +14,10 @@ use Rattle.ada_meaning.specs.State.{Item, Master, height}
 use Rattle.ada_meaning.specs.Law.{items_of}
 use Rattle.ada_meaning.specs.Named.{Object, object_at}
 use Rattle.ada_scopes.specs.Scopes.{is_number_of}
-use Rattle.ada_sound.proofs.Fits.{outer_hold, outer_value, IsRelied}
+use Rattle.ada_sound.proofs.Fits.{outer_hold, outer_value, IsRelied, IsReferred, referred_either}
 use Rattle.ada_sound.proofs.Items.{Counted, height_is}
 use Rattle.ada_sound.proofs.Leavings.{NamedBelow}
-use Rattle.ada_sound.proofs.Invariant.{Known, Control, Caller, Rooms, Roomed, RunsOn, Parting, AllWait, LieBelow, below, below_callers, outers, outer_in}
+use Rattle.ada_sound.proofs.Invariant.{Known, Control, Caller, Rooms, Roomed, RunsOn, Parting, AllWait, LieBelow, below, below_callers, outers, outer_in, referenced_in}
 
 -- Masters with rooms stand above those of the callers.
 roomed_high : (below ms : List Master) (rooms : Rooms) → Roomed below ms rooms → height below ≤ height ms
@@ -45,21 +45,48 @@ low_at heap body (w ∷ ws) waits low zero x o object relied names found =
     some_same : (x y : Object) → Some x ≡ Some y → x ≡ y
     some_same x y e = cc e
 low_at heap body (w ∷ ws) waits low (suc d) x o object relied names found =
-    let lower = low_at heap w.program ws waits.1 low.1 d x o object relied names found in
+    let lower = low_at heap w.program ws waits.1 low.2 d x o object relied names found in
     let high = roomed_high (below_callers ws) w.masters w.rooms waits.0.roomed in
     omega (arith, lower, high)
+
+-- So does what its call refers to.
+lower_or_here : (heap : List Object) (w : Caller) (ws : List Caller) → ((o : Id) (t : ℕ) → IsReferred w.referenced o t → (object : Object) × (object_at heap o ≡ Some object) × (suc object.cell.home.item ≤ height w.masters)) → (o : Id) (t : ℕ) (object : Object) → object_at heap o ≡ Some object → Roomed (below_callers ws) w.masters w.rooms → (IsReferred (referenced_in ws) o t → suc object.cell.home.item ≤ height (below_callers ws)) → IsReferred w.referenced o t ⊎ IsReferred (referenced_in ws) o t → suc object.cell.home.item ≤ height w.masters
+lower_or_here heap w ws low o t object found roomed before (inl here) =
+    let lies = low o t here in
+    let same : lies.0 ≡ object = some_same lies.0 object (sym lies.1 ∙ found) in
+    rw (← same) lies.2
+  where
+    some_same : (x y : Object) → Some x ≡ Some y → x ≡ y
+    some_same x y e = cc e
+lower_or_here heap w ws low o t object found roomed before (inr there) =
+    let lower = before there in
+    let high = roomed_high (below_callers ws) w.masters w.rooms roomed in
+    omega (arith, lower, high)
+
+referred_low : (heap : List Object) (body : ProgramForm) (callers : List Caller) → AllWait body callers → LieBelow heap callers → (o : Id) (t : ℕ) (object : Object) → IsReferred (referenced_in callers) o t → object_at heap o ≡ Some object → suc object.cell.home.item ≤ height (below_callers callers)
+referred_low heap body [] waits low o t object is found = absurd is
+referred_low heap body (w ∷ ws) waits low o t object is found =
+    lower_or_here heap w ws low.1 o t object found waits.0.roomed (λ before. referred_low heap w.program ws waits.1 low.2 o t object before found) (referred_either w.referenced (referenced_in ws) o t is)
 
 -- So none of it is an item of a master that a body is to leave.
 module _ (known : Known) (heap : List Object) (waits : AllWait known.program known.callers) (low : LieBelow heap known.callers) where
   below_by : (mode : Mode) (k : Control) (rooms : Rooms) (holds : Holds) (ms : List Master) → Counted (items_of ms) → Roomed (below known) ms rooms → RunsOn known (Leaves mode ∷ k) rooms holds → NamedBelow (outers known) heap ms
   below_by mode k [] holds ms counted r runs = absurd runs
   below_by mode k (gone ∷ rooms) holds [] counted r runs = absurd r
-  below_by mode k (gone ∷ rooms) holds (m ∷ ms) counted r runs = λ d x o object relied names found inner.
-      let lower = low_at heap known.program known.callers waits low d x o object relied names found in
-      let high = roomed_high (below known) ms rooms r.1 in
-      let above = inner_high m.items (items_of ms) object.cell.home.item counted inner in
-      let count = height_is ms in
-      omega (arith, lower, high, above, count)
+  below_by mode k (gone ∷ rooms) holds (m ∷ ms) counted r runs = (
+    (λ d x o object relied names found inner.
+        let lower = low_at heap known.program known.callers waits low d x o object relied names found in
+        let high = roomed_high (below known) ms rooms r.1 in
+        let above = inner_high m.items (items_of ms) object.cell.home.item counted inner in
+        let count = height_is ms in
+        omega (arith, lower, high, above, count)),
+    (λ o t object refers found inner.
+        let lower = referred_low heap known.program known.callers waits low o t object refers found in
+        let high = roomed_high (below known) ms rooms r.1 in
+        let above = inner_high m.items (items_of ms) object.cell.home.item counted inner in
+        let count = height_is ms in
+        omega (arith, lower, high, above, count)),
+  )
 
   pub named_below : {places : List _} (mode : Mode) (k : Control) (ms : List Master) → Parting known heap places ms (RunsOn known (Leaves mode ∷ k)) → NamedBelow (outers known) heap ms
   named_below mode k ms p = below_by mode k p.rooms p.holds ms p.stored.counted p.roomed p.rest

@@ -1,21 +1,24 @@
 -- A body runs from where its call has given it its formal parameters: it breaks no rule, and ends as its caller waits for it.
 
-use Rattle.std.proofs.Common.{◌≡◌, ◌≢◌, ℕ, zero, suc, ◌+◌, Bool, true, false, ◌||◌, List, [], ◌∷◌, ◌⊎◌, inl, inr, refl, arith}
+use Rattle.std.proofs.Common.{◌≡◌, ◌≢◌, ℕ, zero, suc, ◌+◌, Bool, true, false, ◌||◌, List, [], ◌∷◌, ◌⊎◌, inl, inr, refl, arith, ◌++◌}
 use Rattle.std.specs.Prelude.{Option, Some, None}
 use Rattle.ada_program.specs.declared.program.Exception.{Exception}
 use Rattle.ada_program.specs.declared.program.Program.{Program}
 use Rattle.ada_program.specs.Handling.{is_same}
 use Rattle.ada_program.specs.declared.program.FormalMode.{FormalMode}
-use Rattle.ada_program.specs.Form.{ActualForm, in_value, in_null, in_access, in_out_path, in_out_access}
+use Rattle.ada_program.specs.Form.{ActualForm, in_value, in_null, in_access, in_record, in_out_path, in_out_access, in_out_component, in_out_record}
 use Rattle.ada_program.specs.ProgramForm.{TypeForm, VariableForm, BodyForm, ProgramForm, main_body}
 use Rattle.ada_effects.specs.Effects.{Effect, untaken, declarations_raise, stmts_raise, handlers_raise, stmts_free, handlers_free, call_frees, body_frees, effects_of, passes}
 use Rattle.ada_flow.specs.declared.rule.Hold.{Hold}
 use Rattle.ada_flow.specs.declared.rule.Hold.TheVariants as hold
 use Rattle.ada_flow.specs.Flow.{Holds, hold_at, variable_access, Outcome, then_flow, declarations_flow, stmts_flow, handlers_flow, handled, leaves_block, Keeping, keeping_of, body_keeps, kept_from, is_kept, all_give_back, first_kept, others_kept, unless_kept, left_unkept, left_by_move, without_alias, without_freed, left_by_call, left, gone_with, nothing_gone, collected, have_exit, handlers_have_exit, body_flow, first_holds}
+use Rattle.ada_meaning.specs.declared.state.Id.{Id}
 use Rattle.ada_meaning.specs.declared.state.Value.{Value}
+use Rattle.ada_program.specs.WellFormed.{is_access}
+use Rattle.std.specs.List.{slice_get}
 use Rattle.ada_meaning.specs.Frame.{Elaborates}
 use Rattle.ada_owners.specs.Reliance.{Borrows}
-use Rattle.ada_sound.proofs.Fits.{Outer, Outsiders, NoOuterAlias}
+use Rattle.ada_sound.proofs.Fits.{Outer, Outsiders, NoOuterAlias, Reference, IsReferred, referred_either, outer_access, outer_hold}
 use Rattle.ada_sound.proofs.Outcomes.{goes_map, to_here, block_goes, body_goes}
 use Rattle.ada_sound.proofs.Values.{read_same, read_other, same_or_not}
 use Rattle.ada_sound.proofs.Leavings.{all_among}
@@ -74,7 +77,7 @@ module _ (program : Program) (procedure : Option ℕ) (gs : List Suspension) whe
 
   ends : (gs : List Suspension) (holds : Holds) → all_give_back (owed_in p) holds ≡ true → (ways (known_in program procedure gs) (rest_of gs) []).normal holds
   ends [] holds gives = tt
-  ends (g ∷ gs) holds gives = (refl, refl, gives)
+  ends (g ∷ gs) holds gives = (refl, refl, refl, gives)
 
   raises : (gs : List Suspension) → KeepsFor gs → (e : Exception) (holds : Holds) → body_among p e ≡ true → KeepsAll kept holds → (ways (known_in program procedure gs) (rest_of gs) []).raised e holds
   raises [] same e holds may keeps = tt
@@ -82,7 +85,7 @@ module _ (program : Program) (procedure : Option ℕ) (gs : List Suspension) whe
 
   returns : (gs : List Suspension) (holds : Holds) → all_give_back (owed_in p) holds ≡ true → (ways (known_in program procedure gs) (rest_of gs) []).returned holds
   returns [] holds gives = tt
-  returns (g ∷ gs) holds gives = (refl, refl, gives)
+  returns (g ∷ gs) holds gives = (refl, refl, refl, gives)
 
   abbrev outside : Ways
   outside = Outside p.variables (gone_with p.declarations) behind
@@ -128,7 +131,7 @@ module _ (program : Program) (procedure : Option ℕ) (gs : List Suspension) whe
 
 -- The main body has no caller, so no suspended activation has an alias.
 pub none_suspended : (program : Program) (procedure : Option ℕ) (may : ℕ → Bool) → Spares (known_in program procedure []) may
-none_suspended program procedure may t is d x e b = cc e
+none_suspended program procedure may t is = ((λ d x e b. cc e), (λ o refers of. absurd refers))
 
 -- Behind a call no alias is left of what its procedure may free.
 no_alias : (h : Hold) → Borrows (without_alias true h) → ⊥
@@ -165,13 +168,25 @@ unkept_borrows keeping [] holds x b = b
 unkept_borrows keeping (in_value e ∷ rest) holds x b = unkept_borrows (others_kept keeping) rest holds x b
 unkept_borrows keeping (in_null ∷ rest) holds x b = unkept_borrows (others_kept keeping) rest holds x b
 unkept_borrows keeping (in_access path ∷ rest) holds x b = unkept_borrows (others_kept keeping) rest holds x b
+unkept_borrows keeping (in_record p ∷ rest) holds x b = unkept_borrows (others_kept keeping) rest holds x b
+unkept_borrows keeping (in_out_component path ∷ rest) holds x b = unkept_borrows (others_kept keeping) rest holds x b
+unkept_borrows keeping (in_out_record p ∷ rest) holds x b = unkept_borrows (others_kept keeping) rest holds x b
 unkept_borrows keeping (in_out_path path ∷ rest) holds x b = unkept_borrows (others_kept keeping) rest holds x b
 unkept_borrows keeping (in_out_access path ∷ rest) holds x b =
     unless_borrows (first_kept keeping) path.root holds x (unkept_borrows (others_kept keeping) rest (unless_kept (first_kept keeping) path.root holds) x b)
 
--- Neither has a caller that waits, nor those before it.
-pub call_spares : (variables : List VariableForm) (effect : Option Effect) (actuals : List ActualForm) (places given : List Value) (holds : Holds) (outer : Outsiders) (t : ℕ) → call_frees effect t ≡ true → NoOuterAlias outer t → NoOuterAlias (record { given = given; suspended = record { variables = variables; places = places; holds = left_unkept [] actuals (left_by_call variables effect holds) } ∷ outer.suspended }) t
-call_spares variables None actuals places given holds outer t is none d x of b = cc is
-call_spares variables (Some effect) actuals places given holds outer t is none zero x of b =
-    freed_aliases variables effect.frees holds x t of is (unkept_borrows [] actuals (without_freed variables effect.frees holds) x b)
-call_spares variables (Some effect) actuals places given holds outer t is none (suc d) x of b = none d x of b
+-- Neither has a caller that waits, nor those before it, and the call refers to no object of it.
+pub call_spares : (types : List TypeForm) (variables : List VariableForm) (effect : Option Effect) (actuals : List ActualForm) (places given : List Value) (referenced : List Reference) (holds : Holds) (outer : Outsiders) (t : ℕ) → call_frees effect t ≡ true → NoOuterAlias types outer t → (is_access types t ≡ true → (o : Id) → IsReferred referenced o t → ⊥) → NoOuterAlias types (record { given = given; suspended = record { variables = variables; places = places; holds = left_unkept [] actuals (left_by_call variables effect holds) } ∷ outer.suspended; referenced = referenced ++ outer.referenced }) t
+call_spares types variables effect actuals places given referenced holds outer t is none passed = (
+  (λ d x of b. aliases effect is d x of b),
+  (λ o refers of. elim (referred_either referenced outer.referenced o t refers) [ inl here ↦ passed of o here | inr before ↦ none.1 o before of ]),
+)
+  where
+    waiting : Option Effect → Outer
+    waiting found = record { variables = variables; places = places; holds = left_unkept [] actuals (left_by_call variables found holds) }
+
+    aliases : (found : Option Effect) → call_frees found t ≡ true → (d x : ℕ) → outer_access (slice_get (waiting found ∷ outer.suspended) d) x ≡ Some t → Borrows (outer_hold (slice_get (waiting found ∷ outer.suspended) d) x) → ⊥
+    aliases None is' d x of b = cc is'
+    aliases (Some found) is' zero x of b =
+        freed_aliases variables found.frees holds x t of is' (unkept_borrows [] actuals (without_freed variables found.frees holds) x b)
+    aliases (Some found) is' (suc d) x of b = none.0 d x of b

@@ -12,16 +12,19 @@ use Rattle.ada_meaning.specs.State.{Activation, Master}
 use Rattle.ada_meaning.specs.Step.{older}
 use Rattle.ada_meaning.specs.Named.{State}
 use Rattle.ada_sound.specs.Agreement.{Turning, IsFlowAt, IsBehind, running_procedure}
+use Rattle.ada_sound.proofs.Fits.{Reference}
 use Rattle.ada_sound.proofs.Bodies.{IsBody}
 use Rattle.ada_sound.proofs.Invariant.{Control, Rooms, Caller, Known, Standing}
 
--- A suspended activation: of which body it is, the actual parameters of its call, their values, and what the procedure keeps of them; what is left to do once
--- the call has come to its end, the masters that are entered then, and their rooms; what its variables hold, and what is known of them behind the call, as
--- if nothing were handed over.
+-- A suspended activation: of which body it is, the actual parameters of its call, their values, what refers to the components that get something back, the
+-- objects to which all that refers leads, and what the procedure keeps of them; what is left to do once the call has come to its end, the masters that are
+-- entered then, and their rooms; what its variables hold, and what is known of them behind the call, as if nothing were handed over.
 pub record Suspension : Type 0 where
   pub procedure : Option ℕ
   pub actuals : List ActualForm
   pub passed : List Value
+  pub references : List Value
+  pub referenced : List Reference
   pub kept : Keeping
   pub control : Control
   pub masters : List Master
@@ -32,7 +35,7 @@ pub record Suspension : Type 0 where
 -- What is left to do behind a body, by the activation that called it.
 abbrev pub rest_of : List Suspension → Control
 rest_of [] = []
-rest_of (g ∷ gs) = Returns g.actuals ∷ g.control
+rest_of (g ∷ gs) = Returns g.actuals g.references ∷ g.control
 
 -- Flow comes to a place on some way from the declarations of a body.
 abbrev pub Reaches : Program → (procedure : Option ℕ) → (rest : Control) → Control → Holds → Type 0
@@ -45,6 +48,8 @@ caller_of program g gs = record {
   At = Reaches program g.procedure (rest_of gs);
   actuals = g.actuals;
   passed = g.passed;
+  references = g.references;
+  referenced = g.referenced;
   kept = g.kept;
   control = g.control;
   masters = g.masters;

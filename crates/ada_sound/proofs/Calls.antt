@@ -1,6 +1,6 @@
 -- The body of a procedure begins: what its caller knows waits for the end of the call.
 
-use Rattle.std.proofs.Common.{◌≡◌, ◌≢◌, ℕ, suc, ◌≤◌, Bool, true, false, List, [], ◌∷◌, length, take, drop, reverse, refl, sym, ap, ◌∙◌, inl, inr, subst, arith}
+use Rattle.std.proofs.Common.{◌≡◌, ◌≢◌, ℕ, suc, ◌≤◌, Bool, true, false, List, [], ◌∷◌, ◌++◌, length, take, drop, reverse, refl, sym, ap, ◌∙◌, inl, inr, subst, arith}
 use Rattle.std.specs.Prelude.{Option, Some, None}
 use Rattle.std.specs.List.{slice_get}
 use Rattle.std.proofs.lemmas.Bool.{and_parts}
@@ -13,31 +13,36 @@ use Rattle.ada_effects.specs.Effects.{call_raises, call_frees, body_frees, effec
 use Rattle.ada_flow.specs.declared.rule.Hold.{Hold}
 use Rattle.ada_flow.specs.declared.rule.Hold.TheVariants as hold
 use Rattle.ada_flow.specs.Flow.{Holds, hold_at, variable_access, left_unkept, handed_back, gives_back, first_holds, gone_with}
-use Rattle.ada_program.specs.WellFormed.{actuals_fit, modes_fit, formal_kinds}
+use Rattle.ada_program.specs.WellFormed.{is_access, variable_kind, actuals_fit, modes_fit, formal_kinds}
 use Rattle.ada_meaning.specs.declared.state.Id.{Id}
 use Rattle.ada_meaning.specs.declared.state.Value.{Value}
-use Rattle.ada_meaning.specs.declared.state.Value.TheVariants.{Null, Names}
+use Rattle.ada_meaning.specs.declared.state.Value.TheVariants.{Names}
 use Rattle.ada_meaning.specs.declared.state.Mode.TheVariants.{Running}
 use Rattle.ada_meaning.specs.Event.{Quiet}
 use Rattle.ada_meaning.specs.Frame.{Elaborates, Returns}
 use Rattle.ada_meaning.specs.State.{Activation, Master, height}
-use Rattle.ada_meaning.specs.Step.{begun, blanks, given_places}
+use Rattle.ada_meaning.specs.Step as steps
+use Rattle.ada_meaning.specs.Step.{operand_count, given_values, references_in, blanks, given_places}
 use Rattle.ada_meaning.specs.Law.{items_of}
 use Rattle.ada_meaning.specs.Named.{Object, State, named, object_at}
 use Rattle.ada_owners.specs.Places.{variable, access_at}
 use Rattle.ada_owners.specs.Reliance.{Says, IsOf, Owns}
 use Rattle.ada_owners.specs.Keeping.{IsThere}
-use Rattle.ada_sound.proofs.Fits.{none_spared, Fit, IsSaid, IsRelied, is_object, place_at, weaker_fit, there_by}
+use Rattle.ada_owners.specs.Walks.{ListedExist}
+use Rattle.ada_sound.proofs.Fits.{none_spared, Fit, Reference, IsReferred, referred_first, referred_either, IsPlace, ArePlain, plain_by, plain_object, IsSaid, IsRelied, is_object, place_at, weaker_fit, there_by}
 use Rattle.ada_sound.proofs.Orderings.{AsGood, called_good}
 use Rattle.ada_sound.proofs.Items.{item_below, height_is}
 use Rattle.ada_sound.proofs.Stored.{Stored, Sane, stored_entered}
 use Rattle.ada_sound.proofs.Activations.{HandedOver, called_fit}
-use Rattle.ada_sound.proofs.Handings.{path_names, Handing, IsFormal, formal_at, formal_object, stands_at, handed_over_once, handed_owes, left_owner, waiting_owns, unkept_less, waiting_lost, passed_in_order}
-use Rattle.ada_sound.proofs.GivenBack.{get_less}
+use Rattle.ada_sound.proofs.Begins.{path_names, record_referred}
+use Rattle.ada_sound.proofs.Walks.{whole_plain, plain_whole, walk_plain}
+use Rattle.ada_sound.proofs.References.{ReferTo, referred_by, referred_from, by_there, from_there, passed_in_order, referred_in_order, formal_referred, all_opened, all_spared}
+use Rattle.ada_sound.proofs.Handings.{AreGiven, Handing, IsFormal, formal_at, stands_at, handed_over_once, handed_owes, left_owner, waiting_owns, unkept_less, waiting_lost}
+use Rattle.ada_sound.proofs.GivenBack.{gives_some, get_less}
 use Rattle.ada_sound.proofs.Outcomes.{to_here}
 use Rattle.ada_sound.proofs.Ready.{stays}
 use Rattle.ada_sound.proofs.Bodies.{effect_at, callee_get, callee_sees}
-use Rattle.ada_sound.proofs.Invariant.{Known, Control, Rooms, RunsOn, Working, CallsOn, ArePassed, handed_at, Hands, Waits, body_among, effect_in, kept_in, left_in, outers, outer_of}
+use Rattle.ada_sound.proofs.Invariant.{begun, along, Known, Control, Rooms, RunsOn, Working, CallsOn, ArePassed, handed_at, Hands, Waits, body_among, effect_in, kept_in, left_in, outers, outer_of}
 use Rattle.ada_sound.proofs.Callers.{Suspension, caller_of, callers_of, known_in, Stands}
 use Rattle.ada_sound.proofs.Returns.{Crosses}
 
@@ -80,9 +85,22 @@ module _ (program : Program) (number : ℕ) (b : BodyForm) (given : List ActualF
   abbrev pub caller : Known
   caller = known_in program a.procedure gs
 
-  -- The values of the actual parameters.
+  -- What has been computed for the actual parameters: the values of the formal ones, and what refers to the components that are given.
+  abbrev pub arrived : List Value
+  arrived = reverse (take (operand_count given) a.operands)
+
   abbrev pub values : List Value
-  values = reverse (take (length given) a.operands)
+  values = given_values given arrived
+
+  abbrev pub references : List Value
+  references = references_in given arrived
+
+  abbrev pub referenced : List Reference
+  referenced = referred_by s.heap given values ++ referred_from s.heap references
+
+  -- Of which access types the call may free objects.
+  abbrev pub frees : ℕ → Bool
+  frees = call_frees (effect_in caller number)
 
   -- What the caller's variables hold, and what is known of them behind the call.
   abbrev pub suspended : Rooms → Holds → Suspension
@@ -90,6 +108,8 @@ module _ (program : Program) (number : ℕ) (b : BodyForm) (given : List ActualF
     procedure = a.procedure;
     actuals = given;
     passed = values;
+    references = references;
+    referenced = referenced;
     kept = kept_in caller number;
     control = k;
     masters = s.masters;
@@ -113,9 +133,15 @@ module _ (program : Program) (number : ℕ) (b : BodyForm) (given : List ActualF
     waits_by = unkept_less [] given waiting.before
 
     -- What the formal parameters of the body are given.
-    module _ (passed : ArePassed s.heap a.places (reverse given) a.operands) where
-      order : ArePassed s.heap a.places given values
+    module _ (passed : ArePassed s.heap a.places (reverse given) a.operands) (heap_plain : ArePlain s.heap) where
+      order : AreGiven s.heap a.places given values
       order = passed_in_order s.heap a.places given a.operands passed
+
+      refer : ReferTo s.heap a.places given references
+      refer = referred_in_order s.heap a.places given a.operands passed
+
+      exist : ListedExist s.heap
+      exist o x found listed = (w.stored.sane o x found).listed_exists listed
 
       abbrev begins : List Value
       begins = given_places named values b.variables
@@ -124,13 +150,13 @@ module _ (program : Program) (number : ℕ) (b : BodyForm) (given : List ActualF
       suits = and_parts (actuals_fit caller.program.types caller.program.variables (formal_kinds b) given) (modes_fit b.formals given) w.rest.5
 
       abbrev Given : ℕ → Type 0
-      Given i = IsFormal caller.program.types caller.program.variables s.heap a.places w.holds (handed_at given i) (hold_at (first_holds b.formals b.variables) i) (variable_access b.variables i) (place_at begins i)
+      Given i = IsFormal caller.program.types caller.program.variables frees s.heap a.places w.holds (handed_at given i) (hold_at (first_holds b.formals b.variables) i) (variable_kind b.variables i) (place_at begins i)
 
       formal : (i : ℕ) → Given i
-      formal i = formal_at caller.program.types caller.program.variables s.heap a.places w.holds (drop (length values) (blanks named b.variables)) b.formals b.variables given values [] suits.0 suits.1 order w.rest.6 i
+      formal i = formal_at caller.program.types caller.program.variables frees s.heap a.places w.holds (drop (length values) (blanks named b.variables)) b.formals b.variables given values [] suits.0 suits.1 order w.rest.6 i
 
       abbrev HandedAt : ℕ → ℕ → Type 0
-      HandedAt i x = Handing caller.program.types caller.program.variables s.heap a.places w.holds (Some x) (variable_access b.variables i) (place_at begins i)
+      HandedAt i x = Handing caller.program.types caller.program.variables frees s.heap a.places w.holds (Some x) (variable_access b.variables i) (place_at begins i)
 
       handing : (i x : ℕ) → handed_at given i ≡ Some x → HandedAt i x
       handing i x is = go (formal i)
@@ -140,19 +166,23 @@ module _ (program : Program) (number : ℕ) (b : BodyForm) (given : List ActualF
           go (inr (inl none)) = let e = none.0 in absurd (cc (is, e))
           go (inr (inr h)) = rw is at (h.1)
 
+      -- A variable that is handed over refers to no record.
+      value_of : {given' : Option ℕ} {kind : Option ℕ} {v : Value} (h : Handing caller.program.types caller.program.variables frees s.heap a.places w.holds given' kind v) → v ≡ place_at a.places h.x
+      value_of h = h.value ∙ plain_whole (place_at a.places h.x) (plain_object h.x (gives_some (hold_at w.holds h.x) h.owner) h.plain w.fit)
+
       -- What a formal parameter owns a variable owned.
       owner_left : (x : ℕ) → variable_access caller.program.variables x ≢ None → gives_back (hold_at w.holds x) ≡ true → gives_back (hold_at waiting.before x) ≡ true
       owner_left x there gives = left_owner caller.program.variables (effect_in caller number) w.holds x there gives
 
       abbrev Over : ℕ → Type 0
-      Over i = HandedOver caller.program.types (outers caller) (outer_of (caller_of program waiting gs)) values none_spared s.heap b.variables begins (first_holds b.formals b.variables) waiting.before i
+      Over i = HandedOver caller.program.types (outers caller) (outer_of (caller_of program waiting gs)) values referenced none_spared s.heap b.variables begins (first_holds b.formals b.variables) waiting.before i
 
       abbrev over_by : (i : ℕ) → Given i → Owns (hold_at (first_holds b.formals b.variables) i) → Over i
       over_by i (inl none) own = let e = none.1 in absurd (rw e at own)
       over_by i (inr (inl none)) own = let e = none.1 in absurd (rw e at own)
       over_by i (inr (inr h)) own = record {
         x = h.1.x;
-        value = h.1.value;
+        value = value_of h.1;
         owner = λ o names. gives_owns s.heap (hold_at waiting.before h.1.x) (variable_access caller.program.variables h.1.x) o (owner_left h.1.x h.1.there h.1.owner) (caller_fit.owners.fit.relied (variable h.1.x) o names);
         lost = λ own'. waiting_lost given waiting.before i h.1.x h.1.is own';
       }
@@ -166,29 +196,53 @@ module _ (program : Program) (number : ℕ) (b : BodyForm) (given : List ActualF
       over i own = over_by i (formal i) own
 
       over_once : (i j : ℕ) (x : Owns (hold_at (first_holds b.formals b.variables) i)) (y : Owns (hold_at (first_holds b.formals b.variables) j)) → (over i x).x ≡ (over j y).x → i ≡ j
-      over_once i j x y same = handed_over_once caller.program.types caller.program.variables s.heap a.places w.holds [] given w.rest.6 i j (over i x).x (over_is i (formal i) x) (over_is j (formal j) y ∙ ap Some (sym same))
+      over_once i j x y same = handed_over_once caller.program.types caller.program.variables frees s.heap a.places w.holds [] given w.rest.6 i j (over i x).x (over_is i (formal i) x) (over_is j (formal j) y ∙ ap Some (sym same))
 
       -- What a formal parameter is relied on to name is there.
       right_by : (i : ℕ) (o : Id) → place_at begins i ≡ Names o → Given i → Says (access_at s.heap) (hold_at (first_holds b.formals b.variables) i) (variable_access b.variables i) o
       right_by i o names (inl none) = let e = none.1 in rw e tt
-      right_by i o names (inr (inl (none, e, inl null))) = absurd (cc (names, null))
-      right_by i o names (inr (inl (none, e, inr l))) =
-          rw (e, l.of) (path_names (λ p x found listed. (w.stored.sane p x found).listed_exists listed) l.path l.access (place_at begins i) o l.names l.kept l.found names w.fit)
+      right_by i o names (inr (inl (none, e, inl (plain, inl null)))) = absurd (cc (names, null))
+      right_by i o names (inr (inl (none, e, inl (plain, inr l)))) =
+          rw (e, l.of) (path_names exist w.fit l.path l.access (place_at begins i) o l.names l.kept l.found names)
+      right_by i o names (inr (inl (none, e, inr p))) = let is = p.by.1 in absurd (cc (is, names))
       right_by i o names (inr (inr h)) =
-          rw (h.0, h.1.of) (gives_says s.heap (hold_at waiting.before h.1.x) (variable_access caller.program.variables h.1.x) o (owner_left h.1.x h.1.there h.1.owner) (caller_fit.owners.fit.relied (variable h.1.x) o (sym h.1.value ∙ names)))
+          rw (h.0, h.1.of) (gives_says s.heap (hold_at waiting.before h.1.x) (variable_access caller.program.variables h.1.x) o (owner_left h.1.x h.1.there h.1.owner) (caller_fit.owners.fit.relied (variable h.1.x) o (sym (value_of h.1) ∙ names)))
 
       said_by : (i : ℕ) → Given i → IsSaid (place_at values i) (hold_at (first_holds b.formals b.variables) i) (place_at begins i)
       said_by i (inl none) = let e = none.1 in rw e tt
       said_by i (inr (inl none)) = let e = none.1 in rw e tt
-      said_by i (inr (inr h)) = rw (h.0) (stands_at caller.program.types caller.program.variables s.heap a.places w.holds (drop (length values) (blanks named b.variables)) given values order i h.1.x h.1.is)
+      said_by i (inr (inr h)) = rw (h.0) (stands_at caller.program.types caller.program.variables frees s.heap a.places w.holds (drop (length values) (blanks named b.variables)) given values order i h.1.x h.1.is)
 
-      object_by : (i : ℕ) → is_object b.variables i ≡ true → hold_at (first_holds b.formals b.variables) i ≢ hold.Lost → place_at begins i ≢ Null
-      object_by i is ne = absurd (ne (formal_object caller.program.types caller.program.variables s.heap a.places w.holds b.formals b.variables i is))
+      -- A record parameter refers to an object that the call refers to, and other formal parameters refer to no record.
+      object_by : (i : ℕ) → hold_at (first_holds b.formals b.variables) i ≢ hold.Lost → Given i → IsPlace caller.program.types (referenced ++ (outers caller).referenced) (variable_kind b.variables i) (place_at begins i)
+      object_by i ne (inl none) = absurd (ne none.1)
+      object_by i ne (inr (inl (none, e, inl (plain, inl null)))) = rw null plain
+      object_by i ne (inr (inl (none, e, inl (plain, inr l)))) =
+          plain_by caller.program.types (referenced ++ (outers caller).referenced) (variable_kind b.variables i) (place_at begins i) plain
+          (walk_plain s.heap heap_plain (along a.places l.path) (begun a.places l.path) (place_at begins i) (whole_plain (place_at a.places l.path.root)) l.found)
+      object_by i ne (inr (inl (none, e, inr p))) =
+          let h = record_referred exist w.fit p.p (place_at begins i) p.lies p.kept p.by in
+          let among = formal_referred caller.program.types caller.program.variables s.heap a.places (drop (length values) (blanks named b.variables)) b.formals b.variables given values suits.0 suits.1 order i p.object ne h.o h.first h.t h.is h.there in
+          rw h.is (
+            p.object,
+            h.t,
+            referred_first referenced (outers caller).referenced h.o h.t (referred_first (referred_by s.heap given values) (referred_from s.heap references) h.o h.t among),
+            (λ c k selects. h.within c k (p.reached c k selects)),
+          )
+      object_by i ne (inr (inr h)) =
+          plain_by caller.program.types (referenced ++ (outers caller).referenced) (variable_kind b.variables i) (place_at begins i) h.2
+          (rw (h.1.value) (whole_plain (place_at a.places h.1.x)))
+
+      -- All that the call refers to is there.
+      referred_there : (o : Id) (t : ℕ) → IsReferred referenced o t → access_at s.heap o ≡ Some t
+      referred_there o t is =
+          elim (referred_either (referred_by s.heap given values) (referred_from s.heap references) o t is)
+          [ inl e ↦ by_there s.heap given values o t e | inr e ↦ from_there s.heap references o t e ]
 
       begun_fit : Fit caller.program.types b.variables (outers callee) none_spared s.heap begins (first_holds b.formals b.variables)
       begun_fit =
-          called_fit caller.program.types (outers caller) (outer_of (caller_of program waiting gs)) values none_spared s.heap b.variables begins (first_holds b.formals b.variables) waiting.before caller_fit waits_by
-          (λ x own. waiting_owns given waiting.before x own) over over_once (λ i o names. right_by i o names (formal i)) (λ i. said_by i (formal i)) object_by
+          called_fit caller.program.types (outers caller) (outer_of (caller_of program waiting gs)) values referenced none_spared s.heap b.variables begins (first_holds b.formals b.variables) waiting.before caller_fit waits_by
+          (λ x own. waiting_owns given waiting.before x own) over over_once (λ i o names. right_by i o names (formal i)) (λ i. said_by i (formal i)) (λ i ne. object_by i ne (formal i)) referred_there
 
       module _ (stands : Stands program gs (record s { activations = a ∷ rest })) where
         sees : seen_by number b caller.program ≡ callee.program
@@ -203,14 +257,21 @@ module _ (program : Program) (number : ℕ) (b : BodyForm) (given : List ActualF
             let effect = effect_at caller.program.types caller.program.bodies number b w.rest.0 in
             rw effect (rw (← sees) at may)
 
+        -- What is handed over goes to no record parameter.
+        handed_formal : (i : ℕ) → Given i → (x : ℕ) → handed_at given i ≡ Some x → is_object b.variables i ≡ false
+        handed_formal i (inl none) x is = let e = none.0 in absurd (cc (is, e))
+        handed_formal i (inr (inl none)) x is = let e = none.0 in absurd (cc (is, e))
+        handed_formal i (inr (inr h)) x is = h.2
+
         -- What is handed over.
         hands_before : Hands (seen_by number b caller.program) caller.program given waiting.before
         hands_before = record {
           alike = λ i x is. let h = handing i x is in let same : h.x ≡ x = cc (h.is) in h.of ∙ ap (λ (y : ℕ). variable_access caller.program.variables y) same;
-          once = handed_over_once caller.program.types caller.program.variables s.heap a.places w.holds [] given w.rest.6;
+          once = handed_over_once caller.program.types caller.program.variables frees s.heap a.places w.holds [] given w.rest.6;
           owned = λ i x is. let h = handing i x is in let same : h.x ≡ x = cc (h.is) in subst (λ (y : ℕ). gives_back (hold_at waiting.before y) ≡ true) same (owner_left h.x h.there h.owner);
           plain = λ i x is. let h = handing i x is in let same : h.x ≡ x = cc (h.is) in subst (λ (y : ℕ). is_object caller.program.variables y ≡ false) same h.plain;
-          owes = handed_owes caller.program.types caller.program.variables s.heap a.places w.holds b.formals b.variables given suits.0 suits.1;
+          formal = λ i x is. handed_formal i (formal i) x is;
+          owes = handed_owes caller.program.types caller.program.variables frees s.heap a.places w.holds b.formals b.variables given suits.0 suits.1;
         }
 
         -- The caller waits.
@@ -224,24 +285,29 @@ module _ (program : Program) (number : ℕ) (b : BodyForm) (given : List ActualF
           lost = get_less given w.holds waiting.before (called_good caller.program.variables (effect_in caller number) w.holds) w.rest.4;
           hands = subst (λ (p : ProgramForm). Hands p caller.program given waiting.before) sees hands_before;
           passes = passes_by;
+          opened = all_opened caller.program.types caller.program.variables frees s.heap a.places w.holds exist w.fit (formal_kinds b) given values references suits.0 refer w.rest.6;
         }
           where
             passes_by : (i x : ℕ) → handed_at given i ≡ Some x → place_at values i ≡ place_at a.places x
             passes_by i x is =
                 let h = handing i x is in
                 let same : h.x ≡ x = cc (h.is) in
-                sym (stands_at caller.program.types caller.program.variables s.heap a.places w.holds (drop (length values) (blanks named b.variables)) given values order i x is) ∙ (h.value ∙ ap (λ (y : ℕ). place_at a.places y) same)
+                sym (stands_at caller.program.types caller.program.variables frees s.heap a.places w.holds (drop (length values) (blanks named b.variables)) given values order i x is) ∙ (value_of h ∙ ap (λ (y : ℕ). place_at a.places y) same)
 
         caller_low : (x : ℕ) (o : Id) → IsRelied (hold_at (left_unkept [] given waiting.before) x) → place_at a.places x ≡ Names o → (object : Object) × (object_at s.heap o ≡ Some object) × (suc object.cell.home.item ≤ height s.masters)
         caller_low x o relied names =
             let waits = weaker_fit (left_unkept [] given waiting.before) waits_by caller_fit in
             home_low s.heap s.masters o w.stored (there_by s.heap _ o (relied_says s.heap (hold_at (left_unkept [] given waiting.before) x) _ o relied (waits.owners.fit.relied (variable x) o names)))
 
+        -- So it is of what the call refers to.
+        referred_low : (o : Id) (t : ℕ) → IsReferred referenced o t → (object : Object) × (object_at s.heap o ≡ Some object) × (suc object.cell.home.item ≤ height s.masters)
+        referred_low o t is = home_low s.heap s.masters o w.stored (there_by s.heap (Some t) o (referred_there o t is))
+
         -- The body begins, if it runs from where its formal parameters are relied on to be what the call gave them.
-        pub calls_fine : RunsOn callee (Elaborates b.declarations b.statements b.handlers ∷ Returns given ∷ k) (gone_with b.declarations ∷ []) (first_holds b.formals b.variables) → Crosses program s.heap Quiet (begun named number b given values (record s { activations = a ∷ rest; control = k; mode = Running }))
+        pub calls_fine : RunsOn callee (Elaborates b.declarations b.statements b.handlers ∷ Returns given references ∷ k) (gone_with b.declarations ∷ []) (first_holds b.formals b.variables) → Crosses program s.heap Quiet (steps.begun named number b given arrived (record s { activations = a ∷ rest; control = k; mode = Running }))
         calls_fine runs = record {
           suspensions = waiting ∷ gs;
-          stepped = stays callee Quiet (begun named number b given values (record s { activations = a ∷ rest; control = k; mode = Running })) (
+          stepped = stays callee Quiet (steps.begun named number b given arrived (record s { activations = a ∷ rest; control = k; mode = Running })) (
             tt,
             record {
               rooms = gone_with b.declarations ∷ [];
@@ -254,12 +320,12 @@ module _ (program : Program) (number : ℕ) (b : BodyForm) (given : List ActualF
           ) tt;
           stands = record {
             body = (b, callee_get (program_form program) a.procedure number b stands.body w.rest.0);
-            behind = (given, k, refl);
+            behind = (given, references, k, refl);
             bodies = (refl, stands.body, stands.behind, stands.bodies);
             standing = record {
               suspended = (refl, refl, stands.standing.suspended);
               waiting = (caller_waits, stands.standing.waiting);
-              low = (caller_low, stands.standing.low);
+              low = (caller_low, referred_low, stands.standing.low);
             };
           };
         }
@@ -271,3 +337,12 @@ module _ (program : Program) (number : ℕ) (b : BodyForm) (given : List ActualF
           let effect = effect_at caller.program.types caller.program.bodies number b w.rest.0 in
           let sees = callee_sees (program_form program) a.procedure number b stands.body w.rest.0 in
           rw effect (rw (← sees) at may)
+
+    module _ (passed : ArePassed s.heap a.places (reverse given) a.operands) where
+      -- No call refers to an object of an access type that the body may free.
+      pub passes_spared : (t : ℕ) → frees t ≡ true → is_access caller.program.types t ≡ true → (o : Id) → IsReferred referenced o t → ⊥
+      passes_spared t may of o is =
+          let suits = (and_parts (actuals_fit caller.program.types caller.program.variables (formal_kinds b) given) (modes_fit b.formals given) w.rest.5).0 in
+          all_spared caller.program.types caller.program.variables frees s.heap a.places w.holds (λ p x found listed. (w.stored.sane p x found).listed_exists listed) w.fit
+          w.rest.7 t may of (λ p known. (w.rest.3 t may).1 p known of) (formal_kinds b) given values references suits
+          (passed_in_order s.heap a.places given a.operands passed) (referred_in_order s.heap a.places given a.operands passed) w.rest.6 o is

@@ -7,7 +7,7 @@ use Rattle.std.specs.List.{slice_set, slice_index_or}
 use Rattle.ada_flow.specs.Flow.{Holds, is_among}
 use Rattle.ada_meaning.specs.declared.state.Id.{Id}
 use Rattle.ada_meaning.specs.declared.state.Value.{Value}
-use Rattle.ada_meaning.specs.declared.state.Value.TheVariants.{Null, Names, Scalar}
+use Rattle.ada_meaning.specs.declared.state.Value.TheVariants.{Null, Names, Scalar, Part}
 use Rattle.ada_meaning.specs.declared.state.Stage.{Stage}
 use Rattle.ada_meaning.specs.declared.state.Stage.TheVariants.{Existing, Gone}
 use Rattle.ada_meaning.specs.declared.state.Mode.{Mode}
@@ -31,7 +31,7 @@ use Rattle.ada_sound.proofs.Alters.{alters_set}
 use Rattle.ada_sound.proofs.Invariant.{outers, below, Known, Control, Rooms, Roomed, OwnedAmong, NamesNone, RunsOn, Working, Parting, Freed, Clearing, ClearsTo, LeavesTo, Behind, ThenBack, Ending, EndingBy, Backing, BackingBy, ReadyIn, Stepped, Fine, innermost}
 use Rattle.ada_sound.proofs.Ready.{running, stays, goes_ready}
 use Rattle.ada_sound.proofs.Taken.{stored_after}
-use Rattle.ada_sound.proofs.Leavings.{NamedBelow, HeldIn, taken_unnamed}
+use Rattle.ada_sound.proofs.Leavings.{NamedBelow, HeldIn, taken_unnamed, taken_unreferred}
 
 -- What is stored in one object stays where another one changes.
 swapped : {X : Type 0} (xs : List X) (i j : ℕ) (x y : X) → i ≢ j → slice_set (slice_set xs i x) j y ≡ slice_set (slice_set xs j y) i x
@@ -105,6 +105,7 @@ module _ (known : Known) where
           },
         )
     holder_set (Scalar n) c places ms k r = absurd r.0
+    holder_set (Part object_id base) c places ms k r = absurd r.0
 
     clears_set : (places : List Value) (ms : List Master) (k : Control) → ClearsTo known heap places ms k → ClearsTo known (slice_set heap o.0 y) places ms k
     clears_set places ms [] c = absurd c
@@ -155,6 +156,7 @@ module _ (known : Known) where
     ends_fine Null k e = absurd e
     ends_fine (Names o) k e = rw (e.found, e.exists) (rw e.found (end_object o k e e.rest))
     ends_fine (Scalar n) k e = absurd e
+    ends_fine (Part object_id base) k e = absurd e
 
     -- Its words go back.
     module _ (heap : List Object) (stored : Stored None heap s.masters) where
@@ -162,6 +164,7 @@ module _ (known : Known) where
       clearing_ready Null d k c = absurd c.0
       clearing_ready (Names h) d k c = (c.0, freed_works (stored_after heap h d Null stored) c.1)
       clearing_ready (Scalar n) d k c = absurd c.0
+      clearing_ready (Part object_id base) d k c = absurd c.0
 
       cleared_ready : (k : Control) → ClearsTo known heap a.places s.masters k → ReadyIn known Running k heap a.places a.operands s.masters
       cleared_ready [] c = absurd c
@@ -219,6 +222,7 @@ module _ (known : Known) where
     backs_fine Null cause pool k b = absurd b
     backs_fine (Names o) cause pool k b = rw (b.found, b.out) (rw (same_one pool b.object.cell.home.pool b.own) (rw b.found (told_fine b.object.cell.home.pool (Names o) _ _ (back_object o cause pool k b))))
     backs_fine (Scalar n) cause pool k b = absurd b
+    backs_fine (Part object_id base) cause pool k b = absurd b
 
   -- A master is left, newest item first.
   module _ (mode : Mode) (k : Control) (a : Activation Value) (rest : List (Activation Value)) (s : State) (number : ℕ) (ms : List Master) where
@@ -244,6 +248,7 @@ module _ (known : Known) where
         let type = newest_is x.cell.home.item x.cell.access x.cell.home.pool item (items ++ items_of ms) member.home w.stored.counted (sane.housed (exists_out o x member.found exists w.stored)) in
         let none = none_owned item items x.cell.access x.cell.home.pool w.rooms w.holds type w.roomed w.rest in
         let unnamed = taken_unnamed known.program.types known.program.variables (outers known) s.heap a.places w.holds number item items ms none.0 w.fit none.1 held low o x member.found member.listed member.home none.2 in
+        let unreferred = taken_unreferred known.program.types known.program.variables (outers known) s.heap a.places w.holds number item items ms none.0 w.fit none.1 held low o x member.found member.listed member.home none.2 in
         rw is (rw (member.found) (record {
           ready = (
             tt,
@@ -262,7 +267,7 @@ module _ (known : Known) where
                     rooms = w.rooms;
                     holds = w.holds;
                     roomed = w.roomed;
-                    fit = going_set (outers known) s.heap (item ∷ items) o x (parted x) member.found refl (part_fit o x member.found unnamed w.fit);
+                    fit = going_set (outers known) s.heap (item ∷ items) o x (parted x) member.found refl (part_fit o x member.found unnamed unreferred w.fit);
                     rest = w.rest;
                   },
                 ),

@@ -12,7 +12,7 @@ use Rattle.ada_program.specs.Handling.{is_same}
 use Rattle.ada_program.specs.declared.program.ComponentKind.{ComponentKind}
 use Rattle.ada_program.specs.declared.program.TypeDefinition.{TypeDefinition}
 use Rattle.ada_program.specs.Typed.{reached_of, count_of, words_of}
-use Rattle.ada_program.specs.WellFormed.{access_of, reached_components, selected_kind, selectors_kind, variable_kind, kind_takes, is_borrower}
+use Rattle.ada_program.specs.WellFormed.{access_of, reached_components, selected_kind, selectors_kind, kind_takes, is_borrower}
 use Rattle.ada_effects.specs.Effects.{expression_raises, items_raise, path_raises, right_raises}
 use Rattle.ada_flow.specs.declared.rule.Hold.{Hold}
 use Rattle.ada_flow.specs.declared.rule.Hold.TheVariants as hold
@@ -20,30 +20,32 @@ use Rattle.ada_flow.specs.declared.rule.Region.TheVariants.{Whole}
 use Rattle.ada_flow.specs.Flow.{Holds, hold_at, variable_access, uses_in, uses_in_items, uses_in_target, gives_component, lost_by, without_values, moved_by_items, value_hold, borrowed_hold, ends_with, gives, same_selectors, same_path, clears, touched_hold}
 use Rattle.ada_meaning.specs.declared.state.Id.{Id}
 use Rattle.ada_meaning.specs.declared.state.Value.{Value}
-use Rattle.ada_meaning.specs.declared.state.Value.TheVariants.{Null, Names, Scalar}
+use Rattle.ada_meaning.specs.declared.state.Value.TheVariants.{Null, Names, Scalar, Part}
 use Rattle.ada_meaning.specs.declared.state.Mode.TheVariants.{Running, Raising}
 use Rattle.ada_meaning.specs.Frame.{Does, Evaluates, Computes, Follows, Fills, Creates, Stores, StoresIn, Declares}
 use Rattle.ada_meaning.specs.Event.{Followed, Line, Quiet}
 use Rattle.ada_meaning.specs.Heap.{finds}
 use Rattle.ada_meaning.specs.State.{declared, Activation}
-use Rattle.ada_meaning.specs.Step.{in_front, initial_value, initial_values, owned, reading, component_next, follow_next, path_next, right_next, line_next}
-use Rattle.ada_meaning.specs.Named.{Object, State, object_at, look, named, store}
+use Rattle.ada_meaning.specs.Step.{in_front, initial_value, initial_values, owned, reading, component_next, follow_next, path_next, right_next, line_next, selected}
+use Rattle.ada_meaning.specs.Named.{Object, State, object_at, look, named, store, inside}
+use Rattle.ada_meaning.specs.Named.{whole as whole_of}
 use Rattle.ada_owners.specs.Keeping.{IsThere}
 use Rattle.ada_owners.specs.Places.{component, component_in, value_at}
 use Rattle.ada_owners.proofs.Kernel.{same_place}
 use Rattle.ada_owners.proofs.Changes.{store_reads, store_value}
 use Rattle.ada_owners.specs.Walks.{walk}
 use Rattle.ada_typed.specs.Holding.{cells_of}
-use Rattle.ada_typed.proofs.Values.{AreComputed}
+use Rattle.ada_typed.proofs.Values.{OperandKind, of_kind, AreComputed}
 use Rattle.ada_typed.proofs.Control as typed
 use Rattle.ada_sound.proofs.Copied.{default_item, items_keep}
 use Rattle.ada_sound.proofs.Defaults.{defaults_fit, defaults_raise, defaults_move, defaults_keep, fill_defaults, DefaultFor, default_for, Reaches}
 use Rattle.ada_sound.proofs.Values.{read_other}
 use Rattle.ada_sound.proofs.Stored.{Stored, exists_out, stored_owning}
-use Rattle.ada_sound.proofs.Fits.{Fit, MayFollow, names_object, is_object, component_value, component_access, none_spared, place_at, put_null, put_alias, component_is, root_follows, component_follows, take_variable, take_component}
-use Rattle.ada_sound.proofs.Invariant.{outers, below, HasRoom, Known, Control, Rooms, Roomed, Accepts, LeadsTo, GoesInto, Allocating, Clearing, component_among, StoringIn, Pairs, IsAlone, IsOne, Half, HalfBy, IsCleared, front, final, WalksOn, Goes, Raised, RunsOn, NoneBroken, To, MayRaise, RaisesAt, FillsIn, IsHolder, Takes, Computing, Working, Resumes, EvaluatesTo, Awaits, FindsFor, MovesOn, FillsOn, PassesOn, PassesTo, FollowsFor, HalfFollows, ReadyIn, Stepped, Fine, ways}
+use Rattle.ada_sound.proofs.Fits.{Fit, MayFollow, names_object, is_object, component_value, component_access, none_spared, place_at, put_null, put_alias, component_is, component_follows, take_variable, take_component, ArePlain, plain_object}
+use Rattle.ada_sound.proofs.Begins.{root_at, root_access, root_follows}
+use Rattle.ada_sound.proofs.Invariant.{outers, below, HasRoom, Known, Control, Rooms, Roomed, Accepts, LeadsTo, GoesInto, Allocating, Clearing, component_among, StoringIn, Pairs, IsAlone, IsOne, Half, HalfBy, IsCleared, front, final, WalksOn, Goes, Raised, RunsOn, NoneBroken, To, MayRaise, RaisesAt, FillsIn, IsHolder, Takes, Computing, Working, Resumes, EvaluatesTo, Awaits, FindsFor, MovesOn, FillsOn, PassesOn, PassesTo, FollowsFor, HalfFollows, ReadyIn, Stepped, Fine, ways, begun, along}
 use Rattle.ada_sound.proofs.Ready.{running, at_work, stays, ready_on, runs_on, resumes_on, jumps_less}
-use Rattle.ada_sound.proofs.Walks.{finds_fine, fills_fine, passed_fine, half_fine}
+use Rattle.ada_sound.proofs.Walks.{finds_fine, fills_fine, passed_fine, half_fine, plain_whole}
 use Rattle.ada_sound.proofs.Passed.{raises_behind, passes_fine}
 use Rattle.ada_sound.proofs.Rooms.{roomed_declares}
 use Rattle.ada_sound.proofs.Outcomes.{using_goes, ends_goes}
@@ -52,7 +54,7 @@ use Rattle.ada_sound.proofs.Roots.{selected_no_object, takes_none, takes_object,
 use Rattle.ada_sound.proofs.Raising.{or_right}
 use Rattle.ada_sound.proofs.Expressions.{MayRead, reads_fine}
 use Rattle.ada_sound.proofs.Assigned.{Allocated, value_starts, computed_goes, allocated_goes, kind_names, selected_of}
-use Rattle.ada_sound.proofs.Taken.{variable_none, declared_none, variable_goes, declared_goes, component_goes, at_path, value_gives, value_fills, cleared_is, stored_after, there_after, selectors_are, walk_on, kept_root, root_access, path_goes, null_place, move_by, borrow_by, borrow_gives, store_by}
+use Rattle.ada_sound.proofs.Taken.{variable_none, declared_none, variable_goes, declared_goes, component_goes, at_path, value_gives, value_fills, cleared_is, stored_after, there_after, selectors_are, walk_on, kept_root, path_goes, null_place, move_by, borrow_by, borrow_gives, store_by, some_root}
 
 -- Where a path stands.
 abbrev spot_of : PathForm → Spot
@@ -66,18 +68,21 @@ filling known a rest s below (Fills items ∷ k) [] v follows w raise =
 filling known a rest s below (Fills items ∷ k) (c ∷ cs) v follows w raise = fills_fine known a rest s below items k c cs v w follows (raises_all known v (Fills items ∷ k) w.rooms w.holds cs (raise refl))
 filling known a rest s below (f ∷ k) cs v follows w raise = absurd (w.rest)
 
-module _ (known : Known) (k : Control) (a : Activation Value) (rest : List (Activation Value)) (s : State) where
+module _ (known : Known) (k : Control) (a : Activation Value) (rest : List (Activation Value)) (s : State) (plain : ArePlain s.heap) where
   -- A variable's value is there for what awaits it.
-  variable_ready : (whole : Bool) (root : ℕ) (spot : Spot) (kinds : List VariableKind) → typed.Fits known.program (cells_of s.heap) kinds (Evaluates (value_of (at_path whole root [] spot)) ∷ k) → Working known s.heap a.places s.masters (Takes known s.heap a.places (value_of (at_path whole root [] spot)) k) → ReadyIn known Running k s.heap a.places (place_at a.places root ∷ a.operands) s.masters
+  variable_ready : (whole : Bool) (root : ℕ) (spot : Spot) (kinds : List OperandKind) → typed.Fits known.program (cells_of s.heap) kinds (Evaluates (value_of (at_path whole root [] spot)) ∷ k) → Working known s.heap a.places s.masters (Takes known s.heap a.places (value_of (at_path whole root [] spot)) k) → ReadyIn known Running k s.heap a.places (place_at a.places root ∷ a.operands) s.masters
   variable_ready whole root spot kinds fits w = go k fits w
     where
       path : PathForm
       path = at_path whole root [] spot
 
+      no_object_root : (kind : VariableKind) → kind_takes known.program.types known.program.variables kind (value_of (at_path whole root [] spot)) ≡ true → is_object known.program.variables root ≡ false
+      no_object_root kind takes = ap names_object (path_goes known.program kind whole root [] spot takes) ∙ takes_none known.program.types known.program.variables kind (value_of (at_path whole root [] spot)) takes
+
       own_access : (kind : VariableKind) → kind_takes known.program.types known.program.variables kind (value_of (at_path whole root [] spot)) ≡ true → variable_access known.program.variables root ≡ access_of (Some kind)
       own_access kind takes = value_starts known.program.types known.program.variables kind (at_path whole root [] spot) takes
 
-      into : (o : Value) (c : ℕ) (k' : Control) (kind : VariableKind) → kind_takes known.program.types known.program.variables kind (value_of (at_path whole root [] spot)) ≡ true → typed.Fits known.program (cells_of s.heap) (kind ∷ kinds) (StoresIn o c ∷ k') → (w' : Working known s.heap a.places s.masters (Takes known s.heap a.places (value_of (at_path whole root [] spot)) (StoresIn o c ∷ k'))) → StoringIn known o c (place_at a.places root) k' s.heap a.places s.masters
+      into : (o : Value) (c : ℕ) (k' : Control) (kind : VariableKind) → kind_takes known.program.types known.program.variables kind (value_of (at_path whole root [] spot)) ≡ true → typed.Fits known.program (cells_of s.heap) (of_kind kind ∷ kinds) (StoresIn o c ∷ k') → (w' : Working known s.heap a.places s.masters (Takes known s.heap a.places (value_of (at_path whole root [] spot)) (StoresIn o c ∷ k'))) → StoringIn known o c (place_at a.places root) k' s.heap a.places s.masters
       into Null c k' kind takes fits' w' = absurd (w'.rest.0)
       into (Names o) c k' kind takes fits' w' =
           let there = w'.rest.0 in
@@ -96,9 +101,10 @@ module _ (known : Known) (k : Control) (a : Activation Value) (rest : List (Acti
             }),
           )
       into (Scalar n) c k' kind takes fits' w' = absurd (w'.rest.0)
+      into (Part object_id base) c k' kind takes fits' w' = absurd (w'.rest.0)
 
-      to : (More : Rooms → Holds → Type 0) (here : Spot) (cleared : Bool) (x : ℕ) (k' : Control) → is_object known.program.variables x ≡ false → variable_access known.program.variables x ≡ variable_access known.program.variables root → (rooms : Rooms) (holds : Holds) → Stored None s.heap s.masters → Roomed (below known) s.masters rooms → Fit known.program.types known.program.variables (outers known) none_spared s.heap a.places holds → ((h : Holds) → RunsOn known k' rooms h → More rooms h) → Goes (gives known.program.types known.program.variables here cleared x (value_of (at_path whole root [] spot)) holds) (RunsOn known k' rooms) (Raised (λ e. right_raises (is_same e) (value_of (at_path whole root [] spot))) (ways known k' rooms)) → Working known s.heap (slice_set a.places x (place_at a.places root)) s.masters More
-      to More here cleared x k' none same rooms holds stored roomed fit more g = by (is_borrower known.program.variables x) refl
+      to : (More : Rooms → Holds → Type 0) (here : Spot) (cleared : Bool) (x : ℕ) (k' : Control) → is_object known.program.variables x ≡ false → is_object known.program.variables root ≡ false → variable_access known.program.variables x ≡ variable_access known.program.variables root → (rooms : Rooms) (holds : Holds) → Stored None s.heap s.masters → Roomed (below known) s.masters rooms → Fit known.program.types known.program.variables (outers known) none_spared s.heap a.places holds → ((h : Holds) → RunsOn known k' rooms h → More rooms h) → Goes (gives known.program.types known.program.variables here cleared x (value_of (at_path whole root [] spot)) holds) (RunsOn known k' rooms) (Raised (λ e. right_raises (is_same e) (value_of (at_path whole root [] spot))) (ways known k' rooms)) → Working known s.heap (slice_set a.places x (place_at a.places root)) s.masters More
+      to More here cleared x k' none other same rooms holds stored roomed fit more g = by (is_borrower known.program.variables x) refl
         where
           by : (b : Bool) → is_borrower known.program.variables x ≡ b → Working known s.heap (slice_set a.places x (place_at a.places root)) s.masters More
           by true is =
@@ -108,7 +114,7 @@ module _ (known : Known) (k : Control) (a : Activation Value) (rest : List (Acti
                 holds = slice_set holds x (borrowed_hold (hold_at holds root));
                 stored = stored;
                 roomed = roomed;
-                fit = borrow_by fit root spot x (hold_at holds root) none refl same h.0;
+                fit = borrow_by fit root spot x (hold_at holds root) none other refl same h.0;
                 rest = more _ h.1;
               }
           by false is =
@@ -118,19 +124,19 @@ module _ (known : Known) (k : Control) (a : Activation Value) (rest : List (Acti
                 holds = slice_set (without_values (root ∷ []) holds) x (touched_hold (hold_at holds root));
                 stored = stored;
                 roomed = roomed;
-                fit = move_by fit root spot x (hold_at holds root) none refl same h.0;
+                fit = move_by fit root spot x (hold_at holds root) none other refl same h.0;
                 rest = more _ h.1;
               }
 
       go : (k' : Control) → typed.Fits known.program (cells_of s.heap) kinds (Evaluates (value_of (at_path whole root [] spot)) ∷ k') → Working known s.heap a.places s.masters (Takes known s.heap a.places (value_of (at_path whole root [] spot)) k') → ReadyIn known Running k' s.heap a.places (place_at a.places root ∷ a.operands) s.masters
       go [] fits' w' = absurd (w'.rest)
-      go (Stores x ∷ k') (kind, takes, fits') w' = inl (to (RunsOn known k') w'.rest.1.0 w'.rest.0 x k' (variable_none known.program s.heap kind kinds x k' (takes_none known.program.types known.program.variables kind (value_of (at_path whole root [] spot)) takes) fits') (variable_goes known.program s.heap kind kinds x k' fits' ∙ sym (own_access kind takes)) w'.rooms w'.holds w'.stored w'.roomed w'.fit (λ h r. r) w'.rest.1.1)
-      go (Declares x ∷ k') (kind, takes, fits') w' = to (λ rooms holds. HasRoom rooms × RunsOn known k' rooms holds) w'.rest.2.0 w'.rest.1 x k' (declared_none known.program s.heap kind kinds x k' (takes_none known.program.types known.program.variables kind (value_of (at_path whole root [] spot)) takes) fits') (declared_goes known.program s.heap kind kinds x k' fits' ∙ sym (own_access kind takes)) w'.rooms w'.holds w'.stored w'.roomed w'.fit (λ h r. (w'.rest.0, r)) w'.rest.2.1
+      go (Stores x ∷ k') (kind, takes, fits') w' = inl (to (RunsOn known k') w'.rest.1.0 w'.rest.0 x k' (variable_none known.program s.heap kind kinds x k' (takes_none known.program.types known.program.variables kind (value_of (at_path whole root [] spot)) takes) fits') (no_object_root kind takes) (variable_goes known.program s.heap kind kinds x k' fits' ∙ sym (own_access kind takes)) w'.rooms w'.holds w'.stored w'.roomed w'.fit (λ h r. r) w'.rest.1.1)
+      go (Declares x ∷ k') (kind, takes, fits') w' = to (λ rooms holds. HasRoom rooms × RunsOn known k' rooms holds) w'.rest.2.0 w'.rest.1 x k' (declared_none known.program s.heap kind kinds x k' (takes_none known.program.types known.program.variables kind (value_of (at_path whole root [] spot)) takes) fits') (no_object_root kind takes) (declared_goes known.program s.heap kind kinds x k' fits' ∙ sym (own_access kind takes)) w'.rooms w'.holds w'.stored w'.roomed w'.fit (λ h r. (w'.rest.0, r)) w'.rest.2.1
       go (StoresIn o c ∷ k') (kind, takes, fits') w' = into o c k' kind takes fits' w'
       go (f ∷ k') fits' w' = absurd (w'.rest)
 
   -- The next statement clears the path: the second half of a take pair, once the first one's target has what the component named.
-  half_behind : (heap : List Object) (places : List Value) (whole : Bool) (root : ℕ) (cs : List ℕ) (spot : Spot) (k' : Control) (o : Id) (c : ℕ) → IsCleared (at_path whole root cs spot) k' → final cs ≡ Some c → walk heap (place_at places root) (front cs) ≡ finds (Names o) → IsThere heap o → ((p : Id) → component_in (object_at heap o) c ≡ Names p → IsThere heap p) → Working known (store heap (Names o) c Null) places s.masters (RunsOn known k') → HalfBy known k' heap places s.masters
+  half_behind : (heap : List Object) (places : List Value) (whole : Bool) (root : ℕ) (cs : List ℕ) (spot : Spot) (k' : Control) (o : Id) (c : ℕ) → IsCleared (at_path whole root cs spot) k' → final (along places (at_path whole root cs spot)) ≡ Some c → walk heap (begun places (at_path whole root cs spot)) (front (along places (at_path whole root cs spot))) ≡ finds (Names o) → IsThere heap o → ((p : Id) → component_in (object_at heap o) c ≡ Names p → IsThere heap p) → Working known (store heap (Names o) c Null) places s.masters (RunsOn known k') → HalfBy known k' heap places s.masters
   half_behind heap places whole root cs spot [] o c cleared last found there kept works = absurd cleared
   half_behind heap places whole root cs spot (Does fs ∷ k') o c cleared last found there kept works = go fs cleared works
     where
@@ -146,8 +152,8 @@ module _ (known : Known) (k : Control) (a : Activation Value) (rest : List (Acti
         o = o;
         c = c;
         is = refl;
-        last = ap final same.1 ∙ last;
-        found = ap (λ x. walk heap (place_at places x) (front target.selectors)) same.0 ∙ (ap (λ ds. walk heap (place_at places root) (front ds)) same.1 ∙ found);
+        last = ap (λ (x : ℕ). final (selected named (place_at places x) target.selectors)) same.0 ∙ (ap (λ (ds : List ℕ). final (selected named (place_at places root) ds)) same.1 ∙ last);
+        found = ap (λ (x : ℕ). walk heap (whole_of (place_at places x)) (front (selected named (place_at places x) target.selectors))) same.0 ∙ (ap (λ (ds : List ℕ). walk heap (whole_of (place_at places root)) (front (selected named (place_at places root) ds))) same.1 ∙ found);
         there = there;
         kept = kept;
         works = w;
@@ -174,10 +180,10 @@ module _ (known : Known) (k : Control) (a : Activation Value) (rest : List (Acti
 
     -- The value of a component is lent to a borrower.
     borrow_component_by : {holds : Holds} (x d : ℕ) (ds : List ℕ) (h : Hold) → is_object known.program.variables x ≡ false → hold_at holds root ≡ h → lost_by h spot ≡ None → (f : Fit known.program.types known.program.variables (outers known) none_spared s.heap a.places holds) → WalksOn s.heap a.places (at_path whole root (d ∷ ds) spot) (Names o) (c ∷ []) → variable_access known.program.variables x ≡ component_access known.program.types object c → Fit known.program.types known.program.variables (outers known) none_spared s.heap (slice_set a.places x v) (slice_set holds x (borrowed_hold h))
-    borrow_component_by x d ds hold.Null none is kept f walks same = absurd (no_walk (place_at a.places root) d ds (null_place f root spot is) walks.0)
-    borrow_component_by x d ds (hold.Kept r) none is kept f walks same = put_alias x v r none (rw same (λ p e. component_is o object c v p refl found listed at e f)) f
-    borrow_component_by x d ds (hold.Own r) none is kept f walks same = put_alias x v r none (rw same (λ p e. component_is o object c v p refl found listed at e f)) f
-    borrow_component_by x d ds (hold.Alias r) none is kept f walks same = put_alias x v r none (rw same (λ p e. component_is o object c v p refl found listed at e f)) f
+    borrow_component_by x d ds hold.Null none is kept f walks same = absurd (no_walk (begun a.places (at_path whole root (d ∷ ds) spot)) (inside (place_at a.places root) d) ds (ap whole_of (null_place f root spot is)) walks.0)
+    borrow_component_by x d ds (hold.Kept r) none is kept f walks same = put_alias x v r none (plain o object c v found at) (rw same (λ p e. component_is o object c v p refl found listed at e f)) f
+    borrow_component_by x d ds (hold.Own r) none is kept f walks same = put_alias x v r none (plain o object c v found at) (rw same (λ p e. component_is o object c v p refl found listed at e f)) f
+    borrow_component_by x d ds (hold.Alias r) none is kept f walks same = put_alias x v r none (plain o object c v found at) (rw same (λ p e. component_is o object c v p refl found listed at e f)) f
     borrow_component_by x d ds hold.Lost none is kept f walks same = absurd (cc kept)
 
     borrow_to : (More : Rooms → Holds → Type 0) (here : Spot) (cleared : Bool) (x d : ℕ) (ds : List ℕ) (k' : Control) (rooms : Rooms) (holds : Holds) → is_object known.program.variables x ≡ false → is_borrower known.program.variables x ≡ true → Stored None s.heap s.masters → Roomed (below known) s.masters rooms → Fit known.program.types known.program.variables (outers known) none_spared s.heap a.places holds → WalksOn s.heap a.places (at_path whole root (d ∷ ds) spot) (Names o) (c ∷ []) → variable_access known.program.variables x ≡ component_access known.program.types object c → ((h : Holds) → RunsOn known k' rooms h → More rooms h) → Goes (gives known.program.types known.program.variables here cleared x (value_of (at_path whole root (d ∷ ds) spot)) holds) (RunsOn known k' rooms) (Raised (λ e. right_raises (is_same e) (value_of (at_path whole root (d ∷ ds) spot))) (ways known k' rooms)) → Working known s.heap (slice_set a.places x v) s.masters More
@@ -186,23 +192,23 @@ module _ (known : Known) (k : Control) (a : Activation Value) (rest : List (Acti
         record { rooms = rooms; holds = slice_set holds x (borrowed_hold (hold_at holds root)); stored = stored; roomed = roomed; fit = borrow_component_by x d ds (hold_at holds root) none refl h.0 f walks same; rest = more _ h.1 }
 
     take_variable_by : (x d : ℕ) (ds : List ℕ) (k' : Control) (rooms : Rooms) (holds : Holds) (h : Hold) → is_object known.program.variables x ≡ false → hold_at holds root ≡ h → lost_by h spot ≡ None → Stored None s.heap s.masters → Roomed (below known) s.masters rooms → (f : Fit known.program.types known.program.variables (outers known) none_spared s.heap a.places holds) → x ≢ root → IsCleared (at_path whole root (d ∷ ds) spot) k' → WalksOn s.heap a.places (at_path whole root (d ∷ ds) spot) (Names o) (c ∷ []) → variable_access known.program.variables x ≡ component_access known.program.types object c → RunsOn known k' rooms (slice_set holds x (value_hold (d ∷ ds) h)) → HalfBy known k' s.heap (slice_set a.places x v) s.masters
-    take_variable_by x d ds k' rooms holds hold.Null none is kept stored roomed f ne cleared walks same more = absurd (no_walk (place_at a.places root) d ds (null_place f root spot is) walks.0)
+    take_variable_by x d ds k' rooms holds hold.Null none is kept stored roomed f ne cleared walks same more = absurd (no_walk (begun a.places (at_path whole root (d ∷ ds) spot)) (inside (place_at a.places root) d) ds (ap whole_of (null_place f root spot is)) walks.0)
     take_variable_by x d ds k' rooms holds hold.Lost none is kept stored roomed f ne cleared walks same more = absurd (cc kept)
     take_variable_by x d ds k' rooms holds (hold.Kept r) none is kept stored roomed f ne cleared walks same more =
-        half_behind s.heap (slice_set a.places x v) whole root (d ∷ ds) spot k' o c cleared walks.1
-        (ap (λ u. walk s.heap u (front (d ∷ ds))) (read_other a.places x root v Null (λ e. ne (sym e))) ∙ walks.0) (object, found, listed)
+        half_behind s.heap (slice_set a.places x v) whole root (d ∷ ds) spot k' o c cleared (ap (λ (u : Value). final (selected named u (d ∷ ds))) (read_other a.places x root v Null (λ e. ne (sym e))) ∙ walks.1)
+        (ap (λ (u : Value). walk s.heap (whole_of u) (front (selected named u (d ∷ ds)))) (read_other a.places x root v Null (λ e. ne (sym e))) ∙ walks.0) (object, found, listed)
         (λ p e. named_there f p (sym (component_value s.heap [] o object c v found listed at) ∙ e))
-        (record { rooms = rooms; holds = slice_set holds x (hold.Own r); stored = stored_after s.heap o c Null stored; roomed = roomed; fit = take_variable x r none o object c v found listed at same f; rest = more })
+        (record { rooms = rooms; holds = slice_set holds x (hold.Own r); stored = stored_after s.heap o c Null stored; roomed = roomed; fit = take_variable x r none o object c v (plain o object c v found at) found listed at same f; rest = more })
     take_variable_by x d ds k' rooms holds (hold.Own r) none is kept stored roomed f ne cleared walks same more =
-        half_behind s.heap (slice_set a.places x v) whole root (d ∷ ds) spot k' o c cleared walks.1
-        (ap (λ u. walk s.heap u (front (d ∷ ds))) (read_other a.places x root v Null (λ e. ne (sym e))) ∙ walks.0) (object, found, listed)
+        half_behind s.heap (slice_set a.places x v) whole root (d ∷ ds) spot k' o c cleared (ap (λ (u : Value). final (selected named u (d ∷ ds))) (read_other a.places x root v Null (λ e. ne (sym e))) ∙ walks.1)
+        (ap (λ (u : Value). walk s.heap (whole_of u) (front (selected named u (d ∷ ds)))) (read_other a.places x root v Null (λ e. ne (sym e))) ∙ walks.0) (object, found, listed)
         (λ p e. named_there f p (sym (component_value s.heap [] o object c v found listed at) ∙ e))
-        (record { rooms = rooms; holds = slice_set holds x (hold.Own r); stored = stored_after s.heap o c Null stored; roomed = roomed; fit = take_variable x r none o object c v found listed at same f; rest = more })
+        (record { rooms = rooms; holds = slice_set holds x (hold.Own r); stored = stored_after s.heap o c Null stored; roomed = roomed; fit = take_variable x r none o object c v (plain o object c v found at) found listed at same f; rest = more })
     take_variable_by x d ds k' rooms holds (hold.Alias r) none is kept stored roomed f ne cleared walks same more =
-        half_behind s.heap (slice_set a.places x v) whole root (d ∷ ds) spot k' o c cleared walks.1
-        (ap (λ u. walk s.heap u (front (d ∷ ds))) (read_other a.places x root v Null (λ e. ne (sym e))) ∙ walks.0) (object, found, listed)
+        half_behind s.heap (slice_set a.places x v) whole root (d ∷ ds) spot k' o c cleared (ap (λ (u : Value). final (selected named u (d ∷ ds))) (read_other a.places x root v Null (λ e. ne (sym e))) ∙ walks.1)
+        (ap (λ (u : Value). walk s.heap (whole_of u) (front (selected named u (d ∷ ds)))) (read_other a.places x root v Null (λ e. ne (sym e))) ∙ walks.0) (object, found, listed)
         (λ p e. named_there f p (sym (component_value s.heap [] o object c v found listed at) ∙ e))
-        (record { rooms = rooms; holds = slice_set holds x (hold.Own r); stored = stored_after s.heap o c Null stored; roomed = roomed; fit = take_variable x r none o object c v found listed at same f; rest = more })
+        (record { rooms = rooms; holds = slice_set holds x (hold.Own r); stored = stored_after s.heap o c Null stored; roomed = roomed; fit = take_variable x r none o object c v (plain o object c v found at) found listed at same f; rest = more })
 
     take_to : (here : Spot) (cleared : Bool) (x d : ℕ) (ds : List ℕ) (k' : Control) (rooms : Rooms) (holds : Holds) → is_object known.program.variables x ≡ false → is_borrower known.program.variables x ≡ false → Stored None s.heap s.masters → Roomed (below known) s.masters rooms → Fit known.program.types known.program.variables (outers known) none_spared s.heap a.places holds → WalksOn s.heap a.places (at_path whole root (d ∷ ds) spot) (Names o) (c ∷ []) → variable_access known.program.variables x ≡ component_access known.program.types object c → Goes (gives known.program.types known.program.variables here cleared x (value_of (at_path whole root (d ∷ ds) spot)) holds) (RunsOn known k' rooms) (Raised (λ e. right_raises (is_same e) (value_of (at_path whole root (d ∷ ds) spot))) (ways known k' rooms)) → Pairs cleared (value_of (at_path whole root (d ∷ ds) spot)) (λ path. x ≢ path.root) k' → HalfBy known k' s.heap (slice_set a.places x v) s.masters
     take_to here false x d ds k' rooms holds none owned stored roomed f walks same g pairs =
@@ -255,18 +261,19 @@ module _ (known : Known) (k : Control) (a : Activation Value) (rest : List (Acti
             go (inl one) = store_value s.heap q holder at_q e v [] p (ap (λ place. value_at (store s.heap (Names q) e v) [] place) (sym one) ∙ is)
             go (inr ne) = sym (component_value s.heap [] o object c v found listed at) ∙ (sym (store_reads s.heap q holder at_q e v [] (component o c) ne) ∙ is)
 
-    take_ready : (d : ℕ) (ds : List ℕ) (to : VariableKind) (kinds : List VariableKind) (below : List Value) → names_object (Some to) ≡ false → component_access known.program.types object c ≡ access_of (Some to) → WalksOn s.heap a.places (at_path whole root (d ∷ ds) spot) (Names o) (c ∷ []) → typed.Fits known.program (cells_of s.heap) (to ∷ kinds) k → Working known s.heap a.places s.masters (Takes known s.heap a.places (value_of (at_path whole root (d ∷ ds) spot)) k) → ReadyIn known Running k s.heap a.places (v ∷ below) s.masters
+    take_ready : (d : ℕ) (ds : List ℕ) (to : VariableKind) (kinds : List OperandKind) (below : List Value) → names_object (Some to) ≡ false → component_access known.program.types object c ≡ access_of (Some to) → WalksOn s.heap a.places (at_path whole root (d ∷ ds) spot) (Names o) (c ∷ []) → typed.Fits known.program (cells_of s.heap) (of_kind to ∷ kinds) k → Working known s.heap a.places s.masters (Takes known s.heap a.places (value_of (at_path whole root (d ∷ ds) spot)) k) → ReadyIn known Running k s.heap a.places (v ∷ below) s.masters
     take_ready d ds to kinds below none is walks fits w = go k fits w
       where
-        into : (q : Value) (e : ℕ) (k' : Control) → typed.Fits known.program (cells_of s.heap) (to ∷ kinds) (StoresIn q e ∷ k') → (w' : Working known s.heap a.places s.masters (Takes known s.heap a.places (value_of (at_path whole root (d ∷ ds) spot)) (StoresIn q e ∷ k'))) → StoringIn known q e v k' s.heap a.places s.masters
+        into : (q : Value) (e : ℕ) (k' : Control) → typed.Fits known.program (cells_of s.heap) (of_kind to ∷ kinds) (StoresIn q e ∷ k') → (w' : Working known s.heap a.places s.masters (Takes known s.heap a.places (value_of (at_path whole root (d ∷ ds) spot)) (StoresIn q e ∷ k'))) → StoringIn known q e v k' s.heap a.places s.masters
         into Null e k' fits' w' = absurd (w'.rest.0)
         into (Names q) e k' fits' w' =
             let there = w'.rest.0 in
             let g = w'.rest.1 in
             inl (there, inr (take_into g.1 g.0 q there.0 e d ds k' w'.rooms w'.holds there.1 there.2 w'.stored w'.roomed w'.fit walks (component_goes known.program s.heap to kinds q there.0 e k' there.1 fits' ∙ sym is) g.2 g.3))
         into (Scalar n) e k' fits' w' = absurd (w'.rest.0)
+        into (Part object_id base) e k' fits' w' = absurd (w'.rest.0)
 
-        go : (k' : Control) → typed.Fits known.program (cells_of s.heap) (to ∷ kinds) k' → Working known s.heap a.places s.masters (Takes known s.heap a.places (value_of (at_path whole root (d ∷ ds) spot)) k') → ReadyIn known Running k' s.heap a.places (v ∷ below) s.masters
+        go : (k' : Control) → typed.Fits known.program (cells_of s.heap) (of_kind to ∷ kinds) k' → Working known s.heap a.places s.masters (Takes known s.heap a.places (value_of (at_path whole root (d ∷ ds) spot)) k') → ReadyIn known Running k' s.heap a.places (v ∷ below) s.masters
         go [] fits' w' = absurd (w'.rest)
         go (Stores x ∷ k') fits' w' = stores_to w'.rest.1.0 w'.rest.0 x d ds k' w'.rooms w'.holds (variable_none known.program s.heap to kinds x k' none fits') w'.stored w'.roomed w'.fit walks (variable_goes known.program s.heap to kinds x k' fits' ∙ sym is) w'.rest.1.1 w'.rest.2
         go (Declares x ∷ k') fits' w' = declares_to (λ rooms holds. HasRoom rooms × RunsOn known k' rooms holds) w'.rest.2.0 w'.rest.1 x d ds k' w'.rooms w'.holds (declared_none known.program s.heap to kinds x k' none fits') w'.stored w'.roomed w'.fit walks (declared_goes known.program s.heap to kinds x k' fits' ∙ sym is) (λ h r. (w'.rest.0, r)) w'.rest.2.1 w'.rest.3
@@ -275,14 +282,14 @@ module _ (known : Known) (k : Control) (a : Activation Value) (rest : List (Acti
 
   -- A path that is moved is followed by one selector.
   module _ (whole : Bool) (root : ℕ) (cs : List ℕ) (spot : Spot) (below : List Value) where
-    at_last : (o : Id) (object : Object) (c : ℕ) (v : Value) (from : Option VariableKind) (to : VariableKind) (kinds : List VariableKind) → object_at s.heap o ≡ Some object → object.listed ≡ true → slice_get object.cell.values c ≡ Some v → access_of from ≡ Some object.cell.access → selected_kind known.program.types from c ≡ Some to → typed.Fits known.program (cells_of s.heap) (to ∷ kinds) k → WalksOn s.heap a.places (at_path whole root cs spot) (Names o) (c ∷ []) → Working known s.heap a.places s.masters (Takes known s.heap a.places (value_of (at_path whole root cs spot)) k) → ReadyIn known Running k s.heap a.places (v ∷ below) s.masters
+    at_last : (o : Id) (object : Object) (c : ℕ) (v : Value) (from : Option VariableKind) (to : VariableKind) (kinds : List OperandKind) → object_at s.heap o ≡ Some object → object.listed ≡ true → slice_get object.cell.values c ≡ Some v → access_of from ≡ Some object.cell.access → selected_kind known.program.types from c ≡ Some to → typed.Fits known.program (cells_of s.heap) (of_kind to ∷ kinds) k → WalksOn s.heap a.places (at_path whole root cs spot) (Names o) (c ∷ []) → Working known s.heap a.places s.masters (Takes known s.heap a.places (value_of (at_path whole root cs spot)) k) → ReadyIn known Running k s.heap a.places (v ∷ below) s.masters
     at_last o object c v from to kinds found listed at own leads fits walks w = go cs walks w
       where
         go : (ds : List ℕ) → WalksOn s.heap a.places (at_path whole root ds spot) (Names o) (c ∷ []) → Working known s.heap a.places s.masters (Takes known s.heap a.places (value_of (at_path whole root ds spot)) k) → ReadyIn known Running k s.heap a.places (v ∷ below) s.masters
         go [] walks' w' = absurd (cc (walks'.1))
         go (d ∷ ds) walks' w' = take_ready whole root spot o object c v found listed at d ds to kinds below (selected_no_object known.program.types from c to leads) (selected_of known.program.types from object c to own leads) walks' fits w'
 
-    moved_on : (u : Value) (o : Id) (object : Object) (c : ℕ) (ds : List ℕ) (v : Value) (from : Option VariableKind) (to : VariableKind) (kinds : List VariableKind) → object_at s.heap o ≡ Some object → object.listed ≡ true → slice_get object.cell.values c ≡ Some v → access_of from ≡ Some object.cell.access → selectors_kind known.program.types from (c ∷ ds) ≡ Some to → typed.Fits known.program (cells_of s.heap) (to ∷ kinds) k → WalksOn s.heap a.places (at_path whole root cs spot) (Names o) (c ∷ ds) → (w : Working known s.heap a.places s.masters (Takes known s.heap a.places (value_of (at_path whole root cs spot)) k)) → RaisesAt known u ds k w.rooms w.holds → Stepped known s.heap (Followed (Names o)) (reading named ds v (running k (record a { operands = below }) rest s))
+    moved_on : (u : Value) (o : Id) (object : Object) (c : ℕ) (ds : List ℕ) (v : Value) (from : Option VariableKind) (to : VariableKind) (kinds : List OperandKind) → object_at s.heap o ≡ Some object → object.listed ≡ true → slice_get object.cell.values c ≡ Some v → access_of from ≡ Some object.cell.access → selectors_kind known.program.types from (c ∷ ds) ≡ Some to → typed.Fits known.program (cells_of s.heap) (of_kind to ∷ kinds) k → WalksOn s.heap a.places (at_path whole root cs spot) (Names o) (c ∷ ds) → (w : Working known s.heap a.places s.masters (Takes known s.heap a.places (value_of (at_path whole root cs spot)) k)) → RaisesAt known u ds k w.rooms w.holds → Stepped known s.heap (Followed (Names o)) (reading named ds v (running k (record a { operands = below }) rest s))
     moved_on u o object c [] v from to kinds found listed at own leads fits walks w raise =
         stays known (Followed (Names o)) (running k (record a { operands = v ∷ below }) rest s)
         (tt, at_last o object c v from to kinds found listed at own leads fits walks w)
@@ -293,27 +300,32 @@ module _ (known : Known) (k : Control) (a : Activation Value) (rest : List (Acti
         (tt, inl (at_work w (component_follows o object c v refl found listed at w.fit, inr ((λ may. raise), inr (inl (at_path whole root cs spot, (walks.0 ∙ seen, walks.1), w.rest))))))
         (record { id = o; object = object; is = refl; found = found; out = exists_out o object found ((w.stored.sane o object found).listed_exists listed) w.stored })
 
-    moved_component : (u : Value) (o : Id) (object : Object) (c : ℕ) (ds : List ℕ) (found_value : Option Value) (from : Option VariableKind) (to : VariableKind) (kinds : List VariableKind) → slice_get object.cell.values c ≡ found_value → object_at s.heap o ≡ Some object → object.listed ≡ true → access_of from ≡ Some object.cell.access → selectors_kind known.program.types from (c ∷ ds) ≡ Some to → typed.Fits known.program (cells_of s.heap) (to ∷ kinds) k → WalksOn s.heap a.places (at_path whole root cs spot) (Names o) (c ∷ ds) → (w : Working known s.heap a.places s.masters (Takes known s.heap a.places (value_of (at_path whole root cs spot)) k)) → RaisesAt known u ds k w.rooms w.holds → Fine known s.heap s.masters (component_next named (Names o) ds found_value (running k (record a { operands = below }) rest s))
+    moved_component : (u : Value) (o : Id) (object : Object) (c : ℕ) (ds : List ℕ) (found_value : Option Value) (from : Option VariableKind) (to : VariableKind) (kinds : List OperandKind) → slice_get object.cell.values c ≡ found_value → object_at s.heap o ≡ Some object → object.listed ≡ true → access_of from ≡ Some object.cell.access → selectors_kind known.program.types from (c ∷ ds) ≡ Some to → typed.Fits known.program (cells_of s.heap) (of_kind to ∷ kinds) k → WalksOn s.heap a.places (at_path whole root cs spot) (Names o) (c ∷ ds) → (w : Working known s.heap a.places s.masters (Takes known s.heap a.places (value_of (at_path whole root cs spot)) k)) → RaisesAt known u ds k w.rooms w.holds → Fine known s.heap s.masters (component_next named (Names o) ds found_value (running k (record a { operands = below }) rest s))
     moved_component u o object c ds None from to kinds at found listed own leads fits walks w raise = tt
     moved_component u o object c ds (Some v) from to kinds at found listed own leads fits walks w raise = moved_on u o object c ds v from to kinds found listed at own leads fits walks w raise
 
-    moves_fine : (c : ℕ) (ds : List ℕ) (u : Value) (from : Option VariableKind) (to : VariableKind) (kinds : List VariableKind) → MayFollow s.heap u → ((o : Id) (object : Object) → u ≡ Names o → object_at s.heap o ≡ Some object → access_of from ≡ Some object.cell.access) → selectors_kind known.program.types from (c ∷ ds) ≡ Some to → typed.Fits known.program (cells_of s.heap) (to ∷ kinds) k → WalksOn s.heap a.places (at_path whole root cs spot) u (c ∷ ds) → (w : Working known s.heap a.places s.masters (Takes known s.heap a.places (value_of (at_path whole root cs spot)) k)) → RaisesAt known u ds k w.rooms w.holds → Fine known s.heap s.masters (follow_next named u c ds (look s.heap u) (running k (record a { operands = below }) rest s))
+    moves_fine : (c : ℕ) (ds : List ℕ) (u : Value) (from : Option VariableKind) (to : VariableKind) (kinds : List OperandKind) → MayFollow s.heap u → ((o : Id) (object : Object) → u ≡ Names o → object_at s.heap o ≡ Some object → access_of from ≡ Some object.cell.access) → selectors_kind known.program.types from (c ∷ ds) ≡ Some to → typed.Fits known.program (cells_of s.heap) (of_kind to ∷ kinds) k → WalksOn s.heap a.places (at_path whole root cs spot) u (c ∷ ds) → (w : Working known s.heap a.places s.masters (Takes known s.heap a.places (value_of (at_path whole root cs spot)) k)) → RaisesAt known u ds k w.rooms w.holds → Fine known s.heap s.masters (follow_next named u c ds (look s.heap u) (running k (record a { operands = below }) rest s))
     moves_fine c ds Null from to kinds follows own leads fits walks w raise = jumps_less known k (record a { operands = below }) rest s (Raising ConstraintError) (at_work w (raises_null known Null k w.rooms w.holds ds raise refl))
     moves_fine c ds (Names o) from to kinds follows own leads fits walks w raise =
         rw (follows.1, (w.stored.sane o follows.0 follows.1).listed_exists follows.2)
         (moved_component (Names o) o follows.0 c ds (slice_get follows.0.cell.values c) from to kinds refl follows.1 follows.2 (own o follows.0 refl follows.1) leads fits walks w raise)
     moves_fine c ds (Scalar n) from to kinds follows own leads fits walks w raise = tt
+    moves_fine c ds (Part object_id base) from to kinds follows own leads fits walks w raise = tt
 
   -- What is moved is a variable's value, or a component's.
-  value_fine : (whole : Bool) (root : ℕ) (cs : List ℕ) (spot : Spot) (kinds : List VariableKind) → typed.Fits known.program (cells_of s.heap) kinds (Evaluates (value_of (at_path whole root cs spot)) ∷ k) → Working known s.heap a.places s.masters (Takes known s.heap a.places (value_of (at_path whole root cs spot)) k) → Fine known s.heap s.masters (path_next named cs (place_at a.places root) (running k a rest s))
-  value_fine whole root [] spot kinds fits w = ready_on known k a rest s (place_at a.places root ∷ a.operands) (variable_ready whole root spot kinds fits w)
+  value_fine : (whole : Bool) (root : ℕ) (cs : List ℕ) (spot : Spot) (kinds : List OperandKind) → typed.Fits known.program (cells_of s.heap) kinds (Evaluates (value_of (at_path whole root cs spot)) ∷ k) → Working known s.heap a.places s.masters (Takes known s.heap a.places (value_of (at_path whole root cs spot)) k) → Fine known s.heap s.masters (path_next named (along a.places (at_path whole root cs spot)) (begun a.places (at_path whole root cs spot)) (running k a rest s))
+  value_fine whole root [] spot kinds (kind, takes, fits) w =
+      let none = ap names_object (path_goes known.program kind whole root [] spot takes) ∙ takes_none known.program.types known.program.variables kind (value_of (at_path whole root [] spot)) takes in
+      let same = plain_whole (place_at a.places root) (plain_object root (some_root known k s.heap a.places s.masters whole root spot w) none w.fit) in
+      rw same (ready_on known k a rest s (place_at a.places root ∷ a.operands) (variable_ready whole root spot kinds (kind, takes, fits) w))
   value_fine whole root (c ∷ cs) spot kinds (kind, takes, fits) w =
       let kept = kept_root known k s.heap a.places s.masters whole root c cs spot w in
-      moves_fine whole root (c ∷ cs) spot a.operands c cs (place_at a.places root) (variable_kind known.program.variables root) kind kinds
+      let b = root_at root spot kept.0 w.fit in
+      moves_fine whole root (c ∷ cs) spot a.operands (inside (place_at a.places root) c) cs (begun a.places (at_path whole root (c ∷ cs) spot)) b.from kind kinds
       (root_follows root spot kept.0 w.fit)
-      (λ o object is found. root_access w.fit root spot o object kept.0 is found)
-      (path_goes known.program kind whole root (c ∷ cs) spot takes) fits (refl, refl) w
-      (rest_raises known (place_at a.places root) k w.rooms w.holds whole c cs (λ is. object_there root spot kept.0 (takes_object known.program.types known.program.variables kind (at_path whole root (c ∷ cs) spot) takes is) w.fit) kept.1)
+      (λ o object is found. root_access b o object is found)
+      (b.leads c cs kind (path_goes known.program kind whole root (c ∷ cs) spot takes)) fits (refl, refl) w
+      (rest_raises known (begun a.places (at_path whole root (c ∷ cs) spot)) k w.rooms w.holds whole c cs (λ is. object_there root spot kept.0 (takes_object known.program.types known.program.variables kind (at_path whole root (c ∷ cs) spot) takes is) w.fit) kept.1)
 
   -- The component that the object goes to, if it goes to one; that no item breaks a rule; and what an allocator leads to.
   abbrev Allocated_to : ℕ → List ItemForm → Control → Rooms → Holds → Type 0
@@ -321,7 +333,7 @@ module _ (known : Known) (k : Control) (a : Activation Value) (rest : List (Acti
       (here : Spot) × (target : Option PathForm) × GoesInto s.heap a.places target k' × NoneBroken holds (uses_in_items known.program.types here target [] items) × Allocating known s.heap access items k' rooms holds
 
   -- What an allocator leads to.
-  allocating : (access : ℕ) (items : List ItemForm) (kind : VariableKind) (kinds : List VariableKind) → kind_takes known.program.types known.program.variables kind (allocates access items) ≡ true → typed.Fits known.program (cells_of s.heap) (kind ∷ kinds) k → (rooms : Rooms) (holds : Holds) → Takes known s.heap a.places (allocates access items) k rooms holds → Allocated_to access items k rooms holds
+  allocating : (access : ℕ) (items : List ItemForm) (kind : VariableKind) (kinds : List OperandKind) → kind_takes known.program.types known.program.variables kind (allocates access items) ≡ true → typed.Fits known.program (cells_of s.heap) (of_kind kind ∷ kinds) k → (rooms : Rooms) (holds : Holds) → Takes known s.heap a.places (allocates access items) k rooms holds → Allocated_to access items k rooms holds
   allocating access items kind kinds takes fits rooms holds = go k fits
     where
       al : Allocated known.program.types known.program.variables kind access items
@@ -332,7 +344,7 @@ module _ (known : Known) (k : Control) (a : Activation Value) (rest : List (Acti
           let u = using_goes (uses_in_items known.program.types here None [] items) holds (ends_with true holds (slice_set (without_values (moved_by_items items) holds) x (hold.Own Whole))) (RunsOn known k' rooms) (Raised (λ e. right_raises (is_same e) (allocates access items)) (ways known k' rooms)) g in
           (u.0, ((is ∙ al.goes, u.1.0), u.1.1))
 
-      into : (o : Value) (c : ℕ) (k' : Control) → typed.Fits known.program (cells_of s.heap) (kind ∷ kinds) (StoresIn o c ∷ k') → IsHolder s.heap o → (g : FillsIn known (allocates access items) (LeadsTo s.heap a.places o [] c) rooms holds k') → NoneBroken holds (uses_in_items known.program.types (spot_of g.0) (Some g.0) [] items) × ((Accepts known s.heap o c (Some access) × RunsOn known k' rooms (without_values (moved_by_items items) holds)) × Raised (component_among (path_raises g.0) (allocates access items)) (ways known k' rooms) holds)
+      into : (o : Value) (c : ℕ) (k' : Control) → typed.Fits known.program (cells_of s.heap) (of_kind kind ∷ kinds) (StoresIn o c ∷ k') → IsHolder s.heap o → (g : FillsIn known (allocates access items) (LeadsTo s.heap a.places o [] c) rooms holds k') → NoneBroken holds (uses_in_items known.program.types (spot_of g.0) (Some g.0) [] items) × ((Accepts known s.heap o c (Some access) × RunsOn known k' rooms (without_values (moved_by_items items) holds)) × Raised (component_among (path_raises g.0) (allocates access items)) (ways known k' rooms) holds)
       into Null c k' fits' there g = absurd there
       into (Names o) c k' fits' there g =
           let items_use = uses_in_items known.program.types (spot_of g.0) (Some g.0) [] items in
@@ -343,11 +355,12 @@ module _ (known : Known) (k : Control) (a : Activation Value) (rest : List (Acti
           let n = ends_goes may holds after (RunsOn known k' rooms) raised' u.1 in
           ((kept_apart holds (uses_in_target g.0) items_use u.0).1, (((there.0, there.1, there.2, component_goes known.program s.heap kind kinds o there.0 c k' there.1 fits' ∙ al.goes), n.0), n.1 (or_right (path_raises g.0) true refl)))
       into (Scalar n) c k' fits' there g = absurd there
+      into (Part object_id base) c k' fits' there g = absurd there
 
       none : names_object (Some kind) ≡ false
       none = takes_none known.program.types known.program.variables kind (allocates access items) takes
 
-      go : (k' : Control) → typed.Fits known.program (cells_of s.heap) (kind ∷ kinds) k' → Takes known s.heap a.places (allocates access items) k' rooms holds → Allocated_to access items k' rooms holds
+      go : (k' : Control) → typed.Fits known.program (cells_of s.heap) (of_kind kind ∷ kinds) k' → Takes known s.heap a.places (allocates access items) k' rooms holds → Allocated_to access items k' rooms holds
       go [] fits' g = absurd g
       go (Stores x ∷ k') fits' g =
           let h = to x k' (variable_goes known.program s.heap kind kinds x k' fits') g.1.0 g.0 g.1.1 in
@@ -365,14 +378,14 @@ module _ (known : Known) (k : Control) (a : Activation Value) (rest : List (Acti
   Defaulted_to access components k' rooms holds =
       (target : Option PathForm) × GoesInto s.heap a.places target k' × Allocating known s.heap access (map default_item components) k' rooms holds
 
-  defaulting : (access : ℕ) (kind : VariableKind) (kinds : List VariableKind) (d : DefaultFor known.program.types kind access) → names_object (Some kind) ≡ false → typed.Fits known.program (cells_of s.heap) (kind ∷ kinds) k → (rooms : Rooms) (holds : Holds) → Takes known s.heap a.places (allocates_default access) k rooms holds → Defaulted_to access d.components k rooms holds
+  defaulting : (access : ℕ) (kind : VariableKind) (kinds : List OperandKind) (d : DefaultFor known.program.types kind access) → names_object (Some kind) ≡ false → typed.Fits known.program (cells_of s.heap) (of_kind kind ∷ kinds) k → (rooms : Rooms) (holds : Holds) → Takes known s.heap a.places (allocates_default access) k rooms holds → Defaulted_to access d.components k rooms holds
   defaulting access kind kinds d none fits rooms holds = go k fits
     where
       to : (x : ℕ) (k' : Control) (here : Spot) (cleared : Bool) → Goes (gives known.program.types known.program.variables here cleared x (allocates_default access) holds) (RunsOn known k' rooms) (Raised (λ e. right_raises (is_same e) (allocates_default access)) (ways known k' rooms)) → RunsOn known k' rooms (slice_set holds x (hold.Own Whole)) × Raised (λ e. right_raises (is_same e) (allocates_default access)) (ways known k' rooms) holds
       to x k' here cleared g =
           (using_goes [] holds (ends_with true holds (slice_set holds x (hold.Own Whole))) (RunsOn known k' rooms) (Raised (λ e. right_raises (is_same e) (allocates_default access)) (ways known k' rooms)) g).1
 
-      into : (o : Value) (c : ℕ) (k' : Control) → typed.Fits known.program (cells_of s.heap) (kind ∷ kinds) (StoresIn o c ∷ k') → IsHolder s.heap o → (g : FillsIn known (allocates_default access) (LeadsTo s.heap a.places o [] c) rooms holds k') → (Accepts known s.heap o c (Some access) × RunsOn known k' rooms holds) × Raised (component_among (path_raises g.0) (allocates_default access)) (ways known k' rooms) holds
+      into : (o : Value) (c : ℕ) (k' : Control) → typed.Fits known.program (cells_of s.heap) (of_kind kind ∷ kinds) (StoresIn o c ∷ k') → IsHolder s.heap o → (g : FillsIn known (allocates_default access) (LeadsTo s.heap a.places o [] c) rooms holds k') → (Accepts known s.heap o c (Some access) × RunsOn known k' rooms holds) × Raised (component_among (path_raises g.0) (allocates_default access)) (ways known k' rooms) holds
       into Null c k' fits' there g = absurd there
       into (Names o) c k' fits' there g =
           let may = path_raises g.0 || true in
@@ -381,8 +394,9 @@ module _ (known : Known) (k : Control) (a : Activation Value) (rest : List (Acti
           let n = ends_goes may holds holds (RunsOn known k' rooms) raised' u.1 in
           (((there.0, there.1, there.2, component_goes known.program s.heap kind kinds o there.0 c k' there.1 fits' ∙ d.goes), n.0), n.1 (or_right (path_raises g.0) true refl))
       into (Scalar n) c k' fits' there g = absurd there
+      into (Part object_id base) c k' fits' there g = absurd there
 
-      go : (k' : Control) → typed.Fits known.program (cells_of s.heap) (kind ∷ kinds) k' → Takes known s.heap a.places (allocates_default access) k' rooms holds → Defaulted_to access d.components k' rooms holds
+      go : (k' : Control) → typed.Fits known.program (cells_of s.heap) (of_kind kind ∷ kinds) k' → Takes known s.heap a.places (allocates_default access) k' rooms holds → Defaulted_to access d.components k' rooms holds
       go [] fits' g = absurd g
       go (Stores x ∷ k') fits' g =
           let h = to x k' g.1.0 g.0 g.1.1 in
@@ -396,7 +410,7 @@ module _ (known : Known) (k : Control) (a : Activation Value) (rest : List (Acti
       go (f ∷ k') fits' g = absurd g
 
   -- An expression goes to a variable on which nothing relies, or into a component without access values.
-  computing : (e : ExpressionForm) (kind : VariableKind) (kinds : List VariableKind) → kind_takes known.program.types known.program.variables kind (computes e) ≡ true → typed.Fits known.program (cells_of s.heap) (kind ∷ kinds) k → (rooms : Rooms) (holds : Holds) → Takes known s.heap a.places (computes e) k rooms holds → Computing known s.heap a.places a.operands e k rooms holds
+  computing : (e : ExpressionForm) (kind : VariableKind) (kinds : List OperandKind) → kind_takes known.program.types known.program.variables kind (computes e) ≡ true → typed.Fits known.program (cells_of s.heap) (of_kind kind ∷ kinds) k → (rooms : Rooms) (holds : Holds) → Takes known s.heap a.places (computes e) k rooms holds → Computing known s.heap a.places a.operands e k rooms holds
   computing e kind kinds takes fits rooms holds = go k fits
     where
       to : (x : ℕ) (k' : Control) (here : Spot) (cleared : Bool) → Goes (gives known.program.types known.program.variables here cleared x (computes e) holds) (RunsOn known k' rooms) (Raised (λ y. right_raises (is_same y) (computes e)) (ways known k' rooms)) → NoneBroken holds (uses_in e) × (RunsOn known k' rooms (slice_set holds x hold.Lost) × (expression_raises e ≡ true → Raised (λ y. right_raises (is_same y) (computes e)) (ways known k' rooms) holds))
@@ -406,7 +420,7 @@ module _ (known : Known) (k : Control) (a : Activation Value) (rest : List (Acti
           let n = ends_goes (expression_raises e) holds (slice_set holds x hold.Lost) (RunsOn known k' rooms) raised' u.1 in
           (u.0, (n.0, n.1))
 
-      into : (o : Value) (c : ℕ) (k' : Control) → typed.Fits known.program (cells_of s.heap) (kind ∷ kinds) (StoresIn o c ∷ k') → IsHolder s.heap o → (g : FillsIn known (computes e) (LeadsTo s.heap a.places o [] c) rooms holds k') → NoneBroken holds (uses_in e) × ((Accepts known s.heap o c None × RunsOn known k' rooms holds) × (expression_raises e ≡ true → To ((ways known k' rooms).raised ConstraintError) holds))
+      into : (o : Value) (c : ℕ) (k' : Control) → typed.Fits known.program (cells_of s.heap) (of_kind kind ∷ kinds) (StoresIn o c ∷ k') → IsHolder s.heap o → (g : FillsIn known (computes e) (LeadsTo s.heap a.places o [] c) rooms holds k') → NoneBroken holds (uses_in e) × ((Accepts known s.heap o c None × RunsOn known k' rooms holds) × (expression_raises e ≡ true → To ((ways known k' rooms).raised ConstraintError) holds))
       into Null c k' fits' there g = absurd there
       into (Names o) c k' fits' there g =
           let may = path_raises g.0 || expression_raises e in
@@ -415,8 +429,9 @@ module _ (known : Known) (k : Control) (a : Activation Value) (rest : List (Acti
           let n = ends_goes may holds holds (RunsOn known k' rooms) raised' u.1 in
           ((kept_apart holds (uses_in_target g.0) (uses_in e) u.0).1, (((there.0, there.1, there.2, component_goes known.program s.heap kind kinds o there.0 c k' there.1 fits' ∙ computed_goes known.program.types known.program.variables kind e takes), n.0), λ raises. n.1 (or_right (path_raises g.0) (expression_raises e) raises) ConstraintError (or_right (path_raises g.0) (expression_raises e) raises)))
       into (Scalar n) c k' fits' there g = absurd there
+      into (Part object_id base) c k' fits' there g = absurd there
 
-      go : (k' : Control) → typed.Fits known.program (cells_of s.heap) (kind ∷ kinds) k' → Takes known s.heap a.places (computes e) k' rooms holds → Computing known s.heap a.places a.operands e k' rooms holds
+      go : (k' : Control) → typed.Fits known.program (cells_of s.heap) (of_kind kind ∷ kinds) k' → Takes known s.heap a.places (computes e) k' rooms holds → Computing known s.heap a.places a.operands e k' rooms holds
       go [] fits' g = absurd g
       go (Stores x ∷ k') fits' g = let h = to x k' g.1.0 g.0 g.1.1 in (h.0, (λ may. h.1.1 may ConstraintError may), h.1.0)
       go (Declares x ∷ k') fits' g = let h = to x k' g.2.0 g.1 g.2.1 in (h.0, (λ may. h.1.1 may ConstraintError may), (g.0, h.1.0))
@@ -424,7 +439,7 @@ module _ (known : Known) (k : Control) (a : Activation Value) (rest : List (Acti
       go (f ∷ k') fits' g = absurd g
 
   -- Null goes to a variable, or into a component, where it counts as stored already.
-  nothing_ready : (kind : VariableKind) (kinds : List VariableKind) → names_object (Some kind) ≡ false → typed.Fits known.program (cells_of s.heap) (kind ∷ kinds) k → EvaluatesTo known nothing k s.heap a.places s.masters → ReadyIn known Running k s.heap a.places (Null ∷ a.operands) s.masters
+  nothing_ready : (kind : VariableKind) (kinds : List OperandKind) → names_object (Some kind) ≡ false → typed.Fits known.program (cells_of s.heap) (of_kind kind ∷ kinds) k → EvaluatesTo known nothing k s.heap a.places s.masters → ReadyIn known Running k s.heap a.places (Null ∷ a.operands) s.masters
   nothing_ready kind kinds none fits e = go k fits e
     where
       to : (More : Rooms → Holds → Type 0) (here : Spot) (cleared : Bool) (x : ℕ) (k' : Control) (rooms : Rooms) (holds : Holds) → is_object known.program.variables x ≡ false → Stored None s.heap s.masters → Roomed (below known) s.masters rooms → Fit known.program.types known.program.variables (outers known) none_spared s.heap a.places holds → ((h : Holds) → RunsOn known k' rooms h → More rooms h) → Goes (gives known.program.types known.program.variables here cleared x nothing holds) (RunsOn known k' rooms) (Raised (λ y. right_raises (is_same y) nothing) (ways known k' rooms)) → Working known s.heap (slice_set a.places x Null) s.masters More
@@ -434,8 +449,9 @@ module _ (known : Known) (k : Control) (a : Activation Value) (rest : List (Acti
       clears_in Null c k' h = absurd h
       clears_in (Names o) c k' h = inl (h.0, inl h.1)
       clears_in (Scalar n) c k' h = absurd h
+      clears_in (Part object_id base) c k' h = absurd h
 
-      go : (k' : Control) → typed.Fits known.program (cells_of s.heap) (kind ∷ kinds) k' → EvaluatesTo known nothing k' s.heap a.places s.masters → ReadyIn known Running k' s.heap a.places (Null ∷ a.operands) s.masters
+      go : (k' : Control) → typed.Fits known.program (cells_of s.heap) (of_kind kind ∷ kinds) k' → EvaluatesTo known nothing k' s.heap a.places s.masters → ReadyIn known Running k' s.heap a.places (Null ∷ a.operands) s.masters
       go [] fits' w = absurd (w.rest)
       go (Stores x ∷ k') fits' w = inl (to (RunsOn known k') w.rest.1.0 w.rest.0 x k' w.rooms w.holds (variable_none known.program s.heap kind kinds x k' none fits') w.stored w.roomed w.fit (λ h r. r) w.rest.1.1)
       go (Declares x ∷ k') fits' w = to (λ rooms holds. HasRoom rooms × RunsOn known k' rooms holds) w.rest.2.0 w.rest.1 x k' w.rooms w.holds (declared_none known.program s.heap kind kinds x k' none fits') w.stored w.roomed w.fit (λ h r. (w.rest.0, r)) w.rest.2.1
@@ -452,7 +468,7 @@ module _ (known : Known) (k : Control) (a : Activation Value) (rest : List (Acti
       (record { done = []; spot = record { line = 0; column = 0 }; target = h.0; into = h.1; filled = tt; before = tt; behind = defaults_keep known.program.types (record { line = 0; column = 0 }) h.0 w.holds [] kinds; leads = h.2; counted = (let one : kinds ≡ h.2.components = let mine = d.reached in let its = h.2.reached in cc (mine, its) in ap length one) }))))
 
   -- What is assigned is evaluated.
-  right_fine : (types : List TypeDefinition) → Reaches known types → (right : RightForm) (kinds : List VariableKind) → typed.Fits known.program (cells_of s.heap) kinds (Evaluates right ∷ k) → EvaluatesTo known right k s.heap a.places s.masters → Fine known s.heap s.masters (right_next named types right (running k a rest s))
+  right_fine : (types : List TypeDefinition) → Reaches known types → (right : RightForm) (kinds : List OperandKind) → typed.Fits known.program (cells_of s.heap) kinds (Evaluates right ∷ k) → EvaluatesTo known right k s.heap a.places s.masters → Fine known s.heap s.masters (right_next named types right (running k a rest s))
   right_fine types reaches nothing kinds (kind, takes, fits) e = ready_on known k a rest s (Null ∷ a.operands) (nothing_ready kind kinds (takes_none known.program.types known.program.variables kind nothing takes) fits e)
   right_fine types reaches (value_of path) kinds fits w = value_fine path.of_record path.root path.selectors path.spot kinds fits w
   right_fine types reaches (allocates access items) kinds (kind, takes, fits) w =
@@ -467,18 +483,18 @@ module _ (known : Known) (k : Control) (a : Activation Value) (rest : List (Acti
       ready_on known (Computes e ∷ k) a rest s a.operands (at_work w (computing e kind kinds takes fits w.rooms w.holds w.rest))
 
   -- What is assigned is evaluated, or what is passed.
-  pub evaluates_fine : (types : List TypeDefinition) → Reaches known types → (right : RightForm) (kinds : List VariableKind) → typed.Fits known.program (cells_of s.heap) kinds (Evaluates right ∷ k) → EvaluatesTo known right k s.heap a.places s.masters ⊎ Working known s.heap a.places s.masters (PassesTo known s.heap a.places a.operands (Evaluates right ∷ k)) → Fine known s.heap s.masters (right_next named types right (running k a rest s))
+  pub evaluates_fine : (types : List TypeDefinition) → Reaches known types → (right : RightForm) (kinds : List OperandKind) → typed.Fits known.program (cells_of s.heap) kinds (Evaluates right ∷ k) → EvaluatesTo known right k s.heap a.places s.masters ⊎ Working known s.heap a.places s.masters (PassesTo known s.heap a.places a.operands (Evaluates right ∷ k)) → Fine known s.heap s.masters (right_next named types right (running k a rest s))
   evaluates_fine types reaches right kinds fits (inl e) = right_fine types reaches right kinds fits e
   evaluates_fine types reaches right kinds (kind, takes, fits) (inr w) = passes_fine known k a rest s types kind right takes w
 
   -- What typing says of a value that is followed on.
-  followed_kind : (kinds : List VariableKind) (cs : List ℕ) (v : Value) (below : List Value) → typed.Fits known.program (cells_of s.heap) kinds (Follows cs ∷ k) → AreComputed (cells_of s.heap) kinds (v ∷ below) → (from : VariableKind) × (to : VariableKind) × (ks : List VariableKind) × ((o : Id) (object : Object) → v ≡ Names o → object_at s.heap o ≡ Some object → access_of (Some from) ≡ Some object.cell.access) × (selectors_kind known.program.types (Some from) cs ≡ Some to) × typed.Fits known.program (cells_of s.heap) (to ∷ ks) k
-  followed_kind kinds cs v below (ks, from, to, same, leads, fits) computed =
-      let has : AreComputed (cells_of s.heap) (from ∷ ks) (v ∷ below) = subst (λ (qs : List VariableKind). AreComputed (cells_of s.heap) qs (v ∷ below)) same computed in
-      (from, to, ks, (λ o object is found. kind_names s.heap from o object (rw is at has.0) found), leads, fits)
+  followed_kind : (kinds : List OperandKind) (cs : List ℕ) (v : Value) (below : List Value) → typed.Fits known.program (cells_of s.heap) kinds (Follows cs ∷ k) → AreComputed known.program.types (cells_of s.heap) kinds (v ∷ below) → (from : VariableKind) × (to : VariableKind) × (ks : List OperandKind) × ((o : Id) (object : Object) → v ≡ Names o → object_at s.heap o ≡ Some object → access_of (Some from) ≡ Some object.cell.access) × (selectors_kind known.program.types (Some from) cs ≡ Some to) × typed.Fits known.program (cells_of s.heap) (of_kind to ∷ ks) k
+  followed_kind kinds cs v below (ks, from, to, same, leads, plain_kind, fits) computed =
+      let has : AreComputed known.program.types (cells_of s.heap) (of_kind from ∷ ks) (v ∷ below) = subst (λ (qs : List OperandKind). AreComputed known.program.types (cells_of s.heap) qs (v ∷ below)) same computed in
+      (from, to, ks, (λ o object is found. kind_names known.program.types s.heap from o object (rw is at has.0) found), leads, fits)
 
   -- A value that is moved is followed on.
-  moving : (cs : List ℕ) (v : Value) (below : List Value) (kinds : List VariableKind) → typed.Fits known.program (cells_of s.heap) kinds (Follows cs ∷ k) → AreComputed (cells_of s.heap) kinds (v ∷ below) → MayFollow s.heap v → (w : Working known s.heap a.places s.masters (MovesOn known s.heap a.places v cs k)) → MayRaise known true ConstraintError k w.rooms w.holds → Fine known s.heap s.masters (path_next named cs v (running k (record a { operands = below }) rest s))
+  moving : (cs : List ℕ) (v : Value) (below : List Value) (kinds : List OperandKind) → typed.Fits known.program (cells_of s.heap) kinds (Follows cs ∷ k) → AreComputed known.program.types (cells_of s.heap) kinds (v ∷ below) → MayFollow s.heap v → (w : Working known s.heap a.places s.masters (MovesOn known s.heap a.places v cs k)) → MayRaise known true ConstraintError k w.rooms w.holds → Fine known s.heap s.masters (path_next named cs v (running k (record a { operands = below }) rest s))
   moving [] v below kinds fits computed follows w raise = absurd (w.rest)
   moving (c ∷ ds) v below kinds fits computed follows w raise =
       let t = followed_kind kinds (c ∷ ds) v below fits computed in
@@ -486,7 +502,7 @@ module _ (known : Known) (k : Control) (a : Activation Value) (rest : List (Acti
       moves_fine m.0.of_record m.0.root m.0.selectors m.0.spot below c ds v (Some t.0) t.1 t.2 follows t.3 t.4 t.5 m.1 (at_work w m.2) (raises_all known v k w.rooms w.holds ds (raise refl))
 
   -- A path is followed.
-  pub follows_fine : (cs : List ℕ) (v : Value) (below : List Value) (kinds : List VariableKind) → typed.Fits known.program (cells_of s.heap) kinds (Follows cs ∷ k) → AreComputed (cells_of s.heap) kinds (v ∷ below) → (Working known s.heap a.places s.masters (FollowsFor known s.heap a.places v below cs k) ⊎ HalfFollows known v cs k s.heap a.places s.masters) → Fine known s.heap s.masters (path_next named cs v (running k (record a { operands = below }) rest s))
+  pub follows_fine : (cs : List ℕ) (v : Value) (below : List Value) (kinds : List OperandKind) → typed.Fits known.program (cells_of s.heap) kinds (Follows cs ∷ k) → AreComputed known.program.types (cells_of s.heap) kinds (v ∷ below) → (Working known s.heap a.places s.masters (FollowsFor known s.heap a.places v below cs k) ⊎ HalfFollows known v cs k s.heap a.places s.masters) → Fine known s.heap s.masters (path_next named cs v (running k (record a { operands = below }) rest s))
   follows_fine cs v below kinds fits computed (inr h) = half_fine known a rest s below k cs v h
   follows_fine cs v below kinds fits computed (inl w) = go w.rest.1
     where

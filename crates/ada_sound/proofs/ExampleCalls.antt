@@ -8,23 +8,26 @@ use Rattle.ada_program.specs.declared.program.Actual.{Actual}
 use Rattle.ada_program.specs.declared.program.Actual.TheVariants as actual
 use Rattle.ada_program.specs.declared.program.FormalMode.{FormalMode}
 use Rattle.ada_program.specs.declared.program.FormalMode.TheVariants.{In, InOut}
-use Rattle.ada_program.specs.declared.program.Expression.{Expression, Integer, Path as Reads}
+use Rattle.ada_program.specs.declared.program.Expression.{Expression, Integer, Path as Reads, NullTest}
 use Rattle.ada_program.specs.declared.program.Item.TheVariants as item
 use Rattle.ada_program.specs.declared.program.Right.TheVariants as right
 use Rattle.ada_program.specs.declared.program.Choice.TheVariants as choice
+use Rattle.ada_program.specs.declared.program.Declaration.{Declaration}
 use Rattle.ada_program.specs.declared.program.Declaration.TheVariants as declaration
 use Rattle.ada_program.specs.declared.program.Handler.{Handler}
 use Rattle.ada_program.specs.declared.program.Path.{Path}
 use Rattle.ada_program.specs.declared.program.Procedure.{Procedure}
 use Rattle.ada_program.specs.declared.program.Stmt.{Stmt}
 use Rattle.ada_program.specs.declared.program.Stmt as stmt
+use Rattle.ada_program.specs.declared.program.TypeDefinition.{TypeDefinition}
+use Rattle.ada_program.specs.declared.program.TypeDefinition.TheVariants as definition
 use Rattle.ada_program.specs.declared.program.Variable.{Variable}
 use Rattle.ada_program.specs.declared.program.VariableKind.TheVariants as variable
 use Rattle.ada_program.specs.declared.program.Program.{Program}
 use Rattle.ada_program.specs.Form.{expression_form, stmt_forms, handler_forms, no_handlers, statement_rules, expression_rules}
 use Rattle.ada_program.specs.ProgramForm.{body_forms}
 use Rattle.ada_flow.specs.declared.rule.Hold.TheVariants as hold
-use Rattle.ada_flow.specs.declared.rule.Rule.TheVariants.{LostValue, AliasMoved, UnsafePath, FormalNotOwned}
+use Rattle.ada_flow.specs.declared.rule.Rule.TheVariants.{LostValue, AliasMoved, TakePair, UnsafePath, FormalNotOwned}
 use Rattle.ada_flow.specs.Flow.{uses_in}
 use Rattle.ada_meaning.specs.declared.event.Halt.TheVariants.{Finished, Erroneous}
 use Rattle.ada_meaning.specs.declared.event.Why.TheVariants.{FollowsGone, EndsTwice}
@@ -33,9 +36,12 @@ use Rattle.ada_meaning.specs.Run.{grants, takes}
 use Rattle.ada_sound.specs.Always.{IsChecked, FinishesAfter, Breaks, IsFineAtEnds, HaltsAfter}
 use Rattle.ada_sound.specs.Examples.{full, raising_handlers}
 use Rattle.ada_sound.specs.BorrowerExamples.{HasBorrower}
-use Rattle.ada_sound.specs.CallExamples.{showing_body, calling_bodies, calling_stmts, calling_handlers, calling_events, relending_stmts, relending_events, giving_bodies, giving_stmts, giving_handlers, giving_events, stopping_bodies, stopping_stmts, stopping_events, bumping_bodies, bumping_stmts, bumping_events, renewing_bodies, renewing_stmts, renewing_events, dropping_bodies, dropping_stmts, dropping_events, sharing_bodies, sharing_stmts, sharing_events, spoiling_bodies, spoiling_stmts, spoiling_events, cutting_bodies, cutting_stmts, cutting_events, claiming_bodies, claiming_stmts, claiming_events}
+use Rattle.ada_sound.specs.CallExamples.{showing_body, calling_bodies, calling_stmts, calling_handlers, calling_events, relending_stmts, relending_events, giving_bodies, giving_stmts, giving_handlers, giving_events, stopping_bodies, stopping_stmts, stopping_events, bumping_bodies, bumping_stmts, bumping_events, renewing_bodies, renewing_stmts, renewing_events, dropping_bodies, dropping_stmts, dropping_events, sharing_bodies, sharing_stmts, sharing_events, spoiling_bodies, spoiling_stmts, spoiling_events, cutting_bodies, cutting_stmts, cutting_events, claiming_bodies, claiming_stmts, claiming_events, trimming_bodies, trimming_stmts, trimming_events, replacing_bodies, replacing_stmts, replacing_events, ruining_bodies, ruining_stmts, ruining_events, draining_bodies, draining_stmts, draining_events, stripping_stmts, stripping_handlers, stripping_events}
 use Rattle.ada_sound.proofs.Choices.{accepted_in, breaks_in, fine_at_ends_in, halts_after_in}
 use Rattle.ada_sound.proofs.Example.{steps, vec, no_name, spot, types, link, exceptions, declarations, with_number, x, y, n, n_declared, value_of_x, value_of_y, x_is_seven, y_is_x}
+use Rattle.ada_sound.proofs.ExampleOwners.{record_of, an_integer as integer_component, an_access, path, part, moves, node_types, pushing}
+use Rattle.ada_sound.proofs.ExampleFrees.{inserting}
+use Rattle.ada_sound.proofs.ExampleRecords.{object, of_object, record_at, news, of_object_type}
 
 -- The formal parameter N, and the variable P behind it.
 abbrev an_integer : Variable
@@ -247,7 +253,8 @@ giving_accepted = accepted_in giving giving_bodies giving_stmts giving_handlers 
 pub gives_back : FinishesAfter giving_events giving
 unfolding next outcome_of expression_form
 gives_back =
-    halts_after_in giving giving_bodies giving_stmts giving_handlers giving_declares giving_form giving_handles [] (steps 76) giving_events Finished refl refl refl
+    halts_after_in giving giving_bodies giving_stmts giving_handlers giving_declares giving_form giving_handles []
+    (steps 76) giving_events Finished refl refl refl
 
 -- procedure Stop is begin raise Full; end Stop;
 abbrev stopping_procedure : Procedure
@@ -554,3 +561,268 @@ unfolding next
 claims =
     halts_after_in claiming claiming_bodies claiming_stmts no_handlers claiming_declares claiming_form refl []
     (steps 13 ++ grants true ∷ steps 18) claiming_events (Erroneous EndsTwice) refl refl refl
+
+-- A procedure with these formal parameters.
+abbrev with_formals : (modes : List FormalMode) → length modes ≤ 8 → (variables : List Variable) → length variables ≤ 8 → (statements : List Stmt)
+    → length statements ≤ 8 → Procedure
+with_formals modes few variables less statements le = record {
+  formals = vec modes few;
+  variables = vec variables less;
+  declarations = vec [] (omega arith);
+  statements = vec statements le;
+  handlers = vec [] (omega arith);
+  end = spot;
+}
+
+-- A call of a procedure with one actual parameter.
+abbrev calls_by : ℕ → Actual → Stmt
+calls_by procedure a = stmt.Call (record { 0 = procedure }) (vec (a ∷ []) (omega arith))
+
+-- type Node is record Value : Integer; Next : Link; end record; type Link is access Node; and what one record is known by.
+abbrev node_and_object : List TypeDefinition
+node_and_object = node_types ++ definition.Object (record { 0 = 0 }) ∷ []
+
+-- procedure Show_Node (N : Node) is begin Put_Line (Integer'Image (N.Value)); end Show_Node;
+abbrev show_node : Procedure
+show_node = with_formals (In ∷ []) (omega arith) (of_object_type 2 ∷ []) (omega arith) (stmt.PutImage (Reads (of_object 0 0)) ∷ []) (omega arith)
+
+-- procedure Trim (N : in out Node) is begin N.Value := N.Value + 1; Free (N.Next); Show_Node (N); end Trim;
+abbrev trimming_all : List Stmt
+trimming_all =
+    stmt.Assign (of_object 0 0) (right.Value (with_number binary.Add 1 (Reads (of_object 0 0))))
+    ∷ stmt.Free (record { 0 = 1 }) (of_object 0 1)
+    ∷ calls_by 0 (actual.InRecord (record_at (object 0)))
+    ∷ []
+
+abbrev trim : Procedure
+trim = with_formals (InOut ∷ []) (omega arith) (of_object_type 3 ∷ []) (omega arith) trimming_all (omega arith)
+
+-- type Pair is record First, Second : Node; end record;
+abbrev pair_types : List TypeDefinition
+pair_types =
+    node_and_object ++ definition.Object (record { 0 = 0 })
+    ∷ record_of (integer_component ∷ an_access 1 ∷ integer_component ∷ an_access 1 ∷ []) (omega arith)
+    ∷ definition.Object (record { 0 = 4 })
+    ∷ []
+
+-- R.Second.Next := new Node'(7, null); Show_Node (R.Second.Next.all); Trim (R.Second);
+-- Put_Line (Integer'Image (R.Second.Value)); if R.Second.Next = null then Put_Line (Integer'Image (0)); end if;
+abbrev zero_where_null : Stmt
+zero_where_null =
+    stmt.If
+    (vec (record { condition = NullTest (of_object 0 3) true; statements = vec (stmt.PutImage (Integer (pos 0)) ∷ []) (omega arith) } ∷ []) (omega arith))
+    (vec [] (omega arith))
+
+abbrev trimming_main : List Stmt
+trimming_main =
+    news (of_object 0 3) (item.Value (Integer (pos 7)) ∷ item.Null ∷ []) (omega arith)
+    ∷ calls_by 0 (actual.InRecord (record_at (of_object 0 3)))
+    ∷ calls_by 1 (actual.InOutRecord (record (record_at (object 0)) { first = record { 0 = 2 } }))
+    ∷ stmt.PutImage (Reads (of_object 0 2))
+    ∷ zero_where_null
+    ∷ []
+
+-- A record object R that is known by the type of a number.
+abbrev r_declared : (object_type : ℕ) → List Declaration
+r_declared t = declaration.Collection (record { 0 = 1 }) ∷ declaration.Record (record { 0 = 0 }) (record { 0 = t }) None ∷ []
+
+abbrev pub trimming : Program
+trimming = record {
+  types = vec pair_types (omega arith);
+  procedures = vec (show_node ∷ trim ∷ []) (omega arith);
+  variables = vec (of_object_type 5 ∷ []) (omega arith);
+  texts = vec [] (omega arith);
+  exceptions = vec [] (omega arith);
+  declarations = vec (r_declared 5) (omega arith);
+  statements = vec trimming_main (omega arith);
+  handlers = vec [] (omega arith);
+}
+
+pub trimming_declares : body_forms trimming ≡ trimming_bodies
+trimming_declares = simp (statement_rules, expression_rules)
+
+pub trimming_form : stmt_forms trimming ≡ trimming_stmts
+trimming_form = simp (statement_rules, expression_rules)
+
+pub trimming_accepted : IsChecked trimming
+unfolding uses_in
+trimming_accepted = accepted_in trimming trimming_bodies trimming_stmts no_handlers trimming_declares trimming_form refl _ _ refl refl refl
+
+-- What Trim does to the record is seen where it lies.
+pub trims : FinishesAfter trimming_events trimming
+unfolding next outcome_of expression_form
+trims =
+    halts_after_in trimming trimming_bodies trimming_stmts no_handlers trimming_declares trimming_form refl []
+    (steps 10 ++ grants true ∷ steps 66 ++ takes 0 ∷ steps 5) trimming_events Finished refl refl refl
+
+-- procedure Replace (V : in out Integer; N : in out Node) is begin V := V + 5; N.Next := new Node'(9, null); end Replace;
+abbrev replacing_all : List Stmt
+replacing_all =
+    stmt.Assign x (right.Value (with_number binary.Add 5 (Reads x)))
+    ∷ news (of_object 1 1) (item.Value (Integer (pos 9)) ∷ item.Null ∷ []) (omega arith)
+    ∷ []
+
+abbrev replace : Procedure
+replace = with_formals (InOut ∷ InOut ∷ []) (omega arith) (an_integer ∷ of_object_type 2 ∷ []) (omega arith) replacing_all (omega arith)
+
+-- Head.Next.Value
+abbrev next_value : Path
+next_value = path 0 (record { 0 = 1 } ∷ record { 0 = 0 } ∷ []) (omega arith)
+
+-- Head : Link; Rest, B : access Node;
+-- Head := new Node'(1, Head); Head.Next := new Node'(2, Head.Next); B := Head; Rest := Head.Next; Replace (Head.Next.Value, B.all);
+-- Put_Line (Integer'Image (Rest.Value)); Put_Line (Integer'Image (Head.Next.Value));
+abbrev replacing_main : List Stmt
+replacing_main =
+    pushing 1
+    ∷ inserting 2
+    ∷ b_is_x
+    ∷ moves y (part 0 1)
+    ∷ calls_with 0 (actual.InOutComponent next_value) (actual.InOutRecord (record_at b))
+    ∷ stmt.PutImage (Reads value_of_y)
+    ∷ stmt.PutImage (Reads next_value)
+    ∷ []
+
+-- A program with Head, Rest and B, the last one a borrower.
+abbrev program_of_nodes : (rest : Variable) → Procedure → (statements : List Stmt) → length statements ≤ 8 → Program
+program_of_nodes rest procedure statements le = record {
+  types = vec node_and_object (omega arith);
+  procedures = vec (procedure ∷ []) (omega arith);
+  variables = vec (link ∷ rest ∷ borrower ∷ []) (omega arith);
+  texts = vec [] (omega arith);
+  exceptions = vec [] (omega arith);
+  declarations = vec (declarations ++ declaration.Variable (record { 0 = 2 }) None ∷ []) (omega arith);
+  statements = vec statements le;
+  handlers = vec [] (omega arith);
+}
+
+abbrev pub replacing : Program
+replacing = program_of_nodes borrower replace replacing_main (omega arith)
+
+pub replacing_declares : body_forms replacing ≡ replacing_bodies
+replacing_declares = simp (statement_rules, expression_rules)
+
+pub replacing_form : stmt_forms replacing ≡ replacing_stmts
+replacing_form = simp (statement_rules, expression_rules)
+
+pub replacing_borrows : HasBorrower replacing
+replacing_borrows = refl
+
+pub replacing_accepted : IsChecked replacing
+unfolding uses_in expression_form
+replacing_accepted = accepted_in replacing replacing_bodies replacing_stmts no_handlers replacing_declares replacing_form refl _ _ refl refl refl
+
+-- The component of the node that was found before the call gets the value.
+pub replaces : FinishesAfter replacing_events replacing
+unfolding next outcome_of expression_form
+replaces =
+    halts_after_in replacing replacing_bodies replacing_stmts no_handlers replacing_declares replacing_form refl []
+    (steps 17 ++ grants true ∷ steps 8 ++ grants true ∷ steps 30 ++ grants true ∷ steps 20 ++ takes 0 ∷ steps 2 ++ takes 0 ∷ steps 2 ++ takes 0 ∷ steps 4)
+    replacing_events Finished refl refl refl
+
+-- procedure Ruin (N : in out Node; L : in out Link) is begin Free (L); N.Value := 1; end Ruin;
+abbrev ruin : Procedure
+ruin =
+    with_formals (InOut ∷ InOut ∷ []) (omega arith) (of_object_type 2 ∷ link ∷ []) (omega arith)
+    (free_y ∷ stmt.Assign (of_object 0 0) (right.Value (Integer (pos 1))) ∷ []) (omega arith)
+
+-- Head, Rest : Link; B : access Node; Head := new Node'(1, Head); B := Head; Ruin (B.all, Head);
+abbrev pub ruining : Program
+ruining =
+    program_of_nodes link ruin
+    (pushing 1 ∷ b_is_x ∷ calls_with 0 (actual.InOutRecord (record_at b)) (actual.InOutAccess x) ∷ []) (omega arith)
+
+pub ruining_declares : body_forms ruining ≡ ruining_bodies
+ruining_declares = simp (statement_rules, expression_rules)
+
+pub ruining_form : stmt_forms ruining ≡ ruining_stmts
+ruining_form = simp (statement_rules, expression_rules)
+
+pub ruining_borrows : HasBorrower ruining
+ruining_borrows = refl
+
+pub ruining_breaks : Breaks UnsafePath ruining
+unfolding uses_in expression_form
+ruining_breaks = breaks_in ruining ruining_bodies ruining_stmts no_handlers ruining_declares ruining_form refl UnsafePath spot refl refl refl
+
+-- What is freed by way of the one formal parameter is followed by way of the record.
+pub ruins : HaltsAfter ruining_events (Erroneous FollowsGone) ruining
+unfolding next expression_form
+ruins =
+    halts_after_in ruining ruining_bodies ruining_stmts no_handlers ruining_declares ruining_form refl []
+    (steps 17 ++ grants true ∷ steps 15) ruining_events (Erroneous FollowsGone) refl refl refl
+
+-- procedure Drain (V : in out Integer; L : in out Link) is begin Free (L); end Drain;
+abbrev drain : Procedure
+drain = with_formals (InOut ∷ InOut ∷ []) (omega arith) (an_integer ∷ link ∷ []) (omega arith) (free_y ∷ []) (omega arith)
+
+-- Head := new Node'(1, Head); B := Head; Drain (B.Value, Head);
+abbrev pub draining : Program
+draining =
+    program_of_nodes link drain
+    (pushing 1 ∷ b_is_x ∷ calls_with 0 (actual.InOutComponent value_of_b) (actual.InOutAccess x) ∷ []) (omega arith)
+
+pub draining_declares : body_forms draining ≡ draining_bodies
+draining_declares = simp statement_rules
+
+pub draining_form : stmt_forms draining ≡ draining_stmts
+draining_form = simp (statement_rules, expression_rules)
+
+pub draining_borrows : HasBorrower draining
+draining_borrows = refl
+
+pub draining_breaks : Breaks UnsafePath draining
+unfolding uses_in expression_form
+draining_breaks = breaks_in draining draining_bodies draining_stmts no_handlers draining_declares draining_form refl UnsafePath spot refl refl refl
+
+-- What is freed by way of the one formal parameter is to get the value of the other one back.
+pub drains : HaltsAfter draining_events (Erroneous FollowsGone) draining
+unfolding next expression_form
+drains =
+    halts_after_in draining draining_bodies draining_stmts no_handlers draining_declares draining_form refl []
+    (steps 17 ++ grants true ∷ steps 19) draining_events (Erroneous FollowsGone) refl refl refl
+
+-- when Full => Put_Line (Integer'Image (R.Next.Value));
+abbrev looking_handler : Handler
+looking_handler = record {
+  choices = vec (choice.Exception full ∷ []) (omega arith);
+  statements = vec (stmt.PutImage (Reads (record next_value { of_record = true })) ∷ []) (omega arith);
+}
+
+-- R : Node; R.Next := new Node'(7, null); Spoil (R.Next);
+abbrev stripping_main : List Stmt
+stripping_main =
+    news (of_object 0 1) (item.Value (Integer (pos 7)) ∷ item.Null ∷ []) (omega arith) ∷ calls_by 0 (actual.InOutComponent (of_object 0 1)) ∷ []
+
+abbrev pub stripping : Program
+stripping = record {
+  types = vec node_and_object (omega arith);
+  procedures = vec (spoil ∷ []) (omega arith);
+  variables = vec (of_object_type 2 ∷ []) (omega arith);
+  texts = vec [] (omega arith);
+  exceptions = vec exceptions (omega arith);
+  declarations = vec (r_declared 2) (omega arith);
+  statements = vec stripping_main (omega arith);
+  handlers = vec (looking_handler ∷ []) (omega arith);
+}
+
+pub stripping_declares : body_forms stripping ≡ spoiling_bodies
+stripping_declares = simp statement_rules
+
+pub stripping_form : stmt_forms stripping ≡ stripping_stmts
+stripping_form = simp (statement_rules, expression_rules)
+
+pub stripping_handles : handler_forms stripping ≡ stripping_handlers
+stripping_handles = simp (statement_rules, expression_rules)
+
+pub stripping_breaks : Breaks TakePair stripping
+unfolding uses_in expression_form
+stripping_breaks =
+    breaks_in stripping spoiling_bodies stripping_stmts stripping_handlers stripping_declares stripping_form stripping_handles TakePair spot refl refl refl
+
+-- The component still names what the formal parameter has freed.
+pub strips : HaltsAfter stripping_events (Erroneous FollowsGone) stripping
+unfolding next expression_form
+strips =
+    halts_after_in stripping spoiling_bodies stripping_stmts stripping_handlers stripping_declares stripping_form stripping_handles []
+    (steps 10 ++ grants true ∷ steps 20) stripping_events (Erroneous FollowsGone) refl refl refl

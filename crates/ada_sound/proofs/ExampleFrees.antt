@@ -39,7 +39,7 @@ abbrev frees : Path → Stmt
 frees p = stmt.Free (record { 0 = 1 }) p
 
 -- Head.Next := new Node'(n, Head.Next);
-abbrev inserting : ℕ → Stmt
+abbrev pub inserting : ℕ → Stmt
 inserting n = news (part 0 1) 1 (item.Value (Integer (pos n)) ∷ item.Path (part 0 1) ∷ []) (omega arith)
 
 -- Head := new Node'(1, Head); Head.Next := new Node'(2, Head.Next); Head.Next := new Node'(3, Head.Next);

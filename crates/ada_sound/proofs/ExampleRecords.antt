@@ -33,23 +33,23 @@ use Rattle.ada_sound.proofs.Example.{steps, vec, no_name, spot, link}
 use Rattle.ada_sound.proofs.ExampleOwners.{record_of, access_to, an_integer, an_access, path, whole, part}
 
 -- A record object of this number, a component of it, and the record that it is; and the record to which a variable gives access.
-abbrev object : ℕ → Path
+abbrev pub object : ℕ → Path
 object x = record (whole x) { of_record = true }
 
-abbrev of_object : ℕ → ℕ → Path
+abbrev pub of_object : ℕ → ℕ → Path
 of_object x c = record (part x c) { of_record = true }
 
-abbrev record_at : Path → RecordPath
+abbrev pub record_at : Path → RecordPath
 record_at p = record { object = p; first = record { 0 = 0 }; «record» = record { 0 = 0 } }
 
 -- R := T'(..);
 abbrev assigns_items : Path → (items : List Item) → length items ≤ 8 → Stmt
 assigns_items p items le = stmt.AssignRecord (record_at p) (vec items le)
 
-abbrev news : Path → (items : List Item) → length items ≤ 8 → Stmt
+abbrev pub news : Path → (items : List Item) → length items ≤ 8 → Stmt
 news p items le = stmt.Assign p (right.Allocator (record { 0 = 1 }) (vec items le))
 
-abbrev of_object_type : ℕ → Variable
+abbrev pub of_object_type : ℕ → Variable
 of_object_type t = record { name = no_name; spot = spot; kind = variable.Record (record { 0 = t }); borrows = false }
 
 -- type Point is record X : Integer := 5; Y : Integer := 6; end record; type Link is access Point; R : Point; S : Point := R; P : Link;

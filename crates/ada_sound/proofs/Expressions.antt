@@ -18,17 +18,18 @@ use Rattle.ada_flow.specs.declared.rule.Hold.{Hold}
 use Rattle.ada_flow.specs.Flow.{Holds, hold_at, lost_by, lost_behind, reads_it, compares_it, uses_in, uses_in_links}
 use Rattle.ada_meaning.specs.declared.state.Id.{Id}
 use Rattle.ada_meaning.specs.declared.state.Value.{Value}
-use Rattle.ada_meaning.specs.declared.state.Value.TheVariants.{Null, Names, Scalar}
+use Rattle.ada_meaning.specs.declared.state.Value.TheVariants.{Null, Names, Scalar, Part}
 use Rattle.ada_meaning.specs.declared.state.Mode.TheVariants.{Raising}
 use Rattle.ada_meaning.specs.Frame.{Computes, Follows, TestsNull, Continues, Applies, AppliesAlone}
 use Rattle.ada_meaning.specs.Event.{Followed, Quiet}
 use Rattle.ada_meaning.specs.State.{Activation}
-use Rattle.ada_meaning.specs.Step.{moves, raised, reading, component_next, follow_next, path_next, expression_next, null_test_next, is_decided, link_next, links_next, outcome_next}
+use Rattle.ada_meaning.specs.Step.{moves, raised, reading, component_next, follow_next, path_next, expression_next, null_test_next, is_decided, link_next, links_next, outcome_next, selected}
 use Rattle.ada_meaning.specs.Named.{Object, State, object_at, look, named}
-use Rattle.ada_sound.proofs.Fits.{MayFollow, place_at, root_follows, component_follows}
+use Rattle.ada_sound.proofs.Fits.{MayFollow, place_at, component_follows}
 use Rattle.ada_sound.proofs.Stored.{exists_out}
 use Rattle.ada_sound.proofs.Roots.{root_object, object_there, raises_null, rest_raises}
-use Rattle.ada_sound.proofs.Invariant.{Known, Control, Rooms, To, MayRaise, RaisesAt, Awaits, Computing, Working, Stepped, Fine, ways}
+use Rattle.ada_sound.proofs.Begins.{root_follows}
+use Rattle.ada_sound.proofs.Invariant.{begun, along, Known, Control, Rooms, To, MayRaise, RaisesAt, Awaits, Computing, Working, Stepped, Fine, ways}
 use Rattle.ada_sound.proofs.Ready.{running, at_work, awaits_ready, stays, goes_on, ready_on, jumps_less}
 use Rattle.ada_sound.proofs.Followings.{first_kept, kept_apart}
 use Rattle.ada_sound.proofs.Raising.{or_left, or_right, RaisesOnly}
@@ -62,6 +63,7 @@ module _ (known : Known) (k : Control) (a : Activation Value) (rest : List (Acti
         rw (follows.1, (w.stored.sane o follows.0 follows.1).listed_exists follows.2)
         (component_fine (Names o) o follows.0 c cs (slice_get follows.0.cell.values c) refl follows.1 follows.2 raise)
     follow_fine c cs (Scalar n) follows raise = tt
+    follow_fine c cs (Part object_id base) follows raise = tt
 
   -- A value may be followed by selectors, where there are some, and Constraint_Error may be raised where it is.
   abbrev pub MayRead : (v : Value) → List ℕ → Rooms → Holds → Type 0
@@ -109,14 +111,14 @@ tested_there None t is = absurd (cc is)
 tested_there (Some to) t is = (to, refl)
 
 -- A variable's value, or what is behind it, is read.
-path_fine : (known : Known) (k : Control) (a : Activation Value) (rest : List (Activation Value)) (s : State) (path : PathForm) (w : Working known s.heap a.places s.masters (Awaits known s.heap a.places a.operands k)) → (to : VariableKind) × (path_kind known.program.types known.program.variables path ≡ Some to) → lost_behind path.selectors (hold_at w.holds path.root) path.spot ≡ None → MayRaise known (path_raises path) ConstraintError k w.rooms w.holds → Fine known s.heap s.masters (path_next named path.selectors (place_at a.places path.root) (running k a rest s))
-path_fine known k a rest s path w leads kept raise = reads_fine known k a rest s a.operands path.selectors (place_at a.places path.root) w (may path.selectors kept raise)
+path_fine : (known : Known) (k : Control) (a : Activation Value) (rest : List (Activation Value)) (s : State) (path : PathForm) (w : Working known s.heap a.places s.masters (Awaits known s.heap a.places a.operands k)) → (to : VariableKind) × (path_kind known.program.types known.program.variables path ≡ Some to) → lost_behind path.selectors (hold_at w.holds path.root) path.spot ≡ None → MayRaise known (path_raises path) ConstraintError k w.rooms w.holds → Fine known s.heap s.masters (path_next named (along a.places path) (begun a.places path) (running k a rest s))
+path_fine known k a rest s path w leads kept raise = reads_fine known k a rest s a.operands (along a.places path) (begun a.places path) w (may path.selectors kept raise)
   where
-    may : (cs : List ℕ) → lost_behind cs (hold_at w.holds path.root) path.spot ≡ None → MayRaise known (follows_value path.of_record cs) ConstraintError k w.rooms w.holds → MayRead known k a rest s a.operands (place_at a.places path.root) cs w.rooms w.holds
+    may : (cs : List ℕ) → lost_behind cs (hold_at w.holds path.root) path.spot ≡ None → MayRaise known (follows_value path.of_record cs) ConstraintError k w.rooms w.holds → MayRead known k a rest s a.operands (begun a.places path) (selected named (place_at a.places path.root) cs) w.rooms w.holds
     may [] e raises = tt
     may (c ∷ cs) e raises = (
       root_follows path.root path.spot e w.fit,
-      rest_raises known (place_at a.places path.root) k w.rooms w.holds path.of_record c cs
+      rest_raises known (begun a.places path) k w.rooms w.holds path.of_record c cs
           (λ whole. object_there path.root path.spot e (root_object known.program.types known.program.variables path leads.0 leads.1 whole) w.fit) raises,
     )
 

@@ -11,7 +11,7 @@ use Rattle.ada_program.specs.declared.program.ComponentKind.TheVariants as compo
 use Rattle.ada_program.specs.declared.program.VariableKind.{VariableKind}
 use Rattle.ada_program.specs.Form.{PathForm, ItemForm, null_item, item_of_path, item_of_value, item_of_record}
 use Rattle.ada_program.specs.ProgramForm.{TypeForm, VariableForm}
-use Rattle.ada_program.specs.WellFormed.{access_of, held_kind, component_kind, kind_among, reached_components, component_item_fits, items_fit}
+use Rattle.ada_program.specs.WellFormed.{access_of, path_access, held_kind, component_kind, kind_among, reached_components, component_item_fits, items_fit}
 use Rattle.ada_flow.specs.declared.rule.Hold.{Hold}
 use Rattle.ada_flow.specs.declared.rule.Hold.TheVariants as hold
 use Rattle.ada_program.specs.Nested.{is_one_of}
@@ -19,7 +19,8 @@ use Rattle.ada_flow.specs.Flow.{Holds, hold_at, moves_it, moves_again, variable_
 use Rattle.ada_meaning.specs.declared.state.Id.{Id}
 use Rattle.ada_meaning.specs.declared.state.Value.{Value}
 use Rattle.ada_meaning.specs.declared.state.Value.TheVariants.{Null, Names}
-use Rattle.ada_meaning.specs.Named.{Object}
+use Rattle.ada_meaning.specs.Step.{selected}
+use Rattle.ada_meaning.specs.Named.{Object, named}
 use Rattle.ada_meaning.specs.Heap.{finds}
 use Rattle.ada_owners.specs.Places.{Place, variable, component, value_at, access_at}
 use Rattle.ada_owners.specs.Reliance.{IsOf, Owns, kind_of, IsInHand, IsNotAmong, AreInHand}
@@ -28,10 +29,14 @@ use Rattle.ada_owners.proofs.Kernel as kernel
 use Rattle.ada_owners.proofs.Kernel.{same_or_not}
 use Rattle.ada_owners.proofs.Objects.{read_other, listed_at}
 use Rattle.ada_typed.specs.Holding.{HasKind, HaveKinds, cells_of}
-use Rattle.ada_sound.proofs.Fits.{Outer, Outsiders, Fit, IsSaid, IsOwn, kinds_of, stacked, none_spared, hold_in, place_at}
+use Rattle.ada_sound.proofs.Fits.{Outsiders, Fit, is_object, plain_object, IsSaid, IsOwn, kinds_of, stacked, none_spared, hold_in, place_at}
 use Rattle.ada_sound.proofs.Assigned.{kind_names}
 use Rattle.ada_sound.proofs.Taken.{selectors_are}
-use Rattle.ada_sound.proofs.Invariant.{NoneBroken, back_onto, named_of, ItemsKeep, DoneKeep, FilledBy, Filled}
+use Rattle.ada_sound.proofs.Roots.{value_root}
+use Rattle.ada_sound.proofs.Handings.{this_is}
+use Rattle.ada_sound.proofs.Taken.{moved_some}
+use Rattle.ada_sound.proofs.Walks.{plain_whole}
+use Rattle.ada_sound.proofs.Invariant.{begun, along, NoneBroken, back_onto, named_of, ItemsKeep, DoneKeep, FilledBy, Filled}
 use Rattle.ada_sound.proofs.Followings.{first_kept}
 
 -- What a variable holds once some were moved.
@@ -219,7 +224,7 @@ pub record Lends (outer : Outsiders) (heap : List Object) (places : List Value) 
   pub worse : (q : Place) → Owns (after q) → Owns (hold_in outer none_spared holds q)
   pub moved_gone : (x : ℕ) → is_one_of xs x ≡ true → Owns (after (variable x)) → ⊥
   pub lent_gone : (path : PathForm) → is_target target path ≡ true → Owns (after (component h d)) → ⊥
-  pub leads : (path : PathForm) (v : Value) (o : Id) → is_target target path ≡ true → path.selectors ≢ [] → walk heap (place_at places path.root) path.selectors ≡ finds v → v ≡ Names o
+  pub leads : (path : PathForm) (v : Value) (o : Id) → is_target target path ≡ true → path.selectors ≢ [] → walk heap (begun places path) (along places path) ≡ finds v → v ≡ Names o
       → value_at heap (stacked places outer) (component h d) ≡ Names o
 
 -- An item whose value names an object moves the place that its path names, which owns the object.
@@ -252,9 +257,11 @@ named_twice : (named : List PathForm) (p q : PathForm) → named ≡ p ∷ [] �
 named_twice named p q is same once = let one : is_named (p ∷ []) q ≡ true = rw same refl in cc (is, one, once)
 
 module _ (types : List TypeForm) (variables : List VariableForm) (outer : Outsiders) (heap : List Object) (places : List Value) (holds : Holds) (spot : Spot) (target : Option PathForm) (xs : List ℕ) (after : Place → Hold) (fit : Fit types variables outer none_spared heap places holds) (lends : Lends outer heap places holds target xs after) where
-  path_moves : (earlier : List PathForm) (path : PathForm) (cs : List ℕ) (v : Value) (o : Id) → path.selectors ≡ cs → is_named earlier path ≡ false → moved_behind (is_target target path) cs (hold_at holds path.root) path.spot ≡ None → walk heap (place_at places path.root) cs ≡ finds v → v ≡ Names o → Moves outer heap places holds target lends.h lends.d earlier (path ∷ []) (variable_of cs path.root) o
-  path_moves earlier path [] v o whole once kept is names =
-      let same : place_at places path.root ≡ v = cc is in
+  path_moves : (earlier : List PathForm) (path : PathForm) (cs : List ℕ) (v : Value) (o : Id) → path.selectors ≡ cs → is_named earlier path ≡ false → moved_behind (is_target target path) cs (hold_at holds path.root) path.spot ≡ None → (path.selectors ≡ [] → is_object variables path.root ≡ false) → walk heap (begun places path) (selected named (place_at places path.root) cs) ≡ finds v → v ≡ Names o → Moves outer heap places holds target lends.h lends.d earlier (path ∷ []) (variable_of cs path.root) o
+  path_moves earlier path [] v o whole once kept none is names =
+      let here : begun places path ≡ v = cc is in
+      let plain = plain_object path.root (moved_some (hold_at holds path.root) path.spot kept) (none whole) fit in
+      let same : place_at places path.root ≡ v = sym (plain_whole (place_at places path.root) plain) ∙ here in
       let held : place_at places path.root ≡ Names o = same ∙ names in
       record {
         path = path;
@@ -266,7 +273,7 @@ module _ (types : List TypeForm) (variables : List VariableForm) (outer : Outsid
         names = held;
         of_moved = λ x e. let same : path.root ≡ x = cc e in ap (λ (y : ℕ). y ∷ []) same;
       }
-  path_moves earlier path (c ∷ cs) v o whole once kept is names =
+  path_moves earlier path (c ∷ cs) v o whole once kept none is names =
       let one = taken_target (is_target target path) (hold_at holds path.root) path.spot kept in
       record {
         path = path;
@@ -279,7 +286,7 @@ module _ (types : List TypeForm) (variables : List VariableForm) (outer : Outsid
         of_moved = λ x e. absurd (cc e);
       }
 
-  item_moves : (earlier : List PathForm) (kind : ComponentKind) (item : ItemForm) (v : Value) (o : Id) → component_item_fits types variables kind item ≡ true → NoneBroken holds (uses_in_item types spot target earlier item) → FilledBy heap places item v → HasKind (cells_of heap) (held_kind kind) v → v ≡ Names o → Moves outer heap places holds target lends.h lends.d earlier (named_by_item item) (moved_by_item item) o
+  item_moves : (earlier : List PathForm) (kind : ComponentKind) (item : ItemForm) (v : Value) (o : Id) → component_item_fits types variables kind item ≡ true → NoneBroken holds (uses_in_item types spot target earlier item) → FilledBy heap places item v → HasKind types (cells_of heap) (held_kind kind) v → v ≡ Names o → Moves outer heap places holds target lends.h lends.d earlier (named_by_item item) (moved_by_item item) o
   item_moves earlier kind null_item v o fits keep is has names = absurd (cc (is, names))
   item_moves earlier (component_kinds.Integer initial) (item_of_value e) v o fits keep is has names = absurd (rw names at has)
   item_moves earlier (component_kinds.Boolean initial) (item_of_value e) v o fits keep is has names = absurd (rw names at has)
@@ -288,7 +295,7 @@ module _ (types : List TypeForm) (variables : List VariableForm) (outer : Outsid
   item_moves earlier (component_kinds.Boolean initial) (item_of_path path) v o fits keep is has names = absurd (cc fits)
   item_moves earlier (component_kinds.Access access) (item_of_path path) v o fits keep is has names =
       let kept = kept_by target holds earlier path keep in
-      path_moves earlier path path.selectors v o refl kept.0 kept.1 is names
+      path_moves earlier path path.selectors v o refl kept.0 kept.1 (λ none. value_root types variables path access.0 none (this_is access.0 (path_access types variables path) fits)) is names
   item_moves earlier kind (item_of_record p) v o fits keep is has names = absurd is
 
   -- A later value that names an object is that of a place which no earlier item names.
@@ -303,7 +310,7 @@ module _ (types : List TypeForm) (variables : List VariableForm) (outer : Outsid
   one_moved : {earlier named : List PathForm} {moved : List ℕ} {o : Id} → Moves outer heap places holds target lends.h lends.d earlier named moved o → IsMoved earlier o
   one_moved m = record { path = m.path; place = m.place; once = m.once; is_place = m.is_place; own = m.own; names = m.names }
 
-  later_moved : (cs : List ComponentKind) (items : List ItemForm) (vs : List Value) (earlier : List PathForm) → items_fit types variables cs items ≡ true → ItemsKeep types spot target holds earlier items → FilledInOrder heap places items vs → HaveKinds (cells_of heap) cs vs → (i : ℕ) (o : Id) → slice_index_or vs i Null ≡ Names o → IsMoved earlier o
+  later_moved : (cs : List ComponentKind) (items : List ItemForm) (vs : List Value) (earlier : List PathForm) → items_fit types variables cs items ≡ true → ItemsKeep types spot target holds earlier items → FilledInOrder heap places items vs → HaveKinds types (cells_of heap) cs vs → (i : ℕ) (o : Id) → slice_index_or vs i Null ≡ Names o → IsMoved earlier o
   later_moved cs items [] earlier fits keep filled kinds i o e = absurd (cc e)
   later_moved [] items (v ∷ vs) earlier fits keep filled kinds i o e = absurd kinds
   later_moved (c ∷ cs) [] (v ∷ vs) earlier fits keep filled kinds i o e = absurd (cc fits)
@@ -330,15 +337,15 @@ module _ (types : List TypeForm) (variables : List VariableForm) (outer : Outsid
   place_gone path place (inr e) among own = lends.lent_gone path e.0 (rw (e.1) at own)
 
   -- Of an owner's object the access type is the one that typing says.
-  right_kind : (kind : Option ℕ) (k : VariableKind) (o : Id) → IsOf (access_at heap) kind o → HasKind (cells_of heap) k (Names o) → IsOf (access_at heap) (access_of (Some k)) o
+  right_kind : (kind : Option ℕ) (k : VariableKind) (o : Id) → IsOf (access_at heap) kind o → HasKind types (cells_of heap) k (Names o) → IsOf (access_at heap) (access_of (Some k)) o
   right_kind None k o of has = absurd of
   right_kind (Some t) k o of has =
       let there = listed_at heap o t of in
-      let same : access_of (Some k) ≡ Some there.object.cell.access = kind_names heap k o there.object has there.found in
+      let same : access_of (Some k) ≡ Some there.object.cell.access = kind_names types heap k o there.object has there.found in
       rw (same, there.found, there.listed) refl
 
   -- All values of items are, from one component on.
-  items_in_hand : (kind : ℕ → Option ℕ) (c : ℕ) (cs : List ComponentKind) (items : List ItemForm) (vs : List Value) (earlier : List PathForm) → ((n : ℕ) → kind (n + c) ≡ access_of (component_kind (slice_get cs n))) → ((x : ℕ) → is_one_of (moved_by_items items) x ≡ true → is_one_of xs x ≡ true) → items_fit types variables cs items ≡ true → ItemsKeep types spot target holds earlier items → FilledInOrder heap places items vs → HaveKinds (cells_of heap) cs vs → AreInHand heap (stacked places outer) after kind c vs
+  items_in_hand : (kind : ℕ → Option ℕ) (c : ℕ) (cs : List ComponentKind) (items : List ItemForm) (vs : List Value) (earlier : List PathForm) → ((n : ℕ) → kind (n + c) ≡ access_of (component_kind (slice_get cs n))) → ((x : ℕ) → is_one_of (moved_by_items items) x ≡ true → is_one_of xs x ≡ true) → items_fit types variables cs items ≡ true → ItemsKeep types spot target holds earlier items → FilledInOrder heap places items vs → HaveKinds types (cells_of heap) cs vs → AreInHand heap (stacked places outer) after kind c vs
   items_in_hand kind c cs items [] earlier kinds_are among fits keep filled kinds = tt
   items_in_hand kind c [] items (v ∷ vs) earlier kinds_are among fits keep filled kinds = absurd kinds
   items_in_hand kind c (f ∷ cs) [] (v ∷ vs) earlier kinds_are among fits keep filled kinds = absurd (cc fits)
@@ -374,7 +381,7 @@ module _ (types : List TypeForm) (variables : List VariableForm) (outer : Outsid
       shifted n = let e : n + suc c ≡ suc n + c = omega arith in ap kind e ∙ kinds_are (suc n)
 
   -- The newest operands, in order, are in hand.
-  pub filled_in_hand : (access : ℕ) (components : List ComponentKind) (done : List ItemForm) (operands : List Value) → ((x : ℕ) → is_one_of (moved_by_items (back_onto done [])) x ≡ true → is_one_of xs x ≡ true) → reached_components types access ≡ Some components → items_fit types variables components (back_onto done []) ≡ true → DoneKeep types spot target holds done → Filled heap places done operands → HaveKinds (cells_of heap) components (reverse (take (length (back_onto done [])) operands)) → AreInHand heap (stacked places outer) after (λ c. access_of (kind_among (reached_components types access) c)) 0 (reverse (take (length (back_onto done [])) operands))
+  pub filled_in_hand : (access : ℕ) (components : List ComponentKind) (done : List ItemForm) (operands : List Value) → ((x : ℕ) → is_one_of (moved_by_items (back_onto done [])) x ≡ true → is_one_of xs x ≡ true) → reached_components types access ≡ Some components → items_fit types variables components (back_onto done []) ≡ true → DoneKeep types spot target holds done → Filled heap places done operands → HaveKinds types (cells_of heap) components (reverse (take (length (back_onto done [])) operands)) → AreInHand heap (stacked places outer) after (λ c. access_of (kind_among (reached_components types access) c)) 0 (reverse (take (length (back_onto done [])) operands))
   filled_in_hand access components done operands among reached fits keep filled kinds =
       let all = back_onto done [] in
       let counted : length all ≡ length done = let h = back_length done [] in omega (arith, h) in

@@ -1,6 +1,6 @@
 -- What is relied on in a run: variables of the running activation by their holds, and components, which own what they hold.
 
-use Rattle.std.proofs.Common.{◌≡◌, ◌≢◌, ℕ, zero, suc, Bool, true, false, List, [], ◌∷◌, map, refl, sym, ap, ◌∙◌, ◌⊎◌, inl, inr}
+use Rattle.std.proofs.Common.{◌≡◌, ◌≢◌, ℕ, zero, suc, ◌+◌, Bool, true, false, List, [], ◌∷◌, ◌++◌, map, refl, sym, ap, ◌∙◌, ◌⊎◌, inl, inr}
 use Rattle.std.specs.Prelude.{Option, Some, None, ◌==◌, ◌||◌, if◌then◌else◌}
 use Rattle.std.specs.List.{slice_get, slice_set, slice_index_or}
 use Rattle.std.proofs.lemmas.Bool.{eqb-true}
@@ -8,7 +8,7 @@ use Rattle.ada_text.specs.declared.spot.Spot.{Spot}
 use Rattle.ada_program.specs.ProgramForm.{TypeForm, VariableForm}
 use Rattle.ada_program.specs.declared.program.VariableKind.{VariableKind}
 use Rattle.ada_program.specs.declared.program.VariableKind.TheVariants as variable_kinds
-use Rattle.ada_program.specs.WellFormed.{access_of, reached_components, kind_among, variable_kind}
+use Rattle.ada_program.specs.WellFormed.{is_access, access_of, reached_components, kind_among, selected_kind, variable_kind}
 use Rattle.ada_flow.specs.declared.rule.Hold.{Hold}
 use Rattle.ada_flow.specs.declared.rule.Hold.TheVariants as hold
 use Rattle.ada_flow.specs.declared.rule.Region.{Region}
@@ -16,17 +16,17 @@ use Rattle.ada_flow.specs.declared.rule.Region.TheVariants.{Whole}
 use Rattle.ada_flow.specs.Flow.{Holds, hold_at, variable_access, lost_by, is_as_good, left_by_move, without_value, without_values, without_aliases, behind_end, freed}
 use Rattle.ada_meaning.specs.declared.state.Id.{Id}
 use Rattle.ada_meaning.specs.declared.state.Value.{Value}
-use Rattle.ada_meaning.specs.declared.state.Value.TheVariants.{Null, Names, Scalar}
+use Rattle.ada_meaning.specs.declared.state.Value.TheVariants.{Null, Names, Scalar, Part}
 use Rattle.ada_meaning.specs.Heap.{Cell}
 use Rattle.ada_meaning.specs.State.{Activation, Item}
-use Rattle.ada_meaning.specs.Named.{Object, object_at, create, created, store, parted, finished, returned}
+use Rattle.ada_meaning.specs.Named.{Object, object_at, changed, filled, create, created, store, parted, finished, returned}
 use Rattle.ada_scopes.specs.Scopes.{is_number_of}
-use Rattle.ada_owners.specs.Places.{Place, variable, component, elsewhere, component_in, value_at, access_at, is_lent}
+use Rattle.ada_owners.specs.Places.{Place, variable, component, elsewhere, component_in, value_at, access_in, access_at, is_lent}
 use Rattle.ada_owners.specs.Reliance.{IsOf, Says, Owns, Borrows, Kinds, kind_of, Reliance, component_hold, hold_of, with_hold, with_lent, Fits, IsInHand, AreInHand}
 use Rattle.ada_owners.specs.Keeping.{IsThere}
 use Rattle.ada_owners.proofs.Kernel as kernel
 use Rattle.ada_owners.proofs.Kernel.{same_or_not, same_id, same_place, lost_owns}
-use Rattle.ada_owners.proofs.Objects.{read_same, read_other, at_other, listed_at, component_listed}
+use Rattle.ada_owners.proofs.Objects.{read_same, read_other, at_other, at_older, not_past, listed_at, component_listed}
 use Rattle.ada_owners.proofs.Changes as changes
 use Rattle.ada_owners.proofs.Changes.{weaken, taken, nulls, put_fits, put_hand, put_blank, put_reads, put_value, at_here, changed_is, store_hand}
 use Rattle.ada_owners.proofs.Creations.{create_fits, created_hand}
@@ -40,10 +40,37 @@ pub record Outer : Type 0 where
   pub places : List Value
   pub holds : Holds
 
--- What is outside of the running activation: what its call gave its formal parameters, and the suspended activations, the nearest one first.
+-- An object in which a record lies that was passed to an activation, or a component that gets something back behind its call; and its access type.
+pub record Reference : Type 0 where
+  pub object : Id
+  pub access : ℕ
+
+-- An object is among these, and is of this access type.
+abbrev pub IsReferred : List Reference → Id → (access : ℕ) → Type 0
+IsReferred [] o t = ⊥
+IsReferred (r ∷ rs) o t = ((r.object ≡ o) × (r.access ≡ t)) ⊎ IsReferred rs o t
+
+-- It is among two lists, if it is among one of them.
+pub referred_first : (rs ss : List Reference) (o : Id) (t : ℕ) → IsReferred rs o t → IsReferred (rs ++ ss) o t
+referred_first [] ss o t is = absurd is
+referred_first (r ∷ rs) ss o t (inl is) = inl is
+referred_first (r ∷ rs) ss o t (inr is) = inr (referred_first rs ss o t is)
+
+pub referred_behind : (rs ss : List Reference) (o : Id) (t : ℕ) → IsReferred ss o t → IsReferred (rs ++ ss) o t
+referred_behind [] ss o t is = is
+referred_behind (r ∷ rs) ss o t is = inr (referred_behind rs ss o t is)
+
+pub referred_either : (rs ss : List Reference) (o : Id) (t : ℕ) → IsReferred (rs ++ ss) o t → IsReferred rs o t ⊎ IsReferred ss o t
+referred_either [] ss o t is = inr is
+referred_either (r ∷ rs) ss o t (inl is) = inl (inl is)
+referred_either (r ∷ rs) ss o t (inr is) = elim (referred_either rs ss o t is) [ inl e ↦ inl (inr e) | inr e ↦ inr e ]
+
+-- What is outside of the running activation: what its call gave its formal parameters, and the suspended activations, the nearest one first; and the
+-- objects that calls of these and of the running one refer to.
 pub record Outsiders : Type 0 where
   pub given : List Value
   pub suspended : List Outer
+  pub referenced : List Reference
 
 -- The access type of a variable of a suspended activation, and what it is relied on for.
 abbrev pub outer_access : Option Outer → ℕ → Option ℕ
@@ -57,12 +84,14 @@ outer_holds (Some w) = w.holds
 abbrev pub outer_hold : Option Outer → ℕ → Hold
 outer_hold w x = hold_at (outer_holds w) x
 
--- No suspended activation has an alias of an access type; or of the one that there is, if there is one.
-abbrev pub NoOuterAlias : Outsiders → (access : ℕ) → Type 0
-NoOuterAlias outer t = (d x : ℕ) → outer_access (slice_get outer.suspended d) x ≡ Some t → Borrows (outer_hold (slice_get outer.suspended d) x) → ⊥
+-- No suspended activation has an alias of an access type, and no object of it is referred to; or of the one that there is, if there is one.
+abbrev pub NoOuterAlias : List TypeForm → Outsiders → (access : ℕ) → Type 0
+NoOuterAlias types outer t =
+    ((d x : ℕ) → outer_access (slice_get outer.suspended d) x ≡ Some t → Borrows (outer_hold (slice_get outer.suspended d) x) → ⊥)
+    × ((o : Id) → IsReferred outer.referenced o t → is_access types t ≡ true → ⊥)
 
-abbrev pub NoOuterAliases : Outsiders → (kind : Option ℕ) → Type 0
-NoOuterAliases outer kind = (t : ℕ) → kind ≡ Some t → NoOuterAlias outer t
+abbrev pub NoOuterAliases : List TypeForm → Outsiders → (kind : Option ℕ) → Type 0
+NoOuterAliases types outer kind = (t : ℕ) → kind ≡ Some t → (is_access types t ≡ true) × NoOuterAlias types outer t
 
 -- The access types of components, of variables, and of those of suspended activations, the nearest one first.
 abbrev pub kinds_of : List TypeForm → List VariableForm → Outsiders → Kinds
@@ -135,11 +164,36 @@ names_object (Some (variable_kinds.Record object)) = true
 abbrev pub is_object : List VariableForm → ℕ → Bool
 is_object variables x = names_object (variable_kind variables x)
 
--- All places are as they are relied on to be; and a record object that is not lost is there.
+-- A record that is known by this kind lies in objects of an access type, from a component on: they have its components from there on.
+abbrev pub IsWithin : List TypeForm → Option VariableKind → (access first : ℕ) → Type 0
+IsWithin types kind t first =
+    (c : ℕ) (k : VariableKind) → selected_kind types kind c ≡ Some k → kind_among (reached_components types t) (first + c) ≡ Some k
+
+-- What a variable of this kind holds that is not lost: a record object is there, and what refers to a record, as a record parameter does, leads into an
+-- object that is referred to.
+abbrev pub IsPlace : List TypeForm → List Reference → Option VariableKind → Value → Type 0
+IsPlace types referenced kind Null = names_object kind ≡ false
+IsPlace types referenced kind (Names o) = Unit {0}
+IsPlace types referenced kind (Scalar v) = Unit {0}
+IsPlace types referenced kind (Part o first) = (names_object kind ≡ true) × (t : ℕ) × IsReferred referenced o t × IsWithin types kind t first
+
+-- A value refers to no record.
+abbrev pub IsPlain : Value → Type 0
+IsPlain Null = Unit {0}
+IsPlain (Names o) = Unit {0}
+IsPlain (Scalar v) = Unit {0}
+IsPlain (Part o first) = ⊥
+
+-- No component refers to a record.
+abbrev pub ArePlain : List Object → Type 0
+ArePlain heap = (o : Id) (object : Object) (c : ℕ) (v : Value) → object_at heap o ≡ Some object → slice_get object.cell.values c ≡ Some v → IsPlain v
+
+-- All places are as they are relied on to be; a record object that is not lost is there; and so is each object that is referred to.
 pub record Fit (types : List TypeForm) (variables : List VariableForm) (outer : Outsiders) (spared : Id → Bool) (heap : List Object) (places : List Value) (holds : Holds) : Type 0 where
   pub owners : Fits (kinds_of types variables outer) heap (stacked places outer) (hold_in outer spared holds)
   pub said : (x : ℕ) → IsSaid (place_at outer.given x) (hold_at holds x) (place_at places x)
-  pub objects : (x : ℕ) → is_object variables x ≡ true → hold_at holds x ≢ hold.Lost → place_at places x ≢ Null
+  pub objects : (x : ℕ) → hold_at holds x ≢ hold.Lost → IsPlace types outer.referenced (variable_kind variables x) (place_at places x)
+  pub referred : (o : Id) (t : ℕ) → IsReferred outer.referenced o t → access_at heap o ≡ Some t
 
 -- A value is in hand: no place owns what it names.
 abbrev pub Hand : List TypeForm → List VariableForm → Outsiders → (spared : Id → Bool) → List Object → List Value → Holds → (kind : Option ℕ) → Value → Type 0
@@ -170,6 +224,7 @@ abbrev pub MayFollow : List Object → Value → Type 0
 MayFollow heap Null = Unit {0}
 MayFollow heap (Names o) = IsThere heap o
 MayFollow heap (Scalar v) = Unit {0}
+MayFollow heap (Part o first) = Unit {0}
 
 -- The access type of a component of an object.
 abbrev pub component_access : List TypeForm → Object → (c : ℕ) → Option ℕ
@@ -203,7 +258,8 @@ pub weaker_fit : {types : List TypeForm} {variables : List VariableForm} {outer 
 weaker_fit {outer = outer} {spared = spared} {places = places} {holds = holds} less good f = record {
   owners = weaken (hold_in outer spared less) (weaker_holds outer spared holds less good) f.owners;
   said = λ x. said_good (place_at outer.given x) (hold_at holds x) (hold_at less x) (place_at places x) (good x) (f.said x);
-  objects = λ x is ne. f.objects x is (lost_stays (hold_at holds x) (hold_at less x) (good x) ne);
+  objects = λ x ne. f.objects x (lost_stays (hold_at holds x) (hold_at less x) (good x) ne);
+  referred = f.referred;
 }
 
 -- A component that may be spared says no more than one that isn't.
@@ -222,6 +278,7 @@ spare_fit {outer = outer} {holds = holds} spared f = record {
   owners = weaken (hold_in outer spared holds) (spared_holds outer spared holds) f.owners;
   said = f.said;
   objects = f.objects;
+  referred = f.referred;
 }
 
 -- A variable has another hold, that says no more.
@@ -280,58 +337,83 @@ set_said given holds places after x h others here said y = go (same_or_not y x)
 put_said : (given : List Value) (holds : Holds) (places : List Value) (x : ℕ) (v : Value) (h : Hold) → IsSaid (place_at given x) h (place_at (slice_set places x v) x) → ((y : ℕ) → IsSaid (place_at given y) (hold_at holds y) (place_at places y)) → (y : ℕ) → IsSaid (place_at given y) (hold_at (slice_set holds x h) y) (place_at (slice_set places x v) y)
 put_said given holds places x v h here said = set_said given holds places (slice_set places x v) x h (λ y ne. read_other places x y v Null ne) here said
 
--- What is a record object, and not lost, is there still.
-set_objects : (variables : List VariableForm) (holds : Holds) (places after : List Value) (x : ℕ) (h : Hold) → ((y : ℕ) → y ≢ x → place_at after y ≡ place_at places y) → (is_object variables x ≡ true → h ≢ hold.Lost → place_at after x ≢ Null) → ((y : ℕ) → is_object variables y ≡ true → hold_at holds y ≢ hold.Lost → place_at places y ≢ Null) → (y : ℕ) → is_object variables y ≡ true → hold_at (slice_set holds x h) y ≢ hold.Lost → place_at after y ≢ Null
-set_objects variables holds places after x h others here there y is ne null = go (same_or_not y x)
+-- What is not lost is what it was still.
+module _ (types : List TypeForm) (referenced : List Reference) (variables : List VariableForm) where
+  abbrev ArePlaces : Holds → List Value → Type 0
+  ArePlaces holds places = (y : ℕ) → hold_at holds y ≢ hold.Lost → IsPlace types referenced (variable_kind variables y) (place_at places y)
+
+  set_objects : (holds : Holds) (places after : List Value) (x : ℕ) (h : Hold) → ((y : ℕ) → y ≢ x → place_at after y ≡ place_at places y) → (h ≢ hold.Lost → IsPlace types referenced (variable_kind variables x) (place_at after x)) → ArePlaces holds places → ArePlaces (slice_set holds x h) after
+  set_objects holds places after x h others here there y ne = go (same_or_not y x)
+    where
+      by : (g : Hold) → (g ≡ h) ⊎ (g ≡ hold.Lost) → g ≢ hold.Lost → h ≢ hold.Lost
+      by g (inl e) kept lost = kept (e ∙ lost)
+      by g (inr e) kept lost = kept e
+
+      go : (y ≡ x) ⊎ (y ≢ x) → IsPlace types referenced (variable_kind variables y) (place_at after y)
+      go (inl e) = rw e (here (by (hold_at (slice_set holds x h) x) (read_same holds x h hold.Lost) (rw e at ne)))
+      go (inr other) = rw (others y other) (there y (rw (read_other holds x y h hold.Lost other) at ne))
+
+  put_objects : (holds : Holds) (places : List Value) (x : ℕ) (v : Value) (h : Hold) → (h ≢ hold.Lost → IsPlace types referenced (variable_kind variables x) (place_at (slice_set places x v) x)) → ArePlaces holds places → ArePlaces (slice_set holds x h) (slice_set places x v)
+  put_objects holds places x v h here there = set_objects holds places (slice_set places x v) x h (λ y ne. read_other places x y v Null ne) here there
+
+-- A value that refers to no record may lie in each variable that is no record object.
+pub plain_by : (types : List TypeForm) (referenced : List Reference) (kind : Option VariableKind) (v : Value) → names_object kind ≡ false → IsPlain v → IsPlace types referenced kind v
+plain_by types referenced kind Null none plain = none
+plain_by types referenced kind (Names o) none plain = tt
+plain_by types referenced kind (Scalar v) none plain = tt
+plain_by types referenced kind (Part o first) none plain = absurd plain
+
+pub plain_place : (types : List TypeForm) (referenced : List Reference) (variables : List VariableForm) (places : List Value) (x : ℕ) (v : Value) → is_object variables x ≡ false → IsPlain v → IsPlace types referenced (variable_kind variables x) (place_at (slice_set places x v) x)
+plain_place types referenced variables places x v none plain = go (read_same places x v Null)
   where
-    by : (g : Hold) → (g ≡ h) ⊎ (g ≡ hold.Lost) → g ≢ hold.Lost → h ≢ hold.Lost
-    by g (inl e) kept lost = kept (e ∙ lost)
-    by g (inr e) kept lost = kept e
+    go : (place_at (slice_set places x v) x ≡ v) ⊎ (place_at (slice_set places x v) x ≡ Null) → IsPlace types referenced (variable_kind variables x) (place_at (slice_set places x v) x)
+    go (inl e) = rw e (plain_by types referenced (variable_kind variables x) v none plain)
+    go (inr e) = rw e none
 
-    go : (y ≡ x) ⊎ (y ≢ x) → ⊥
-    go (inl e) = here (rw e at is) (by (hold_at (slice_set holds x h) x) (read_same holds x h hold.Lost) (rw e at ne)) (rw e at null)
-    go (inr other) = there y is (rw (read_other holds x y h hold.Lost other) at ne) (sym (others y other) ∙ null)
+-- So does what a variable holds that is no record object.
+pub place_plain : (types : List TypeForm) (referenced : List Reference) (kind : Option VariableKind) (v : Value) → names_object kind ≡ false → IsPlace types referenced kind v → IsPlain v
+place_plain types referenced kind Null none place = tt
+place_plain types referenced kind (Names o) none place = tt
+place_plain types referenced kind (Scalar v) none place = tt
+place_plain types referenced kind (Part o first) none place = let is = place.0 in absurd (cc (none, is))
 
-put_objects : (variables : List VariableForm) (holds : Holds) (places : List Value) (x : ℕ) (v : Value) (h : Hold) → (is_object variables x ≡ true → h ≢ hold.Lost → place_at (slice_set places x v) x ≢ Null) → ((y : ℕ) → is_object variables y ≡ true → hold_at holds y ≢ hold.Lost → place_at places y ≢ Null) → (y : ℕ) → is_object variables y ≡ true → hold_at (slice_set holds x h) y ≢ hold.Lost → place_at (slice_set places x v) y ≢ Null
-put_objects variables holds places x v h here there = set_objects variables holds places (slice_set places x v) x h (λ y ne. read_other places x y v Null ne) here there
-
--- A variable that is none needs not be there; nor is one a record object that is null and not lost.
-pub no_object : {X : Type 0} (variables : List VariableForm) (x : ℕ) → is_object variables x ≡ false → is_object variables x ≡ true → X
-no_object variables x none is = absurd (cc (none, is))
-
-object_by : (b : Bool) → (b ≡ true → ⊥) → b ≡ false
-object_by true none = absurd (none refl)
-object_by false none = refl
-
+-- A variable that is null, and not lost, is no record object.
 pub null_object : {types : List TypeForm} {variables : List VariableForm} {outer : Outsiders} {spared : Id → Bool} {heap : List Object} {places : List Value} {holds : Holds} (x : ℕ) → hold_at holds x ≢ hold.Lost → place_at places x ≡ Null → Fit types variables outer spared heap places holds → is_object variables x ≡ false
-null_object {variables = variables} {outer = outer} x ne null f = object_by (is_object variables x) (λ is. f.objects x is ne null)
+null_object {outer = outer} x ne null f = let place = f.objects x ne in rw null at place
+
+-- One that is no record object, and not lost, refers to no record.
+pub plain_object : {types : List TypeForm} {variables : List VariableForm} {outer : Outsiders} {spared : Id → Bool} {heap : List Object} {places : List Value} {holds : Holds} (x : ℕ) → hold_at holds x ≢ hold.Lost → is_object variables x ≡ false → Fit types variables outer spared heap places holds → IsPlain (place_at places x)
+plain_object {types = types} {variables = variables} {outer = outer} {places = places} x ne none f = place_plain types outer.referenced (variable_kind variables x) (place_at places x) none (f.objects x ne)
 
 null_put : (places : List Value) (x : ℕ) → place_at (slice_set places x Null) x ≡ Null
 null_put places x = elim (read_same places x Null Null) [ inl e ↦ e | inr e ↦ e ]
 
 -- A variable gets any value, on which nothing relies; null; or what is in hand.
 pub put_lost : {types : List TypeForm} {variables : List VariableForm} {outer : Outsiders} {spared : Id → Bool} {heap : List Object} {places : List Value} {holds : Holds} (x : ℕ) (v : Value) → Fit types variables outer spared heap places holds → Fit types variables outer spared heap (slice_set places x v) (slice_set holds x hold.Lost)
-put_lost {variables = variables} {outer = outer} {spared = spared} {places = places} {holds = holds} x v f = record {
+put_lost {types = types} {variables = variables} {outer = outer} {spared = spared} {places = places} {holds = holds} x v f = record {
   owners = put_fits x v (hold_in outer spared (slice_set holds x hold.Lost)) (set_others outer spared holds x hold.Lost) f.owners
       (λ o e. rw (set_lost outer spared holds x) tt)
       (λ o own. absurd (lost_owns (hold_in outer spared (slice_set holds x hold.Lost) (variable x)) (set_lost outer spared holds x) own));
   said = put_said outer.given holds places x v hold.Lost tt f.said;
-  objects = put_objects variables holds places x v hold.Lost (λ is ne. absurd (ne refl)) f.objects;
+  objects = put_objects types outer.referenced variables holds places x v hold.Lost (λ ne. absurd (ne refl)) f.objects;
+  referred = f.referred;
 }
 
 pub put_null : {types : List TypeForm} {variables : List VariableForm} {outer : Outsiders} {spared : Id → Bool} {heap : List Object} {places : List Value} {holds : Holds} (x : ℕ) → is_object variables x ≡ false → Fit types variables outer spared heap places holds → Fit types variables outer spared heap (slice_set places x Null) (slice_set holds x hold.Null)
-put_null {variables = variables} {outer = outer} {spared = spared} {places = places} {holds = holds} x none f = record {
+put_null {types = types} {variables = variables} {outer = outer} {spared = spared} {places = places} {holds = holds} x none f = record {
   owners = put_blank x Null (hold_in outer spared (slice_set holds x hold.Null)) (set_others outer spared holds x hold.Null) f.owners (λ o e. cc e);
   said = put_said outer.given holds places x Null hold.Null (null_put places x) f.said;
-  objects = put_objects variables holds places x Null hold.Null (λ is. no_object variables x none is) f.objects;
+  objects = put_objects types outer.referenced variables holds places x Null hold.Null (λ ne. plain_place types outer.referenced variables places x Null none tt) f.objects;
+  referred = f.referred;
 }
 
-pub put_owner : {types : List TypeForm} {variables : List VariableForm} {outer : Outsiders} {spared : Id → Bool} {heap : List Object} {places : List Value} {holds : Holds} (x : ℕ) (v : Value) (r : Region) → (is_object variables x ≡ true → place_at (slice_set places x v) x ≢ Null) → Hand types variables outer spared heap places holds (variable_access variables x) v → Fit types variables outer spared heap places holds → Fit types variables outer spared heap (slice_set places x v) (slice_set holds x (hold.Own r))
-put_owner {variables = variables} {outer = outer} {spared = spared} {places = places} {holds = holds} x v r there hand f = record {
+pub put_owner : {types : List TypeForm} {variables : List VariableForm} {outer : Outsiders} {spared : Id → Bool} {heap : List Object} {places : List Value} {holds : Holds} (x : ℕ) (v : Value) (r : Region) → IsPlace types outer.referenced (variable_kind variables x) (place_at (slice_set places x v) x) → Hand types variables outer spared heap places holds (variable_access variables x) v → Fit types variables outer spared heap places holds → Fit types variables outer spared heap (slice_set places x v) (slice_set holds x (hold.Own r))
+put_owner {types = types} {variables = variables} {outer = outer} {spared = spared} {places = places} {holds = holds} x v r there hand f = record {
   owners = put_hand x v (hold_in outer spared (slice_set holds x (hold.Own r))) (set_others outer spared holds x (hold.Own r)) f.owners
       (some_by (hold_in outer spared (slice_set holds x (hold.Own r)) (variable x)) r (set_here outer spared holds x (hold.Own r))) hand;
   said = put_said outer.given holds places x v (hold.Own r) tt f.said;
-  objects = put_objects variables holds places x v (hold.Own r) (λ is ne. there is) f.objects;
+  objects = put_objects types outer.referenced variables holds places x v (hold.Own r) (λ ne. there) f.objects;
+  referred = f.referred;
 }
 
 -- A variable borrows what another place owns, or gets null.
@@ -343,21 +425,23 @@ alias_owns : (g : Hold) (r : Region) → (g ≡ hold.Alias r) ⊎ (g ≡ hold.Lo
 alias_owns g r (inl e) own = rw e at own
 alias_owns g r (inr e) own = rw e at own
 
-pub put_alias : {types : List TypeForm} {variables : List VariableForm} {outer : Outsiders} {spared : Id → Bool} {heap : List Object} {places : List Value} {holds : Holds} (x : ℕ) (v : Value) (r : Region) → is_object variables x ≡ false → MayName heap (variable_access variables x) v → Fit types variables outer spared heap places holds → Fit types variables outer spared heap (slice_set places x v) (slice_set holds x (hold.Alias r))
-put_alias {variables = variables} {outer = outer} {spared = spared} {heap = heap} {places = places} {holds = holds} x v r none may f = record {
+pub put_alias : {types : List TypeForm} {variables : List VariableForm} {outer : Outsiders} {spared : Id → Bool} {heap : List Object} {places : List Value} {holds : Holds} (x : ℕ) (v : Value) (r : Region) → is_object variables x ≡ false → IsPlain v → MayName heap (variable_access variables x) v → Fit types variables outer spared heap places holds → Fit types variables outer spared heap (slice_set places x v) (slice_set holds x (hold.Alias r))
+put_alias {types = types} {variables = variables} {outer = outer} {spared = spared} {heap = heap} {places = places} {holds = holds} x v r none plain may f = record {
   owners = put_fits x v (hold_in outer spared (slice_set holds x (hold.Alias r))) (set_others outer spared holds x (hold.Alias r)) f.owners
       (λ o e. says_alias heap (hold_in outer spared (slice_set holds x (hold.Alias r)) (variable x)) r (variable_access variables x) o (set_here outer spared holds x (hold.Alias r)) (may o e))
       (λ o own. absurd (alias_owns (hold_in outer spared (slice_set holds x (hold.Alias r)) (variable x)) r (set_here outer spared holds x (hold.Alias r)) own));
   said = put_said outer.given holds places x v (hold.Alias r) tt f.said;
-  objects = put_objects variables holds places x v (hold.Alias r) (λ is. no_object variables x none is) f.objects;
+  objects = put_objects types outer.referenced variables holds places x v (hold.Alias r) (λ ne. plain_place types outer.referenced variables places x v none plain) f.objects;
+  referred = f.referred;
 }
 
 -- A variable that is null may be called so.
 pub null_fit : {types : List TypeForm} {variables : List VariableForm} {outer : Outsiders} {spared : Id → Bool} {heap : List Object} {places : List Value} {holds : Holds} (y : ℕ) → is_object variables y ≡ false → place_at places y ≡ Null → Fit types variables outer spared heap places holds → Fit types variables outer spared heap places (slice_set holds y hold.Null)
-null_fit {variables = variables} {outer = outer} {spared = spared} {places = places} {holds = holds} y none is f = record {
+null_fit {types = types} {variables = variables} {outer = outer} {spared = spared} {places = places} {holds = holds} y none is f = record {
   owners = nulls (variable y) (hold_in outer spared (slice_set holds y hold.Null)) (set_others outer spared holds y hold.Null) (λ o e. cc (is, e)) f.owners;
   said = set_said outer.given holds places places y hold.Null (λ x ne. refl) is f.said;
-  objects = set_objects variables holds places places y hold.Null (λ x ne. refl) (λ object. no_object variables y none object) f.objects;
+  objects = set_objects types outer.referenced variables holds places places y hold.Null (λ x ne. refl) (λ ne. rw is none) f.objects;
+  referred = f.referred;
 }
 
 -- What owns is relied on to own.
@@ -372,26 +456,24 @@ hand_of {outer = outer} {spared = spared} {holds = holds} y own f =
     taken (variable y) (hold_in outer spared (slice_set holds y hold.Lost)) (own_owns (hold_at holds y) own)
     (λ a. lost_owns (hold_in outer spared (slice_set holds y hold.Lost) (variable y)) (set_lost outer spared holds y) a) (set_others outer spared holds y hold.Lost) f.owners
 
+-- What owns is not lost.
+own_kept : (h : Hold) → IsOwn h → h ≢ hold.Lost
+own_kept h own lost = rw lost at own
+
 -- X := Y, where Y is an owner of X's access type: also where X is Y.
-pub move_fit : {types : List TypeForm} {variables : List VariableForm} {outer : Outsiders} {spared : Id → Bool} {heap : List Object} {places : List Value} {holds : Holds} (x y : ℕ) (r : Region) → is_object variables x ≡ false → IsOwn (hold_at holds y) → variable_access variables x ≡ variable_access variables y → Fit types variables outer spared heap places holds → Fit types variables outer spared heap (slice_set places x (place_at places y)) (slice_set (slice_set holds y hold.Lost) x (hold.Own r))
-move_fit {variables = variables} {outer = outer} {places = places} x y r none own same f = put_owner x (place_at places y) r (λ is. no_object variables x none is) (rw same (hand_of y own f)) (lose y f)
+pub move_fit : {types : List TypeForm} {variables : List VariableForm} {outer : Outsiders} {spared : Id → Bool} {heap : List Object} {places : List Value} {holds : Holds} (x y : ℕ) (r : Region) → is_object variables x ≡ false → is_object variables y ≡ false → IsOwn (hold_at holds y) → variable_access variables x ≡ variable_access variables y → Fit types variables outer spared heap places holds → Fit types variables outer spared heap (slice_set places x (place_at places y)) (slice_set (slice_set holds y hold.Lost) x (hold.Own r))
+move_fit {types = types} {variables = variables} {outer = outer} {places = places} {holds = holds} x y r none other own same f = put_owner x (place_at places y) r (plain_place types outer.referenced variables places x (place_at places y) none (plain_object y (own_kept (hold_at holds y) own) other f)) (rw same (hand_of y own f)) (lose y f)
 
 -- What is relied on to name an object names one that is there.
 pub there_by : (heap : List Object) (kind : Option ℕ) (o : Id) → IsOf (access_at heap) kind o → IsThere heap o
 there_by heap None o s = absurd s
 there_by heap (Some t) o s = let h = listed_at heap o t s in (h.object, h.found, h.listed)
 
-says_there : (heap : List Object) (h : Hold) (spot : Spot) (kind : Option ℕ) (o : Id) → lost_by h spot ≡ None → Says (access_at heap) h kind o → IsThere heap o
-says_there heap hold.Null spot kind o kept s = absurd s
-says_there heap (hold.Kept r) spot kind o kept s = there_by heap kind o s
-says_there heap (hold.Own r) spot kind o kept s = there_by heap kind o s
-says_there heap (hold.Alias r) spot kind o kept s = there_by heap kind o s
-says_there heap hold.Lost spot kind o kept s = absurd (cc kept)
-
 follows_by : (heap : List Object) (v : Value) → ((o : Id) → v ≡ Names o → IsThere heap o) → MayFollow heap v
 follows_by heap Null there = tt
 follows_by heap (Names o) there = there o refl
 follows_by heap (Scalar v) there = tt
+follows_by heap (Part o first) there = tt
 
 -- What a component of an object in its collection holds, and its access type.
 got : (values : List Value) (c : ℕ) (v : Value) → slice_get values c ≡ Some v → slice_index_or values c Null ≡ v
@@ -406,11 +488,7 @@ component_value heap activations o object c v found listed at =
 pub access_is : (heap : List Object) (o : Id) (object : Object) → object_at heap o ≡ Some object → object.listed ≡ true → access_at heap o ≡ Some object.cell.access
 access_is heap o object found listed = rw (found, listed) refl
 
--- What a variable holds that is not lost may be followed, and so may what a component holds.
-pub root_follows : {types : List TypeForm} {variables : List VariableForm} {outer : Outsiders} {spared : Id → Bool} {heap : List Object} {places : List Value} {holds : Holds} (x : ℕ) (spot : Spot) → lost_by (hold_at holds x) spot ≡ None → Fit types variables outer spared heap places holds → MayFollow heap (place_at places x)
-root_follows {variables = variables} {outer = outer} {heap = heap} {places = places} {holds = holds} x spot kept f =
-    follows_by heap (place_at places x) (λ o e. says_there heap (hold_at holds x) spot (variable_access variables x) o kept (f.owners.fit.relied (variable x) o e))
-
+-- What a component holds may be followed.
 pub component_is : {types : List TypeForm} {variables : List VariableForm} {outer : Outsiders} {spared : Id → Bool} {heap : List Object} {places : List Value} {holds : Holds} (o : Id) (object : Object) (c : ℕ) (v : Value) (p : Id) → spared o ≡ false → object_at heap o ≡ Some object → object.listed ≡ true → slice_get object.cell.values c ≡ Some v → v ≡ Names p → Fit types variables outer spared heap places holds → IsOf (access_at heap) (component_access types object c) p
 component_is {outer = outer} {spared = spared} {heap = heap} {places = places} o object c v p kept found listed at is f =
     let own : Owns (component_hold (spared o)) = rw kept tt in
@@ -421,12 +499,56 @@ pub component_follows : {types : List TypeForm} {variables : List VariableForm} 
 component_follows {types = types} {outer = outer} {heap = heap} o object c v kept found listed at f =
     follows_by heap v (λ p is. there_by heap (component_access types object c) p (component_is o object c v p kept found listed at is f))
 
+-- Where an object changes, and stays in its collection, what is referred to is there still; so it is where one is created, or leaves that none refers to.
+same_access : (heap : List Object) (o : Id) (x y : Object) → object_at heap o ≡ Some x → access_in (Some y) ≡ access_in (Some x) → (k : Id) → access_at (slice_set heap o.0 y) k ≡ access_at heap k
+same_access heap o x y found same k = go (same_id k o)
+  where
+    go : (k ≡ o) ⊎ (k ≢ o) → access_at (slice_set heap o.0 y) k ≡ access_at heap k
+    go (inl e) = rw (e, at_here heap o x found y, found) same
+    go (inr ne) = ap access_in (at_other heap o k y ne)
+
+stored_access : (heap : List Object) (o : Id) (object : Object) (c : ℕ) (v : Value) → object_at heap o ≡ Some object → (k : Id) → access_at (store heap (Names o) c v) k ≡ access_at heap k
+stored_access heap o object c v found k = rw found (same_access heap o object (filled c v object) found refl k)
+
+abbrev pub AreReferred : Outsiders → List Object → Type 0
+AreReferred outer heap = (k : Id) (t : ℕ) → IsReferred outer.referenced k t → access_at heap k ≡ Some t
+
+stored_referred : (outer : Outsiders) (heap : List Object) (o : Id) (object : Object) (c : ℕ) (v : Value) → object_at heap o ≡ Some object → AreReferred outer heap → AreReferred outer (store heap (Names o) c v)
+stored_referred outer heap o object c v found are k t is = stored_access heap o object c v found k ∙ are k t is
+
+created_referred : (outer : Outsiders) (heap : List Object) (words : ℕ) (cell : Cell Value) → AreReferred outer heap → AreReferred outer (create heap words cell)
+created_referred outer heap words cell are k t is =
+    let at = are k t is in
+    let h = listed_at heap k t at in
+    ap access_in (at_older heap words cell k (not_past heap k h.object h.found)) ∙ at
+
+-- An object is not referred to.
+abbrev pub IsUnreferred : Outsiders → Id → Type 0
+IsUnreferred outer o = (t : ℕ) → IsReferred outer.referenced o t → ⊥
+
+other_referred : (outer : Outsiders) (heap : List Object) (o : Id) (y : Object) → IsUnreferred outer o → AreReferred outer heap → AreReferred outer (slice_set heap o.0 y)
+other_referred outer heap o y none are k t is = go (same_id k o)
+  where
+    go : (k ≡ o) ⊎ (k ≢ o) → access_at (slice_set heap o.0 y) k ≡ Some t
+    go (inl e) = absurd (none t (rw e at is))
+    go (inr ne) = ap access_in (at_other heap o k y ne) ∙ are k t is
+
+-- One that is there, of an access type of which nothing is referred to, is not.
+pub unreferred_by : {types : List TypeForm} {variables : List VariableForm} {outer : Outsiders} {spared : Id → Bool} {heap : List Object} {places : List Value} {holds : Holds} (kind : Option ℕ) (o : Id) → NoOuterAliases types outer kind → IsOf (access_at heap) kind o → Fit types variables outer spared heap places holds → IsUnreferred outer o
+unreferred_by None o none of f t is = of
+unreferred_by {types = types} {outer = outer} (Some u) o none of f t is =
+    let at = f.referred o t is in
+    let same : t ≡ u = cc (at, of) in
+    let n = none u refl in
+    n.1.1 o (rw same at is) n.0
+
 -- A component gets what names nothing, or what is in hand.
 pub store_blank : {types : List TypeForm} {variables : List VariableForm} {outer : Outsiders} {spared : Id → Bool} {heap : List Object} {places : List Value} {holds : Holds} (o : Id) (object : Object) (c : ℕ) (v : Value) → object_at heap o ≡ Some object → ((p : Id) → v ≡ Names p → ⊥) → Fit types variables outer spared heap places holds → Fit types variables outer spared (store heap (Names o) c v) places holds
 store_blank {outer = outer} {spared = spared} {heap = heap} {holds = holds} o object c v found none f = record {
   owners = changes.store_blank heap o object found c v (hold_in outer spared holds) (λ q ne. refl) f.owners none;
   said = f.said;
   objects = f.objects;
+  referred = stored_referred outer heap o object c v found f.referred;
 }
 
 pub store_owner : {types : List TypeForm} {variables : List VariableForm} {outer : Outsiders} {heap : List Object} {places : List Value} {holds : Holds} (o : Id) (object : Object) (c : ℕ) (v : Value) → object_at heap o ≡ Some object → object.listed ≡ true → Hand types variables outer none_spared heap places holds (component_access types object c) v → Fit types variables outer none_spared heap places holds → Fit types variables outer none_spared (store heap (Names o) c v) places holds
@@ -434,6 +556,7 @@ store_owner {outer = outer} {heap = heap} {holds = holds} o object c v found lis
   owners = store_hand heap o object found c v (hold_in outer none_spared holds) (λ q ne. refl) f.owners (λ e. cc e) (rw (access_is heap o object found listed) hand);
   said = f.said;
   objects = f.objects;
+  referred = stored_referred outer heap o object c v found f.referred;
 }
 
 -- What a variable that is not lost names is of its access type; so is what a component of an object in its collection names.
@@ -467,15 +590,16 @@ from_reliance_with : (outer : Outsiders) → {kinds : Kinds} {heap : List Object
 from_reliance_with outer holds x Whole f = from_reliance outer (slice_set holds x (hold.Own Whole)) f
 
 -- A take pair, T := O.C; O.C := null;, with another variable for T, or with a component.
-pub take_variable : {types : List TypeForm} {variables : List VariableForm} {outer : Outsiders} {heap : List Object} {places : List Value} {holds : Holds} (x : ℕ) (r : Region) → is_object variables x ≡ false → (o : Id) (object : Object) (c : ℕ) (v : Value) → object_at heap o ≡ Some object → object.listed ≡ true → slice_get object.cell.values c ≡ Some v → variable_access variables x ≡ component_access types object c → Fit types variables outer none_spared heap places holds → Fit types variables outer none_spared (store heap (Names o) c Null) (slice_set places x v) (slice_set holds x (hold.Own r))
-take_variable {types = types} {variables = variables} {outer = outer} {heap = heap} {places = places} {holds = holds} x r none o object c v found listed at same f =
+pub take_variable : {types : List TypeForm} {variables : List VariableForm} {outer : Outsiders} {heap : List Object} {places : List Value} {holds : Holds} (x : ℕ) (r : Region) → is_object variables x ≡ false → (o : Id) (object : Object) (c : ℕ) (v : Value) → IsPlain v → object_at heap o ≡ Some object → object.listed ≡ true → slice_get object.cell.values c ≡ Some v → variable_access variables x ≡ component_access types object c → Fit types variables outer none_spared heap places holds → Fit types variables outer none_spared (store heap (Names o) c Null) (slice_set places x v) (slice_set holds x (hold.Own r))
+take_variable {types = types} {variables = variables} {outer = outer} {heap = heap} {places = places} {holds = holds} x r none o object c v plain found listed at same f =
     let t = object.cell.access in
     let at_t = access_is heap o object found listed in
     let pair = take_pairs_keep (kinds_of types variables outer) heap (stacked places outer) (as_reliance outer holds) (to_reliance outer holds f.owners) x o c t at_t (sym same) refl in
     record {
       owners = from_reliance_with outer holds x r (rw (component_value heap (stacked places outer) o object c v found listed at) at pair);
       said = put_said outer.given holds places x v (hold.Own r) tt f.said;
-      objects = put_objects variables holds places x v (hold.Own r) (λ is. no_object variables x none is) f.objects;
+      objects = put_objects types outer.referenced variables holds places x v (hold.Own r) (λ ne. plain_place types outer.referenced variables places x v none plain) f.objects;
+      referred = stored_referred outer heap o object c Null found f.referred;
     }
 
 pub take_component : {types : List TypeForm} {variables : List VariableForm} {outer : Outsiders} {heap : List Object} {places : List Value} {holds : Holds} (k : Id) (holder : Object) (d : ℕ) (o : Id) (object : Object) (c : ℕ) (v : Value) → object_at heap k ≡ Some holder → holder.listed ≡ true → object_at heap o ≡ Some object → object.listed ≡ true → slice_get object.cell.values c ≡ Some v → component_access types holder d ≡ component_access types object c → Fit types variables outer none_spared heap places holds → Fit types variables outer none_spared (store (store heap (Names k) d v) (Names o) c Null) places holds
@@ -485,12 +609,19 @@ take_component {types = types} {variables = variables} {outer = outer} {heap = h
     let at_u = access_is heap k holder at_k listed_k in
     let at_t = access_is heap o object found listed in
     let pair = component_pairs_keep (kinds_of types variables outer) heap (stacked places outer) (as_reliance outer holds) (to_reliance outer holds f.owners) k o d c u t at_u at_t same refl in
-    record { owners = from_reliance outer holds (rw (component_value heap (stacked places outer) o object c v found listed at) at pair); said = f.said; objects = f.objects }
+    record { owners = from_reliance outer holds (rw (component_value heap (stacked places outer) o object c v found listed at) at pair); said = f.said; objects = f.objects; referred = taken_referred }
+  where
+    taken_referred : AreReferred outer (store (store heap (Names k) d v) (Names o) c Null)
+    taken_referred = go (object_at (store heap (Names k) d v) o) refl
+      where
+        go : (t : Option Object) → object_at (store heap (Names k) d v) o ≡ t → AreReferred outer (changed (filled c Null) t (store heap (Names k) d v) o)
+        go None is = stored_referred outer heap k holder d v at_k f.referred
+        go (Some x) is = rw is at (stored_referred outer (store heap (Names k) d v) o x c Null is (stored_referred outer heap k holder d v at_k f.referred))
 
 -- A new object, whose items were in hand: its name is in hand.
 pub create_fit : {types : List TypeForm} {variables : List VariableForm} {outer : Outsiders} {heap : List Object} {places : List Value} {holds : Holds} (words : ℕ) (cell : Cell Value) → AreInHand heap (stacked places outer) (hold_in outer none_spared holds) (λ c. access_of (kind_among (reached_components types cell.access) c)) 0 cell.values → Fit types variables outer none_spared heap places holds → Fit types variables outer none_spared (create heap words cell) places holds × Hand types variables outer none_spared (create heap words cell) places holds (Some cell.access) (created heap words)
 create_fit {outer = outer} {heap = heap} words cell items f =
-    (record { owners = create_fits heap words cell (λ c e. cc e) f.owners items; said = f.said; objects = f.objects }, created_hand heap words cell f.owners items)
+    (record { owners = create_fits heap words cell (λ c e. cc e) f.owners items; said = f.said; objects = f.objects; referred = created_referred outer heap words cell f.referred }, created_hand heap words cell f.owners items)
 
 -- What is relied on says no less than the same once a component is lent.
 lent_good : (outer : Outsiders) → (holds : Holds) (o : Id) (c : ℕ) (p : Place) → is_as_good (hold_in outer none_spared holds p) (hold_of (with_lent o c (as_reliance outer holds)) p) ≡ true
@@ -503,7 +634,7 @@ pub insert_fit : {types : List TypeForm} {variables : List VariableForm} {outer 
 insert_fit {types = types} {variables = variables} {outer = outer} {heap = heap} {places = places} {holds = holds} words cell o object c found listed same items f =
     let lent = weaken (hold_of (with_lent o c (as_reliance outer holds))) (lent_good outer holds o c) f.owners in
     let kept = insertions_keep (kinds_of types variables outer) heap (stacked places outer) (as_reliance outer holds) o c object.cell.access words cell lent (access_is heap o object found listed) same items in
-    record { owners = from_reliance outer holds kept; said = f.said; objects = f.objects }
+    record { owners = from_reliance outer holds kept; said = f.said; objects = f.objects; referred = stored_referred outer (create heap words cell) o object c (created heap words) (at_older heap words cell o (not_past heap o object found) ∙ found) (created_referred outer heap words cell f.referred) }
 
 -- Of what is in hand no place is an owner.
 pub hand_is_unnamed : (outer : Outsiders) → (types : List TypeForm) (variables : List VariableForm) (spared : Id → Bool) (heap : List Object) (places : List Value) (holds : Holds) (kind : Option ℕ) (o : Id) → Hand types variables outer spared heap places holds kind (Names o) → ((q : Place) → Borrows (hold_in outer spared holds q) → value_at heap (stacked places outer) q ≡ Names o → ⊥) → IsUnnamed heap (stacked places outer) (hold_in outer spared holds) o
@@ -513,11 +644,12 @@ hand_is_unnamed outer types variables spared heap places holds kind o hand none 
 }
 
 -- An object that no owner names leaves its collection; then it ceases to exist, and its words go back.
-pub part_fit : {types : List TypeForm} {variables : List VariableForm} {outer : Outsiders} {spared : Id → Bool} {heap : List Object} {places : List Value} {holds : Holds} (o : Id) (x : Object) → object_at heap o ≡ Some x → IsUnnamed heap (stacked places outer) (hold_in outer spared holds) o → Fit types variables outer spared heap places holds → Fit types variables outer spared (slice_set heap o.0 (parted x)) places holds
-part_fit {outer = outer} {heap = heap} o x found none f = record {
+pub part_fit : {types : List TypeForm} {variables : List VariableForm} {outer : Outsiders} {spared : Id → Bool} {heap : List Object} {places : List Value} {holds : Holds} (o : Id) (x : Object) → object_at heap o ≡ Some x → IsUnnamed heap (stacked places outer) (hold_in outer spared holds) o → IsUnreferred outer o → Fit types variables outer spared heap places holds → Fit types variables outer spared (slice_set heap o.0 (parted x)) places holds
+part_fit {outer = outer} {heap = heap} o x found none unreferred f = record {
   owners = rw (changed_is heap o x found (parted x) parted refl) at (part_fits heap o x found f.owners none);
   said = f.said;
   objects = f.objects;
+  referred = other_referred outer heap o (parted x) unreferred f.referred;
 }
 
 pub finish_fit : {types : List TypeForm} {variables : List VariableForm} {outer : Outsiders} {spared : Id → Bool} {heap : List Object} {places : List Value} {holds : Holds} (o : Id) (x : Object) → object_at heap o ≡ Some x → x.listed ≡ false → Fit types variables outer spared heap places holds → Fit types variables outer spared (slice_set heap o.0 (finished x)) places holds
@@ -525,6 +657,7 @@ finish_fit {outer = outer} {heap = heap} o x found off f = record {
   owners = rw (changed_is heap o x found (finished x) finished refl) at (finish_parted heap o x found off f.owners);
   said = f.said;
   objects = f.objects;
+  referred = λ k t is. same_access heap o x (finished x) found (sym (ap (λ (b : Bool). if b then Some x.cell.access else None) off)) k ∙ f.referred k t is;
 }
 
 pub back_fit : {types : List TypeForm} {variables : List VariableForm} {outer : Outsiders} {spared : Id → Bool} {heap : List Object} {places : List Value} {holds : Holds} (o : Id) (x : Object) → object_at heap o ≡ Some x → Fit types variables outer spared heap places holds → Fit types variables outer spared (slice_set heap o.0 (returned x)) places holds
@@ -532,6 +665,7 @@ back_fit {outer = outer} {heap = heap} o x found f = record {
   owners = rw (changed_is heap o x found (returned x) returned refl) at (back_fits heap o x found f.owners);
   said = f.said;
   objects = f.objects;
+  referred = λ k t is. same_access heap o x (returned x) found refl k ∙ f.referred k t is;
 }
 
 -- Behind the end of an object less is known of its access type's aliases, and as much of all else.
@@ -556,19 +690,19 @@ component_borrows true b = b
 component_borrows false b = b
 
 -- Where an object of an access type ends that is there, no alias names it behind its end.
-behind_borrows : {types : List TypeForm} {variables : List VariableForm} {outer : Outsiders} {spared : Id → Bool} {heap : List Object} {places : List Value} {holds : Holds} (kind : Option ℕ) (o : Id) → NoOuterAliases outer kind → IsOf (access_at heap) kind o → Fit types variables outer spared heap places holds → (q : Place) → Borrows (hold_in outer spared (behind_end variables kind holds) q) → value_at heap (stacked places outer) q ≡ Names o → ⊥
+behind_borrows : {types : List TypeForm} {variables : List VariableForm} {outer : Outsiders} {spared : Id → Bool} {heap : List Object} {places : List Value} {holds : Holds} (kind : Option ℕ) (o : Id) → NoOuterAliases types outer kind → IsOf (access_at heap) kind o → Fit types variables outer spared heap places holds → (q : Place) → Borrows (hold_in outer spared (behind_end variables kind holds) q) → value_at heap (stacked places outer) q ≡ Names o → ⊥
 behind_borrows None o none of f q b names = of
 behind_borrows {spared = spared} (Some t) o none of f (component k c) b names = component_borrows (spared k) b
 behind_borrows {outer = outer} {heap = heap} (Some t) o none of f (elsewhere d x) b names =
     let w = slice_get outer.suspended d in
-    none t refl d x (kind_is (access_at heap) (outer_hold w x) (outer_access w x) o t b of (f.owners.fit.relied (elsewhere d x) o names)) b
+    (none t refl).1.0 d x (kind_is (access_at heap) (outer_hold w x) (outer_access w x) o t b of (f.owners.fit.relied (elsewhere d x) o names)) b
 behind_borrows {variables = variables} {outer = outer} {heap = heap} {holds = holds} (Some t) o none of f (variable x) b names =
     let after = behind_fit (Some t) f in
     let same = kind_is (access_at heap) (hold_at (without_aliases variables t holds) x) (variable_access variables x) o t b of (after.owners.fit.relied (variable x) o names) in
     forget_borrows variables t holds x b same
 
 -- Free (X), where X owns: X is null then, its object has no owner, and no alias names it.
-pub freed_unnamed : {types : List TypeForm} {variables : List VariableForm} {outer : Outsiders} {spared : Id → Bool} {heap : List Object} {places : List Value} {holds : Holds} (x : ℕ) (o : Id) → NoOuterAliases outer (variable_access variables x) → is_object variables x ≡ false → IsOwn (hold_at holds x) → place_at places x ≡ Names o → Fit types variables outer spared heap places holds → Fit types variables outer spared heap (slice_set places x Null) (freed variables x holds) × IsUnnamed heap (stacked (slice_set places x Null) outer) (hold_in outer spared (freed variables x holds)) o × IsThere heap o
+pub freed_unnamed : {types : List TypeForm} {variables : List VariableForm} {outer : Outsiders} {spared : Id → Bool} {heap : List Object} {places : List Value} {holds : Holds} (x : ℕ) (o : Id) → NoOuterAliases types outer (variable_access variables x) → is_object variables x ≡ false → IsOwn (hold_at holds x) → place_at places x ≡ Names o → Fit types variables outer spared heap places holds → Fit types variables outer spared heap (slice_set places x Null) (freed variables x holds) × IsUnnamed heap (stacked (slice_set places x Null) outer) (hold_in outer spared (freed variables x holds)) o × IsThere heap o × IsUnreferred outer o
 freed_unnamed {variables = variables} {outer = outer} {spared = spared} {heap = heap} {places = places} {holds = holds} x o spares none_object own is f =
     let owns = own_owns (hold_at holds x) own in
     let of = kernel.owned_at f.owners.fit (variable x) owns o is in
@@ -576,7 +710,7 @@ freed_unnamed {variables = variables} {outer = outer} {spared = spared} {heap = 
       unowned = λ q a b. unowned owns q (same_place q (variable x)) a b;
       unborrowed = λ q a b. unborrowed of q (same_place q (variable x)) a b;
     } in
-    (put_null x none_object (behind_fit (variable_access variables x) f), none, there_by heap (variable_access variables x) o of)
+    (put_null x none_object (behind_fit (variable_access variables x) f), none, there_by heap (variable_access variables x) o of, unreferred_by (variable_access variables x) o spares of f)
   where
     behind : Holds
     behind = behind_end variables (variable_access variables x) holds
@@ -594,13 +728,14 @@ freed_unnamed {variables = variables} {outer = outer} {spared = spared} {heap = 
         (sym (put_reads heap (stacked places outer) x Null q ne) ∙ b)
 
 -- Free (O.C): C is null then, its object has no owner, and no alias names it.
-pub component_unnamed : {types : List TypeForm} {variables : List VariableForm} {outer : Outsiders} {heap : List Object} {places : List Value} {holds : Holds} (o : Id) (object : Object) (c : ℕ) (p : Id) (kind : Option ℕ) → NoOuterAliases outer kind → object_at heap o ≡ Some object → object.listed ≡ true → slice_get object.cell.values c ≡ Some (Names p) → IsOf (access_at heap) kind p → Fit types variables outer none_spared heap places holds → Fit types variables outer none_spared (store heap (Names o) c Null) places (behind_end variables kind holds) × IsUnnamed (store heap (Names o) c Null) (stacked places outer) (hold_in outer none_spared (behind_end variables kind holds)) p
+pub component_unnamed : {types : List TypeForm} {variables : List VariableForm} {outer : Outsiders} {heap : List Object} {places : List Value} {holds : Holds} (o : Id) (object : Object) (c : ℕ) (p : Id) (kind : Option ℕ) → NoOuterAliases types outer kind → object_at heap o ≡ Some object → object.listed ≡ true → slice_get object.cell.values c ≡ Some (Names p) → IsOf (access_at heap) kind p → Fit types variables outer none_spared heap places holds → Fit types variables outer none_spared (store heap (Names o) c Null) places (behind_end variables kind holds) × IsUnnamed (store heap (Names o) c Null) (stacked places outer) (hold_in outer none_spared (behind_end variables kind holds)) p × IsUnreferred outer p
 component_unnamed {variables = variables} {outer = outer} {heap = heap} {places = places} {holds = holds} o object c p kind spares found listed at of f = (
   store_blank o object c Null found (λ k e. cc e) (behind_fit kind f),
   record {
     unowned = λ q a b. unowned q (same_place q (component o c)) a b;
     unborrowed = λ q a b. unborrowed q (same_place q (component o c)) a b;
   },
+  unreferred_by kind p spares of f,
 )
   where
     names : value_at heap (stacked places outer) (component o c) ≡ Names p
@@ -626,6 +761,7 @@ respare {outer = outer} {heap = heap} {places = places} {holds = holds} spared t
   owners = record { fit = kernel.held_same f.owners.fit (hold_in outer to holds) go };
   said = f.said;
   objects = f.objects;
+  referred = f.referred;
 }
   where
     go : (p : Place) (k : Id) → value_at heap (stacked places outer) p ≡ Names k → hold_in outer to holds p ≡ hold_in outer spared holds p
@@ -674,14 +810,15 @@ going_left {outer = outer} {heap = heap} f = respare (going heap []) none_spared
 
 -- Nothing is outside of the main body.
 abbrev pub no_outsiders : Outsiders
-no_outsiders = record { given = []; suspended = [] }
+no_outsiders = record { given = []; suspended = []; referenced = [] }
 
 -- Before anything is allocated, all variables are lost.
 pub first_fit : (types : List TypeForm) (variables : List VariableForm) (places : List Value) (holds : Holds) → ((x : ℕ) → hold_at holds x ≡ hold.Lost) → Fit types variables no_outsiders none_spared [] places holds
 first_fit types variables places holds lost = record {
   owners = record { fit = record { relied = relied_first; apart = λ p q o a b c d. absurd (none_owns p o a c) } };
   said = λ x. rw (lost x) tt;
-  objects = λ x is ne. absurd (ne (lost x));
+  objects = λ x ne. absurd (ne (lost x));
+  referred = λ o t is. absurd is;
 }
   where
     relied_first : (p : Place) (o : Id) → value_at [] (stacked places no_outsiders) p ≡ Names o → Says (access_at []) (hold_in no_outsiders none_spared holds p) (kind_of (kinds_of types variables no_outsiders) (access_at []) p) o

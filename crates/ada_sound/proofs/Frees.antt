@@ -9,7 +9,7 @@ use Rattle.ada_flow.specs.declared.rule.Hold.TheVariants as hold
 use Rattle.ada_program.specs.WellFormed.{is_access}
 use Rattle.ada_flow.specs.Flow.{Holds, hold_at, variable_access, lost_by, freed, released}
 use Rattle.ada_meaning.specs.declared.state.Value.{Value}
-use Rattle.ada_meaning.specs.declared.state.Value.TheVariants.{Null, Names, Scalar}
+use Rattle.ada_meaning.specs.declared.state.Value.TheVariants.{Null, Names, Scalar, Part}
 use Rattle.ada_meaning.specs.Frame.{Does}
 use Rattle.ada_meaning.specs.Event.{Quiet}
 use Rattle.ada_meaning.specs.State.{Activation}
@@ -31,7 +31,7 @@ own_kept (hold.Own r) spot own = refl
 own_kept (hold.Alias r) spot own = absurd own
 own_kept hold.Lost spot own = absurd own
 
-module _ (known : Known) (a : Activation Value) (rest : List (Activation Value)) (s : State) (access x : ℕ) (none : is_object known.program.variables x ≡ false) (spot : Spot) (fs : StmtsForm) (k : Control) (raised : Rooms → Holds → Type 0) (pooled : Pooled known.program.types s.heap) (own_type : ℕ) (of_type : variable_access known.program.variables x ≡ Some own_type) (is_type : is_access known.program.types own_type ≡ true) (spares : NoOuterAlias (outers known) own_type) (w : Working known s.heap a.places s.masters (λ rooms holds. Goes (released known.program.variables x spot holds (hold_at holds x)) (RunsOn known (Does fs ∷ k) rooms) (raised rooms))) where
+module _ (known : Known) (a : Activation Value) (rest : List (Activation Value)) (s : State) (access x : ℕ) (none : is_object known.program.variables x ≡ false) (spot : Spot) (fs : StmtsForm) (k : Control) (raised : Rooms → Holds → Type 0) (pooled : Pooled known.program.types s.heap) (own_type : ℕ) (of_type : variable_access known.program.variables x ≡ Some own_type) (is_type : is_access known.program.types own_type ≡ true) (spares : NoOuterAlias known.program.types (outers known) own_type) (w : Working known s.heap a.places s.masters (λ rooms holds. Goes (released known.program.variables x spot holds (hold_at holds x)) (RunsOn known (Does fs ∷ k) rooms) (raised rooms))) where
   -- X is null: nothing happens.
   free_null : place_at a.places x ≡ Null → RunsOn known (Does fs ∷ k) w.rooms (freed known.program.variables x w.holds) → Stepped known s.heap Quiet (running (Does fs ∷ k) a rest s)
   free_null is more = runs_on known (Does fs ∷ k) a rest s (record { rooms = w.rooms; holds = freed known.program.variables x w.holds; stored = w.stored; roomed = w.roomed; fit = null_fit x none is (behind_fit (variable_access known.program.variables x) w.fit); rest = more }) Quiet tt
@@ -40,7 +40,7 @@ module _ (known : Known) (a : Activation Value) (rest : List (Activation Value))
   free_value : (v : Value) → place_at a.places x ≡ v → IsOwn (hold_at w.holds x) → RunsOn known (Does fs ∷ k) w.rooms (freed known.program.variables x w.holds) → Fine known s.heap s.masters (free_next named access x v (look s.heap v) (running (Does fs ∷ k) a rest s))
   free_value Null is own more = free_null is more
   free_value (Names o) is own more =
-      let after = freed_unnamed x o (λ t same. (let one : own_type ≡ t = cc (of_type, same) in rw (← one) spares)) none own is w.fit in
+      let after = freed_unnamed x o (λ t same. (let one : own_type ≡ t = cc (of_type, same) in rw (← one) (is_type, spares))) none own is w.fit in
       let there = after.2 in
       let found = there.1 in
       let exists = (w.stored.sane o there.0 found).listed_exists there.2 in
@@ -62,7 +62,7 @@ module _ (known : Known) (a : Activation Value) (rest : List (Activation Value))
                 rooms = w.rooms;
                 holds = freed known.program.variables x w.holds;
                 roomed = w.roomed;
-                fit = part_fit o there.0 found after.1 after.0;
+                fit = part_fit o there.0 found after.1 after.3 after.0;
                 rest = more;
               },
             );
@@ -72,6 +72,7 @@ module _ (known : Known) (a : Activation Value) (rest : List (Activation Value))
         says = tt;
       }))
   free_value (Scalar n) is own more = tt
+  free_value (Part object_id base) is own more = tt
 
   free_hold : (h : Hold) → hold_at w.holds x ≡ h → Goes (released known.program.variables x spot w.holds h) (RunsOn known (Does fs ∷ k) w.rooms) (raised w.rooms) → IsSaid (place_at (outers known).given x) h (place_at a.places x) → Fine known s.heap s.masters (free_next named access x (place_at a.places x) (look s.heap (place_at a.places x)) (running (Does fs ∷ k) a rest s))
   free_hold hold.Null own more blank = rw blank (free_null blank more.0)

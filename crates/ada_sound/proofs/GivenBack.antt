@@ -11,7 +11,7 @@ use Rattle.ada_program.specs.declared.program.ScalarType.{ScalarType}
 use Rattle.ada_program.specs.declared.program.ScalarType.TheVariants as scalar_type
 use Rattle.ada_program.specs.declared.program.VariableKind.{VariableKind}
 use Rattle.ada_program.specs.declared.program.VariableKind.TheVariants as variable
-use Rattle.ada_program.specs.Form.{PathForm, ActualForm, in_value, in_null, in_access, in_out_path, in_out_access}
+use Rattle.ada_program.specs.Form.{PathForm, ActualForm, in_value, in_null, in_access, in_record, in_out_path, in_out_access, in_out_component, in_out_record}
 use Rattle.ada_program.specs.ProgramForm.{TypeForm, VariableForm, ProgramForm}
 use Rattle.ada_program.specs.WellFormed.{is_type, scalar_of, access_of, variable_kind, root_kind, selectors_kind, stands_alone, actual_fits, actuals_fit, Profile, suits_profile}
 use Rattle.ada_flow.specs.declared.rule.Hold.{Hold}
@@ -23,9 +23,9 @@ use Rattle.ada_meaning.specs.declared.state.Value.TheVariants.{Null, Names}
 use Rattle.ada_meaning.specs.declared.state.Id.{Id}
 use Rattle.ada_meaning.specs.Step.{copied_back}
 use Rattle.ada_sound.proofs.Values.{read_same, read_other, same_or_not}
-use Rattle.ada_sound.proofs.Fits.{IsSaid, place_at, is_object, no_object}
+use Rattle.ada_sound.proofs.Fits.{IsSaid, IsPlace, IsPlain, plain_by, place_at}
 use Rattle.ada_sound.proofs.Activations.{Since}
-use Rattle.ada_sound.proofs.Invariant.{Caller, GetLost, KeepsAll, is_kept_at, handed, handed_at, owed_in, Waits, given_in, outer_of}
+use Rattle.ada_sound.proofs.Invariant.{Caller, referenced_in, GetLost, KeepsAll, is_kept_at, handed, handed_at, owed_in, Waits, given_in, outer_of}
 
 -- A variable whose value is an Integer or a Boolean has no access type.
 plain_root : (types : List TypeForm) (t : ScalarType) (of_record : Bool) (kind : Option VariableKind) (cs : List ℕ) → (is_type t (scalar_of (selectors_kind types (root_kind of_record kind) cs)) && stands_alone cs) ≡ true → access_of kind ≡ None
@@ -53,6 +53,9 @@ module _ (types : List TypeForm) (variables : List VariableForm) (holds : Holds)
   all_lost (kind ∷ kinds) (in_value e ∷ rest) fits = all_lost kinds rest (and_parts _ _ fits).1
   all_lost (kind ∷ kinds) (in_null ∷ rest) fits = all_lost kinds rest (and_parts _ _ fits).1
   all_lost (kind ∷ kinds) (in_access path ∷ rest) fits = all_lost kinds rest (and_parts _ _ fits).1
+  all_lost (kind ∷ kinds) (in_record p ∷ rest) fits = all_lost kinds rest (and_parts _ _ fits).1
+  all_lost (kind ∷ kinds) (in_out_component path ∷ rest) fits = all_lost kinds rest (and_parts _ _ fits).1
+  all_lost (kind ∷ kinds) (in_out_record p ∷ rest) fits = all_lost kinds rest (and_parts _ _ fits).1
   all_lost (kind ∷ kinds) (in_out_path path ∷ rest) fits = (lost path.root (one_plain kind path (and_parts _ _ fits).0), all_lost kinds rest (and_parts _ _ fits).1)
   all_lost (kind ∷ kinds) (in_out_access path ∷ rest) fits = all_lost kinds rest (and_parts _ _ fits).1
 
@@ -73,6 +76,9 @@ get_less [] holds less good lost = tt
 get_less (in_value e ∷ rest) holds less good lost = get_less rest holds less good lost
 get_less (in_null ∷ rest) holds less good lost = get_less rest holds less good lost
 get_less (in_access path ∷ rest) holds less good lost = get_less rest holds less good lost
+get_less (in_record p ∷ rest) holds less good lost = get_less rest holds less good lost
+get_less (in_out_component path ∷ rest) holds less good lost = get_less rest holds less good lost
+get_less (in_out_record p ∷ rest) holds less good lost = get_less rest holds less good lost
 get_less (in_out_path path ∷ rest) holds less good lost = (still_lost (hold_at holds path.root) (hold_at less path.root) (good path.root) lost.0, get_less rest holds less good lost.1)
 get_less (in_out_access path ∷ rest) holds less good lost = get_less rest holds less good lost
 
@@ -136,6 +142,9 @@ left_other kept [] holds x none = refl
 left_other kept (in_value e ∷ rest) holds x none = left_other (others_kept kept) rest holds x (λ i is. none (suc i) is)
 left_other kept (in_null ∷ rest) holds x none = left_other (others_kept kept) rest holds x (λ i is. none (suc i) is)
 left_other kept (in_access path ∷ rest) holds x none = left_other (others_kept kept) rest holds x (λ i is. none (suc i) is)
+left_other kept (in_record p ∷ rest) holds x none = left_other (others_kept kept) rest holds x (λ i is. none (suc i) is)
+left_other kept (in_out_component path ∷ rest) holds x none = left_other (others_kept kept) rest holds x (λ i is. none (suc i) is)
+left_other kept (in_out_record p ∷ rest) holds x none = left_other (others_kept kept) rest holds x (λ i is. none (suc i) is)
 left_other kept (in_out_path path ∷ rest) holds x none = left_other (others_kept kept) rest holds x (λ i is. none (suc i) is)
 left_other kept (in_out_access path ∷ rest) holds x none =
     left_other (others_kept kept) rest (unless_kept (first_kept kept) path.root holds) x (λ i is. none (suc i) is)
@@ -154,6 +163,9 @@ left_here kept [] holds x i once is = absurd (cc is)
 left_here kept (in_value e ∷ rest) holds x zero once is = absurd (cc is)
 left_here kept (in_null ∷ rest) holds x zero once is = absurd (cc is)
 left_here kept (in_access path ∷ rest) holds x zero once is = absurd (cc is)
+left_here kept (in_record p ∷ rest) holds x zero once is = absurd (cc is)
+left_here kept (in_out_component path ∷ rest) holds x zero once is = absurd (cc is)
+left_here kept (in_out_record p ∷ rest) holds x zero once is = absurd (cc is)
 left_here kept (in_out_path path ∷ rest) holds x zero once is = absurd (cc is)
 left_here kept (in_out_access path ∷ rest) holds x zero once is =
     let here : path.root ≡ x = cc is in
@@ -162,6 +174,9 @@ left_here kept (in_out_access path ∷ rest) holds x zero once is =
 left_here kept (in_value e ∷ rest) holds x (suc i) once is = rw (← others_are kept i) (left_here (others_kept kept) rest holds x i (once_later (in_value e) rest x once) is)
 left_here kept (in_null ∷ rest) holds x (suc i) once is = rw (← others_are kept i) (left_here (others_kept kept) rest holds x i (once_later in_null rest x once) is)
 left_here kept (in_access path ∷ rest) holds x (suc i) once is = rw (← others_are kept i) (left_here (others_kept kept) rest holds x i (once_later (in_access path) rest x once) is)
+left_here kept (in_record p ∷ rest) holds x (suc i) once is = rw (← others_are kept i) (left_here (others_kept kept) rest holds x i (once_later (in_record p) rest x once) is)
+left_here kept (in_out_component path ∷ rest) holds x (suc i) once is = rw (← others_are kept i) (left_here (others_kept kept) rest holds x i (once_later (in_out_component path) rest x once) is)
+left_here kept (in_out_record p ∷ rest) holds x (suc i) once is = rw (← others_are kept i) (left_here (others_kept kept) rest holds x i (once_later (in_out_record p) rest x once) is)
 left_here kept (in_out_path path ∷ rest) holds x (suc i) once is = rw (← others_are kept i) (left_here (others_kept kept) rest holds x i (once_later (in_out_path path) rest x once) is)
 left_here kept (in_out_access path ∷ rest) holds x (suc i) once is =
     let other = unless_other (first_kept kept) path.root holds x (not_here path rest x i once is) in
@@ -176,6 +191,9 @@ back_other [] holds x none = refl
 back_other (in_value e ∷ rest) holds x none = back_other rest holds x (λ i is. none (suc i) is)
 back_other (in_null ∷ rest) holds x none = back_other rest holds x (λ i is. none (suc i) is)
 back_other (in_access path ∷ rest) holds x none = back_other rest holds x (λ i is. none (suc i) is)
+back_other (in_record p ∷ rest) holds x none = back_other rest holds x (λ i is. none (suc i) is)
+back_other (in_out_component path ∷ rest) holds x none = back_other rest holds x (λ i is. none (suc i) is)
+back_other (in_out_record p ∷ rest) holds x none = back_other rest holds x (λ i is. none (suc i) is)
 back_other (in_out_path path ∷ rest) holds x none = back_other rest holds x (λ i is. none (suc i) is)
 back_other (in_out_access path ∷ rest) holds x none =
     back_other rest (slice_set holds path.root (hold.Own Whole)) x (λ i is. none (suc i) is)
@@ -186,6 +204,9 @@ back_here [] holds x i once is = absurd (cc is)
 back_here (in_value e ∷ rest) holds x zero once is = absurd (cc is)
 back_here (in_null ∷ rest) holds x zero once is = absurd (cc is)
 back_here (in_access path ∷ rest) holds x zero once is = absurd (cc is)
+back_here (in_record p ∷ rest) holds x zero once is = absurd (cc is)
+back_here (in_out_component path ∷ rest) holds x zero once is = absurd (cc is)
+back_here (in_out_record p ∷ rest) holds x zero once is = absurd (cc is)
 back_here (in_out_path path ∷ rest) holds x zero once is = absurd (cc is)
 back_here (in_out_access path ∷ rest) holds x zero once is =
     let here : path.root ≡ x = cc is in
@@ -193,6 +214,9 @@ back_here (in_out_access path ∷ rest) holds x zero once is =
 back_here (in_value e ∷ rest) holds x (suc i) once is = back_here rest holds x i (once_later (in_value e) rest x once) is
 back_here (in_null ∷ rest) holds x (suc i) once is = back_here rest holds x i (once_later in_null rest x once) is
 back_here (in_access path ∷ rest) holds x (suc i) once is = back_here rest holds x i (once_later (in_access path) rest x once) is
+back_here (in_record p ∷ rest) holds x (suc i) once is = back_here rest holds x i (once_later (in_record p) rest x once) is
+back_here (in_out_component path ∷ rest) holds x (suc i) once is = back_here rest holds x i (once_later (in_out_component path) rest x once) is
+back_here (in_out_record p ∷ rest) holds x (suc i) once is = back_here rest holds x i (once_later (in_out_record p) rest x once) is
 back_here (in_out_path path ∷ rest) holds x (suc i) once is = back_here rest holds x i (once_later (in_out_path path) rest x once) is
 back_here (in_out_access path ∷ rest) holds x (suc i) once is = back_here rest (slice_set holds path.root (hold.Own Whole)) x i (once_later (in_out_access path) rest x once) is
 
@@ -203,6 +227,9 @@ copied_other (a ∷ rest) [] places holds x none lost ne = refl
 copied_other (in_value e ∷ rest) (v ∷ vs) places holds x none lost ne = copied_other rest vs places holds x (λ i is. none (suc i) is) lost ne
 copied_other (in_null ∷ rest) (v ∷ vs) places holds x none lost ne = copied_other rest vs places holds x (λ i is. none (suc i) is) lost ne
 copied_other (in_access path ∷ rest) (v ∷ vs) places holds x none lost ne = copied_other rest vs places holds x (λ i is. none (suc i) is) lost ne
+copied_other (in_record p ∷ rest) (v ∷ vs) places holds x none lost ne = copied_other rest vs places holds x (λ i is. none (suc i) is) lost ne
+copied_other (in_out_component path ∷ rest) (v ∷ vs) places holds x none lost ne = copied_other rest vs places holds x (λ i is. none (suc i) is) lost ne
+copied_other (in_out_record p ∷ rest) (v ∷ vs) places holds x none lost ne = copied_other rest vs places holds x (λ i is. none (suc i) is) lost ne
 copied_other (in_out_path path ∷ rest) (v ∷ vs) places holds x none lost ne =
     copied_other rest vs (slice_set places path.root v) holds x (λ i is. none (suc i) is) lost.1 ne
     ∙ read_other places path.root x v Null (λ e. ne (rw e lost.0))
@@ -217,12 +244,48 @@ put_names places x v w o names is = go (read_same places x v Null)
     go (inl e) = let same : v ≡ w = cc is in sym same ∙ (sym e ∙ names)
     go (inr e) = absurd (cc (e, names))
 
+-- What is written in a place refers to no record, and null refers to none.
+put_plain : (places : List Value) (x : ℕ) (v w : Value) → Some v ≡ Some w → IsPlain w → IsPlain (place_at (slice_set places x v) x)
+put_plain places x v w is plain = go (read_same places x v Null)
+  where
+    go : (place_at (slice_set places x v) x ≡ v) ⊎ (place_at (slice_set places x v) x ≡ Null) → IsPlain (place_at (slice_set places x v) x)
+    go (inl e) = let same : v ≡ w = cc is in rw (e, same) plain
+    go (inr e) = rw e tt
+
+copied_plain : (actuals : List ActualForm) (vs places : List Value) (holds : Holds) (x i : ℕ) (w : Value) → IsOnce actuals x → GetLost actuals holds → hold_at holds x ≢ hold.Lost → handed_at actuals i ≡ Some x → slice_get vs i ≡ Some w → IsPlain w → IsPlain (place_at (copied_back actuals vs places) x)
+copied_plain [] vs places holds x i w once lost ne is at plain = absurd (cc is)
+copied_plain (a ∷ rest) [] places holds x i w once lost ne is at plain = absurd (cc at)
+copied_plain (in_value e ∷ rest) (v ∷ vs) places holds x zero w once lost ne is at plain = absurd (cc is)
+copied_plain (in_null ∷ rest) (v ∷ vs) places holds x zero w once lost ne is at plain = absurd (cc is)
+copied_plain (in_access path ∷ rest) (v ∷ vs) places holds x zero w once lost ne is at plain = absurd (cc is)
+copied_plain (in_record p ∷ rest) (v ∷ vs) places holds x zero w once lost ne is at plain = absurd (cc is)
+copied_plain (in_out_component path ∷ rest) (v ∷ vs) places holds x zero w once lost ne is at plain = absurd (cc is)
+copied_plain (in_out_record p ∷ rest) (v ∷ vs) places holds x zero w once lost ne is at plain = absurd (cc is)
+copied_plain (in_out_path path ∷ rest) (v ∷ vs) places holds x zero w once lost ne is at plain = absurd (cc is)
+copied_plain (in_out_access path ∷ rest) (v ∷ vs) places holds x zero w once lost ne is at plain =
+    let here : path.root ≡ x = cc is in
+    let other = copied_other rest vs (slice_set places path.root v) holds x (none_later (in_out_access path) rest x once is) lost ne in
+    rw other (rw here (put_plain places x v w at plain))
+copied_plain (in_value e ∷ rest) (v ∷ vs) places holds x (suc i) w once lost ne is at plain = copied_plain rest vs places holds x i w (once_later (in_value e) rest x once) lost ne is at plain
+copied_plain (in_null ∷ rest) (v ∷ vs) places holds x (suc i) w once lost ne is at plain = copied_plain rest vs places holds x i w (once_later in_null rest x once) lost ne is at plain
+copied_plain (in_access path ∷ rest) (v ∷ vs) places holds x (suc i) w once lost ne is at plain = copied_plain rest vs places holds x i w (once_later (in_access path) rest x once) lost ne is at plain
+copied_plain (in_record p ∷ rest) (v ∷ vs) places holds x (suc i) w once lost ne is at plain = copied_plain rest vs places holds x i w (once_later (in_record p) rest x once) lost ne is at plain
+copied_plain (in_out_component path ∷ rest) (v ∷ vs) places holds x (suc i) w once lost ne is at plain = copied_plain rest vs places holds x i w (once_later (in_out_component path) rest x once) lost ne is at plain
+copied_plain (in_out_record p ∷ rest) (v ∷ vs) places holds x (suc i) w once lost ne is at plain = copied_plain rest vs places holds x i w (once_later (in_out_record p) rest x once) lost ne is at plain
+copied_plain (in_out_path path ∷ rest) (v ∷ vs) places holds x (suc i) w once lost ne is at plain =
+    copied_plain rest vs (slice_set places path.root v) holds x i w (once_later (in_out_path path) rest x once) lost.1 ne is at plain
+copied_plain (in_out_access path ∷ rest) (v ∷ vs) places holds x (suc i) w once lost ne is at plain =
+    copied_plain rest vs (slice_set places path.root v) holds x i w (once_later (in_out_access path) rest x once) lost ne is at plain
+
 copied_here : (actuals : List ActualForm) (vs places : List Value) (holds : Holds) (x i : ℕ) (w : Value) (o : Id) → IsOnce actuals x → GetLost actuals holds → hold_at holds x ≢ hold.Lost → handed_at actuals i ≡ Some x → slice_get vs i ≡ Some w → place_at (copied_back actuals vs places) x ≡ Names o → w ≡ Names o
 copied_here [] vs places holds x i w o once lost ne is at names = absurd (cc is)
 copied_here (a ∷ rest) [] places holds x i w o once lost ne is at names = absurd (cc at)
 copied_here (in_value e ∷ rest) (v ∷ vs) places holds x zero w o once lost ne is at names = absurd (cc is)
 copied_here (in_null ∷ rest) (v ∷ vs) places holds x zero w o once lost ne is at names = absurd (cc is)
 copied_here (in_access path ∷ rest) (v ∷ vs) places holds x zero w o once lost ne is at names = absurd (cc is)
+copied_here (in_record p ∷ rest) (v ∷ vs) places holds x zero w o once lost ne is at names = absurd (cc is)
+copied_here (in_out_component path ∷ rest) (v ∷ vs) places holds x zero w o once lost ne is at names = absurd (cc is)
+copied_here (in_out_record p ∷ rest) (v ∷ vs) places holds x zero w o once lost ne is at names = absurd (cc is)
 copied_here (in_out_path path ∷ rest) (v ∷ vs) places holds x zero w o once lost ne is at names = absurd (cc is)
 copied_here (in_out_access path ∷ rest) (v ∷ vs) places holds x zero w o once lost ne is at names =
     let here : path.root ≡ x = cc is in
@@ -232,6 +295,9 @@ copied_here (in_out_access path ∷ rest) (v ∷ vs) places holds x zero w o onc
 copied_here (in_value e ∷ rest) (v ∷ vs) places holds x (suc i) w o once lost ne is at names = copied_here rest vs places holds x i w o (once_later (in_value e) rest x once) lost ne is at names
 copied_here (in_null ∷ rest) (v ∷ vs) places holds x (suc i) w o once lost ne is at names = copied_here rest vs places holds x i w o (once_later in_null rest x once) lost ne is at names
 copied_here (in_access path ∷ rest) (v ∷ vs) places holds x (suc i) w o once lost ne is at names = copied_here rest vs places holds x i w o (once_later (in_access path) rest x once) lost ne is at names
+copied_here (in_record p ∷ rest) (v ∷ vs) places holds x (suc i) w o once lost ne is at names = copied_here rest vs places holds x i w o (once_later (in_record p) rest x once) lost ne is at names
+copied_here (in_out_component path ∷ rest) (v ∷ vs) places holds x (suc i) w o once lost ne is at names = copied_here rest vs places holds x i w o (once_later (in_out_component path) rest x once) lost ne is at names
+copied_here (in_out_record p ∷ rest) (v ∷ vs) places holds x (suc i) w o once lost ne is at names = copied_here rest vs places holds x i w o (once_later (in_out_record p) rest x once) lost ne is at names
 copied_here (in_out_path path ∷ rest) (v ∷ vs) places holds x (suc i) w o once lost ne is at names =
     copied_here rest vs (slice_set places path.root v) holds x i w o (once_later (in_out_path path) rest x once) lost.1 ne is at names
 copied_here (in_out_access path ∷ rest) (v ∷ vs) places holds x (suc i) w o once lost ne is at names =
@@ -287,7 +353,7 @@ lost_or_not (hold.Alias r) = inr (λ e. cc e)
 lost_or_not hold.Lost = inl refl
 
 -- What gives something back is not lost, and what is kept gives something back: what the call gave it.
-gives_some : (h : Hold) → gives_back h ≡ true → h ≢ hold.Lost
+pub gives_some : (h : Hold) → gives_back h ≡ true → h ≢ hold.Lost
 gives_some h gives lost = absurd (cc (rw lost at gives))
 
 kept_gives : (h : Hold) → is_kept h ≡ true → gives_back h ≡ true
@@ -376,14 +442,21 @@ module _ (body : ProgramForm) (w : Caller) (ws : List Caller) (waits : Waits bod
         go (inl (i, is)) = given (back_here w.actuals w.before x i (once x) is)
         go (inr none) = other none (lost_or_not (hold_at w.before x))
 
-    pub objects_back : (x : ℕ) → is_object w.program.variables x ≡ true → hold_at known_back x ≢ hold.Lost → place_at held_back x ≢ Null
-    objects_back x is ne null = go (handed_or_not w.actuals x)
+    pub objects_back : ((i x : ℕ) → handed_at w.actuals i ≡ Some x → IsPlain (place_at places i)) → (x : ℕ) → hold_at known_back x ≢ hold.Lost → IsPlace w.program.types (referenced_in ws) (variable_kind w.program.variables x) (place_at held_back x)
+    objects_back plain x ne = go (handed_or_not w.actuals x)
       where
-        go : HandedOrNot w.actuals x → ⊥
-        go (inl (i, at)) = no_object w.program.variables x (waits.hands.plain i x at) is
+        back_plain : (i x : ℕ) → handed_at w.actuals i ≡ Some x → IsPlain (place_at held_back x)
+        back_plain i y at = copied_plain w.actuals places w.places w.before y i (place_at places i) (once y) waits.lost (not_lost i y at) at (has_place i y at) (plain i y at)
+
+        -- What is handed over is no record object; what comes back there refers to no record.
+        given : (i : ℕ) → handed_at w.actuals i ≡ Some x → IsPlace w.program.types (referenced_in ws) (variable_kind w.program.variables x) (place_at held_back x)
+        given i at = plain_by w.program.types (referenced_in ws) (variable_kind w.program.variables x) (place_at held_back x) (waits.hands.plain i x at) (back_plain i x at)
+
+        go : HandedOrNot w.actuals x → IsPlace w.program.types (referenced_in ws) (variable_kind w.program.variables x) (place_at held_back x)
+        go (inl (i, at)) = given i at
         go (inr none) =
             let before = rw (back_other w.actuals w.before x none) at ne in
-            waits.objects x is before (sym (copied_other w.actuals places w.places w.before x none waits.lost before) ∙ null)
+            rw (copied_other w.actuals places w.places w.before x none waits.lost before) (waits.objects x before)
 
   -- Where the body raises an exception.
   module _ (keeps : KeepsAll w.kept holds) (told : (x : ℕ) → IsSaid (place_at w.passed x) (hold_at holds x) (place_at places x)) where
@@ -423,9 +496,9 @@ module _ (body : ProgramForm) (w : Caller) (ws : List Caller) (waits : Waits bod
         go (inl (i, is)) = rw (left_here w.kept w.actuals w.before x i (once x) is) (moved_said (is_kept_at w.kept i) (place_at (given_in ws) x) (hold_at w.before x) (place_at w.places x) (waits.said x))
         go (inr none) = rw (left_other w.kept w.actuals w.before x none) (waits.said x)
 
-    pub objects_left : (x : ℕ) → is_object w.program.variables x ≡ true → hold_at known_left x ≢ hold.Lost → place_at w.places x ≢ Null
-    objects_left x is ne null = go (handed_or_not w.actuals x)
+    pub objects_left : (x : ℕ) → hold_at known_left x ≢ hold.Lost → IsPlace w.program.types (referenced_in ws) (variable_kind w.program.variables x) (place_at w.places x)
+    objects_left x ne = go (handed_or_not w.actuals x)
       where
-        go : HandedOrNot w.actuals x → ⊥
-        go (inl (i, at)) = no_object w.program.variables x (waits.hands.plain i x at) is
-        go (inr none) = waits.objects x is (rw (left_other w.kept w.actuals w.before x none) at ne) null
+        go : HandedOrNot w.actuals x → IsPlace w.program.types (referenced_in ws) (variable_kind w.program.variables x) (place_at w.places x)
+        go (inl (i, at)) = waits.objects x (not_lost i x at)
+        go (inr none) = waits.objects x (rw (left_other w.kept w.actuals w.before x none) at ne)

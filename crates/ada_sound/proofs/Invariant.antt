@@ -6,19 +6,21 @@ use Rattle.ada_text.specs.declared.spot.Spot.{Spot}
 use Rattle.std.specs.List.{list_any, slice_get, slice_index_or, slice_set}
 use Rattle.ada_program.specs.declared.program.Exception.{Exception}
 use Rattle.ada_program.specs.declared.program.Exception.TheVariants.{ConstraintError, StorageError, EndError}
-use Rattle.ada_program.specs.Form.{ActualForm, in_value, in_null, in_access, in_out_path, in_out_access, PathForm, ExpressionForm, ItemForm, null_item, item_of_path, item_of_value, item_of_record, RightForm, nothing, value_of, allocates, allocates_default, computes, assigns, StmtsForm, a_stmt, BranchesForm, HandlersForm, DeclarationForm}
+use Rattle.ada_program.specs.Form.{ActualForm, in_value, in_null, in_access, in_record, in_out_path, in_out_access, in_out_component, in_out_record, PathForm, RecordPathForm, ExpressionForm, ItemForm, null_item, item_of_path, item_of_value, item_of_record, RightForm, nothing, value_of, allocates, allocates_default, computes, assigns, StmtsForm, a_stmt, BranchesForm, HandlersForm, DeclarationForm}
 use Rattle.ada_program.specs.declared.program.ComponentKind.{ComponentKind}
 use Rattle.ada_program.specs.ProgramForm.{TypeForm, VariableForm, BodyForm, ProgramForm, main_body}
 use Rattle.ada_program.specs.declared.program.VariableKind.{VariableKind}
-use Rattle.ada_program.specs.WellFormed.{is_access, access_of, selectors_kind, variable_kind, record_components, reached_components, items_fit, is_record_object, profile_of, suits_profile}
+use Rattle.ada_program.specs.declared.program.VariableKind.TheVariants as variable
+use Rattle.ada_program.specs.declared.program.TypeNo.{TypeNo}
+use Rattle.ada_program.specs.WellFormed.{is_access, access_of, kind_among, selectors_kind, variable_kind, record_components, reached_components, items_fit, is_record_object, profile_of, suits_profile}
 use Rattle.ada_program.specs.Handling.{is_same, handler_of}
-use Rattle.ada_effects.specs.Effects.{expression_raises, links_raise, items_raise, path_raises, condition_raises, unary_raises, binary_raises, right_raises, declaration_raises, stmts_raise, branches_raise, handlers_raise, Effect, call_raises, body_raises, stmts_free, branches_free, handlers_free, call_frees, effects_of}
+use Rattle.ada_effects.specs.Effects.{expression_raises, links_raise, items_raise, path_raises, record_path_raises, condition_raises, unary_raises, binary_raises, right_raises, declaration_raises, stmts_raise, branches_raise, handlers_raise, Effect, call_raises, body_raises, stmts_free, branches_free, handlers_free, call_frees, effects_of}
 use Rattle.ada_flow.specs.declared.rule.Hold.TheVariants as hold
 use Rattle.ada_flow.specs.declared.rule.Region.TheVariants.{Whole}
-use Rattle.ada_flow.specs.Flow.{Holds, hold_at, variable_access, Outcome, faults, goes, Use, uses_in, uses_in_links, uses_in_item, named_by_item, is_owning, is_owning_record, owns_at_first, broken_among, without_values, moved_by_items, passes_type, behind_end, gives, gives_component, clears, compares_it, uses_in_actuals, Keeping, keeping_of, kept_at, is_kept, handed_back, left_unkept, owed_from, gives_back, all_give_back, are_as_good, have_exit, branches_have_exit, handlers_have_exit, is_left, condition_flow, stmts_flow, branches_flow, handlers_flow, declaration_flow, Gone as GoneWith, collected, is_among, left, left_by_call, nothing_gone, Around}
+use Rattle.ada_flow.specs.Flow.{Holds, hold_at, variable_access, lost_by, Outcome, faults, goes, Use, uses_in, uses_in_links, uses_in_item, named_by_item, is_owning, is_owning_record, owns_at_first, broken_among, without_values, moved_by_items, passes_type, behind_end, gives, gives_component, clears, compares_it, uses_in_actuals, Keeping, keeping_of, kept_at, is_kept, handed_back, left_unkept, owed_from, gives_back, all_give_back, are_as_good, have_exit, branches_have_exit, handlers_have_exit, is_left, condition_flow, stmts_flow, branches_flow, handlers_flow, declaration_flow, Gone as GoneWith, collected, is_among, left, left_by_call, nothing_gone, Around}
 use Rattle.ada_meaning.specs.declared.state.Id.{Id}
 use Rattle.ada_meaning.specs.declared.state.Value.{Value}
-use Rattle.ada_meaning.specs.declared.state.Value.TheVariants.{Null, Names, Scalar}
+use Rattle.ada_meaning.specs.declared.state.Value.TheVariants.{Null, Names, Scalar, Part}
 use Rattle.ada_meaning.specs.declared.state.Stage.TheVariants.{Existing, Gone}
 use Rattle.ada_meaning.specs.declared.state.Mode.{Mode}
 use Rattle.ada_meaning.specs.declared.state.Mode.TheVariants.{Running, Raising, Exiting, Returning}
@@ -26,12 +28,12 @@ use Rattle.ada_meaning.specs.declared.event.Cause.{Cause}
 use Rattle.ada_meaning.specs.declared.event.Cause.TheVariants.{Leaving, Freeing, Assigning, Undoing}
 use Rattle.ada_meaning.specs.declared.event.Halt.{Halt}
 use Rattle.ada_meaning.specs.declared.event.Halt.TheVariants.{Finished, Unhandled, Erroneous, Stuck, Memory}
-use Rattle.ada_meaning.specs.Frame.{Frame, Elaborates, Does, Decides, Repeats, Turns, Ranges, Counts, Exits, Handles, Closes, Leaves, Calls, Returns, Evaluates, Computes, Follows, TestsNull, Continues, Applies, AppliesAlone, Fills, Copies, Creates, Stores, Targets, StoresIn, TargetsRecord, StoresRecord, Receives, FreesIn, Declares, DeclaresRecord, Writes, Ends, GivesBack, Clears, ClearsIn}
+use Rattle.ada_meaning.specs.Frame.{Frame, Elaborates, Does, Decides, Repeats, Turns, Ranges, Counts, Exits, Handles, Closes, Leaves, Calls, Returns, Evaluates, Computes, Follows, TestsNull, Refers, RefersIn, Opens, OpensIn, Continues, Applies, AppliesAlone, Fills, Copies, Creates, Stores, Targets, StoresIn, TargetsRecord, StoresRecord, Receives, FreesIn, Declares, DeclaresRecord, Writes, Ends, GivesBack, Clears, ClearsIn}
 use Rattle.ada_meaning.specs.Event.{Born, Finalized, Back, Followed, Left, Line, Quiet}
 use Rattle.ada_meaning.specs.State.{Activation, Owned, declared, collection, record_object, Item, Master, height}
 use Rattle.ada_meaning.specs.Heap.{Home, finds}
-use Rattle.ada_meaning.specs.Step.{halts, moves, tells, asks, picks, first_or, older, in_front, before_last, last_of, places, operands}
-use Rattle.ada_meaning.specs.Named.{Object, State, Next, object_at, store}
+use Rattle.ada_meaning.specs.Step.{halts, moves, tells, asks, picks, first_or, older, in_front, before_last, last_of, selected, first_in, places, operands}
+use Rattle.ada_meaning.specs.Named.{Object, State, Next, object_at, named, store, whole, inside}
 use Rattle.ada_meaning.specs.Run.{Event}
 use Rattle.ada_meaning.specs.Law.{AtItem, leaving_by, LeavesHome}
 use Rattle.ada_sound.specs.Agreement.{Turning, Comes, ComesBy, ComesTo}
@@ -40,7 +42,7 @@ use Rattle.ada_sound.proofs.Stored.{Stored}
 use Rattle.ada_owners.specs.Keeping.{IsThere}
 use Rattle.ada_owners.specs.Places.{component_in}
 use Rattle.ada_owners.specs.Walks.{walk}
-use Rattle.ada_sound.proofs.Fits.{Outer, Outsiders, NoOuterAlias, IsSaid, place_at, Fit, IsRelied, MayFollow, component_access, is_object, none_spared, going}
+use Rattle.ada_sound.proofs.Fits.{Outer, Reference, IsReferred, IsPlace, Outsiders, NoOuterAlias, IsSaid, place_at, Fit, IsRelied, MayFollow, component_access, is_object, none_spared, going}
 use Rattle.ada_sound.proofs.Orderings.{AsGood}
 use Rattle.ada_sound.proofs.Alters.{BackIn, Alters}
 
@@ -68,13 +70,16 @@ Roomed below [] (gone ∷ rooms) = ⊥
 Roomed below (m ∷ ms) (gone ∷ rooms) = ItemsAmong m.items gone.types × Roomed below ms rooms
 
 -- A caller, whose activation is suspended: the program as its body sees it, and what is known where flow comes to a place in it; the actual parameters of
--- its call, their values, and what the procedure keeps of them; what is left to do once the call has come to its end, the masters that are entered then,
--- and their rooms; what its variables hold, and what is known of them behind the call, as if nothing were handed over.
+-- its call, their values, what refers to the components that get something back, the objects to which all that refers leads, and what the procedure keeps
+-- of them; what is left to do once the call has come to its end, the masters that are entered then, and their rooms; what its variables hold, and what is
+-- known of them behind the call, as if nothing were handed over.
 pub record Caller : Type 1 where
   pub program : ProgramForm
   pub At : Control → Holds → Type 0
   pub actuals : List ActualForm
   pub passed : List Value
+  pub references : List Value
+  pub referenced : List Reference
   pub kept : Keeping
   pub control : Control
   pub masters : List Master
@@ -105,8 +110,13 @@ abbrev pub given_in : List Caller → List Value
 given_in [] = []
 given_in (w ∷ ws) = w.passed
 
+-- The objects that the calls of these refer to.
+abbrev pub referenced_in : List Caller → List Reference
+referenced_in [] = []
+referenced_in (w ∷ ws) = w.referenced ++ referenced_in ws
+
 abbrev pub outers : Known → Outsiders
-outers known = record { given = given_in known.callers; suspended = outer_in known.callers }
+outers known = record { given = given_in known.callers; suspended = outer_in known.callers; referenced = referenced_in known.callers }
 
 -- The masters that the callers have entered.
 abbrev pub below_callers : List Caller → List Master
@@ -172,9 +182,9 @@ MayReturn variables owed within holds = all_give_back owed (left variables withi
 abbrev pub OnReturn : List VariableForm → Around → (Holds → Type 0) → Type 0
 OnReturn variables around returned = (holds : Holds) → MayReturn variables around.owed around.within holds → returned holds
 
--- Objects may be freed only of access types of which no suspended activation has an alias.
+-- Objects may be freed only of access types of which no suspended activation has an alias, and of which no call refers to an object.
 abbrev pub Spares : Known → (may : ℕ → Bool) → Type 0
-Spares known may = (t : ℕ) → may t ≡ true → NoOuterAlias (outers known) t
+Spares known may = (t : ℕ) → may t ≡ true → NoOuterAlias known.program.types (outers known) t
 
 -- Where a statement of the running body stands: the start of the innermost loop around it, if there is one, what goes with the blocks since, and with all
 -- blocks around it and the body.
@@ -315,21 +325,21 @@ KeepsAll kept holds = (x : ℕ) → is_kept_at kept x ≡ true → is_kept (hold
 
 -- The body of a call comes to its end: its caller goes on with what it was to do. At a normal end formal parameters give back what they owe, and where an
 -- exception leaves the body, they hold what is kept.
-abbrev pub returning : ProgramForm → List Caller → List ActualForm → Control → Ways
-returning p [] actuals k = nowhere
-returning p (w ∷ ws) actuals k = record {
-  normal = λ holds. (actuals ≡ w.actuals) × (k ≡ w.control) × (all_give_back (owed_in p) holds ≡ true);
+abbrev pub returning : ProgramForm → List Caller → List ActualForm → (references : List Value) → Control → Ways
+returning p [] actuals references k = nowhere
+returning p (w ∷ ws) actuals references k = record {
+  normal = λ holds. (actuals ≡ w.actuals) × (references ≡ w.references) × (k ≡ w.control) × (all_give_back (owed_in p) holds ≡ true);
   raised = λ e holds. (body_among p e ≡ true) × (k ≡ w.control) × KeepsAll w.kept holds;
   exited = λ holds. ⊥;
-  returned = λ holds. (actuals ≡ w.actuals) × (k ≡ w.control) × (all_give_back (owed_in p) holds ≡ true);
+  returned = λ holds. (actuals ≡ w.actuals) × (references ≡ w.references) × (k ≡ w.control) × (all_give_back (owed_in p) holds ≡ true);
 }
 
 -- What is left to do, by the mode that it is come to in. A form that waits for a value is passed by a jump alone.
 abbrev pub ways : Known → Control → Rooms → Ways
 ways known [] [] = at_end known.callers
 ways known [] (gone ∷ rooms) = nowhere
-ways known (Returns actuals ∷ k) [] = returning known.program known.callers actuals k
-ways known (Returns actuals ∷ k) (gone ∷ rooms) = nowhere
+ways known (Returns actuals references ∷ k) [] = returning known.program known.callers actuals references k
+ways known (Returns actuals references ∷ k) (gone ∷ rooms) = nowhere
 ways known (Elaborates ds fs hs ∷ k) [] = nowhere
 ways known (Elaborates ds fs hs ∷ k) (gone ∷ rooms) = record (Outside known.program.variables gone (ways known k rooms)) {
   normal = λ holds. AllAmong (collected ds) gone.types × Elaborating known ds (Doing known fs (Handles hs ∷ Closes ∷ k) (Handled known hs (Closes ∷ k) (Outside known.program.variables gone (ways known k rooms)))) (Outside known.program.variables gone (ways known k rooms)) holds;
@@ -431,9 +441,17 @@ DeclaresTo known right rooms holds x k =
 abbrev pub component_among : (may : Bool) → RightForm → Exception → Bool
 component_among may right e = (is_same e ConstraintError && may) || right_raises (is_same e) right
 
+-- Where a path begins (4.1, 6.2): with what its variable holds; or, where that refers to a record, with the object in which the record lies. And the
+-- selectors behind that.
+abbrev pub begun : List Value → PathForm → Value
+begun places path = whole (place_at places path.root)
+
+abbrev pub along : List Value → PathForm → List ℕ
+along places path = selected named (place_at places path.root) path.selectors
+
 -- A path leads to what is found behind this value by these selectors, and names this component of it last.
 abbrev pub LeadsTo : List Object → List Value → Value → List ℕ → (c : ℕ) → PathForm → Type 0
-LeadsTo heap places w cs c path = (walk heap (place_at places path.root) (front path.selectors) ≡ walk heap w cs) × (final path.selectors ≡ Some c)
+LeadsTo heap places w cs c path = (walk heap (begun places path) (front (along places path)) ≡ walk heap w cs) × (final (along places path) ≡ Some c)
 
 -- A component gets what is assigned, to which a path leads.
 abbrev pub FillsIn : Known → RightForm → (leads : PathForm → Type 0) → Rooms → Holds → Control → Type 0
@@ -447,6 +465,7 @@ abbrev pub IsHolder : List Object → Value → Type 0
 IsHolder heap Null = ⊥
 IsHolder heap (Names o) = IsThere heap o
 IsHolder heap (Scalar v) = ⊥
+IsHolder heap (Part o first) = ⊥
 
 -- What is evaluated is awaited by a variable, or by a component of an object that is there. Null that is awaited by a component is none of these.
 abbrev pub Takes : Known → List Object → List Value → RightForm → Control → Rooms → Holds → Type 0
@@ -462,6 +481,7 @@ Accepts known heap Null c access = ⊥
 Accepts known heap (Names o) c access =
     (object : Object) × (object_at heap o ≡ Some object) × (object.listed ≡ true) × (component_access known.program.types object c ≡ access)
 Accepts known heap (Scalar v) c access = ⊥
+Accepts known heap (Part o first) c access = ⊥
 
 -- Items of an allocator, newest first, and those behind them.
 abbrev pub back_onto : List ItemForm → List ItemForm → List ItemForm
@@ -488,7 +508,7 @@ DoneKeep types spot target holds (d ∷ done) =
 -- item of its own.
 abbrev pub FilledBy : List Object → List Value → ItemForm → Value → Type 0
 FilledBy heap places null_item v = v ≡ Null
-FilledBy heap places (item_of_path path) v = walk heap (place_at places path.root) path.selectors ≡ finds v
+FilledBy heap places (item_of_path path) v = walk heap (begun places path) (along places path) ≡ finds v
 FilledBy heap places (item_of_value e) v = Unit {0}
 FilledBy heap places (item_of_record p) v = ⊥
 
@@ -549,6 +569,7 @@ IsPlainIn known heap (Names o) first count =
     × (components : List ComponentKind) × (reached_components known.program.types object.cell.access ≡ Some components)
     × (list_any is_owning (take count (drop first components)) ≡ false)
 IsPlainIn known heap (Scalar v) first count = ⊥
+IsPlainIn known heap (Part o base) first count = ⊥
 
 -- The innermost master may own a record object that is known by this type.
 abbrev pub MayOwn : Rooms → (object_type : ℕ) → Type 0
@@ -618,7 +639,7 @@ pub record Releasing (known : Known) (heap : List Object) (v : Value) (cs : List
   pub passes : PassesNone known.program.types from (cs ++ c ∷ []) access
   pub of_type : access_of (selectors_kind known.program.types from (cs ++ c ∷ [])) ≡ access
   pub own : (t : ℕ) → access ≡ Some t → is_access known.program.types t ≡ true
-  pub spares : (t : ℕ) → access ≡ Some t → NoOuterAlias (outers known) t
+  pub spares : (t : ℕ) → access ≡ Some t → NoOuterAlias known.program.types (outers known) t
   pub raises : RaisesAt known v cs k rooms (behind_end known.program.variables access holds)
   pub runs : RunsOn known k rooms (behind_end known.program.variables access holds)
 
@@ -639,8 +660,11 @@ GetLost [] holds = Unit {0}
 GetLost (in_value e ∷ rest) holds = GetLost rest holds
 GetLost (in_null ∷ rest) holds = GetLost rest holds
 GetLost (in_access path ∷ rest) holds = GetLost rest holds
+GetLost (in_record p ∷ rest) holds = GetLost rest holds
 GetLost (in_out_path path ∷ rest) holds = (hold_at holds path.root ≡ hold.Lost) × GetLost rest holds
 GetLost (in_out_access path ∷ rest) holds = GetLost rest holds
+GetLost (in_out_component path ∷ rest) holds = GetLost rest holds
+GetLost (in_out_record p ∷ rest) holds = GetLost rest holds
 
 -- What is known of the calls of a procedure of the running body, and what it keeps.
 abbrev pub effect_in : Known → (procedure : ℕ) → Option Effect
@@ -653,6 +677,10 @@ kept_in known procedure = kept_at (keeping_of known.program) procedure
 abbrev pub left_in : Known → (procedure : ℕ) → Holds → Holds
 left_in known procedure holds = left_by_call known.program.variables (effect_in known procedure) holds
 
+-- Record objects and record parameters are of no access types.
+abbrev pub AreRecords : Known → Type 0
+AreRecords known = (x : ℕ) (t : TypeNo) → variable_kind known.program.variables x ≡ Some (variable.Record t) → is_access known.program.types t.0 ≡ false
+
 -- A call is next (6.4): of a procedure that the running body may call, and which the actual parameters suit. They break no rule. Behind it what is handed
 -- over is owned again, and where it raises an exception, it is lost unless it is kept.
 abbrev pub CallsOn : Known → (procedure : ℕ) → BodyForm → List ActualForm → Control → Rooms → Holds → Type 0
@@ -664,20 +692,38 @@ CallsOn known procedure b actuals k rooms holds =
     × Spares known (call_frees (effect_in known procedure))
     × GetLost actuals holds
     × (suits_profile known.program.types known.program.variables (Some (profile_of b)) actuals ≡ true)
-    × NoneBroken holds (uses_in_actuals [] actuals)
+    × NoneBroken holds (uses_in_actuals known.program.types known.program.variables (call_frees (effect_in known procedure)) [] actuals)
+    × AreRecords known
 
--- The value of an actual parameter of an access type: null, or what the path leads to. Nothing is known of an Integer or a Boolean.
+-- What a record parameter gets (6.2): it refers to the object to which a path leads.
+abbrev pub ReferredBy : List Object → List Value → RecordPathForm → Value → Type 0
+ReferredBy heap places p v =
+    (o : Id) × (v ≡ Part o (first_in named (place_at places p.object.root) p.object.selectors p.first))
+    × (walk heap (begun places p.object) (along places p.object) ≡ finds (Names o))
+
+-- What refers to the component to which a path leads (6.4.1).
+abbrev pub OpenedBy : List Object → List Value → PathForm → Value → Type 0
+OpenedBy heap places path r =
+    (o : Id) × (c : ℕ) × (r ≡ Part o c) × (walk heap (begun places path) (front (along places path)) ≡ finds (Names o)) × (final (along places path) ≡ Some c)
+
+-- The value of an actual parameter of an access type: null, or what the path leads to; or what refers to a record. Nothing is known of an Integer or a
+-- Boolean.
 abbrev pub PassedBy : List Object → List Value → ActualForm → Value → Type 0
 PassedBy heap places (in_value e) v = Unit {0}
 PassedBy heap places in_null v = v ≡ Null
-PassedBy heap places (in_access path) v = walk heap (place_at places path.root) path.selectors ≡ finds v
+PassedBy heap places (in_access path) v = walk heap (begun places path) (along places path) ≡ finds v
+PassedBy heap places (in_record p) v = ReferredBy heap places p v
 PassedBy heap places (in_out_path path) v = Unit {0}
-PassedBy heap places (in_out_access path) v = walk heap (place_at places path.root) path.selectors ≡ finds v
+PassedBy heap places (in_out_access path) v = walk heap (begun places path) (along places path) ≡ finds v
+PassedBy heap places (in_out_component path) v = Unit {0}
+PassedBy heap places (in_out_record p) v = ReferredBy heap places p v
 
--- The newest operands are the values of actual parameters, newest first.
+-- The newest operands are the values of actual parameters, newest first. In front of a component's value lies what refers to it.
 abbrev pub ArePassed : List Object → List Value → List ActualForm → List Value → Type 0
 ArePassed heap places [] operands = Unit {0}
 ArePassed heap places (d ∷ done) [] = ⊥
+ArePassed heap places (in_out_component path ∷ done) (v ∷ []) = ⊥
+ArePassed heap places (in_out_component path ∷ done) (v ∷ r ∷ vs) = OpenedBy heap places path r × ArePassed heap places done vs
 ArePassed heap places (d ∷ done) (v ∷ vs) = PassedBy heap places d v × ArePassed heap places done vs
 
 -- An access value that is passed breaks no rule, and it is known what it raises; and this is its value.
@@ -690,7 +736,7 @@ PassesBy known (computes e) k rooms holds = ⊥
 
 abbrev pub RightIs : List Object → List Value → RightForm → Value → Type 0
 RightIs heap places nothing v = v ≡ Null
-RightIs heap places (value_of path) v = walk heap (place_at places path.root) path.selectors ≡ finds v
+RightIs heap places (value_of path) v = walk heap (begun places path) (along places path) ≡ finds v
 RightIs heap places (allocates access items) v = ⊥
 RightIs heap places (allocates_default access) v = ⊥
 RightIs heap places (computes e) v = ⊥
@@ -703,6 +749,12 @@ PassesTo known heap places operands (Computes e ∷ k) rooms holds =
     × ((v : Value) → PassesTo known heap places (v ∷ operands) k rooms holds)
 PassesTo known heap places operands (Evaluates right ∷ k) rooms holds =
     PassesBy known right k rooms holds × ((v : Value) → RightIs heap places right v → PassesTo known heap places (v ∷ operands) k rooms holds)
+PassesTo known heap places operands (Refers p ∷ k) rooms holds =
+    (lost_by (hold_at holds p.object.root) p.object.spot ≡ None) × MayRaise known (record_path_raises p) ConstraintError k rooms holds
+    × ((v : Value) → ReferredBy heap places p v → PassesTo known heap places (v ∷ operands) k rooms holds)
+PassesTo known heap places operands (Opens path ∷ k) rooms holds =
+    (lost_by (hold_at holds path.root) path.spot ≡ None) × MayRaise known (path_raises path) ConstraintError k rooms holds
+    × ((v r : Value) → OpenedBy heap places path r → PassesTo known heap places (v ∷ r ∷ operands) k rooms holds)
 PassesTo known heap places operands (Calls procedure b actuals ∷ k) rooms holds =
     CallsOn known procedure b actuals k rooms holds × ArePassed heap places (reverse actuals) operands
 PassesTo known heap places operands (f ∷ k) rooms holds = ⊥
@@ -732,6 +784,8 @@ Awaits known heap places below (Calls procedure b actuals ∷ k) rooms holds =
     (v : Value) → PassesTo known heap places (v ∷ below) (Calls procedure b actuals ∷ k) rooms holds
 Awaits known heap places below (Evaluates right ∷ k) rooms holds =
     (v : Value) → PassesTo known heap places (v ∷ below) (Evaluates right ∷ k) rooms holds
+Awaits known heap places below (Refers p ∷ k) rooms holds = (v : Value) → PassesTo known heap places (v ∷ below) (Refers p ∷ k) rooms holds
+Awaits known heap places below (Opens path ∷ k) rooms holds = (v : Value) → PassesTo known heap places (v ∷ below) (Opens path ∷ k) rooms holds
 Awaits known heap places below (StoresIn o c ∷ k) rooms holds = Accepts known heap o c None × RunsOn known k rooms holds
 Awaits known heap places below (Writes ∷ k) rooms holds = RunsOn known k rooms holds
 Awaits known heap places below (f ∷ k) rooms holds = ⊥
@@ -810,6 +864,7 @@ abbrev pub EndingBy : Known → Value → Control → List Object → List Value
 EndingBy known Null k heap places masters = ⊥
 EndingBy known (Names o) k heap places masters = Ending known o k heap places masters
 EndingBy known (Scalar v) k heap places masters = ⊥
+EndingBy known (Part o first) k heap places masters = ⊥
 
 -- The words of an object are to go back.
 pub record Backing (known : Known) (o : Id) (cause : Cause) (pool : Option ℕ) (k : Control) (heap : List Object) (places : List Value) (masters : List Master) : Type 0 where
@@ -825,6 +880,7 @@ abbrev pub BackingBy : Known → Value → Cause → Option ℕ → Control → 
 BackingBy known Null cause pool k heap places masters = ⊥
 BackingBy known (Names o) cause pool k heap places masters = Backing known o cause pool k heap places masters
 BackingBy known (Scalar v) cause pool k heap places masters = ⊥
+BackingBy known (Part o first) cause pool k heap places masters = ⊥
 
 -- The second half of a take pair is next: its path leads to an object that is there, and the component counts as null already; what it still names
 -- is there.
@@ -834,8 +890,8 @@ pub record Half (known : Known) (fs : StmtsForm) (k : Control) (heap : List Obje
   pub o : Id
   pub c : ℕ
   pub is : fs ≡ a_stmt (assigns path nothing) later
-  pub last : final path.selectors ≡ Some c
-  pub found : walk heap (place_at places path.root) (front path.selectors) ≡ finds (Names o)
+  pub last : final (along places path) ≡ Some c
+  pub found : walk heap (begun places path) (front (along places path)) ≡ finds (Names o)
   pub there : IsThere heap o
   pub kept : (p : Id) → component_in (object_at heap o) c ≡ Names p → IsThere heap p
   pub works : Working known (store heap (Names o) c Null) places masters (RunsOn known (Does fs ∷ k))
@@ -854,6 +910,7 @@ abbrev pub Clearing : Known → Value → (c : ℕ) → Control → List Object 
 Clearing known Null c k heap places masters = ⊥
 Clearing known (Names o) c k heap places masters = IsThere heap o × Working known (store heap (Names o) c Null) places masters (RunsOn known k)
 Clearing known (Scalar v) c k heap places masters = ⊥
+Clearing known (Part o first) c k heap places masters = ⊥
 
 -- What is evaluated goes to a variable, or to a component; null to a component counts as stored already.
 abbrev pub EvaluatesTo : Known → RightForm → Control → List Object → List Value → List Master → Type 0
@@ -865,18 +922,24 @@ abbrev pub TargetsTo : Known → Value → (c : ℕ) → RightForm → Control �
 TargetsTo known v c right k heap places masters =
     Working known heap places masters (Targeting known heap places v c right k) ⊎ ((right ≡ nothing) × Clearing known v c k heap places masters)
 
+-- Components get Integers and Booleans one after another, as behind a call, before what is left goes on.
+abbrev pub StoresOn : Known → List Object → Control → Rooms → Holds → Type 0
+StoresOn known heap [] rooms holds = RunsOn known [] rooms holds
+StoresOn known heap (StoresIn o c ∷ k) rooms holds = Accepts known heap o c None × StoresOn known heap k rooms holds
+StoresOn known heap (f ∷ k) rooms holds = RunsOn known (f ∷ k) rooms holds
+
 -- A value goes into a component: what it was in hand counts as stored already; an Integer or a Boolean does not.
 abbrev pub StoringIn : Known → Value → (c : ℕ) → Value → Control → List Object → List Value → List Master → Type 0
 StoringIn known o c v k heap places masters =
     (IsHolder heap o × Resumes known (store heap o c v) places masters k)
-    ⊎ Working known heap places masters (λ rooms holds. Accepts known heap o c None × RunsOn known k rooms holds)
+    ⊎ Working known heap places masters (λ rooms holds. Accepts known heap o c None × StoresOn known heap k rooms holds)
 
 -- A path that is moved leads on from this value, by these selectors.
 abbrev pub WalksOn : List Object → List Value → PathForm → Value → List ℕ → Type 0
-WalksOn heap places path w cs = (walk heap (place_at places path.root) (front path.selectors) ≡ walk heap w (front cs)) × (final path.selectors ≡ final cs)
+WalksOn heap places path w cs = (walk heap (begun places path) (front (along places path)) ≡ walk heap w (front cs)) × (final (along places path) ≡ final cs)
 
 -- What a path is followed for: a value that is read; a component or a record that is a target; a component that is freed; a record that is copied; a
--- value that is moved; or an item's value.
+-- record or a component that is given; a value that is moved; or an item's value.
 abbrev pub FindsFor : Known → List Object → List Value → Value → (below : List Value) → List ℕ → Control → Rooms → Holds → Type 0
 FindsFor known heap places w below cs [] rooms holds = ⊥
 FindsFor known heap places w below cs (Targets c right ∷ k) rooms holds =
@@ -887,6 +950,11 @@ FindsFor known heap places w below cs (Copies first t ∷ k) rooms holds =
 FindsFor known heap places w below cs (Receives c ∷ k) rooms holds =
     RaisesAt known w cs k rooms holds × MayRaise known true EndError k rooms holds × RunsOn known k rooms holds
 FindsFor known heap places w below cs (FreesIn access c ∷ k) rooms holds = Releasing known heap w cs c k rooms holds
+FindsFor known heap places w below cs (RefersIn first t ∷ k) rooms holds =
+    RaisesAt known w cs k rooms holds × ((o : Id) → walk heap w cs ≡ finds (Names o) → PassesTo known heap places (Part o first ∷ below) k rooms holds)
+FindsFor known heap places w below cs (OpensIn c ∷ k) rooms holds =
+    RaisesAt known w cs k rooms holds
+    × ((o : Id) (v : Value) → walk heap w cs ≡ finds (Names o) → PassesTo known heap places (v ∷ Part o c ∷ below) k rooms holds)
 FindsFor known heap places w below cs (f ∷ k) rooms holds = ⊥
 
 abbrev pub MovesOn : Known → List Object → List Value → Value → List ℕ → Control → Rooms → Holds → Type 0
@@ -930,7 +998,7 @@ ReadyBy known (Handles hs) k heap places operands masters = Working known heap p
 ReadyBy known Closes k heap places operands masters = Working known heap places masters (RunsOn known (Closes ∷ k))
 ReadyBy known (Calls procedure b actuals) k heap places operands masters =
     Working known heap places masters (PassesTo known heap places operands (Calls procedure b actuals ∷ k))
-ReadyBy known (Returns actuals) k heap places operands masters = Working known heap places masters (RunsOn known (Returns actuals ∷ k))
+ReadyBy known (Returns actuals references) k heap places operands masters = Working known heap places masters (RunsOn known (Returns actuals references ∷ k))
 ReadyBy known (Leaves mode) k heap places operands masters = Parting known heap places masters (RunsOn known (Leaves mode ∷ k))
 ReadyBy known (Evaluates right) k heap places operands masters =
     EvaluatesTo known right k heap places masters ⊎ Working known heap places masters (PassesTo known heap places operands (Evaluates right ∷ k))
@@ -939,6 +1007,12 @@ ReadyBy known (Follows cs) k heap places operands masters =
     Working known heap places masters (FollowsFor known heap places (first_or Null operands) (older operands) cs k)
     ⊎ HalfFollows known (first_or Null operands) cs k heap places masters
 ReadyBy known (TestsNull equal) k heap places operands masters = Working known heap places masters (Awaits known heap places (older operands) k)
+ReadyBy known (Refers p) k heap places operands masters = Working known heap places masters (PassesTo known heap places operands (Refers p ∷ k))
+ReadyBy known (RefersIn first t) k heap places operands masters = Working known heap places masters (λ rooms holds.
+    MayFollow heap (first_or Null operands) × FindsFor known heap places (first_or Null operands) (older operands) [] (RefersIn first t ∷ k) rooms holds)
+ReadyBy known (Opens path) k heap places operands masters = Working known heap places masters (PassesTo known heap places operands (Opens path ∷ k))
+ReadyBy known (OpensIn c) k heap places operands masters = Working known heap places masters (λ rooms holds.
+    MayFollow heap (first_or Null operands) × FindsFor known heap places (first_or Null operands) (older operands) [] (OpensIn c ∷ k) rooms holds)
 ReadyBy known (Continues links) k heap places operands masters = Working known heap places masters (Awaits known heap places (older operands) (Continues links ∷ k))
 ReadyBy known (Applies operator) k heap places operands masters = Working known heap places masters (Awaits known heap places (older operands) (Applies operator ∷ k))
 ReadyBy known (AppliesAlone operator) k heap places operands masters =
@@ -992,8 +1066,11 @@ abbrev pub handed : ActualForm → Option ℕ
 handed (in_value e) = None
 handed in_null = None
 handed (in_access path) = None
+handed (in_record p) = None
 handed (in_out_path path) = None
 handed (in_out_access path) = Some path.root
+handed (in_out_component path) = None
+handed (in_out_record p) = None
 
 abbrev pub handed_at : List ActualForm → (formal : ℕ) → Option ℕ
 handed_at [] i = None
@@ -1007,20 +1084,30 @@ pub record Hands (body own : ProgramForm) (actuals : List ActualForm) (holds : H
   pub once : (i j x : ℕ) → handed_at actuals i ≡ Some x → handed_at actuals j ≡ Some x → i ≡ j
   pub owned : (i x : ℕ) → handed_at actuals i ≡ Some x → gives_back (hold_at holds x) ≡ true
   pub plain : (i x : ℕ) → handed_at actuals i ≡ Some x → is_object own.variables x ≡ false
+  pub formal : (i x : ℕ) → handed_at actuals i ≡ Some x → is_object body.variables i ≡ false
   pub owes : (i x : ℕ) → handed_at actuals i ≡ Some x → (after : Holds) → all_give_back (owed_in body) after ≡ true → gives_back (hold_at after i) ≡ true
+
+-- These refer to components of objects that are referred to, which hold Integers or Booleans.
+abbrev pub AreOpened : List TypeForm → List Reference → (references : List Value) → Type 0
+AreOpened types referenced [] = Unit {0}
+AreOpened types referenced (r ∷ rs) =
+    ((o : Id) × (c t : ℕ) × (r ≡ Part o c) × IsReferred referenced o t × (access_of (kind_among (reached_components types t) c) ≡ None))
+    × AreOpened types referenced rs
 
 -- A caller waits for a body: it goes on with what is known of its variables, behind the call and where the body raises an exception; its masters have their
 -- rooms; what is called null is null, what is kept holds what was given, and a record object that is not lost is there; nothing relies on the Integers and
--- Booleans that get something back; and what is handed over is what the formal parameters were given.
+-- Booleans that get something back; what is handed over is what the formal parameters were given; and the components that get something back hold
+-- Integers or Booleans.
 pub record Waits (body : ProgramForm) (w : Caller) (ws : List Caller) : Type 0 where
   pub goes_on : To (RunsOn (known_of w ws) w.control w.rooms) (handed_back w.actuals w.before)
   pub raises : (e : Exception) → body_among body e ≡ true → To ((ways (known_of w ws) w.control w.rooms).raised e) (left_unkept w.kept w.actuals w.before)
   pub roomed : Roomed (below_callers ws) w.masters w.rooms
   pub said : (x : ℕ) → IsSaid (place_at (given_in ws) x) (hold_at w.before x) (place_at w.places x)
-  pub objects : (x : ℕ) → is_object w.program.variables x ≡ true → hold_at w.before x ≢ hold.Lost → place_at w.places x ≢ Null
+  pub objects : (x : ℕ) → hold_at w.before x ≢ hold.Lost → IsPlace w.program.types (referenced_in ws) (variable_kind w.program.variables x) (place_at w.places x)
   pub lost : GetLost w.actuals w.before
   pub hands : Hands body w.program w.actuals w.before
   pub passes : (i x : ℕ) → handed_at w.actuals i ≡ Some x → place_at w.passed i ≡ place_at w.places x
+  pub opened : AreOpened w.program.types w.referenced w.references
 
 -- So does each caller, for the body that it called.
 abbrev pub AllWait : ProgramForm → List Caller → Type 0
@@ -1034,12 +1121,13 @@ AreSuspended [] (w ∷ ws) = ⊥
 AreSuspended (a ∷ rest) [] = ⊥
 AreSuspended (a ∷ rest) (w ∷ ws) = (a.places ≡ w.places) × (a.operands ≡ []) × AreSuspended rest ws
 
--- What a caller's variable is relied on to name lies in an item of a master that was entered before its call.
+-- What a caller's variable is relied on to name, and what its call refers to, lies in an item of a master that was entered before its call.
 abbrev pub LieBelow : List Object → List Caller → Type 0
 LieBelow heap [] = Unit {0}
 LieBelow heap (w ∷ ws) =
     ((x : ℕ) (o : Id) → IsRelied (hold_at (waiting_holds w) x) → place_at w.places x ≡ Names o
     → (object : Object) × (object_at heap o ≡ Some object) × (suc object.cell.home.item ≤ height w.masters))
+    × ((o : Id) (t : ℕ) → IsReferred w.referenced o t → (object : Object) × (object_at heap o ≡ Some object) × (suc object.cell.home.item ≤ height w.masters))
     × LieBelow heap ws
 
 -- The callers of a state are as they are known.

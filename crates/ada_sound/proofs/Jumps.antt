@@ -74,26 +74,26 @@ module _ (known : Known) (k : Control) where
     handled_fine e (Some no_stmts) w = tt
     handled_fine e (Some (a_stmt f fs)) w = runs_on known (Does (a_stmt f fs) ∷ k) a rest s (at_work w w.rest) Quiet tt
 
-    pub raising_fine : (e : Exception) (f : Frame Value) → is_return f ≡ false → Working known s.heap a.places s.masters (GoesOn known (Raising e) (f ∷ k)) → Fine known s.heap s.masters (pass_next named (is_master f) (landing (Raising e) f) (Raising e) (unwound (Raising e) f (in_mode (Raising e) k a rest s)))
+    pub raising_fine : (e : Exception) (f : Frame Value) → is_return f ≡ false → Working known s.heap a.places s.masters (GoesOn known (Raising e) (f ∷ k)) → Fine known s.heap s.masters (pass_next named (is_master f) (landing (Raising e) f) (Raising e) (unwound named (Raising e) f (in_mode (Raising e) k a rest s)))
     raising_fine e (Elaborates ds fs hs) stays w = closes_fine (Raising e) (at_work w (raised_closes ds fs hs e w.rooms w.holds w.rest))
     raising_fine e Closes stays w = closes_fine (Raising e) w
     raising_fine e (Handles hs) stays w = handled_fine e (handler_of e hs) (at_work w w.rest)
     raising_fine e (Leaves mode) stays w = absurd (raised_leaves mode e w.rooms w.holds w.rest)
-    raising_fine e (Returns actuals) stays w = absurd (cc stays)
+    raising_fine e (Returns actuals references) stays w = absurd (cc stays)
     raising_fine e f stays w = goes_in_mode known k a rest s (Raising e) (at_work w w.rest)
 
-    pub exiting_fine : (f : Frame Value) → is_return f ≡ false → Working known s.heap a.places s.masters (GoesOn known Exiting (f ∷ k)) → Fine known s.heap s.masters (pass_next named (is_master f) (landing Exiting f) Exiting (unwound Exiting f (in_mode Exiting k a rest s)))
+    pub exiting_fine : (f : Frame Value) → is_return f ≡ false → Working known s.heap a.places s.masters (GoesOn known Exiting (f ∷ k)) → Fine known s.heap s.masters (pass_next named (is_master f) (landing Exiting f) Exiting (unwound named Exiting f (in_mode Exiting k a rest s)))
     exiting_fine (Elaborates ds fs hs) stays w = closes_fine Exiting (at_work w (exited_closes ds fs hs w.rooms w.holds w.rest))
     exiting_fine Closes stays w = closes_fine Exiting w
     exiting_fine (Repeats condition body) stays w = runs_on known k a rest s (at_less w w.rest) Quiet tt
     exiting_fine (Counts x next last body) stays w = runs_on known k a rest s (at_less w w.rest) Quiet tt
     exiting_fine (Leaves mode) stays w = absurd (exited_leaves mode w.rooms w.holds w.rest)
-    exiting_fine (Returns actuals) stays w = absurd (cc stays)
+    exiting_fine (Returns actuals references) stays w = absurd (cc stays)
     exiting_fine f stays w = goes_in_mode known k a rest s Exiting (at_work w w.rest)
 
-    pub returning_fine : (f : Frame Value) → is_return f ≡ false → Working known s.heap a.places s.masters (GoesOn known Returning (f ∷ k)) → Fine known s.heap s.masters (pass_next named (is_master f) (landing Returning f) Returning (unwound Returning f (in_mode Returning k a rest s)))
+    pub returning_fine : (f : Frame Value) → is_return f ≡ false → Working known s.heap a.places s.masters (GoesOn known Returning (f ∷ k)) → Fine known s.heap s.masters (pass_next named (is_master f) (landing Returning f) Returning (unwound named Returning f (in_mode Returning k a rest s)))
     returning_fine (Elaborates ds fs hs) stays w = closes_fine Returning (at_work w (returned_closes ds fs hs w.rooms w.holds w.rest))
     returning_fine Closes stays w = closes_fine Returning w
     returning_fine (Leaves mode) stays w = absurd (returned_leaves mode w.rooms w.holds w.rest)
-    returning_fine (Returns actuals) stays w = absurd (cc stays)
+    returning_fine (Returns actuals references) stays w = absurd (cc stays)
     returning_fine f stays w = goes_in_mode known k a rest s Returning (at_work w w.rest)

@@ -18,7 +18,7 @@ use Rattle.ada_scopes.specs.Scopes.{is_innermost, Holds as HoldsName}
 use Rattle.ada_owners.specs.Places.{Place, variable, component, elsewhere, component_in, value_at, access_at}
 use Rattle.ada_owners.specs.Reliance.{IsOf, Says, Owns, Borrows, component_hold}
 use Rattle.ada_owners.proofs.Ends.{IsUnnamed}
-use Rattle.ada_sound.proofs.Fits.{Outer, Outsiders, Fit, IsRelied, outer_hold, hold_in, stacked, outer_value, outer_value_at, place_at, going, lies_among, hand_is_unnamed}
+use Rattle.ada_sound.proofs.Fits.{IsReferred, IsUnreferred, Outsiders, Fit, IsRelied, outer_hold, hold_in, stacked, outer_value, outer_value_at, place_at, going, lies_among, hand_is_unnamed}
 use Rattle.ada_sound.proofs.Orderings.{AsGood, good_here, good_lost}
 use Rattle.ada_sound.proofs.Values.{read_other, same_or_not, lost_here}
 use Rattle.ada_sound.proofs.Invariant.{AllAmong, NamesNone}
@@ -176,11 +176,13 @@ component_borrows : (b : Bool) → Borrows (component_hold b) → ⊥
 component_borrows true b = b
 component_borrows false b = b
 
--- What a variable of a suspended activation is relied on to name has no home in the innermost master.
+-- What a variable of a suspended activation is relied on to name, and what a call refers to, has no home in the innermost master.
 abbrev pub NamedBelow : Outsiders → List Object → List Master → Type 0
 NamedBelow outer heap ms =
-    (d x : ℕ) (o : Id) (object : Object) → IsRelied (outer_hold (slice_get outer.suspended d) x) → outer_value (slice_get outer.suspended d) x ≡ Names o
-    → object_at heap o ≡ Some object → is_innermost ms object.cell.home.item ≡ true → ⊥
+    ((d x : ℕ) (o : Id) (object : Object) → IsRelied (outer_hold (slice_get outer.suspended d) x) → outer_value (slice_get outer.suspended d) x ≡ Names o
+    → object_at heap o ≡ Some object → is_innermost ms object.cell.home.item ≡ true → ⊥)
+    × ((o : Id) (t : ℕ) (object : Object) → IsReferred outer.referenced o t → object_at heap o ≡ Some object
+    → is_innermost ms object.cell.home.item ≡ true → ⊥)
 
 -- A member of the newest collection of the innermost master, of a type of which no variable is relied on to name an object, is in hand where nothing relies on the
 -- components of that master's objects.
@@ -211,7 +213,7 @@ module _ (types : List TypeForm) (variables : List VariableForm) (outer : Outsid
   -- Nor does a suspended activation's variable name it.
   no_elsewhere : (d y : ℕ) → IsRelied (outer_hold (slice_get outer.suspended d) y) → value_at heap (stacked places outer) (elsewhere d y) ≡ Names o → ⊥
   no_elsewhere d y is names =
-      below d y o x is (sym (outer_value_at heap places outer d y) ∙ names) found (rw (eq-eqb item.number x.cell.home.item (sym home)) refl)
+      below.0 d y o x is (sym (outer_value_at heap places outer d y) ∙ names) found (rw (eq-eqb item.number x.cell.home.item (sym home)) refl)
 
   no_borrower : (q : Place) → Borrows (hold_in outer (going heap (item ∷ items)) holds q) → value_at heap (stacked places outer) q ≡ Names o → ⊥
   no_borrower (variable y) b names = no_name y (borrows_relied (hold_at holds y) b) names
@@ -233,3 +235,7 @@ module _ (types : List TypeForm) (variables : List VariableForm) (outer : Outsid
     where
       name_is : (p q : Id) → Names p ≡ Names q → p ≡ q
       name_is p q e = cc e
+
+  -- No call refers to it.
+  pub taken_unreferred : IsUnreferred outer o
+  taken_unreferred t is = below.1 o t x is found (rw (eq-eqb item.number x.cell.home.item (sym home)) refl)

@@ -14,13 +14,13 @@ use Rattle.ada_meaning.specs.declared.state.Id.{Id}
 use Rattle.ada_meaning.specs.declared.state.Value.{Value}
 use Rattle.ada_meaning.specs.declared.state.Value.TheVariants.{Names}
 use Rattle.ada_meaning.specs.Heap.{Found, on_null, on_gone, on_other, finds}
-use Rattle.ada_meaning.specs.Step.{before_last, last_of}
-use Rattle.ada_meaning.specs.Named.{Object, object_at}
+use Rattle.ada_meaning.specs.Step.{before_last, last_of, selected}
+use Rattle.ada_meaning.specs.Named.{Object, object_at, named, inside}
 use Rattle.ada_owners.specs.Places.{Place, variable, component, elsewhere, value_at}
 use Rattle.ada_owners.specs.Reliance.{Owns, component_hold, hold_of, with_lent}
 use Rattle.ada_owners.specs.Walks.{then_found, behind, walk}
-use Rattle.ada_sound.proofs.Fits.{Outer, Outsiders, stacked, none_spared, hold_in, place_at, as_reliance, component_value}
-use Rattle.ada_sound.proofs.Invariant.{front, final, LeadsTo}
+use Rattle.ada_sound.proofs.Fits.{Outsiders, stacked, none_spared, hold_in, place_at, as_reliance, component_value}
+use Rattle.ada_sound.proofs.Invariant.{begun, along, front, final, LeadsTo}
 use Rattle.ada_sound.proofs.Filled.{Lends, hold_left, without_is, target_is, paths_are}
 use Rattle.ada_sound.proofs.Walks.{passes}
 
@@ -40,12 +40,13 @@ split_at heap v u c cs d first last =
     walk_split heap v c cs ∙ (ap (λ (f : Found Value). then_found f (λ w. walk heap w (last_of c cs ∷ []))) first ∙ ap (λ (e : ℕ). walk heap u (e ∷ [])) last)
 
 -- The value of a component that a path leads to.
-component_found : (heap : List Object) (places : List Value) (path : PathForm) (cs : List ℕ) (o : Id) (object : Object) (d : ℕ) (v : Value) → path.selectors ≡ cs → object_at heap o ≡ Some object → object.listed ≡ true → LeadsTo heap places (Names o) [] d path → walk heap (place_at places path.root) cs ≡ finds v → value_at heap [] (component o d) ≡ v
-component_found heap places path [] o object d v whole found listed leads walks = let e = ap final (sym whole) ∙ leads.1 in absurd (cc e)
+component_found : (heap : List Object) (places : List Value) (path : PathForm) (cs : List ℕ) (o : Id) (object : Object) (d : ℕ) (v : Value) → path.selectors ≡ cs → object_at heap o ≡ Some object → object.listed ≡ true → LeadsTo heap places (Names o) [] d path → walk heap (begun places path) (selected named (place_at places path.root) cs) ≡ finds v → value_at heap [] (component o d) ≡ v
+component_found heap places path [] o object d v whole found listed leads walks = let e = ap (λ (ds : List ℕ). final (selected named (place_at places path.root) ds)) (sym whole) ∙ leads.1 in absurd (cc e)
 component_found heap places path (c ∷ cs) o object d v whole found listed leads walks =
-    let first : walk heap (place_at places path.root) (before_last c cs) ≡ finds (Names o) = ap (λ (ds : List ℕ). walk heap (place_at places path.root) (front ds)) (sym whole) ∙ leads.0 in
-    let last : last_of c cs ≡ d = let e = ap final (sym whole) ∙ leads.1 in cc e in
-    let at_last : walk heap (Names o) (d ∷ []) ≡ finds v = sym (split_at heap (place_at places path.root) (Names o) c cs d first last) ∙ walks in
+    let e = inside (place_at places path.root) c in
+    let first : walk heap (begun places path) (before_last e cs) ≡ finds (Names o) = ap (λ (ds : List ℕ). walk heap (begun places path) (front (selected named (place_at places path.root) ds))) (sym whole) ∙ leads.0 in
+    let last : last_of e cs ≡ d = let same = ap (λ (ds : List ℕ). final (selected named (place_at places path.root) ds)) (sym whole) ∙ leads.1 in cc same in
+    let at_last : walk heap (Names o) (d ∷ []) ≡ finds v = sym (split_at heap (begun places path) (Names o) e cs d first last) ∙ walks in
     let p = passes heap d [] v (Names o) at_last in
     let same : p.o ≡ o = let n = p.names in cc n in
     let one : p.object ≡ object = let at = p.at in cc (rw same at at, found) in
@@ -105,7 +106,7 @@ lends_some outer heap places holds target xs o object d found listed into = reco
     worse (component k c) own = tt
     worse (elsewhere e x) own = own
 
-    leads : (path : PathForm) (v : Value) (p : Id) → is_target target path ≡ true → path.selectors ≢ [] → walk heap (place_at places path.root) path.selectors ≡ finds v → v ≡ Names p → value_at heap (stacked places outer) (component o d) ≡ Names p
+    leads : (path : PathForm) (v : Value) (p : Id) → is_target target path ≡ true → path.selectors ≢ [] → walk heap (begun places path) (along places path) ≡ finds v → v ≡ Names p → value_at heap (stacked places outer) (component o d) ≡ Names p
     leads path v p is ne walks names =
         let t = target_is target path is in
         let same = paths_are t.0 path t.2 in

@@ -38,10 +38,14 @@ pub mod Raising
 pub mod Leavings
 -- what a call gives to formal parameters
 pub mod Handings
+-- what a call passes by reference
+pub mod References
 -- actual parameters of access types
 pub mod Passed
 -- what a path begins with, and where it may raise an exception
 pub mod Roots
+-- where paths begin, and what they lead to from there
+pub mod Begins
 -- expressions
 pub mod Expressions
 -- how paths are walked

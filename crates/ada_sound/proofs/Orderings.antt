@@ -3,7 +3,7 @@
 use Rattle.std.proofs.Common.{◌≡◌, ◌≢◌, ℕ, zero, suc, Bool, true, false, ◌&&◌, List, [], ◌∷◌, refl, ◌⊎◌, inl, inr}
 use Rattle.std.specs.Prelude.{Option, Some, None}
 use Rattle.std.specs.List.{slice_set}
-use Rattle.ada_program.specs.Form.{ActualForm, in_value, in_null, in_access, in_out_path, in_out_access, DeclarationForm, collects, declares, declares_record, StmtForm, skips, assigns, assigns_record, frees, gets, writes, writes_text, chooses, repeats, counts, exits, calls, returns, raises, encloses, StmtsForm, no_stmts, a_stmt, BranchesForm, otherwise, a_branch, HandlersForm, no_handlers, a_handler}
+use Rattle.ada_program.specs.Form.{ActualForm, in_value, in_null, in_access, in_record, in_out_path, in_out_access, in_out_component, in_out_record, DeclarationForm, collects, declares, declares_record, StmtForm, skips, assigns, assigns_record, frees, gets, writes, writes_text, chooses, repeats, counts, exits, calls, returns, raises, encloses, StmtsForm, no_stmts, a_stmt, BranchesForm, otherwise, a_branch, HandlersForm, no_handlers, a_handler}
 use Rattle.ada_program.specs.ProgramForm.{VariableForm}
 use Rattle.ada_program.specs.WellFormed.{access_of, is_borrower, names_borrower}
 use Rattle.ada_effects.specs.Effects.{Effect}
@@ -225,6 +225,9 @@ actuals_good variables [] holds = as_good holds
 actuals_good variables (in_value e ∷ rest) holds = actuals_good variables rest holds
 actuals_good variables (in_null ∷ rest) holds = actuals_good variables rest holds
 actuals_good variables (in_access path ∷ rest) holds = actuals_good variables rest holds
+actuals_good variables (in_record p ∷ rest) holds = actuals_good variables rest holds
+actuals_good variables (in_out_component path ∷ rest) holds = actuals_good variables rest holds
+actuals_good variables (in_out_record p ∷ rest) holds = actuals_good variables rest holds
 actuals_good variables (in_out_path path ∷ rest) holds = actuals_good variables rest holds
 actuals_good variables (in_out_access path ∷ rest) holds =
     let here = opened variables path.root holds in

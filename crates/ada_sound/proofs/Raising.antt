@@ -20,7 +20,7 @@ use Rattle.ada_program.specs.Handling.{is_same, handler_of, is_taken}
 use Rattle.ada_program.specs.ProgramForm.{TypeForm, BodyForm, ProgramForm}
 use Rattle.ada_effects.specs.Effects.{Effect, effect_of, effects_from, effects_of, call_raises, actuals_raise, expression_raises, condition_raises, items_raise, path_raises, record_path_raises, initial_raises, untaken, unary_raises, binary_raises, right_raises, declaration_raises, declarations_raise, stmt_raises, stmts_raise, branches_raise, handlers_raise}
 use Rattle.ada_meaning.specs.declared.state.Value.{Value}
-use Rattle.ada_meaning.specs.declared.state.Value.TheVariants.{Null, Names, Scalar}
+use Rattle.ada_meaning.specs.declared.state.Value.TheVariants.{Null, Names, Scalar, Part}
 use Rattle.ada_meaning.specs.Named.{as_value, unary_given, binary_given}
 
 -- One of two, and both of two.
@@ -236,6 +236,7 @@ value_only may (Err WrongType) h = tt
 pub unary_only : (operator : UnaryOperator) (a : Value) → RaisesOnly (unary_raises operator) (unary_given operator a)
 unary_only operator Null = tt
 unary_only operator (Names o) = tt
+unary_only operator (Part o first) = tt
 unary_only operator (Scalar a) = value_only (unary_raises operator) (unary_outcome_of operator a) (unary_outcome_only operator a)
 
 pub binary_only : (operator : BinaryOperator) (a b : Value) → RaisesOnly (binary_raises operator) (binary_given operator a b)

@@ -8,7 +8,7 @@ use Rattle.ada_meaning.specs.declared.state.Value.{Value}
 use Rattle.ada_meaning.specs.declared.state.Value.TheVariants.{Null}
 use Rattle.ada_meaning.specs.declared.state.Mode.{Mode}
 use Rattle.ada_meaning.specs.declared.state.Mode.TheVariants.{Running, Raising, Exiting, Returning}
-use Rattle.ada_meaning.specs.Frame.{Elaborates, Does, Decides, Repeats, Turns, Ranges, Counts, Exits, Handles, Closes, Leaves, Calls, Returns, Evaluates, Computes, TestsNull, Continues, Applies, AppliesAlone, Fills, Stores, StoresIn, Declares, Writes}
+use Rattle.ada_meaning.specs.Frame.{Elaborates, Does, Decides, Repeats, Turns, Ranges, Counts, Exits, Handles, Closes, Leaves, Calls, Returns, Evaluates, Computes, TestsNull, Refers, Opens, Continues, Applies, AppliesAlone, Fills, Stores, StoresIn, Declares, Writes}
 use Rattle.ada_meaning.specs.Event.{Quiet}
 use Rattle.ada_meaning.specs.State.{Activation, Master}
 use Rattle.ada_meaning.specs.Step.{jumping}
@@ -18,7 +18,7 @@ use Rattle.ada_sound.proofs.Items.{NoMaster}
 use Rattle.ada_sound.proofs.Fits.{weaker_fit, spare_fit, put_lost, going}
 use Rattle.ada_sound.proofs.Orderings.{AsGood}
 use Rattle.ada_sound.proofs.Alters.{alters_same}
-use Rattle.ada_sound.proofs.Invariant.{Caller, below_callers, below, at_end, nowhere, Known, Control, Rooms, Roomed, To, RunsOn, GoesOn, PassesTo, Awaits, Working, Parting, HalfBy, Resumes, ReadyIn, Ready, Says, Stepped, By, innermost, ways}
+use Rattle.ada_sound.proofs.Invariant.{StoresOn, Caller, below_callers, below, at_end, nowhere, Known, Control, Rooms, Roomed, To, RunsOn, GoesOn, PassesTo, Awaits, Working, Parting, HalfBy, Resumes, ReadyIn, Ready, Says, Stepped, By, innermost, ways}
 
 -- The state at work on something, with a running activation; and in another mode.
 abbrev pub running : Control → Activation Value → List (Activation Value) → State → State
@@ -71,7 +71,7 @@ module _ (known : Known) where
   runs_ready (Handles hs ∷ k) heap places operands ms w = w
   runs_ready (Closes ∷ k) heap places operands ms w = w
   runs_ready (Leaves mode ∷ k) heap places operands ms w = parts w
-  runs_ready (Returns actuals ∷ k) heap places operands ms w = w
+  runs_ready (Returns actuals references ∷ k) heap places operands ms w = w
   runs_ready (f ∷ k) heap places operands ms w = absurd (w.rest)
 
   -- What is left goes on in a mode.
@@ -98,6 +98,17 @@ module _ (known : Known) where
   pub lost_stored : (x : ℕ) (k : Control) (v : Value) (heap : List Object) (places : List Value) (ms : List Master) → Working known heap places ms (λ rooms holds. RunsOn known k rooms (slice_set holds x hold.Lost)) → Working known heap (slice_set places x v) ms (RunsOn known k)
   lost_stored x k v heap places ms w = record { rooms = w.rooms; holds = slice_set w.holds x hold.Lost; stored = w.stored; roomed = w.roomed; fit = put_lost x v w.fit; rest = w.rest }
 
+  -- What is left goes on also where no component is to get something.
+  pub runs_stores : (k : Control) (heap : List Object) (rooms : Rooms) (holds : Holds) → RunsOn known k rooms holds → StoresOn known heap k rooms holds
+  runs_stores [] heap rooms holds r = r
+  runs_stores (StoresIn o c ∷ k) heap rooms holds r = absurd r
+  runs_stores (f ∷ k) heap rooms holds r = r
+
+  pub stores_ready : (k : Control) (heap : List Object) (places operands : List Value) (ms : List Master) → Working known heap places ms (StoresOn known heap k) → ReadyIn known Running k heap places operands ms
+  stores_ready [] heap places operands ms w = runs_ready [] heap places operands ms w
+  stores_ready (StoresIn o c ∷ k) heap places operands ms w = inr w
+  stores_ready (f ∷ k) heap places operands ms w = runs_ready (f ∷ k) heap places operands ms w
+
   -- What awaits a value goes on with one, whatever it is.
   pub awaits_ready : (k : Control) (heap : List Object) (places : List Value) (v : Value) (below : List Value) (ms : List Master) → Working known heap places ms (Awaits known heap places below k) → ReadyIn known Running k heap places (v ∷ below) ms
   awaits_ready [] heap places v below ms w = absurd (w.rest)
@@ -112,7 +123,7 @@ module _ (known : Known) where
   awaits_ready (AppliesAlone operator ∷ k) heap places v below ms w = w
   awaits_ready (Fills items ∷ k) heap places v below ms w = at_work w (w.rest v)
   awaits_ready (Stores x ∷ k) heap places v below ms w = inl (lost_stored x k v heap places ms w)
-  awaits_ready (StoresIn o c ∷ k) heap places v below ms w = inr w
+  awaits_ready (StoresIn o c ∷ k) heap places v below ms w = inr (at_work w (w.rest.0, runs_stores k heap w.rooms w.holds w.rest.1))
   awaits_ready (Declares x ∷ k) heap places v below ms w = record {
     rooms = w.rooms;
     holds = slice_set w.holds x hold.Lost;
@@ -123,6 +134,8 @@ module _ (known : Known) where
   }
   awaits_ready (Calls procedure b actuals ∷ k) heap places v below ms w = at_work w (w.rest v)
   awaits_ready (Evaluates right ∷ k) heap places v below ms w = inr (at_work w (w.rest v))
+  awaits_ready (Refers p ∷ k) heap places v below ms w = at_work w (w.rest v)
+  awaits_ready (Opens path ∷ k) heap places v below ms w = at_work w (w.rest v)
   awaits_ready (Writes ∷ k) heap places v below ms w = w
   awaits_ready (f ∷ k) heap places v below ms w = absurd (w.rest)
 
@@ -133,6 +146,8 @@ module _ (known : Known) where
       let now = f Null in
       (now.0, now.1, λ v. let later = f v in awaits_passes heap places k (v ∷ below) rooms holds later.2)
   awaits_passes heap places (Evaluates right ∷ k) below rooms holds f = f
+  awaits_passes heap places (Refers p ∷ k) below rooms holds f = f
+  awaits_passes heap places (Opens path ∷ k) below rooms holds f = f
   awaits_passes heap places (Calls procedure b actuals ∷ k) below rooms holds f = f
   awaits_passes heap places (f' ∷ k) below rooms holds f = absurd (f Null)
 
@@ -140,6 +155,8 @@ module _ (known : Known) where
   passes_ready [] heap places operands ms w = absurd (w.rest)
   passes_ready (Computes e ∷ k) heap places operands ms w = at_work w (w.rest.0, w.rest.1, awaits_passes heap places k operands w.rooms w.holds w.rest.2)
   passes_ready (Evaluates right ∷ k) heap places operands ms w = inr w
+  passes_ready (Refers p ∷ k) heap places operands ms w = w
+  passes_ready (Opens path ∷ k) heap places operands ms w = w
   passes_ready (Calls procedure b actuals ∷ k) heap places operands ms w = w
   passes_ready (f ∷ k) heap places operands ms w = absurd (w.rest)
 

@@ -1,6 +1,6 @@
 -- Record objects are declared: each is stored at its own item, and its variable owns it.
 
-use Rattle.std.proofs.Common.{◌≡◌, ℕ, zero, suc, Bool, true, false, ◌||◌, List, [], ◌∷◌, length, take, drop, reverse, map, refl, sym, ap, ◌∙◌, inl}
+use Rattle.std.proofs.Common.{◌≡◌, ℕ, zero, suc, Bool, true, false, ◌||◌, List, [], ◌∷◌, length, take, drop, reverse, map, refl, ap, ◌∙◌, inl}
 use Rattle.std.proofs.lemmas.Bool.{eqb-true}
 use Rattle.std.specs.Prelude.{Option, Some, None}
 use Rattle.std.specs.List.{list_any, slice_get, slice_index_or, slice_set}
@@ -12,7 +12,7 @@ use Rattle.ada_program.specs.declared.program.VariableKind.TheVariants as variab
 use Rattle.ada_program.specs.Form.{ItemForm, StmtsForm, HandlersForm, DeclarationForm, declares_record}
 use Rattle.ada_program.specs.declared.program.Exception.TheVariants.{ConstraintError}
 use Rattle.ada_program.specs.Handling.{is_same}
-use Rattle.ada_program.specs.ProgramForm.{VariableForm}
+use Rattle.ada_program.specs.ProgramForm.{TypeForm, VariableForm}
 use Rattle.ada_effects.specs.Effects.{items_raise, declaration_raises}
 use Rattle.ada_program.specs.Typed.{reached_of, count_of, words_of}
 use Rattle.ada_program.specs.WellFormed.{access_of, held_kind, kind_among, reached_components, variable_kind, is_record_object}
@@ -35,9 +35,9 @@ use Rattle.ada_owners.proofs.Kernel.{blank}
 use Rattle.ada_sound.proofs.Items.{HasItem}
 use Rattle.ada_sound.proofs.Stored.{stored_new, stored_owning}
 use Rattle.ada_typed.specs.Holding.{Cells, HasKind, HaveKinds, cells_of}
-use Rattle.ada_typed.proofs.Values.{AreComputed, AreHeld, active_placed}
+use Rattle.ada_typed.proofs.Values.{OperandKind, AreComputed, AreHeld, active_placed}
 use Rattle.ada_typed.proofs.Control as typed
-use Rattle.ada_sound.proofs.Fits.{Outer, Outsiders, bare, stacked, none_spared, place_at, hold_in, put_owner, create_fit}
+use Rattle.ada_sound.proofs.Fits.{Outsiders, bare, stacked, none_spared, place_at, hold_in, put_owner, create_fit}
 use Rattle.ada_sound.proofs.Alters.{alters_new}
 use Rattle.ada_sound.proofs.Invariant.{outers, below, Known, Control, Rooms, Roomed, Raised, Doing, Handled, Outside, Elaborating, Giving, MayOwn, Recording, RunsOn, Working, Stepped, Fine, ways}
 use Rattle.ada_sound.proofs.Ready.{running, at_work, runs_ready, ready_on}
@@ -80,21 +80,21 @@ neither : (a b : Bool) → (a || b) ≡ false → (a ≡ false) × (b ≡ false)
 neither true b e = absurd (cc e)
 neither false b e = (refl, e)
 
-pub plain_blank : (cells : Cells) (kind : ComponentKind) (v : Value) → is_owning kind ≡ false → HasKind cells (held_kind kind) v → (o : Id) → v ≡ Names o → ⊥
-plain_blank cells (component.Integer initial) v plain has o is = rw is at has
-plain_blank cells (component.Boolean initial) v plain has o is = rw is at has
-plain_blank cells (component.Access access) v plain has o is = cc plain
+pub plain_blank : (types : List TypeForm) (cells : Cells) (kind : ComponentKind) (v : Value) → is_owning kind ≡ false → HasKind types cells (held_kind kind) v → (o : Id) → v ≡ Names o → ⊥
+plain_blank types cells (component.Integer initial) v plain has o is = rw is at has
+plain_blank types cells (component.Boolean initial) v plain has o is = rw is at has
+plain_blank types cells (component.Access access) v plain has o is = cc plain
 
 abbrev pub NameNothing : List Value → Type 0
 NameNothing [] = Unit {0}
 NameNothing (v ∷ vs) = ((o : Id) → v ≡ Names o → ⊥) × NameNothing vs
 
-pub plain_names_nothing : (cells : Cells) (kinds : List ComponentKind) (vs : List Value) → list_any is_owning kinds ≡ false → HaveKinds cells kinds vs → NameNothing vs
-plain_names_nothing cells kinds [] plain have = tt
-plain_names_nothing cells [] (v ∷ vs) plain have = absurd have
-plain_names_nothing cells (kind ∷ kinds) (v ∷ vs) plain have =
+pub plain_names_nothing : (types : List TypeForm) (cells : Cells) (kinds : List ComponentKind) (vs : List Value) → list_any is_owning kinds ≡ false → HaveKinds types cells kinds vs → NameNothing vs
+plain_names_nothing types cells kinds [] plain have = tt
+plain_names_nothing types cells [] (v ∷ vs) plain have = absurd have
+plain_names_nothing types cells (kind ∷ kinds) (v ∷ vs) plain have =
     let two = neither (is_owning kind) (list_any is_owning kinds) plain in
-    (plain_blank cells kind v two.0 have.0, plain_names_nothing cells kinds vs two.1 have.1)
+    (plain_blank types cells kind v two.0 have.0, plain_names_nothing types cells kinds vs two.1 have.1)
 
 nothing_in_hand : (outer : Outsiders) (heap : List Object) (places : List Value) (holding : Place → Hold) (kind : ℕ → Option ℕ) (c : ℕ) (vs : List Value) → NameNothing vs → AreInHand heap (stacked places outer) holding kind c vs
 nothing_in_hand outer heap places holding kind c [] none = tt
@@ -102,12 +102,12 @@ nothing_in_hand outer heap places holding kind c (v ∷ vs) none =
     (record { hand = blank none.0 }, (λ o i e f. none.0 o e), nothing_in_hand outer heap places holding kind (suc c) vs none.1)
 
 -- The variable of a record object has a place.
-pub has_place : (cells : Cells) (variables : List VariableForm) (places : List Value) (x t : ℕ) → AreHeld cells variables places → is_record_object t (variable_kind variables x) ≡ true → (u : Value) × (slice_get places x ≡ Some u)
-has_place cells variables places x t held is = by (variable_kind variables x) refl is
+pub has_place : (types : List TypeForm) (cells : Cells) (variables : List VariableForm) (places : List Value) (x t : ℕ) → AreHeld types cells variables places → is_record_object t (variable_kind variables x) ≡ true → (u : Value) × (slice_get places x ≡ Some u)
+has_place types cells variables places x t held is = by (variable_kind variables x) refl is
   where
     by : (kind : Option VariableKind) → variable_kind variables x ≡ kind → is_record_object t kind ≡ true → (u : Value) × (slice_get places x ≡ Some u)
     by None of e = absurd (cc e)
-    by (Some kind) of e = (slice_index_or places x Null, active_placed cells variables [] (bare places ∷ []) x kind (held, tt) of)
+    by (Some kind) of e = (slice_index_or places x Null, active_placed types cells variables [] (bare places ∷ []) x kind (held, tt) of)
 
 module _ (known : Known) (rest : List (Activation Value)) (s : State) (types : List TypeDefinition) (x t : ℕ) where
   -- The new item is the object's home, and is one that the master may own.
@@ -135,7 +135,7 @@ module _ (known : Known) (rest : List (Activation Value)) (s : State) (types : L
         holds = slice_set w.holds x (hold.Own Whole);
         stored = stored_new cell (has_own (below known) s.masters w.rooms w.roomed w.rest.0) (stored_owning (record_object t) w.stored);
         roomed = roomed_more (height s.masters) (below known) s.masters w.rooms w.roomed w.rest.0;
-        fit = put_owner x (created s.heap words) Whole (λ object null. (let names : Null ≡ created s.heap words = sym null ∙ placed in absurd (cc names))) (rw own both.1) both.0;
+        fit = put_owner x (created s.heap words) Whole (rw placed tt) (rw own both.1) both.0;
         rest = w.rest.1;
       } in
       record {
@@ -181,12 +181,12 @@ module _ (known : Known) (a : Activation Value) (rest : List (Activation Value))
       ready_on known (Fills items ∷ DeclaresRecord x t ∷ Elaborates ds fs hs ∷ k) a rest s a.operands (at_work w (by_items items w.holds w.rooms is w.rest))
 
 -- A record object comes to be with the items of its initial value.
-pub recorded_fine : (known : Known) (k : Control) (a : Activation Value) (rest : List (Activation Value)) (s : State) (types : List TypeDefinition) → Reaches known types → (x t : ℕ) (kinds : List VariableKind) → typed.Fits known.program (cells_of s.heap) kinds (DeclaresRecord x t ∷ k) → AreComputed (cells_of s.heap) kinds a.operands → AreHeld (cells_of s.heap) known.program.variables a.places → Working known s.heap a.places s.masters (Recording known x t k) → Stepped known s.heap Quiet (made named types x t (reverse (take (words_of types t) a.operands)) (running k (record a { operands = drop (words_of types t) a.operands }) rest s))
+pub recorded_fine : (known : Known) (k : Control) (a : Activation Value) (rest : List (Activation Value)) (s : State) (types : List TypeDefinition) → Reaches known types → (x t : ℕ) (kinds : List OperandKind) → typed.Fits known.program (cells_of s.heap) kinds (DeclaresRecord x t ∷ k) → AreComputed known.program.types (cells_of s.heap) kinds a.operands → AreHeld known.program.types (cells_of s.heap) known.program.variables a.places → Working known s.heap a.places s.masters (Recording known x t k) → Stepped known s.heap Quiet (made named types x t (reverse (take (words_of types t) a.operands)) (running k (record a { operands = drop (words_of types t) a.operands }) rest s))
 recorded_fine known k a rest s types reaches x t kinds (ks, object, cs, is, of, one, reached, other, more) computed held w =
     let counted : words_of types t ≡ length cs = ap count_of (reaches.0 t ∙ reached) in
-    let have = (typed.split (cells_of s.heap) cs ks a.operands (rw is at computed)).0 in
+    let have = (typed.split known.program.types (cells_of s.heap) cs ks a.operands (rw is at computed)).0 in
     let plain : list_any is_owning cs ≡ false = rw reached at w.rest.0 in
-    let none = plain_names_nothing (cells_of s.heap) cs (reverse (take (length cs) a.operands)) plain have in
-    let place = has_place (cells_of s.heap) known.program.variables a.places x t held w.rest.1 in
+    let none = plain_names_nothing known.program.types (cells_of s.heap) cs (reverse (take (length cs) a.operands)) plain have in
+    let place = has_place known.program.types (cells_of s.heap) known.program.variables a.places x t held w.rest.1 in
     made_fine known rest s types x t (record a { operands = drop (words_of types t) a.operands }) k (reverse (take (words_of types t) a.operands)) place.0 w.rest.1 place.1
     (λ holding kind. nothing_in_hand (outers known) s.heap a.places holding kind 0 (reverse (take (words_of types t) a.operands)) (rw counted none)) (at_work w (w.rest.2, w.rest.3))

@@ -1,7 +1,7 @@
 -- Free (P.C): the object of the component is found, what the component names is to end, and the component becomes null.
 
-use Rattle.std.proofs.Common.{◌≡◌, ◌≢◌, ℕ, Bool, true, false, List, [], ◌∷◌, ◌++◌, refl, sym, ap, ◌∙◌, inl}
-use Rattle.std.proofs.lemmas.Bool.{eq-eqb}
+use Rattle.std.proofs.Common.{◌≡◌, ◌≢◌, ℕ, Bool, true, false, ◌||◌, ◌==◌, List, [], ◌∷◌, ◌++◌, refl, sym, ap, ◌∙◌, ◌⊎◌, inl, inr}
+use Rattle.std.proofs.lemmas.Bool.{eqb-true, eq-eqb}
 use Rattle.std.specs.Prelude.{Option, Some, None}
 use Rattle.std.specs.List.{slice_get}
 use Rattle.ada_text.specs.declared.spot.Spot.{Spot}
@@ -11,33 +11,34 @@ use Rattle.ada_program.specs.declared.program.VariableKind.{VariableKind}
 use Rattle.ada_program.specs.Form.{PathForm, StmtsForm}
 use Rattle.ada_effects.specs.Effects.{path_raises}
 use Rattle.ada_program.specs.ProgramForm.{TypeForm, VariableForm}
-use Rattle.ada_program.specs.WellFormed.{access_of, variable_kind, selectors_kind, path_kind, path_access, is_this, is_freed_by}
+use Rattle.ada_program.specs.WellFormed.{is_access, access_of, variable_kind, selected_kind, selectors_kind, path_kind, path_access, is_this, is_freed_by}
 use Rattle.ada_flow.specs.declared.rule.Hold.{Hold}
 use Rattle.ada_flow.specs.declared.rule.Hold.TheVariants as hold
-use Rattle.ada_flow.specs.Flow.{Holds, hold_at, Breach, lost_by, unless_broken, ends_with, behind_end, passes_own, freed_behind, released_behind, frees_path}
+use Rattle.ada_flow.specs.Flow.{Holds, hold_at, Breach, lost_by, unless_broken, ends_with, behind_end, passes_type, passes_own, freed_behind, released_behind, frees_path}
 use Rattle.ada_meaning.specs.declared.state.Id.{Id}
 use Rattle.ada_meaning.specs.declared.state.Value.{Value}
-use Rattle.ada_meaning.specs.declared.state.Value.TheVariants.{Null, Names, Scalar}
+use Rattle.ada_meaning.specs.declared.state.Value.TheVariants.{Null, Names, Scalar, Part}
 use Rattle.ada_meaning.specs.declared.state.Mode.TheVariants.{Raising}
 use Rattle.ada_meaning.specs.Event.{Followed}
 use Rattle.ada_meaning.specs.Frame.{Does, FreesIn}
 use Rattle.ada_meaning.specs.State.{Activation}
 use Rattle.ada_meaning.specs.Step.{before_last, last_of, path_next, freed_next, free_component_next, free_in_next}
-use Rattle.ada_meaning.specs.Named.{Object, State, object_at, look, named, parted}
+use Rattle.ada_meaning.specs.Named.{Object, State, object_at, look, named, parted, inside}
 use Rattle.ada_owners.specs.Keeping.{IsThere}
 use Rattle.ada_owners.specs.Places.{access_at}
 use Rattle.ada_owners.specs.Reliance.{IsOf}
 use Rattle.ada_owners.proofs.Objects.{listed_at}
-use Rattle.ada_sound.proofs.Fits.{NoOuterAlias, MayFollow, place_at, component_access, root_follows, component_is, behind_fit, component_unnamed, part_fit}
+use Rattle.ada_sound.proofs.Fits.{Outsiders, IsReferred, NoOuterAlias, MayFollow, place_at, component_access, component_is, behind_fit, component_unnamed, part_fit}
 use Rattle.ada_sound.proofs.Objects.{set_here}
 use Rattle.ada_sound.proofs.Stored.{stored_part}
 use Rattle.ada_sound.proofs.Alters.{alters_set}
 use Rattle.ada_sound.proofs.Assigned.{freed_at}
-use Rattle.ada_sound.proofs.Invariant.{outers, Pooled, Known, Control, Goes, Raised, RunsOn, PassesNone, Releasing, Working, Stepped, Fine, ways}
+use Rattle.ada_sound.proofs.Invariant.{begun, outers, Pooled, Known, Control, Goes, Raised, RunsOn, PassesNone, Releasing, Working, Stepped, Fine, ways}
 use Rattle.ada_sound.proofs.Ready.{running, at_work, stays, runs_ready, jumps_less}
 use Rattle.ada_sound.proofs.Outcomes.{ends_goes}
 use Rattle.ada_sound.proofs.Roots.{access_leads, root_object, object_there, front_raises}
-use Rattle.ada_sound.proofs.Taken.{root_access}
+use Rattle.ada_sound.proofs.Handings.{or_false}
+use Rattle.ada_sound.proofs.Begins.{Root, IsAlone, IsPart, root_at, root_access, root_follows, kind_named, first_leads}
 use Rattle.ada_sound.proofs.Walks.{selected_access, raises_less, finds_fine}
 use Rattle.ada_sound.proofs.Targets.{followed}
 use Rattle.ada_sound.proofs.Endings.{stored_elsewhere}
@@ -72,9 +73,41 @@ passes_none : (types : List TypeForm) (variables : List VariableForm) (path : Pa
 passes_none types variables path cs None is e = tt
 passes_none types variables path cs (Some t) is e = rw is at e
 
+-- From where the path begins it passes its own type nowhere, either: an object that a call refers to is of another one.
+or_both : (a b : Bool) → a ≡ false → b ≡ false → a || b ≡ false
+or_both true b x y = absurd (cc x)
+or_both false b x y = y
+
+passes_root : (types : List TypeForm) (outer : Outsiders) (heap : List Object) (kind : Option VariableKind) (v : Value) (b : Root types outer.referenced heap kind v) (c : ℕ) (cs : List ℕ) (to : VariableKind) (access : Option ℕ) → selectors_kind types kind (c ∷ cs) ≡ Some to → ((t : ℕ) → access ≡ Some t → (is_access types t ≡ true) × NoOuterAlias types outer t) → PassesNone types kind (c ∷ cs) access → PassesNone types b.from (inside v c ∷ cs) access
+passes_root types outer heap kind v b c cs to None leads spares passes = tt
+passes_root types outer heap kind v b c cs to (Some t) leads spares passes = by b.is
+  where
+    h : (k : VariableKind) × (selected_kind types kind c ≡ Some k)
+    h = first_leads types kind c cs to leads
+
+    same : selected_kind types b.from (inside v c) ≡ selected_kind types kind c
+    same = b.leads c [] h.0 h.1 ∙ sym h.1
+
+    apart : (u : ℕ) (o : Id) → IsReferred outer.referenced o u → is_this t (Some u) ≡ false
+    apart u o refers = go (u == t) refl
+      where
+        go : (e : Bool) → (u == t) ≡ e → (u == t) ≡ false
+        go false e = e
+        go true e =
+            let one : u ≡ t = eqb-true u t e in
+            let n = spares t refl in
+            absurd (n.1.1 o (rw one at refers) n.0)
+
+    by : IsAlone kind b.from v ⊎ IsPart types outer.referenced kind b.from v → PassesNone types b.from (inside v c ∷ cs) (Some t)
+    by (inl a) = rw (a.2, a.1 c) passes
+    by (inr a) =
+        let here : is_this t (access_of b.from) ≡ false = rw a.from_is (apart a.t a.o a.refers) in
+        let later = or_false (is_this t (access_of kind)) (passes_type types (selected_kind types kind c) cs t) passes in
+        or_both (is_this t (access_of b.from)) (passes_type types (selected_kind types b.from (inside v c)) cs t) here (rw same later)
+
 module _ (known : Known) (a : Activation Value) (rest : List (Activation Value)) (s : State) where
   -- A Free of a component begins: its object is found first.
-  pub free_begins : (c : ℕ) (cs : List ℕ) (access : ℕ) (path : PathForm) (fs : StmtsForm) (k : Control) (among : Exception → Bool) → (path_raises path ≡ true → among ConstraintError ≡ true) → is_freed_by known.program.types access (path_access known.program.types known.program.variables path) ≡ true → ((t : ℕ) → is_this t (path_access known.program.types known.program.variables path) ≡ true → NoOuterAlias (outers known) t) → path.selectors ≡ c ∷ cs → Working known s.heap a.places s.masters (λ rooms holds. Goes (frees_path known.program.types known.program.variables (c ∷ cs) path holds) (RunsOn known (Does fs ∷ k) rooms) (Raised among (ways known k rooms))) → Fine known s.heap s.masters (path_next named (before_last c cs) (place_at a.places path.root) (running (FreesIn access (last_of c cs) ∷ Does fs ∷ k) a rest s))
+  pub free_begins : (c : ℕ) (cs : List ℕ) (access : ℕ) (path : PathForm) (fs : StmtsForm) (k : Control) (among : Exception → Bool) → (path_raises path ≡ true → among ConstraintError ≡ true) → is_freed_by known.program.types access (path_access known.program.types known.program.variables path) ≡ true → ((t : ℕ) → is_this t (path_access known.program.types known.program.variables path) ≡ true → NoOuterAlias known.program.types (outers known) t) → path.selectors ≡ c ∷ cs → Working known s.heap a.places s.masters (λ rooms holds. Goes (frees_path known.program.types known.program.variables (c ∷ cs) path holds) (RunsOn known (Does fs ∷ k) rooms) (Raised among (ways known k rooms))) → Fine known s.heap s.masters (path_next named (before_last (inside (place_at a.places path.root) c) cs) (begun a.places path) (running (FreesIn access (last_of (inside (place_at a.places path.root) c) cs) ∷ Does fs ∷ k) a rest s))
   free_begins c cs access path fs k among may freed spares is w =
       let types = known.program.types in
       let variables = known.program.variables in
@@ -83,17 +116,24 @@ module _ (known : Known) (a : Activation Value) (rest : List (Activation Value))
       let leads = access_leads (path_kind types variables path) at.0 at.1 in
       let g = released_goes types variables path w.holds own (RunsOn known (Does fs ∷ k) w.rooms) (Raised among (ways known k w.rooms)) w.rest in
       let kept = freed_kept (passes_own types variables path own) (hold_at w.holds path.root) path.spot g.0 in
-      let all : path.selectors ≡ before_last c cs ++ last_of c cs ∷ [] = is ∙ sym (front_last c cs) in
-      finds_fine known a rest s a.operands (FreesIn access (last_of c cs) ∷ Does fs ∷ k) (before_last c cs) (place_at a.places path.root)
+      let v = place_at a.places path.root in
+      let b = root_at path.root path.spot kept.0 w.fit in
+      let to = kind_named (selectors_kind types (variable_kind variables path.root) path.selectors) at.0 at.2 in
+      let from_kind : selectors_kind types (variable_kind variables path.root) (c ∷ cs) ≡ Some to.0 = ap (λ (ds : List ℕ). selectors_kind types (variable_kind variables path.root) ds) (sym is) ∙ to.1 in
+      let named_type : access_of (Some to.0) ≡ own = ap access_of (sym to.1) ∙ (at.2 ∙ sym at.1) in
+      let from_here : selectors_kind types b.from (inside v c ∷ cs) ≡ Some to.0 = b.leads c cs to.0 from_kind in
+      let spares_own : (t : ℕ) → own ≡ Some t → NoOuterAlias types (outers known) t = λ t same. spares t (ap (is_this t) same ∙ eq-eqb t t refl) in
+      let is_own : (t : ℕ) → own ≡ Some t → is_access types t ≡ true = λ t same. (let one : at.0 ≡ t = let other = at.1 in cc (same, other) in rw (← one) at.3) in
+      finds_fine known a rest s a.operands (FreesIn access (last_of (inside v c) cs) ∷ Does fs ∷ k) (before_last (inside v c) cs) (begun a.places path)
       (at_work w (record {
-        from = variable_kind variables path.root;
+        from = b.from;
         access = own;
-        is_from = λ o object names found. root_access w.fit path.root path.spot o object kept.0 names found;
-        passes = passes_none types variables path (before_last c cs ++ last_of c cs ∷ []) own all kept.1;
-        of_type = ap (λ (ds : List ℕ). access_of (selectors_kind types (variable_kind variables path.root) ds)) (sym all) ∙ (at.2 ∙ sym at.1);
-        own = λ t same. (let one : at.0 ≡ t = let other = at.1 in cc (same, other) in rw (← one) at.3);
-        spares = λ t same. spares t (ap (is_this t) same ∙ eq-eqb t t refl);
-        raises = front_raises known (place_at a.places path.root) (Does fs ∷ k) w.rooms (behind_end variables own w.holds) path.of_record c cs
+        is_from = λ o object names found. root_access b o object names found;
+        passes = let here : PassesNone types b.from (before_last (inside v c) cs ++ last_of (inside v c) cs ∷ []) own = rw (front_last (inside v c) cs) (passes_root types (outers known) s.heap (variable_kind variables path.root) v b c cs to.0 own from_kind (λ t same. (is_own t same, spares_own t same)) (passes_none types variables path (c ∷ cs) own is kept.1)) in here;
+        of_type = rw (front_last (inside v c) cs) (ap access_of from_here ∙ named_type);
+        own = is_own;
+        spares = spares_own;
+        raises = front_raises known (begun a.places path) (Does fs ∷ k) w.rooms (behind_end variables own w.holds) path.of_record c (inside v c) cs
             (λ whole. object_there path.root path.spot kept.0 (root_object types variables path leads.0 leads.1 whole) w.fit)
             (λ raises. (let follows : path_raises path ≡ true = rw is raises in g.2 follows ConstraintError (may follows)));
         runs = g.1;
@@ -128,9 +168,9 @@ module _ (known : Known) (a : Activation Value) (rest : List (Activation Value))
         let one : object ≡ there.object = let f = there.found in cc (rw same at found, f) in
         other_type object.cell.access w.rest.from t (w.rest.is_from o object refl found) (rw is_t at w.rest.passes) (ap (λ (x : Object). x.cell.access) one ∙ there.access)
         ) in
-        let unnamed = component_unnamed o object c p (Some t) (λ u e. w.rest.spares u (is_t ∙ e)) found listed at of_t w.fit in
+        let unnamed = component_unnamed o object c p (Some t) (λ u e. (w.rest.own u (is_t ∙ e), w.rest.spares u (is_t ∙ e))) found listed at of_t w.fit in
         let elsewhere = stored_elsewhere s.heap o object c p there.object (parted there.object) found there.found apart in
-        let after = part_fit p there.object elsewhere.1 unnamed.1 unnamed.0 in
+        let after = part_fit p there.object elsewhere.1 unnamed.1 unnamed.2 unnamed.0 in
         let runs = rw is_t at w.rest.runs in
         rw (there.found, exists) (rw there.found (record {
           ready = (
@@ -173,6 +213,7 @@ module _ (known : Known) (a : Activation Value) (rest : List (Activation Value))
     component_freed o object (Some Null) at found listed w = null_freed o (object, found, listed) w
     component_freed o object (Some (Names p)) at found listed w = object_freed o object p found listed at w
     component_freed o object (Some (Scalar n)) at found listed w = tt
+    component_freed o object (Some (Part object_id base)) at found listed w = tt
 
     -- The object of the component is there, or null raises Constraint_Error.
     pub free_in_fine : (v : Value) → (w : Working known s.heap a.places s.masters (λ rooms holds. MayFollow s.heap v × Releasing known s.heap v [] c k rooms holds)) → Fine known s.heap s.masters (free_in_next named access v c (look s.heap v) (running k (record a { operands = below }) rest s))
@@ -182,3 +223,4 @@ module _ (known : Known) (a : Activation Value) (rest : List (Activation Value))
         rw (there.1, (w.stored.sane o there.0 there.1).listed_exists there.2)
         (component_freed o there.0 (slice_get there.0.cell.values c) refl there.1 there.2 (at_work w w.rest.1))
     free_in_fine (Scalar n) w = tt
+    free_in_fine (Part object_id base) w = tt

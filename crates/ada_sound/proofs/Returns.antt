@@ -1,29 +1,33 @@
 -- The body of a call comes to its end, by a return or by an exception: its caller goes on.
 
-use Rattle.std.proofs.Common.{◌≡◌, ℕ, true, List, [], ◌∷◌, refl, sym, ◌∙◌, subst}
+use Rattle.std.proofs.Common.{◌≡◌, ℕ, true, List, [], ◌∷◌, ◌++◌, refl, sym, ap, ◌∙◌, subst}
 use Rattle.std.specs.Prelude.{Option, Some, None}
 use Rattle.std.specs.List.{slice_get}
 use Rattle.ada_program.specs.declared.program.Exception.{Exception}
 use Rattle.ada_program.specs.declared.program.Program.{Program}
 use Rattle.ada_program.specs.Form.{ActualForm}
 use Rattle.ada_program.specs.ProgramForm.{TypeForm, BodyForm, ProgramForm, program_form, seen_at, seen_in}
-use Rattle.ada_flow.specs.Flow.{Holds, handed_back, left_unkept, all_give_back}
+use Rattle.ada_flow.specs.Flow.{Holds, hold_at, handed_back, left_unkept, all_give_back}
 use Rattle.ada_meaning.specs.declared.state.Value.{Value}
 use Rattle.ada_meaning.specs.declared.state.Mode.{Mode}
 use Rattle.ada_meaning.specs.declared.state.Mode.TheVariants.{Running, Raising, Exiting, Returning}
 use Rattle.ada_meaning.specs.Event.{Quiet}
 use Rattle.ada_meaning.specs.Frame.{Returns}
 use Rattle.ada_meaning.specs.State.{Activation, Master}
-use Rattle.ada_meaning.specs.Step.{places_of, with_places, copied_back}
-use Rattle.ada_meaning.specs.Named.{Object, State}
+use Rattle.ada_meaning.specs.Step.{places_of, operands_of, with_places, with_operands, copied_back, stored_back, storing}
+use Rattle.ada_meaning.specs.Named.{Object, State, named}
 use Rattle.ada_meaning.specs.Run.{Event}
 use Rattle.ada_sound.specs.Agreement.{running_procedure}
-use Rattle.ada_sound.proofs.Fits.{none_spared, Fit}
+use Rattle.ada_sound.proofs.Fits.{none_spared, Fit, IsReferred, referred_first, component_access, plain_object}
+use Rattle.ada_meaning.specs.declared.state.Id.{Id}
+use Rattle.ada_owners.specs.Places.{access_at}
+use Rattle.ada_owners.proofs.Objects.{listed_at}
+use Rattle.ada_program.specs.WellFormed.{access_of, kind_among, reached_components}
 use Rattle.ada_sound.proofs.Stored.{Stored}
 use Rattle.ada_sound.proofs.Activations.{returned_fit}
-use Rattle.ada_sound.proofs.GivenBack.{ArePlaced, since_back, said_back, objects_back, since_left, said_left, objects_left}
-use Rattle.ada_sound.proofs.Ready.{at_less, goes_ready, stays}
-use Rattle.ada_sound.proofs.Invariant.{Known, Control, Rooms, Roomed, GoesOn, Working, Stepped, Waits, AllWait, KeepsAll, below, outers, outer_of, owed_in, handed_at}
+use Rattle.ada_sound.proofs.GivenBack.{gives_some, ArePlaced, since_back, said_back, objects_back, since_left, said_left, objects_left}
+use Rattle.ada_sound.proofs.Ready.{at_work, at_less, runs_stores, stores_ready, goes_ready, stays}
+use Rattle.ada_sound.proofs.Invariant.{Known, Control, Rooms, Roomed, RunsOn, GoesOn, StoresOn, AreOpened, ReadyIn, Working, Stepped, Waits, AllWait, KeepsAll, below, outers, outer_of, owed_in, handed_at}
 use Rattle.ada_sound.proofs.Callers.{Suspension, caller_of, callers_of, known_in, Stands}
 
 -- What a step from one body to another keeps: it is known what it leads to, and so are the callers.
@@ -71,15 +75,15 @@ module _ (program : Program) (procedure : Option ℕ) (g : Suspension) (gs : Lis
     back_fit holds waits placed gave f =
         let w = caller_of program g gs in
         let ws = callers_of program gs in
-        returned_fit (outer_of w) callee.program.variables places holds (handed_at g.actuals) given_back (handed_back g.actuals g.before) caller.program.types (outers caller) g.passed none_spared heap
+        returned_fit (outer_of w) callee.program.variables places holds (handed_at g.actuals) given_back (handed_back g.actuals g.before) caller.program.types (outers caller) g.passed g.referenced none_spared heap
         (since_back callee.program w ws waits places holds placed gave) (fit_there holds f)
-        (said_back callee.program w ws waits places holds placed gave) (objects_back callee.program w ws waits places holds placed gave)
+        (said_back callee.program w ws waits places holds placed gave) (objects_back callee.program w ws waits places holds placed gave (λ i x is. plain_object i (gives_some (hold_at holds i) (waits.hands.owes i x is holds gave)) (waits.hands.formal i x is) f))
 
     left_fit : (holds : Holds) (waits : WaitsForIt) → KeepsAll g.kept holds → FitsHere holds → Fit caller.program.types caller.program.variables (outers caller) none_spared heap g.places (left_unkept g.kept g.actuals g.before)
     left_fit holds waits keeps f =
         let w = caller_of program g gs in
         let ws = callers_of program gs in
-        returned_fit (outer_of w) callee.program.variables places holds (handed_at g.actuals) g.places (left_unkept g.kept g.actuals g.before) caller.program.types (outers caller) g.passed none_spared heap
+        returned_fit (outer_of w) callee.program.variables places holds (handed_at g.actuals) g.places (left_unkept g.kept g.actuals g.before) caller.program.types (outers caller) g.passed g.referenced none_spared heap
         (since_left callee.program w ws waits places holds keeps f.said) (fit_there holds f)
         (said_left callee.program w ws waits places holds keeps f.said) (objects_left callee.program w ws waits places holds keeps f.said)
 
@@ -94,25 +98,37 @@ module _ (program : Program) (procedure : Option ℕ) (g : Suspension) (gs : Lis
       rest = tt;
     }
 
-    module _ (actuals : List ActualForm) (k : Control) (waits : WaitsForIt) where
-      gets_back : (holds : Holds) → Stored None heap masters → masters ≡ g.masters → ArePlaced callee.program.variables places → FitsHere holds → (actuals ≡ g.actuals) × (k ≡ g.control) × (all_give_back (owed_in callee.program) holds ≡ true) → Working caller heap (copied_back actuals places g.places) masters (GoesOn caller Running k)
-      gets_back holds stored same placed f (given, is, gave) =
-          rw (given, is) (at_less (caller_works given_back (handed_back g.actuals g.before) stored waits same (back_fit holds waits placed gave f)) waits.goes_on)
+    -- The components that get something back are there, behind a normal end.
+    stores_behind : (rooms : Rooms) (holds : Holds) (k : Control) (references : List Value) → AreOpened caller.program.types g.referenced references → ((o : Id) (t : ℕ) → IsReferred g.referenced o t → access_at heap o ≡ Some t) → RunsOn caller k rooms holds → StoresOn caller heap (storing named references k) rooms holds
+    stores_behind rooms holds k [] opened there runs = runs_stores caller k heap rooms holds runs
+    stores_behind rooms holds k (r ∷ rs) ((o, c, t, is, refers, none), later) there runs =
+        let h = listed_at heap o t (there o t refers) in
+        let plain : component_access caller.program.types h.object c ≡ None = ap (λ (u : ℕ). access_of (kind_among (reached_components caller.program.types u) c)) h.access ∙ none in
+        rw is ((h.object, h.found, h.listed, plain), stores_behind rooms holds k rs later there runs)
 
-      returns_by : (rooms : Rooms) (holds : Holds) → Stored None heap masters → Roomed (below callee) masters rooms → ArePlaced callee.program.variables places → FitsHere holds → GoesOn callee Running (Returns actuals ∷ k) rooms holds → Working caller heap (copied_back actuals places g.places) masters (GoesOn caller Running k)
+    module _ (actuals : List ActualForm) (references : List Value) (k : Control) (waits : WaitsForIt) where
+      abbrev BacksTo : Type 0
+      BacksTo = Working caller heap (copied_back actuals places g.places) masters (StoresOn caller heap (storing named references k))
+
+      gets_back : (holds : Holds) → Stored None heap masters → masters ≡ g.masters → ArePlaced callee.program.variables places → FitsHere holds → (actuals ≡ g.actuals) × (references ≡ g.references) × (k ≡ g.control) × (all_give_back (owed_in callee.program) holds ≡ true) → BacksTo
+      gets_back holds stored same placed f (given, refers, is, gave) =
+          let w : Working caller heap given_back masters (GoesOn caller Running g.control) = at_less (caller_works given_back (handed_back g.actuals g.before) stored waits same (back_fit holds waits placed gave f)) waits.goes_on in
+          rw (given, refers, is) (at_work w (stores_behind w.rooms w.holds g.control g.references waits.opened (λ o t refers'. f.referred o t (referred_first g.referenced (outers caller).referenced o t refers')) w.rest))
+
+      returns_by : (rooms : Rooms) (holds : Holds) → Stored None heap masters → Roomed (below callee) masters rooms → ArePlaced callee.program.variables places → FitsHere holds → GoesOn callee Running (Returns actuals references ∷ k) rooms holds → BacksTo
       returns_by [] holds stored roomed placed fit is = gets_back holds stored roomed placed fit is
       returns_by (gone ∷ rooms) holds stored roomed placed fit is = absurd is
 
-      returning_by : (rooms : Rooms) (holds : Holds) → Stored None heap masters → Roomed (below callee) masters rooms → ArePlaced callee.program.variables places → FitsHere holds → GoesOn callee Returning (Returns actuals ∷ k) rooms holds → Working caller heap (copied_back actuals places g.places) masters (GoesOn caller Running k)
+      returning_by : (rooms : Rooms) (holds : Holds) → Stored None heap masters → Roomed (below callee) masters rooms → ArePlaced callee.program.variables places → FitsHere holds → GoesOn callee Returning (Returns actuals references ∷ k) rooms holds → BacksTo
       returning_by [] holds stored roomed placed fit is = gets_back holds stored roomed placed fit is
       returning_by (gone ∷ rooms) holds stored roomed placed fit is = absurd is
 
-      raising_by : (e : Exception) (rooms : Rooms) (holds : Holds) → Stored None heap masters → Roomed (below callee) masters rooms → FitsHere holds → GoesOn callee (Raising e) (Returns actuals ∷ k) rooms holds → Working caller heap g.places masters (GoesOn caller (Raising e) k)
+      raising_by : (e : Exception) (rooms : Rooms) (holds : Holds) → Stored None heap masters → Roomed (below callee) masters rooms → FitsHere holds → GoesOn callee (Raising e) (Returns actuals references ∷ k) rooms holds → Working caller heap g.places masters (GoesOn caller (Raising e) k)
       raising_by e [] holds stored roomed fit (may, is, keeps) =
           rw is (at_less (caller_works g.places (left_unkept g.kept g.actuals g.before) stored waits roomed (left_fit holds waits keeps fit)) (waits.raises e may))
       raising_by e (gone ∷ rooms) holds stored roomed fit is = absurd is
 
-      exiting_by : (rooms : Rooms) (holds : Holds) → GoesOn callee Exiting (Returns actuals ∷ k) rooms holds → ⊥
+      exiting_by : (rooms : Rooms) (holds : Holds) → GoesOn callee Exiting (Returns actuals references ∷ k) rooms holds → ⊥
       exiting_by [] holds is = is
       exiting_by (gone ∷ rooms) holds is = is
 
@@ -121,15 +137,15 @@ abbrev pub resumed_in : Mode → Control → List (Activation Value) → State �
 resumed_in mode k rest s = record s { activations = rest; control = k; mode = mode }
 
 -- The body of a call has a caller.
-no_caller : (program : Program) (procedure : Option ℕ) (mode : Mode) (actuals : List ActualForm) (k : Control) (rooms : Rooms) (holds : Holds) → GoesOn (known_in program procedure []) mode (Returns actuals ∷ k) rooms holds → ⊥
-no_caller program procedure Running actuals k [] holds g = g
-no_caller program procedure (Raising e) actuals k [] holds g = g
-no_caller program procedure Exiting actuals k [] holds g = g
-no_caller program procedure Returning actuals k [] holds g = g
-no_caller program procedure Running actuals k (gone ∷ rooms) holds g = g
-no_caller program procedure (Raising e) actuals k (gone ∷ rooms) holds g = g
-no_caller program procedure Exiting actuals k (gone ∷ rooms) holds g = g
-no_caller program procedure Returning actuals k (gone ∷ rooms) holds g = g
+no_caller : (program : Program) (procedure : Option ℕ) (mode : Mode) (actuals : List ActualForm) (references : List Value) (k : Control) (rooms : Rooms) (holds : Holds) → GoesOn (known_in program procedure []) mode (Returns actuals references ∷ k) rooms holds → ⊥
+no_caller program procedure Running actuals references k [] holds g = g
+no_caller program procedure (Raising e) actuals references k [] holds g = g
+no_caller program procedure Exiting actuals references k [] holds g = g
+no_caller program procedure Returning actuals references k [] holds g = g
+no_caller program procedure Running actuals references k (gone ∷ rooms) holds g = g
+no_caller program procedure (Raising e) actuals references k (gone ∷ rooms) holds g = g
+no_caller program procedure Exiting actuals references k (gone ∷ rooms) holds g = g
+no_caller program procedure Returning actuals references k (gone ∷ rooms) holds g = g
 
 -- What a mode comes to behind the body of a call: a return lands there.
 abbrev pub behind_call : Mode → Mode
@@ -138,9 +154,16 @@ behind_call (Raising e) = Raising e
 behind_call Exiting = Exiting
 behind_call Returning = Running
 
+-- What is left to do behind it: where the body ends normally, components get something back first.
+abbrev pub behind_frames : Mode → (references : List Value) → Control → Control
+behind_frames Running references k = storing named references k
+behind_frames (Raising e) references k = k
+behind_frames Exiting references k = k
+behind_frames Returning references k = storing named references k
+
 -- The activations behind it: where the body ends normally, the caller gets back what it is to get.
 abbrev pub ended : List ActualForm → List Value → List (Activation Value) → List (Activation Value)
-ended actuals values rest = with_places (copied_back actuals values (places_of rest)) rest
+ended actuals values rest = with_operands (stored_back actuals values ++ operands_of rest) (with_places (copied_back actuals values (places_of rest)) rest)
 
 abbrev pub behind_body : Mode → List ActualForm → List Value → List (Activation Value) → List (Activation Value)
 behind_body Running actuals values rest = ended actuals values rest
@@ -148,17 +171,16 @@ behind_body (Raising e) actuals values rest = rest
 behind_body Exiting actuals values rest = rest
 behind_body Returning actuals values rest = ended actuals values rest
 
-module _ (program : Program) (a : Activation Value) (actuals : List ActualForm) (k : Control) (s : State) where
+module _ (program : Program) (a : Activation Value) (actuals : List ActualForm) (references : List Value) (k : Control) (s : State) where
   -- Whatever goes on in the caller is known there, with what its variables hold then.
-  resumes : (mode : Mode) (held : List Value) (b : Activation Value) (rest : List (Activation Value)) (g : Suspension) (gs : List Suspension) → Stands program (g ∷ gs) (record s { activations = a ∷ b ∷ rest }) → Working (known_in program g.procedure gs) s.heap held s.masters (GoesOn (known_in program g.procedure gs) mode k) → Crosses program s.heap Quiet (resumed_in mode k (record b { places = held } ∷ rest) s)
-  resumes mode held b rest g gs stands w =
+  resumes : (mode : Mode) (behind : Control) (held waiting : List Value) (b : Activation Value) (rest : List (Activation Value)) (g : Suspension) (gs : List Suspension) → Stands program (g ∷ gs) (record s { activations = a ∷ b ∷ rest }) → ReadyIn (known_in program g.procedure gs) mode behind s.heap held waiting s.masters → Crosses program s.heap Quiet (resumed_in mode behind (record b { places = held; operands = waiting } ∷ rest) s)
+  resumes mode behind held waiting b rest g gs stands r =
       let of = stands.bodies.0 in
-      let operands = stands.standing.suspended.1 in
-      let after = resumed_in mode k (record b { places = held } ∷ rest) s in
+      let after = resumed_in mode behind (record b { places = held; operands = waiting } ∷ rest) s in
       record {
         suspensions = gs;
         stepped = subst (λ (procedure : Option ℕ). Stepped (known_in program procedure gs) s.heap Quiet after) (sym of)
-            (stays (known_in program g.procedure gs) Quiet after (tt, rw operands (goes_ready (known_in program g.procedure gs) mode k s.heap held [] s.masters w)) tt);
+            (stays (known_in program g.procedure gs) Quiet after (tt, r) tt);
         stands = record {
           body = rw of stands.bodies.1;
           behind = rw of stands.bodies.2;
@@ -166,7 +188,7 @@ module _ (program : Program) (a : Activation Value) (actuals : List ActualForm) 
           standing = record {
             suspended = stands.standing.suspended.2;
             waiting = subst (λ (procedure : Option ℕ). AllWait (seen_in procedure (program_form program)) (callers_of program gs)) (sym of) stands.standing.waiting.1;
-            low = stands.standing.low.1;
+            low = stands.standing.low.2;
           };
         };
       }
@@ -175,22 +197,24 @@ module _ (program : Program) (a : Activation Value) (actuals : List ActualForm) 
   goes_back : (mode : Mode) (b : Activation Value) (rest : List (Activation Value)) (g : Suspension) (gs : List Suspension) → Stands program (g ∷ gs) (record s { activations = a ∷ b ∷ rest }) → Working (known_in program g.procedure gs) s.heap g.places s.masters (GoesOn (known_in program g.procedure gs) mode k) → Crosses program s.heap Quiet (resumed_in mode k (b ∷ rest) s)
   goes_back mode b rest g gs stands w =
       let places = stands.standing.suspended.0 in
-      resumes mode b.places b rest g gs stands (rw places w)
+      resumes mode k b.places b.operands b rest g gs stands (rw places (goes_ready (known_in program g.procedure gs) mode k s.heap g.places b.operands s.masters w))
 
-  gets_on : (b : Activation Value) (rest : List (Activation Value)) (g : Suspension) (gs : List Suspension) → Stands program (g ∷ gs) (record s { activations = a ∷ b ∷ rest }) → Working (known_in program g.procedure gs) s.heap (copied_back actuals a.places g.places) s.masters (GoesOn (known_in program g.procedure gs) Running k) → Crosses program s.heap Quiet (resumed_in Running k (ended actuals a.places (b ∷ rest)) s)
+  gets_on : (b : Activation Value) (rest : List (Activation Value)) (g : Suspension) (gs : List Suspension) → Stands program (g ∷ gs) (record s { activations = a ∷ b ∷ rest }) → Working (known_in program g.procedure gs) s.heap (copied_back actuals a.places g.places) s.masters (StoresOn (known_in program g.procedure gs) s.heap (storing named references k)) → Crosses program s.heap Quiet (resumed_in Running (storing named references k) (ended actuals a.places (b ∷ rest)) s)
   gets_on b rest g gs stands w =
       let places = stands.standing.suspended.0 in
-      resumes Running (copied_back actuals a.places b.places) b rest g gs stands (rw places w)
+      let waiting = stored_back actuals a.places ++ b.operands in
+      resumes Running (storing named references k) (copied_back actuals a.places b.places) waiting b rest g gs stands
+      (rw places (stores_ready (known_in program g.procedure gs) (storing named references k) s.heap (copied_back actuals a.places g.places) waiting s.masters w))
 
   -- A body is left, in whatever mode: its caller goes on. Each variable of the body has a place, from which it gives something back.
-  pub left_fine : (mode : Mode) (rest : List (Activation Value)) (gs : List Suspension) → Stands program gs (record s { activations = a ∷ rest }) → ArePlaced (seen_in a.procedure (program_form program)).variables a.places → Working (known_in program a.procedure gs) s.heap a.places s.masters (GoesOn (known_in program a.procedure gs) mode (Returns actuals ∷ k)) → Crosses program s.heap Quiet (resumed_in (behind_call mode) k (behind_body mode actuals a.places rest) s)
-  left_fine mode [] [] stands placed w = absurd (no_caller program a.procedure mode actuals k w.rooms w.holds w.rest)
+  pub left_fine : (mode : Mode) (rest : List (Activation Value)) (gs : List Suspension) → Stands program gs (record s { activations = a ∷ rest }) → ArePlaced (seen_in a.procedure (program_form program)).variables a.places → Working (known_in program a.procedure gs) s.heap a.places s.masters (GoesOn (known_in program a.procedure gs) mode (Returns actuals references ∷ k)) → Crosses program s.heap Quiet (resumed_in (behind_call mode) (behind_frames mode references k) (behind_body mode actuals a.places rest) s)
+  left_fine mode [] [] stands placed w = absurd (no_caller program a.procedure mode actuals references k w.rooms w.holds w.rest)
   left_fine mode [] (g ∷ gs) stands placed w = absurd stands.bodies
   left_fine mode (b ∷ rest) [] stands placed w = absurd stands.bodies
   left_fine Running (b ∷ rest) (g ∷ gs) stands placed w =
-      gets_on b rest g gs stands (returns_by program a.procedure g gs s.heap a.places s.masters actuals k stands.standing.waiting.0 w.rooms w.holds w.stored w.roomed placed w.fit w.rest)
+      gets_on b rest g gs stands (returns_by program a.procedure g gs s.heap a.places s.masters actuals references k stands.standing.waiting.0 w.rooms w.holds w.stored w.roomed placed w.fit w.rest)
   left_fine (Raising e) (b ∷ rest) (g ∷ gs) stands placed w =
-      goes_back (Raising e) b rest g gs stands (raising_by program a.procedure g gs s.heap a.places s.masters actuals k stands.standing.waiting.0 e w.rooms w.holds w.stored w.roomed w.fit w.rest)
-  left_fine Exiting (b ∷ rest) (g ∷ gs) stands placed w = absurd (exiting_by program a.procedure g gs s.heap a.places s.masters actuals k stands.standing.waiting.0 w.rooms w.holds w.rest)
+      goes_back (Raising e) b rest g gs stands (raising_by program a.procedure g gs s.heap a.places s.masters actuals references k stands.standing.waiting.0 e w.rooms w.holds w.stored w.roomed w.fit w.rest)
+  left_fine Exiting (b ∷ rest) (g ∷ gs) stands placed w = absurd (exiting_by program a.procedure g gs s.heap a.places s.masters actuals references k stands.standing.waiting.0 w.rooms w.holds w.rest)
   left_fine Returning (b ∷ rest) (g ∷ gs) stands placed w =
-      gets_on b rest g gs stands (returning_by program a.procedure g gs s.heap a.places s.masters actuals k stands.standing.waiting.0 w.rooms w.holds w.stored w.roomed placed w.fit w.rest)
+      gets_on b rest g gs stands (returning_by program a.procedure g gs s.heap a.places s.masters actuals references k stands.standing.waiting.0 w.rooms w.holds w.stored w.roomed placed w.fit w.rest)

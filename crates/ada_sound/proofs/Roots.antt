@@ -19,14 +19,14 @@ use Rattle.ada_flow.specs.declared.rule.Hold.TheVariants as hold
 use Rattle.ada_flow.specs.Flow.{Holds, hold_at, lost_by}
 use Rattle.ada_meaning.specs.declared.state.Id.{Id}
 use Rattle.ada_meaning.specs.declared.state.Value.{Value}
-use Rattle.ada_meaning.specs.declared.state.Value.TheVariants.{Null}
-use Rattle.ada_meaning.specs.Named.{Object}
-use Rattle.ada_meaning.specs.Step.{before_last}
-use Rattle.ada_sound.proofs.Fits.{Outsiders, Fit, names_object, is_object, place_at}
+use Rattle.ada_meaning.specs.declared.state.Value.TheVariants.{Null, Names, Scalar, Part}
+use Rattle.ada_meaning.specs.Named.{Object, named, whole}
+use Rattle.ada_meaning.specs.Step.{before_last, selected}
+use Rattle.ada_sound.proofs.Fits.{Outsiders, Reference, IsPlace, Fit, names_object, is_object, place_at}
 use Rattle.ada_sound.proofs.Invariant.{Known, Control, Rooms, To, MayRaise, RaisesAt, ways}
 
 -- Nothing is selected behind nothing.
-none_behind : (types : List TypeForm) (cs : List ℕ) → selectors_kind types None cs ≡ None
+pub none_behind : (types : List TypeForm) (cs : List ℕ) → selectors_kind types None cs ≡ None
 none_behind types [] = refl
 none_behind types (c ∷ cs) = none_behind types cs
 
@@ -120,8 +120,15 @@ kept_hold (hold.Own r) spot e is = cc is
 kept_hold (hold.Alias r) spot e is = cc is
 kept_hold hold.Lost spot e is = absurd (cc e)
 
-pub object_there : {types : List TypeForm} {variables : List VariableForm} {outer : Outsiders} {spared : Id → Bool} {heap : List Object} {places : List Value} {holds : Holds} (x : ℕ) (spot : Spot) → lost_by (hold_at holds x) spot ≡ None → is_object variables x ≡ true → Fit types variables outer spared heap places holds → place_at places x ≢ Null
-object_there {holds = holds} x spot kept is f = f.objects x is (kept_hold (hold_at holds x) spot kept)
+place_there : (types : List TypeForm) (referenced : List Reference) (kind : Option VariableKind) (v : Value) → names_object kind ≡ true → IsPlace types referenced kind v → whole v ≢ Null
+place_there types referenced kind Null is place null = cc (is, place)
+place_there types referenced kind (Names o) is place null = cc null
+place_there types referenced kind (Scalar n) is place null = cc null
+place_there types referenced kind (Part o first) is place null = cc null
+
+pub object_there : {types : List TypeForm} {variables : List VariableForm} {outer : Outsiders} {spared : Id → Bool} {heap : List Object} {places : List Value} {holds : Holds} (x : ℕ) (spot : Spot) → lost_by (hold_at holds x) spot ≡ None → is_object variables x ≡ true → Fit types variables outer spared heap places holds → whole (place_at places x) ≢ Null
+object_there {types = types} {variables = variables} {outer = outer} {places = places} {holds = holds} x spot kept is f =
+    place_there types outer.referenced (variable_kind variables x) (place_at places x) is (f.objects x (kept_hold (hold_at holds x) spot kept))
 
 -- Where a path may raise Constraint_Error.
 module _ (known : Known) (v : Value) (k : Control) (rooms : Rooms) (holds : Holds) where
@@ -141,11 +148,11 @@ module _ (known : Known) (v : Value) (k : Control) (rooms : Rooms) (holds : Hold
   rest_raises true c [] there m = λ null. absurd (there refl null)
   rest_raises true c (d ∷ cs) there m = m refl
 
-  pub front_raises : (of_record : Bool) (c : ℕ) (cs : List ℕ) → (of_record ≡ true → v ≢ Null) → MayRaise known (follows_value of_record (c ∷ cs)) ConstraintError k rooms holds → RaisesAt known v (before_last c cs) k rooms holds
-  front_raises false c [] there m = λ null. m refl
-  front_raises false c (d ∷ cs) there m = m refl
-  front_raises true c [] there m = λ null. absurd (there refl null)
-  front_raises true c (d ∷ cs) there m = m refl
+  pub front_raises : (of_record : Bool) (c d : ℕ) (cs : List ℕ) → (of_record ≡ true → v ≢ Null) → MayRaise known (follows_value of_record (c ∷ cs)) ConstraintError k rooms holds → RaisesAt known v (before_last d cs) k rooms holds
+  front_raises false c d [] there m = λ null. m refl
+  front_raises false c d (e ∷ cs) there m = m refl
+  front_raises true c d [] there m = λ null. absurd (there refl null)
+  front_raises true c d (e ∷ cs) there m = m refl
 
   -- And up to the object in which a record lies.
   pub record_raises : (of_record : Bool) (cs : List ℕ) → (of_record ≡ true → v ≢ Null) → MayRaise known (is_behind_value of_record cs) ConstraintError k rooms holds → RaisesAt known v cs k rooms holds
@@ -153,6 +160,11 @@ module _ (known : Known) (v : Value) (k : Control) (rooms : Rooms) (holds : Hold
   record_raises true [] there m = λ null. absurd (there refl null)
   record_raises false (c ∷ cs) there m = m refl
   record_raises true (c ∷ cs) there m = m refl
+
+-- It makes no difference where the first selector leads.
+pub selected_raises : (known : Known) (u v : Value) (cs : List ℕ) (k : Control) (rooms : Rooms) (holds : Holds) → RaisesAt known v cs k rooms holds → RaisesAt known v (selected named u cs) k rooms holds
+selected_raises known u v [] k rooms holds r = r
+selected_raises known u v (c ∷ cs) k rooms holds r = r
 
 -- What follows a value further on raises more.
 pub raises_next : (known : Known) (v w : Value) (c : ℕ) (cs : List ℕ) (k : Control) (rooms : Rooms) (holds : Holds) → RaisesAt known v (c ∷ cs) k rooms holds → RaisesAt known w cs k rooms holds

@@ -1,6 +1,6 @@
 -- Runs keep the invariant, and what each step tells of objects adds up.
 
-use Rattle.std.proofs.Common.{◌≡◌, ℕ, suc, ◌≤◌, Bool, true, false, List, [], ◌∷◌, refl, sym, ap, subst, ◌∙◌, ◌⊎◌, inl, inr, arith}
+use Rattle.std.proofs.Common.{◌≡◌, ℕ, suc, ◌≤◌, Bool, true, false, List, [], ◌∷◌, refl, sym, ap, subst, ◌∙◌, ◌⊎◌, inl, inr, arith, reverse}
 use Rattle.std.specs.Prelude.{◌↔◌, Option, Some, None}
 use Rattle.std.specs.List.{All, AllPairs, slice_get, slice_index_or}
 use Rattle.std.proofs.lemmas.Option.{slice_get-get_or}
@@ -47,11 +47,14 @@ use Rattle.ada_sound.proofs.Defaults.{reached_same, Reaches}
 use Rattle.ada_sound.proofs.Items.{NoMaster, items_fall}
 use Rattle.ada_sound.proofs.Stored.{Stored}
 use Rattle.ada_sound.proofs.Alters.{BackIn, StaysItself, Alters}
-use Rattle.ada_sound.proofs.Invariant.{Known, Control, Caller, AreSuspended, Working, RunsOn, CallsOn, Spares, AllWait, LieBelow, Says, Stepped, EndsWell, Fine, outers}
+use Rattle.ada_sound.proofs.Invariant.{Known, Control, Caller, AreSuspended, Working, RunsOn, CallsOn, Spares, AllWait, LieBelow, Says, Stepped, EndsWell, Fine, outers, ArePassed}
 use Rattle.ada_sound.proofs.Callers.{Suspension, rest_of, callers_of, known_in, AreOf, Stands}
 use Rattle.ada_sound.proofs.Bodies.{IsBody, seen_is, callee_get}
 use Rattle.ada_sound.proofs.Returns.{Crosses, same_types, left_fine}
-use Rattle.ada_sound.proofs.Calls.{callee, values, waiting, freed_by_call, calls_fine}
+use Rattle.ada_sound.proofs.Fits.{NoOuterAlias}
+use Rattle.ada_typed.proofs.Objects.{record_no_access}
+use Rattle.std.proofs.lemmas.Bool.{eq-eqb}
+use Rattle.ada_sound.proofs.Calls.{callee, values, waiting, freed_by_call, calls_fine, references, referenced, passes_spared}
 use Rattle.ada_sound.proofs.Keepings.{callee_keeps}
 use Rattle.ada_sound.proofs.Ready.{at_work}
 use Rattle.ada_sound.proofs.BodyRuns.{body_runs, call_spares}
@@ -191,7 +194,11 @@ module _ (program : Program) (s after : State) (gs : List Suspension) (stands : 
         let lies = low.0 x o relied names in
         let y = alters.kept o lies.0 lies.1 in
         (y.0, y.1, rw y.2.2 lies.2)),
-    low_kept ws low.1,
+    (λ o t refers.
+        let lies = low.1 o t refers in
+        let y = alters.kept o lies.0 lies.1 in
+        (y.0, y.1, rw y.2.2 lies.2)),
+    low_kept ws low.2,
   )
 
   stands_kept : Stands program gs after
@@ -230,12 +237,12 @@ fine_in program s gs stands (picks n taken) same fine = λ i lt. kept_on program
 
 -- Each variable of the running body has a place.
 placed_in : (p : ProgramForm) (a : Activation Value) (rest : List (Activation Value)) (s : State) → s.activations ≡ a ∷ rest → typed.TypedIn p s → ArePlaced p.variables a.places
-placed_in p a rest s is (typed.running kinds ready fits) x kind at = active_placed (cells_of s.heap) p.variables kinds (a ∷ rest) x kind (rw is at ready.active) at
-placed_in p a rest s is (typed.on_jump mode jumps goes) x kind at = active_placed (cells_of s.heap) p.variables [] (a ∷ rest) x kind (rw is at jumps.active) at
+placed_in p a rest s is (typed.running kinds ready fits) x kind at = active_placed p.types (cells_of s.heap) p.variables kinds (a ∷ rest) x kind (rw is at ready.active) at
+placed_in p a rest s is (typed.on_jump mode jumps goes) x kind at = active_placed p.types (cells_of s.heap) p.variables [] (a ∷ rest) x kind (rw is at jumps.active) at
 
 -- The body of a procedure runs when it is called.
 module _ (program : Program) (number : ℕ) (b : BodyForm) (given : List ActualForm) (k : Control) (a : Activation Value) (gs : List Suspension) (s : State) (well : IsWellFormed (program_form program)) (obeys : ObeysRules program)
-    (w : Working (known_in program a.procedure gs) s.heap a.places s.masters (CallsOn (known_in program a.procedure gs) number b given k)) (is : IsBody (program_form program) a.procedure) where
+    (w : Working (known_in program a.procedure gs) s.heap a.places s.masters (CallsOn (known_in program a.procedure gs) number b given k)) (is : IsBody (program_form program) a.procedure) (passed : ArePassed s.heap a.places (reverse given) a.operands) where
   abbrev called : Known
   called = callee program number b given k a [] gs s w
 
@@ -249,11 +256,15 @@ module _ (program : Program) (number : ℕ) (b : BodyForm) (given : List ActualF
   spares_called rest stands t may =
       let freed = freed_by_call program number b given k a rest gs s w stands t may in
       let caller = known_in program a.procedure gs in
-      call_spares caller.program.variables (slice_get (effects_of caller.program) number) given a.places (values program number b given k a [] gs s) w.holds (outers caller) t freed (w.rest.3 t freed)
+      let same = same_types a.procedure (program_form program) ∙ sym (same_types (Some number) (program_form program)) in
+      let refers = referenced program number b given k a [] gs s in
+      subst (λ (types : List TypeForm). NoOuterAlias types (outers called) t) same
+      (call_spares caller.program.types caller.program.variables (slice_get (effects_of caller.program) number) given a.places (values program number b given k a [] gs s) refers w.holds (outers caller) t freed (w.rest.3 t freed)
+      (λ of o is. passes_spared program number b given k a [] gs s w passed t freed of o is))
 
-  runs_called : (rest : List (Activation Value)) → Stands program gs (record s { activations = a ∷ rest }) → RunsOn called (Elaborates b.declarations b.statements b.handlers ∷ Returns given ∷ k) (gone_with b.declarations ∷ []) (first_holds b.formals b.variables)
+  runs_called : (rest : List (Activation Value)) → Stands program gs (record s { activations = a ∷ rest }) → RunsOn called (Elaborates b.declarations b.statements b.handlers ∷ Returns given (references program number b given k a [] gs s) ∷ k) (gone_with b.declarations ∷ []) (first_holds b.formals b.variables)
   runs_called rest stands =
-      subst (λ (c : BodyForm). RunsOn called (Elaborates c.declarations c.statements c.handlers ∷ Returns given ∷ k) (gone_with c.declarations ∷ []) (first_holds c.formals c.variables)) same_body
+      subst (λ (c : BodyForm). RunsOn called (Elaborates c.declarations c.statements c.handlers ∷ Returns given (references program number b given k a [] gs s) ∷ k) (gone_with c.declarations ∷ []) (first_holds c.formals c.variables)) same_body
       (body_runs program (Some number) (waiting program number b given k a [] gs s w ∷ gs) (body_obeys program (Some number) (b, seen_body) obeys) (none_out program (Some number) well) (none_on program (Some number) well) (spares_called rest stands) (callee_keeps (program_form program) a.procedure number b is w.rest.0))
 
 filled_in : (p : ProgramForm) (s : State) → typed.TypedIn p s → AreFilled p.types (cells_of s.heap) (cells_of s.heap)
@@ -288,6 +299,10 @@ may_call : (program : Program) (procedure : Option ℕ) (gs : List Suspension) �
 may_call program procedure gs well = record {
   among = sees (program_form program) procedure;
   lost = λ place at reached. scalars_lost program procedure (rest_of gs) reached.0 place at (seen_fits (program_form program) well procedure) reached.1;
+  records = λ x t is. (
+      let p = seen_in procedure (program_form program) in
+      record_no_access p.types p.variables x t.0 (seen_fits (program_form program) well procedure).variables_fit (rw is (eq-eqb t.0 t.0 refl))
+      );
 }
 
 -- A step that begins no call and ends none.
@@ -329,21 +344,21 @@ module _ (program : Program) (a : Activation Value) (rest : List (Activation Val
       let caller = known_in program a.procedure sound.suspensions in
       let w : Working caller s.heap a.places s.masters (CallsOn caller number b actuals k) = at_work ready ready.rest.0 in
       let stands = restand Running (Calls number b actuals) sound.suspensions sound.stands in
-      calls_fine program number b actuals k a rest sound.suspensions s w ready.rest.1 stands (runs_called program number b actuals k a sound.suspensions s sound.well sound.obeys w stands.body rest stands)
-  running_step (Returns actuals) sound = left_fine program a actuals k s Running rest sound.suspensions (restand Running (Returns actuals) sound.suspensions sound.stands) (placed_in (seen_in a.procedure (program_form program)) a rest (state_with Running (Returns actuals ∷ k) (a ∷ rest) s) refl sound.typed.inside) sound.ready.1
+      calls_fine program number b actuals k a rest sound.suspensions s w ready.rest.1 (inside.heap_typed (seen_in a.procedure (program_form program)) (state_with Running (Calls number b actuals ∷ k) (a ∷ rest) s) sound.typed.inside).1 stands (runs_called program number b actuals k a sound.suspensions s sound.well sound.obeys w stands.body ready.rest.1 rest stands)
+  running_step (Returns actuals references) sound = left_fine program a actuals references k s Running rest sound.suspensions (restand Running (Returns actuals references) sound.suspensions sound.stands) (placed_in (seen_in a.procedure (program_form program)) a rest (state_with Running (Returns actuals references ∷ k) (a ∷ rest) s) refl sound.typed.inside) sound.ready.1
   running_step f sound = crossing_none f refl sound
 
   -- While a jump is on its way.
   raising_step : (e : Exception) (f : Frame Value) → Sound program (state_with (Raising e) (f ∷ k) (a ∷ rest) s) → FineIn program (state_with (Raising e) (f ∷ k) (a ∷ rest) s) (jump_next named (Raising e) (f ∷ k) (state_with (Raising e) (f ∷ k) (a ∷ rest) s))
-  raising_step e (Returns actuals) sound = left_fine program a actuals k s (Raising e) rest sound.suspensions (restand (Raising e) (Returns actuals) sound.suspensions sound.stands) (placed_in (seen_in a.procedure (program_form program)) a rest (state_with (Raising e) (Returns actuals ∷ k) (a ∷ rest) s) refl sound.typed.inside) sound.ready.1
+  raising_step e (Returns actuals references) sound = left_fine program a actuals references k s (Raising e) rest sound.suspensions (restand (Raising e) (Returns actuals references) sound.suspensions sound.stands) (placed_in (seen_in a.procedure (program_form program)) a rest (state_with (Raising e) (Returns actuals references ∷ k) (a ∷ rest) s) refl sound.typed.inside) sound.ready.1
   raising_step e f sound = passing_none (Raising e) f refl _ refl refl sound
 
   exiting_step : (f : Frame Value) → Sound program (state_with Exiting (f ∷ k) (a ∷ rest) s) → FineIn program (state_with Exiting (f ∷ k) (a ∷ rest) s) (jump_next named Exiting (f ∷ k) (state_with Exiting (f ∷ k) (a ∷ rest) s))
-  exiting_step (Returns actuals) sound = left_fine program a actuals k s Exiting rest sound.suspensions (restand Exiting (Returns actuals) sound.suspensions sound.stands) (placed_in (seen_in a.procedure (program_form program)) a rest (state_with Exiting (Returns actuals ∷ k) (a ∷ rest) s) refl sound.typed.inside) sound.ready.1
+  exiting_step (Returns actuals references) sound = left_fine program a actuals references k s Exiting rest sound.suspensions (restand Exiting (Returns actuals references) sound.suspensions sound.stands) (placed_in (seen_in a.procedure (program_form program)) a rest (state_with Exiting (Returns actuals references ∷ k) (a ∷ rest) s) refl sound.typed.inside) sound.ready.1
   exiting_step f sound = passing_none Exiting f refl _ refl refl sound
 
   returning_step : (f : Frame Value) → Sound program (state_with Returning (f ∷ k) (a ∷ rest) s) → FineIn program (state_with Returning (f ∷ k) (a ∷ rest) s) (jump_next named Returning (f ∷ k) (state_with Returning (f ∷ k) (a ∷ rest) s))
-  returning_step (Returns actuals) sound = left_fine program a actuals k s Returning rest sound.suspensions (restand Returning (Returns actuals) sound.suspensions sound.stands) (placed_in (seen_in a.procedure (program_form program)) a rest (state_with Returning (Returns actuals ∷ k) (a ∷ rest) s) refl sound.typed.inside) sound.ready.1
+  returning_step (Returns actuals references) sound = left_fine program a actuals references k s Returning rest sound.suspensions (restand Returning (Returns actuals references) sound.suspensions sound.stands) (placed_in (seen_in a.procedure (program_form program)) a rest (state_with Returning (Returns actuals references ∷ k) (a ∷ rest) s) refl sound.typed.inside) sound.ready.1
   returning_step f sound = passing_none Returning f refl _ refl refl sound
 
 -- Any step.

@@ -1,23 +1,22 @@
 -- Nothing relies on an Integer or a Boolean: in a well-formed program flow calls it lost, wherever it comes to.
 
-use Rattle.std.proofs.Common.{◌≡◌, ◌≢◌, ℕ, zero, suc, Bool, true, false, ◌||◌, List, [], ◌∷◌, ◌++◌, length, refl, ◌⊎◌, inl, inr}
+use Rattle.std.proofs.Common.{◌≡◌, ◌≢◌, ℕ, zero, suc, Bool, true, false, ◌||◌, List, [], ◌∷◌, ◌++◌, refl, ◌⊎◌, inl, inr}
 use Rattle.std.specs.Prelude.{Option, Some, None, if◌then◌else◌}
 use Rattle.std.specs.List.{list_all, slice_get, slice_set}
-use Rattle.std.proofs.Math.ListN.{replicate}
 use Rattle.std.proofs.lemmas.Bool.{and_parts}
 use Rattle.ada_text.specs.declared.spot.Spot.{Spot}
 use Rattle.ada_program.specs.declared.program.Program.{Program}
 use Rattle.ada_program.specs.declared.program.VariableKind.{VariableKind}
 use Rattle.ada_program.specs.declared.program.VariableKind.TheVariants as variable
-use Rattle.ada_program.specs.Form.{PathForm, ExpressionForm, RightForm, computes, DeclarationForm, collects, declares, declares_record, StmtForm, skips, assigns, assigns_record, frees, gets, writes, writes_text, chooses, repeats, counts, exits, calls, returns, raises, encloses, StmtsForm, no_stmts, a_stmt, BranchesForm, otherwise, a_branch, HandlersForm, no_handlers, a_handler, ActualForm, in_value, in_null, in_access, in_out_path, in_out_access}
+use Rattle.ada_program.specs.Form.{PathForm, ExpressionForm, RightForm, computes, DeclarationForm, collects, declares, declares_record, StmtForm, skips, assigns, assigns_record, frees, gets, writes, writes_text, chooses, repeats, counts, exits, calls, returns, raises, encloses, StmtsForm, no_stmts, a_stmt, BranchesForm, otherwise, a_branch, HandlersForm, no_handlers, a_handler, ActualForm, in_value, in_null, in_access, in_record, in_out_path, in_out_access, in_out_component, in_out_record}
 use Rattle.ada_program.specs.ProgramForm.{TypeForm, VariableForm, program_form, seen_in}
 use Rattle.ada_program.specs.WellFormed.{access_of, variable_kind, is_borrower, selectors_kind, path_access, right_fits, initial_fits, is_freed_by, statement_fits, stmts_fit, branches_fit, handlers_fit, Profile, callable_in, value_access, root_kind, is_record_object, names_borrower, actual_fits, actuals_fit, suits_profile}
-use Rattle.ada_effects.specs.Effects.{expression_raises, path_raises, record_path_raises, items_raise, actuals_raise, initial_raises, Effect, call_raises, passes}
+use Rattle.ada_effects.specs.Effects.{expression_raises, path_raises, record_path_raises, items_raise, actuals_raise, initial_raises, Effect, call_raises, passes, call_frees}
 use Rattle.ada_flow.specs.declared.rule.Hold.{Hold}
 use Rattle.ada_flow.specs.declared.rule.Region.TheVariants.{Whole}
 use Rattle.ada_flow.specs.declared.rule.Hold.TheVariants.{Null, Own, Alias, Lost, Kept}
 use Rattle.ada_flow.specs.declared.rule.Rule.TheVariants.{LoopState, FormalNotOwned}
-use Rattle.ada_flow.specs.Flow.{Holds, hold_at, variable_access, join, join_option, Outcome, faults, goes, also_raises, then_flow, raising_if, ends_with, Use, uses_in, uses_in_right, uses_in_target, Breach, broken_among, unless_broken, using_paths, computed, left_by_move, without_value, without_values, moved_by_right, right_hold, evaluation_raises, gives, gives_path, without_alias, without_aliases, without_freed, left_by_call, uses_in_actuals, behind_end, freed, released, passes_own, freed_behind, frees_path, gets_path, either_of, are_as_good, opened_hold, opened, opened_target, opened_by, opened_by_all, opened_by_branches, opened_by_handlers, ends_turn, left_with, is_left, condition_flow, loop_flow, Gone, gone_with, declared_at, uses_in_initial, uses_in_record, reaches_it, without_types, without_variables, if_own, left, left_option, leaves_block, handled, Around, in_loop, in_block, exit_of, exit_flow, declaration_flow, declarations_flow, bounds_flow, counting_start, begins_pair, stmt_flow, stmts_flow, branches_flow, handlers_flow, all_touched, touched, touched_hold, touched_by_all, variable_of, opened_by_actuals, handed_back, left_unkept, unless_kept, first_kept, others_kept, Keeping, return_flow, all_give_back, formal_hold, first_holds, kept_at}
+use Rattle.ada_flow.specs.Flow.{Holds, hold_at, variable_access, join, join_option, Outcome, faults, goes, also_raises, then_flow, raising_if, ends_with, Use, uses_in, uses_in_right, uses_in_target, Breach, broken_among, unless_broken, using_paths, computed, left_by_move, without_value, without_values, moved_by_right, right_hold, evaluation_raises, gives, gives_path, without_alias, without_aliases, without_freed, left_by_call, uses_in_actuals, behind_end, freed, released, passes_own, freed_behind, frees_path, gets_path, either_of, are_as_good, opened_hold, opened, opened_target, opened_by, opened_by_all, opened_by_branches, opened_by_handlers, ends_turn, left_with, is_left, condition_flow, loop_flow, Gone, gone_with, declared_at, uses_in_initial, uses_in_record, reaches_it, without_types, without_variables, if_own, left, left_option, leaves_block, handled, Around, in_loop, in_block, exit_of, exit_flow, declaration_flow, declarations_flow, bounds_flow, counting_start, begins_pair, stmt_flow, stmts_flow, branches_flow, handlers_flow, all_touched, touched, touched_hold, touched_by_all, variable_of, opened_by_actuals, handed_back, left_unkept, unless_kept, first_kept, others_kept, Keeping, all_give_back, formal_hold, first_holds, kept_at}
 use Rattle.ada_typed.proofs.Bodies.{SeenFits}
 use Rattle.ada_sound.proofs.Assigned.{root_or_none}
 use Rattle.ada_sound.specs.Agreement.{Place, Turning, Comes, here, behind, in_branches, in_body, in_count, in_enclosed, ComesBy, in_others, in_this, in_next, ComesTo, to_this, to_next, ComesInside, in_statements, in_handlers, IsFlowAt}
@@ -82,11 +81,11 @@ formal_lost : (m : FormalMode) (kind : VariableKind) → access_of (Some kind) �
 formal_lost In variable.Integer none = refl
 formal_lost In variable.Boolean none = refl
 formal_lost In (variable.Access access) none = absurd (cc none)
-formal_lost In (variable.Record object) none = refl
+formal_lost In (variable.Record object) none = absurd (cc none)
 formal_lost InOut variable.Integer none = refl
 formal_lost InOut variable.Boolean none = refl
 formal_lost InOut (variable.Access access) none = absurd (cc none)
-formal_lost InOut (variable.Record object) none = refl
+formal_lost InOut (variable.Record object) none = absurd (cc none)
 
 first_lost : (ms : List FormalMode) (vs : List VariableForm) (x : ℕ) → variable_access vs x ≡ None → hold_at (first_holds ms vs) x ≡ Lost
 first_lost ms [] x none = refl
@@ -264,6 +263,9 @@ module _ (types : List TypeForm) (variables : List VariableForm) (texts exceptio
   handing_keeps (in_value e ∷ rest) holds s = handing_keeps rest holds s
   handing_keeps (in_null ∷ rest) holds s = handing_keeps rest holds s
   handing_keeps (in_access path ∷ rest) holds s = handing_keeps rest holds s
+  handing_keeps (in_record p ∷ rest) holds s = handing_keeps rest holds s
+  handing_keeps (in_out_component path ∷ rest) holds s = handing_keeps rest holds s
+  handing_keeps (in_out_record p ∷ rest) holds s = handing_keeps rest holds s
   handing_keeps (in_out_path path ∷ rest) holds s = handing_keeps rest holds s
   handing_keeps (in_out_access path ∷ rest) holds s = handing_keeps rest (opened variables path.root holds) (opened_keeps path.root holds s)
 
@@ -387,6 +389,9 @@ module _ (types : List TypeForm) (variables : List VariableForm) (texts exceptio
   handing_back (kind ∷ kinds) (in_value e ∷ rest) holds fits s = handing_back kinds rest holds (and_parts _ _ fits).1 s
   handing_back (kind ∷ kinds) (in_null ∷ rest) holds fits s = handing_back kinds rest holds (and_parts _ _ fits).1 s
   handing_back (kind ∷ kinds) (in_access path ∷ rest) holds fits s = handing_back kinds rest holds (and_parts _ _ fits).1 s
+  handing_back (kind ∷ kinds) (in_record p ∷ rest) holds fits s = handing_back kinds rest holds (and_parts _ _ fits).1 s
+  handing_back (kind ∷ kinds) (in_out_component path ∷ rest) holds fits s = handing_back kinds rest holds (and_parts _ _ fits).1 s
+  handing_back (kind ∷ kinds) (in_out_record p ∷ rest) holds fits s = handing_back kinds rest holds (and_parts _ _ fits).1 s
   handing_back (kind ∷ kinds) (in_out_path path ∷ rest) holds fits s = handing_back kinds rest holds (and_parts _ _ fits).1 s
   handing_back (kind ∷ kinds) (in_out_access path ∷ rest) holds fits s =
       let parts = and_parts _ _ fits in
@@ -405,6 +410,9 @@ module _ (types : List TypeForm) (variables : List VariableForm) (texts exceptio
   unkept_keeps kept (in_value e ∷ rest) holds s = unkept_keeps (others_kept kept) rest holds s
   unkept_keeps kept (in_null ∷ rest) holds s = unkept_keeps (others_kept kept) rest holds s
   unkept_keeps kept (in_access path ∷ rest) holds s = unkept_keeps (others_kept kept) rest holds s
+  unkept_keeps kept (in_record p ∷ rest) holds s = unkept_keeps (others_kept kept) rest holds s
+  unkept_keeps kept (in_out_component path ∷ rest) holds s = unkept_keeps (others_kept kept) rest holds s
+  unkept_keeps kept (in_out_record p ∷ rest) holds s = unkept_keeps (others_kept kept) rest holds s
   unkept_keeps kept (in_out_path path ∷ rest) holds s = unkept_keeps (others_kept kept) rest holds s
   unkept_keeps kept (in_out_access path ∷ rest) holds s =
       unkept_keeps (others_kept kept) rest (unless_kept (first_kept kept) path.root holds) (spared_keeps (first_kept kept) path.root holds s)
@@ -440,7 +448,7 @@ module _ (types : List TypeForm) (variables : List VariableForm) (texts exceptio
         let left = left_by_call variables effect holds in
         let kept = kept_at around.kept procedure in
         let may = actuals_raise actuals || call_raises effect (λ e. true) in
-        using_keeps (uses_in_actuals [] actuals) holds (ends_with may (left_unkept kept actuals left) (handed_back actuals left))
+        using_keeps (uses_in_actuals types variables (call_frees effect) [] actuals) holds (ends_with may (left_unkept kept actuals left) (handed_back actuals left))
         (ends_keep may (left_unkept kept actuals left) (handed_back actuals left) (unkept_keeps kept actuals left (call_keeps effect holds s))
         (suited_back (slice_get callable procedure) actuals left fits (call_keeps effect holds s)))
     stmt_keeps around inside cleared (returns spot) holds fits s = returning_keeps (all_give_back around.owed (left variables around.within holds)) spot

@@ -130,7 +130,7 @@ module _ (known : Known) where
 
     -- Declarations.
     module _ (fs : StmtsForm) (hs : HandlersForm) (k : Control) where
-      declaration_fine : (types : List TypeDefinition) (d : DeclarationForm) (ds : List DeclarationForm) → AreHeld (cells_of s.heap) known.program.variables a.places → initial_fits known.program.types known.program.variables d ≡ true → Working known s.heap a.places s.masters (RunsOn known (Elaborates (d ∷ ds) fs hs ∷ k)) → Fine known s.heap s.masters (declaration_next named types d (running (Elaborates ds fs hs ∷ k) a rest s))
+      declaration_fine : (types : List TypeDefinition) (d : DeclarationForm) (ds : List DeclarationForm) → AreHeld known.program.types (cells_of s.heap) known.program.variables a.places → initial_fits known.program.types known.program.variables d ≡ true → Working known s.heap a.places s.masters (RunsOn known (Elaborates (d ∷ ds) fs hs ∷ k)) → Fine known s.heap s.masters (declaration_next named types d (running (Elaborates ds fs hs ∷ k) a rest s))
       declaration_fine types (collects access) ds held fits w =
           stays known Quiet _ (
             tt,
@@ -145,13 +145,13 @@ module _ (known : Known) where
           ) tt
       declaration_fine types (declares_record x t initial) ds held fits w =
           let is = (and_parts (is_record_object t (variable_kind known.program.variables x)) (record_initial_fits known.program.types known.program.variables x (reached_components known.program.types t) initial) fits).0 in
-          let place = has_place (cells_of s.heap) known.program.variables a.places x t held is in
+          let place = has_place known.program.types (cells_of s.heap) known.program.variables a.places x t held is in
           record_fine known a rest s types x t ds fs hs k initial place.0 place.1 is w
       declaration_fine types (declares x right) ds held fits w =
           ready_on known (Evaluates right ∷ Declares x ∷ Elaborates ds fs hs ∷ k) a rest s a.operands
           (inl (declares_ready right x (Elaborates ds fs hs ∷ k) (at_work w (declares_more s.heap a.places x right ds fs hs k w.holds w.rooms w.rest))))
 
-      pub declarations_fine : (types : List TypeDefinition) (ds : List DeclarationForm) → AreHeld (cells_of s.heap) known.program.variables a.places → list_all (initial_fits known.program.types known.program.variables) ds ≡ true → Working known s.heap a.places s.masters (RunsOn known (Elaborates ds fs hs ∷ k)) → Fine known s.heap s.masters (declarations_next named types ds fs hs (running k a rest s))
+      pub declarations_fine : (types : List TypeDefinition) (ds : List DeclarationForm) → AreHeld known.program.types (cells_of s.heap) known.program.variables a.places → list_all (initial_fits known.program.types known.program.variables) ds ≡ true → Working known s.heap a.places s.masters (RunsOn known (Elaborates ds fs hs ∷ k)) → Fine known s.heap s.masters (declarations_next named types ds fs hs (running k a rest s))
       declarations_fine types [] held fits w = runs_on known (Does fs ∷ Handles hs ∷ Closes ∷ k) a rest s (at_work w (begins_more fs hs k w.holds w.rooms w.rest)) Quiet tt
       declarations_fine types (d ∷ ds) held fits w = declaration_fine types d ds held (and_parts _ _ fits).0 w
 
@@ -175,7 +175,7 @@ module _ (known : Known) where
         let cleared = begins_pair (assigns target right) fs in
         component_begins known a rest s cleared c cs target right fs k is whole (at_work w (w.rest, pairs_component c cs target right fs k is))
 
-    frees_fine : (cs : List ℕ) (access : ℕ) (path : PathForm) (fs : StmtsForm) (k : Control) → Pooled known.program.types s.heap → is_freed_by known.program.types access (path_access known.program.types known.program.variables path) ≡ true → ((t : ℕ) → is_this t (path_access known.program.types known.program.variables path) ≡ true → NoOuterAlias (outers known) t) → path.selectors ≡ cs → Working known s.heap a.places s.masters (λ rooms holds. Goes (frees_path known.program.types known.program.variables cs path holds) (RunsOn known (Does fs ∷ k) rooms) (Raised (free_among path) (ways known k rooms))) → Fine known s.heap s.masters (frees_next named cs access path.root (running (Does fs ∷ k) a rest s))
+    frees_fine : (cs : List ℕ) (access : ℕ) (path : PathForm) (fs : StmtsForm) (k : Control) → Pooled known.program.types s.heap → is_freed_by known.program.types access (path_access known.program.types known.program.variables path) ≡ true → ((t : ℕ) → is_this t (path_access known.program.types known.program.variables path) ≡ true → NoOuterAlias known.program.types (outers known) t) → path.selectors ≡ cs → Working known s.heap a.places s.masters (λ rooms holds. Goes (frees_path known.program.types known.program.variables cs path holds) (RunsOn known (Does fs ∷ k) rooms) (Raised (free_among path) (ways known k rooms))) → Fine known s.heap s.masters (frees_next named cs access path.root (running (Does fs ∷ k) a rest s))
     frees_fine [] access path fs k pooled freed spares is w =
         let own = freed_at known.program.types known.program.variables access path freed in
         free_fine known a rest s access path.root (value_root known.program.types known.program.variables path own.0 is own.1) path.spot fs k (λ rooms. Raised (free_among path) (ways known k rooms)) pooled own.0 (sym (ap (λ (cs : List ℕ). access_of (selectors_kind known.program.types (variable_kind known.program.variables path.root) cs)) is) ∙ own.2) own.3 (spares own.0 (ap (is_this own.0) own.1 ∙ eq-eqb own.0 own.0 refl)) w

@@ -1,25 +1,33 @@
 -- One step keeps the invariant.
 
-use Rattle.std.proofs.Common.{◌≡◌, ℕ, Bool, false, List, [], ◌∷◌, refl, sym, ◌∙◌, inl}
+use Rattle.std.proofs.Common.{◌≡◌, ℕ, zero, suc, Bool, false, List, [], ◌∷◌, refl, sym, ◌∙◌, inl}
 use Rattle.ada_program.specs.declared.program.TypeDefinition.{TypeDefinition}
-use Rattle.ada_program.specs.declared.program.VariableKind.{VariableKind}
 use Rattle.ada_program.specs.declared.program.VariableKind.TheVariants as variable
 use Rattle.ada_program.specs.Form.{ItemForm, LinksForm, RightForm}
-use Rattle.ada_program.specs.ProgramForm.{VariableForm, BodyForm, ProgramForm}
+use Rattle.ada_program.specs.ProgramForm.{TypeForm, VariableForm, BodyForm, ProgramForm}
 use Rattle.ada_program.specs.Typed.{words_of}
 use Rattle.ada_meaning.specs.declared.state.Value.{Value}
-use Rattle.ada_meaning.specs.declared.state.Value.TheVariants.{Null}
+use Rattle.ada_meaning.specs.declared.state.Value.TheVariants.{Null, Names, Scalar, Part}
 use Rattle.ada_meaning.specs.declared.state.Mode.{Mode}
 use Rattle.ada_meaning.specs.declared.state.Mode.TheVariants.{Running, Raising, Exiting, Returning}
-use Rattle.ada_meaning.specs.Frame.{Frame, Elaborates, Does, Decides, Repeats, Turns, Ranges, Counts, Exits, Handles, Closes, Leaves, Calls, Returns, is_return, Evaluates, Computes, Follows, TestsNull, Continues, Applies, AppliesAlone, Fills, Copies, Creates, Stores, Targets, StoresIn, TargetsRecord, StoresRecord, Receives, FreesIn, Declares, DeclaresRecord, Writes, Ends, GivesBack, Clears, ClearsIn}
+use Rattle.ada_meaning.specs.Frame.{Frame, Elaborates, Does, Decides, Repeats, Turns, Ranges, Counts, Exits, Handles, Closes, Leaves, Calls, Returns, is_return, Evaluates, Computes, Follows, TestsNull, Refers, RefersIn, Opens, OpensIn, Continues, Applies, AppliesAlone, Fills, Copies, Creates, Stores, Targets, StoresIn, TargetsRecord, StoresRecord, Receives, FreesIn, Declares, DeclaresRecord, Writes, Ends, GivesBack, Clears, ClearsIn}
 use Rattle.ada_meaning.specs.Event.{Quiet}
 use Rattle.ada_meaning.specs.State.{Activation}
 use Rattle.ada_meaning.specs.Step.{first_or, older, places_of, operands_of, frame_next, mode_next}
 use Rattle.ada_meaning.specs.Named.{Object, State, named, next}
 use Rattle.ada_effects.specs.Effects.{unary_raises, binary_raises}
 use Rattle.ada_scopes.specs.Scopes.{InnermostHeldInside}
-use Rattle.ada_typed.specs.Holding.{Cells, cells_of}
-use Rattle.ada_typed.proofs.Values.{AreComputed, AreHeld, AreFilled, filled_at, kind_of}
+use Rattle.ada_typed.specs.Holding.{Cells, cells_of, HasKind, HaveKinds}
+use Rattle.ada_typed.proofs.Values.{OperandKind, of_kind, AreComputed, AreHeld, AreFilled, filled_at, kind_of}
+use Rattle.ada_sound.proofs.Fits.{IsPlain, ArePlain}
+use Rattle.ada_sound.proofs.Passed.{refers_fine, referred_fine, opens_fine, opened_fine}
+use Rattle.std.proofs.lemmas.Bool.{and_parts}
+use Rattle.std.specs.List.{slice_get}
+use Rattle.std.specs.Prelude.{Some}
+use Rattle.ada_program.specs.declared.program.ComponentKind.{ComponentKind}
+use Rattle.ada_program.specs.declared.program.ComponentKind.TheVariants as component
+use Rattle.ada_program.specs.WellFormed.{held_kind, is_record_path, is_this, object_in}
+use Rattle.ada_program.specs.Typed.{width_of}
 use Rattle.ada_typed.proofs.Evaluations.{cell_at}
 use Rattle.ada_typed.proofs.Values as typing
 use Rattle.ada_typed.proofs.Control as typed
@@ -42,37 +50,57 @@ use Rattle.ada_sound.proofs.Endings.{ends_fine, backs_fine, leave_fine}
 use Rattle.ada_sound.proofs.Jumps.{closes_fine, raising_fine, exiting_fine, returning_fine}
 
 -- Where a kind is waited for, an operand is there.
-no_operand : (cells : Cells) (kinds : List VariableKind) (kind : VariableKind) (ks : List VariableKind) → kinds ≡ kind ∷ ks → AreComputed cells kinds [] → ⊥
-no_operand cells kinds kind ks is computed = let none : AreComputed cells (kind ∷ ks) [] = rw is at computed in none
+no_operand : (types : List TypeForm) (cells : Cells) (kinds : List OperandKind) (kind : OperandKind) (ks : List OperandKind) → kinds ≡ kind ∷ ks → AreComputed types cells kinds [] → ⊥
+no_operand types cells kinds kind ks is computed = let none : AreComputed types cells (kind ∷ ks) [] = rw is at computed in none
 
 -- What typing says of a state where no jump is on its way.
 abbrev RunsTyped : Known → List Object → Control → (places operands : List Value) → Type 0
 RunsTyped known heap k places operands =
-    (kinds : List VariableKind) × typed.Fits known.program (cells_of heap) kinds k × AreComputed (cells_of heap) kinds operands
-    × AreHeld (cells_of heap) known.program.variables places
+    (kinds : List OperandKind) × typed.Fits known.program (cells_of heap) kinds k × AreComputed known.program.types (cells_of heap) kinds operands
+    × AreHeld known.program.types (cells_of heap) known.program.variables places
 
-active_computed : (cells : Cells) (variables : List VariableForm) (kinds : List VariableKind) (all : List (Activation Value)) → typing.IsActive cells variables kinds all → AreComputed cells kinds (operands_of all)
-active_computed cells variables kinds [] active = absurd active
-active_computed cells variables kinds (a ∷ rest) active = active.1
+active_computed : (types : List TypeForm) (cells : Cells) (variables : List VariableForm) (kinds : List OperandKind) (all : List (Activation Value)) → typing.IsActive types cells variables kinds all → AreComputed types cells kinds (operands_of all)
+active_computed types cells variables kinds [] active = absurd active
+active_computed types cells variables kinds (a ∷ rest) active = active.1
 
-active_held : (cells : Cells) (variables : List VariableForm) (kinds : List VariableKind) (all : List (Activation Value)) → typing.IsActive cells variables kinds all → AreHeld cells variables (places_of all)
-active_held cells variables kinds [] active = absurd active
-active_held cells variables kinds (a ∷ rest) active = active.0
+active_held : (types : List TypeForm) (cells : Cells) (variables : List VariableForm) (kinds : List OperandKind) (all : List (Activation Value)) → typing.IsActive types cells variables kinds all → AreHeld types cells variables (places_of all)
+active_held types cells variables kinds [] active = absurd active
+active_held types cells variables kinds (a ∷ rest) active = active.0
 
 runs_typed : (known : Known) (s : State) → typed.TypedIn known.program s → s.mode ≡ Running → RunsTyped known s.heap s.control (places_of s.activations) (operands_of s.activations)
-runs_typed known s (typed.running kinds ready fits) runs = (kinds, fits, active_computed (cells_of s.heap) known.program.variables kinds s.activations ready.active, active_held (cells_of s.heap) known.program.variables kinds s.activations ready.active)
+runs_typed known s (typed.running kinds ready fits) runs = (kinds, fits, active_computed known.program.types (cells_of s.heap) known.program.variables kinds s.activations ready.active, active_held known.program.types (cells_of s.heap) known.program.variables kinds s.activations ready.active)
 runs_typed known s (typed.on_jump mode jumps goes) runs =
     let same : mode ≡ Running = sym jumps.jumps ∙ runs in
     let none : typed.Goes known.program (cells_of s.heap) Running s.control = rw same at goes in
     absurd none
 
--- Objects of access types are from the standard pool, as typing has it.
-pooled_by : (p : ProgramForm) (heap : List Object) → AreFilled p.types (cells_of heap) (cells_of heap) → Pooled p.types heap
-pooled_by p heap filled o object found is = (filled_at p.types (cells_of heap) (cells_of heap) o.0 object.cell filled (cell_at heap o.0 object found)).3 is
+-- Objects of access types are from the standard pool, as typing has it, and no component refers to a record.
+abbrev pub HeapTyped : ProgramForm → List Object → Type 0
+HeapTyped p heap = Pooled p.types heap × ArePlain heap
 
-pooled_in : (p : ProgramForm) (s : State) → typed.TypedIn p s → Pooled p.types s.heap
-pooled_in p s (typed.running kinds r fits) = pooled_by p s.heap r.filled
-pooled_in p s (typed.on_jump mode j goes) = pooled_by p s.heap j.filled
+held_plain : (types : List TypeForm) (cells : Cells) (kind : ComponentKind) (v : Value) → HasKind types cells (held_kind kind) v → IsPlain v
+held_plain types cells kind Null has = tt
+held_plain types cells kind (Names o) has = tt
+held_plain types cells kind (Scalar n) has = tt
+held_plain types cells (component.Integer initial) (Part o first) has = absurd has
+held_plain types cells (component.Boolean initial) (Part o first) has = absurd has
+held_plain types cells (component.Access access) (Part o first) has = absurd has
+
+kinds_plain : (types : List TypeForm) (cells : Cells) (kinds : List ComponentKind) (vs : List Value) (c : ℕ) (v : Value) → HaveKinds types cells kinds vs → slice_get vs c ≡ Some v → IsPlain v
+kinds_plain types cells kinds [] c v have at = absurd (cc at)
+kinds_plain types cells [] (w ∷ vs) c v have at = absurd have
+kinds_plain types cells (kind ∷ kinds) (w ∷ vs) zero v have at = let same : w ≡ v = cc at in rw (← same) (held_plain types cells kind w have.0)
+kinds_plain types cells (kind ∷ kinds) (w ∷ vs) (suc c) v have at = kinds_plain types cells kinds vs c v have.1 at
+
+heap_typed_by : (p : ProgramForm) (heap : List Object) → AreFilled p.types (cells_of heap) (cells_of heap) → HeapTyped p heap
+heap_typed_by p heap filled = (
+  (λ o object found is. (filled_at p.types (cells_of heap) (cells_of heap) o.0 object.cell filled (cell_at heap o.0 object found)).3 is),
+  (λ o object c v found at. (let f = filled_at p.types (cells_of heap) (cells_of heap) o.0 object.cell filled (cell_at heap o.0 object found) in kinds_plain p.types (cells_of heap) f.0 object.cell.values c v f.2 at)),
+)
+
+pub heap_typed : (p : ProgramForm) (s : State) → typed.TypedIn p s → HeapTyped p s.heap
+heap_typed p s (typed.running kinds r fits) = heap_typed_by p s.heap r.filled
+heap_typed p s (typed.on_jump mode j goes) = heap_typed_by p s.heap j.filled
 
 -- Does the next step begin the body of a call, or does it come to the end of one?
 abbrev pub crosses : Mode → Control → Bool
@@ -85,29 +113,29 @@ crosses Returning (f ∷ k) = is_return f
 module _ (known : Known) where
   module _ (types : List TypeDefinition) (reaches : Reaches known types) (bodies : List BodyForm) (calling : MayCall known bodies) (k : Control) (a : Activation Value) (rest : List (Activation Value)) (s : State) where
     -- Frames that take an operand, which is there.
-    path_fine : (cs : List ℕ) (operands : List Value) → RunsTyped known s.heap (Follows cs ∷ k) a.places operands → ReadyBy known (Follows cs) k s.heap a.places operands s.masters → Fine known s.heap s.masters (frame_next named types bodies (Follows cs) (running k (record a { operands = operands }) rest s))
-    path_fine cs [] t r = let fits = t.1 in absurd (no_operand (cells_of s.heap) t.0 fits.1 fits.0 fits.3 t.2)
-    path_fine cs (v ∷ below) t r = follows_fine known k a rest s cs v below t.0 t.1 t.2 r
+    path_fine : (plain : ArePlain s.heap) (cs : List ℕ) (operands : List Value) → RunsTyped known s.heap (Follows cs ∷ k) a.places operands → ReadyBy known (Follows cs) k s.heap a.places operands s.masters → Fine known s.heap s.masters (frame_next named types bodies (Follows cs) (running k (record a { operands = operands }) rest s))
+    path_fine plain cs [] t r = let fits = t.1 in absurd (no_operand known.program.types (cells_of s.heap) t.0 (of_kind fits.1) fits.0 fits.3 t.2)
+    path_fine plain cs (v ∷ below) t r = follows_fine known k a rest s plain cs v below t.0 t.1 t.2 r
 
     chain_fine : (links : LinksForm) (operands : List Value) → RunsTyped known s.heap (Continues links ∷ k) a.places operands → ReadyBy known (Continues links) k s.heap a.places operands s.masters → Fine known s.heap s.masters (frame_next named types bodies (Continues links) (running k (record a { operands = operands }) rest s))
-    chain_fine links [] t r = let fits = t.1 in absurd (no_operand (cells_of s.heap) t.0 (kind_of fits.1) fits.0 fits.3 t.2)
+    chain_fine links [] t r = let fits = t.1 in absurd (no_operand known.program.types (cells_of s.heap) t.0 (of_kind (kind_of fits.1)) fits.0 fits.3 t.2)
     chain_fine links (v ∷ below) t r = links_fine known k a rest s v below links r
 
     found_fine : (c : ℕ) (right : RightForm) (operands : List Value) → RunsTyped known s.heap (Targets c right ∷ k) a.places operands → ReadyBy known (Targets c right) k s.heap a.places operands s.masters → Fine known s.heap s.masters (frame_next named types bodies (Targets c right) (running k (record a { operands = operands }) rest s))
-    found_fine c right [] t r = let fits = t.1 in absurd (no_operand (cells_of s.heap) t.0 (variable.Access fits.1) fits.0 fits.3 t.2)
+    found_fine c right [] t r = let fits = t.1 in absurd (no_operand known.program.types (cells_of s.heap) t.0 (of_kind (variable.Access fits.1)) fits.0 fits.3 t.2)
     found_fine c right (v ∷ below) t r = target_fine known k a rest s v below c right t.0 t.1 t.2 r
 
     put_fine : (o : Value) (c : ℕ) (operands : List Value) → RunsTyped known s.heap (StoresIn o c ∷ k) a.places operands → ReadyBy known (StoresIn o c) k s.heap a.places operands s.masters → Fine known s.heap s.masters (frame_next named types bodies (StoresIn o c) (running k (record a { operands = operands }) rest s))
-    put_fine o c [] t r = let fits = t.1 in absurd (no_operand (cells_of s.heap) t.0 fits.2 fits.0 fits.3 t.2)
+    put_fine o c [] t r = let fits = t.1 in absurd (no_operand known.program.types (cells_of s.heap) t.0 (of_kind fits.2) fits.0 fits.3 t.2)
     put_fine o c (v ∷ below) t r = store_fine known k a rest s o v below c t.0 t.1 t.2 r
 
     record_found : (first u : ℕ) (items : List ItemForm) (operands : List Value) → RunsTyped known s.heap (TargetsRecord first u items ∷ k) a.places operands → ReadyBy known (TargetsRecord first u items) k s.heap a.places operands s.masters → Fine known s.heap s.masters (frame_next named types bodies (TargetsRecord first u items) (running k (record a { operands = operands }) rest s))
-    record_found first u items [] t r = let fits = t.1 in absurd (no_operand (cells_of s.heap) t.0 (variable.Access fits.1) fits.0 fits.3 t.2)
+    record_found first u items [] t r = let fits = t.1 in absurd (no_operand known.program.types (cells_of s.heap) t.0 (of_kind (variable.Access fits.1)) fits.0 fits.3 t.2)
     record_found first u items (v ∷ below) t r = record_target_fine known types reaches k a rest s first u items v below t.0 t.1 t.2 r
 
-    frame_fine : (f : Frame Value) → crosses Running (f ∷ k) ≡ false → RunsTyped known s.heap (f ∷ k) a.places a.operands → Pooled known.program.types s.heap → HeldIn s.heap s.masters → ((mode : Mode) (behind : Control) → f ∷ k ≡ Leaves mode ∷ behind → NamedBelow (outers known) s.heap s.masters) → ReadyBy known f k s.heap a.places a.operands s.masters → Fine known s.heap s.masters (frame_next named types bodies f (running k a rest s))
+    frame_fine : (f : Frame Value) → crosses Running (f ∷ k) ≡ false → RunsTyped known s.heap (f ∷ k) a.places a.operands → HeapTyped known.program s.heap → HeldIn s.heap s.masters → ((mode : Mode) (behind : Control) → f ∷ k ≡ Leaves mode ∷ behind → NamedBelow (outers known) s.heap s.masters) → ReadyBy known f k s.heap a.places a.operands s.masters → Fine known s.heap s.masters (frame_next named types bodies f (running k a rest s))
     frame_fine (Elaborates ds fs hs) inner t pooled held low r = declarations_fine known a rest s fs hs k types ds t.3 t.1.2 r
-    frame_fine (Does fs) inner t pooled held low r = stmts_fine known a rest s bodies calling t.1.1 fs k pooled t.1.2 r
+    frame_fine (Does fs) inner t pooled held low r = stmts_fine known a rest s bodies calling t.1.1 fs k pooled.0 t.1.2 r
     frame_fine (Decides fs branches) inner t pooled held low r = decided_fine known (record a { operands = older a.operands }) rest s fs branches (named.reads_boolean (first_or Null a.operands)) k r
     frame_fine (Repeats condition body) inner t pooled held low r = repeats_fine known a rest s condition body k r
     frame_fine (Turns e body) inner t pooled held low r = turned_fine known (record a { operands = older a.operands }) rest s e body (named.reads_boolean (first_or Null a.operands)) k r
@@ -118,11 +146,15 @@ module _ (known : Known) where
     frame_fine Closes inner t pooled held low r = closes_fine known k a rest s Running r
     frame_fine (Leaves mode) inner t pooled held low r = leave_fine known mode k a rest s s.masters r held (low mode k refl)
     frame_fine (Calls procedure b actuals) inner t pooled held low r = absurd (cc inner)
-    frame_fine (Returns actuals) inner t pooled held low r = absurd (cc inner)
-    frame_fine (Evaluates right) inner t pooled held low r = evaluates_fine known k a rest s types reaches right t.0 t.1 r
+    frame_fine (Returns actuals references) inner t pooled held low r = absurd (cc inner)
+    frame_fine (Evaluates right) inner t pooled held low r = evaluates_fine known k a rest s pooled.1 types reaches right t.0 t.1 r
     frame_fine (Computes e) inner t pooled held low r = expression_fine known k a rest s e t.1.0 t.1.1 r
-    frame_fine (Follows cs) inner t pooled held low r = path_fine cs a.operands t r
+    frame_fine (Follows cs) inner t pooled held low r = path_fine pooled.1 cs a.operands t r
     frame_fine (TestsNull equal) inner t pooled held low r = null_test_fine known k a rest s (older a.operands) r equal (named.reads_null (first_or Null a.operands))
+    frame_fine (Refers p) inner t pooled held low r = refers_fine known k a rest s p (and_parts (is_record_path known.program.types known.program.variables p) (is_this p.record_type (object_in (slice_get known.program.types t.1.0.0))) t.1.1).0 r
+    frame_fine (RefersIn first u) inner t pooled held low r = referred_fine known k a rest s first u (width_of types u) (first_or Null a.operands) (older a.operands) r
+    frame_fine (Opens path) inner t pooled held low r = opens_fine known k a rest s path t.1.0 t.1.1 r
+    frame_fine (OpensIn c) inner t pooled held low r = opened_fine known k a rest s c (first_or Null a.operands) (older a.operands) r
     frame_fine (Continues links) inner t pooled held low r = chain_fine links a.operands t r
     frame_fine (Applies operator) inner t pooled held low r =
         let left = first_or Null (older a.operands) in
@@ -134,22 +166,22 @@ module _ (known : Known) where
     frame_fine (Fills items) inner t pooled held low r = items_fine known k a rest s items t.1.0 t.1.1 r
     frame_fine (Copies first u) inner t pooled held low r = copies_fine known types reaches k a rest s first u (first_or Null a.operands) (older a.operands) r
     frame_fine (Creates access count) inner t pooled held low r = creates_fine known k a rest s access count (words_of types access) t.0 t.1 t.2 r
-    frame_fine (Stores x) inner t pooled held low r = stores_fine known k a rest s x (first_or Null a.operands) (older a.operands) r
+    frame_fine (Stores x) inner t pooled held low r = stores_fine known k a rest s pooled.1 x (first_or Null a.operands) (older a.operands) r
     frame_fine (Targets c right) inner t pooled held low r = found_fine c right a.operands t r
     frame_fine (StoresIn o c) inner t pooled held low r = put_fine o c a.operands t r
     frame_fine (TargetsRecord first u items) inner t pooled held low r = record_found first u items a.operands t r
     frame_fine (StoresRecord o first count) inner t pooled held low r = store_record_fine known types reaches k a rest s o first count t.0 t.1 t.2 r
     frame_fine (Receives c) inner t pooled held low r = receive_fine known k a rest s (first_or Null a.operands) (older a.operands) c r
-    frame_fine (FreesIn access c) inner t pooled held low r = free_in_fine known a rest s access c k (older a.operands) pooled (first_or Null a.operands) r
-    frame_fine (Declares x) inner t pooled held low r = declares_fine known k a rest s x (first_or Null a.operands) (older a.operands) r
+    frame_fine (FreesIn access c) inner t pooled held low r = free_in_fine known a rest s access c k (older a.operands) pooled.0 (first_or Null a.operands) r
+    frame_fine (Declares x) inner t pooled held low r = declares_fine known k a rest s pooled.1 x (first_or Null a.operands) (older a.operands) r
     frame_fine (DeclaresRecord x u) inner t pooled held low r = recorded_fine known k a rest s types reaches x u t.0 t.1 t.2 t.3 r
-    frame_fine Writes inner t pooled held low r = writes_fine known k a rest s (named.reads_integer (first_or Null a.operands)) (older a.operands) r
+    frame_fine Writes inner t pooled held low r = writes_fine known k a rest s pooled.1 (named.reads_integer (first_or Null a.operands)) (older a.operands) r
     frame_fine (Ends v) inner t pooled held low r = ends_fine known a rest s v k r
     frame_fine (GivesBack v cause pool) inner t pooled held low r = backs_fine known a rest s v cause pool k r
-    frame_fine (Clears x) inner t pooled held low r = stores_fine known k a rest s x Null a.operands (inl r)
+    frame_fine (Clears x) inner t pooled held low r = stores_fine known k a rest s pooled.1 x Null a.operands (inl r)
     frame_fine (ClearsIn o c) inner t pooled held low r = clear_fine known k a rest s o c r
 
-  mode_fine : (types : List TypeDefinition) → Reaches known types → (bodies : List BodyForm) → MayCall known bodies → (mode : Mode) (k : Control) (a : Activation Value) (rest : List (Activation Value)) (s : State) → crosses mode k ≡ false → (mode ≡ Running → RunsTyped known s.heap k a.places a.operands) → Pooled known.program.types s.heap → HeldIn s.heap s.masters → ((left : Mode) (behind : Control) → mode ≡ Running → k ≡ Leaves left ∷ behind → NamedBelow (outers known) s.heap s.masters) → ReadyIn known mode k s.heap a.places a.operands s.masters → Fine known s.heap s.masters (mode_next named types bodies mode (record s { mode = mode; control = k; activations = a ∷ rest }))
+  mode_fine : (types : List TypeDefinition) → Reaches known types → (bodies : List BodyForm) → MayCall known bodies → (mode : Mode) (k : Control) (a : Activation Value) (rest : List (Activation Value)) (s : State) → crosses mode k ≡ false → (mode ≡ Running → RunsTyped known s.heap k a.places a.operands) → HeapTyped known.program s.heap → HeldIn s.heap s.masters → ((left : Mode) (behind : Control) → mode ≡ Running → k ≡ Leaves left ∷ behind → NamedBelow (outers known) s.heap s.masters) → ReadyIn known mode k s.heap a.places a.operands s.masters → Fine known s.heap s.masters (mode_next named types bodies mode (record s { mode = mode; control = k; activations = a ∷ rest }))
   mode_fine types reaches bodies calling Running [] a rest s inner t pooled held low r = r
   mode_fine types reaches bodies calling Running (f ∷ k) a rest s inner t pooled held low r = frame_fine types reaches bodies calling k a rest s f inner (t refl) pooled held (λ left behind is. low left behind refl is) r
   mode_fine types reaches bodies calling (Raising e) [] a rest s inner t pooled held low r = r
@@ -159,7 +191,7 @@ module _ (known : Known) where
   mode_fine types reaches bodies calling Returning [] a rest s inner t pooled held low r = r
   mode_fine types reaches bodies calling Returning (f ∷ k) a rest s inner t pooled held low r = returning_fine known k a rest s f inner r
 
-  active_fine : (types : List TypeDefinition) → Reaches known types → (bodies : List BodyForm) → MayCall known bodies → (all : List (Activation Value)) (s : State) → IsActive all → crosses s.mode s.control ≡ false → (s.mode ≡ Running → RunsTyped known s.heap s.control (places_of all) (operands_of all)) → Pooled known.program.types s.heap → HeldIn s.heap s.masters → ((left : Mode) (behind : Control) → s.mode ≡ Running → s.control ≡ Leaves left ∷ behind → NamedBelow (outers known) s.heap s.masters) → Ready known (record s { activations = all }) → Fine known s.heap s.masters (mode_next named types bodies s.mode (record s { activations = all }))
+  active_fine : (types : List TypeDefinition) → Reaches known types → (bodies : List BodyForm) → MayCall known bodies → (all : List (Activation Value)) (s : State) → IsActive all → crosses s.mode s.control ≡ false → (s.mode ≡ Running → RunsTyped known s.heap s.control (places_of all) (operands_of all)) → HeapTyped known.program s.heap → HeldIn s.heap s.masters → ((left : Mode) (behind : Control) → s.mode ≡ Running → s.control ≡ Leaves left ∷ behind → NamedBelow (outers known) s.heap s.masters) → Ready known (record s { activations = all }) → Fine known s.heap s.masters (mode_next named types bodies s.mode (record s { activations = all }))
   active_fine types reaches bodies calling [] s i inner t pooled held low r = absurd i
   active_fine types reaches bodies calling (a ∷ rest) s i inner t pooled held low r = mode_fine types reaches bodies calling s.mode s.control a rest s inner t pooled held low r.1
 
@@ -167,4 +199,4 @@ module _ (known : Known) where
   pub fine : (types : List TypeDefinition) → Reaches known types → (bodies : List BodyForm) → MayCall known bodies → (s : State) → crosses s.mode s.control ≡ false → typed.TypedIn known.program s → InnermostHeldInside s → ((left : Mode) (behind : Control) → s.mode ≡ Running → s.control ≡ Leaves left ∷ behind → NamedBelow (outers known) s.heap s.masters) → Ready known s → Fine known s.heap s.masters (next types bodies s)
   unfolding next
   fine types reaches bodies calling s inner typing held low r =
-      active_fine types reaches bodies calling s.activations s r.0 inner (runs_typed known s typing) (pooled_in known.program s typing) held low r
+      active_fine types reaches bodies calling s.activations s r.0 inner (runs_typed known s typing) (heap_typed known.program s typing) held low r

@@ -7,10 +7,10 @@ use Rattle.ada_program.specs.Form.{RightForm, nothing, value_of, allocates, allo
 use Rattle.ada_flow.specs.Flow.{Holds}
 use Rattle.ada_meaning.specs.declared.state.Id.{Id}
 use Rattle.ada_meaning.specs.declared.state.Value.{Value}
-use Rattle.ada_meaning.specs.declared.state.Value.TheVariants.{Null, Names, Scalar}
+use Rattle.ada_meaning.specs.declared.state.Value.TheVariants.{Null, Names, Scalar, Part}
 use Rattle.ada_meaning.specs.declared.state.Mode.{Mode}
 use Rattle.ada_meaning.specs.declared.state.Mode.TheVariants.{Running, Raising, Exiting, Returning}
-use Rattle.ada_meaning.specs.Frame.{Frame, Elaborates, Does, Decides, Repeats, Turns, Ranges, Counts, Exits, Handles, Closes, Leaves, Calls, Returns, Evaluates, Computes, Follows, TestsNull, Continues, Applies, AppliesAlone, Fills, Copies, Creates, Stores, Targets, StoresIn, TargetsRecord, StoresRecord, Receives, FreesIn, Declares, DeclaresRecord, Writes, Ends, GivesBack, Clears, ClearsIn}
+use Rattle.ada_meaning.specs.Frame.{Frame, Elaborates, Does, Decides, Repeats, Turns, Ranges, Counts, Exits, Handles, Closes, Leaves, Calls, Returns, Evaluates, Computes, Follows, TestsNull, Refers, RefersIn, Opens, OpensIn, Continues, Applies, AppliesAlone, Fills, Copies, Creates, Stores, Targets, StoresIn, TargetsRecord, StoresRecord, Receives, FreesIn, Declares, DeclaresRecord, Writes, Ends, GivesBack, Clears, ClearsIn}
 use Rattle.ada_meaning.specs.State.{Master}
 use Rattle.ada_meaning.specs.Step.{first_or}
 use Rattle.ada_meaning.specs.Named.{Object, State, store}
@@ -38,6 +38,7 @@ module _ (known : Known) where
   clearing_stored Null c k heap places ms h = absurd h
   clearing_stored (Names o) c k heap places ms h = (None, stored_before heap ms (Names o) c Null h.1.stored)
   clearing_stored (Scalar n) c k heap places ms h = absurd h
+  clearing_stored (Part object_id base) c k heap places ms h = absurd h
 
   null_stored : (k : Control) (heap : List Object) (places : List Value) (ms : List Master) → EvaluatesTo known nothing k heap places ms → IsStored heap ms
   null_stored [] heap places ms w = (None, w.stored)
@@ -77,11 +78,13 @@ module _ (known : Known) where
   value_stored Null k heap places ms r = absurd r
   value_stored (Names o) k heap places ms r = (Some o, r.stored)
   value_stored (Scalar n) k heap places ms r = absurd r
+  value_stored (Part object_id base) k heap places ms r = absurd r
 
   words_stored : (v : Value) (cause : _) (pool : _) (k : Control) (heap : List Object) (places : List Value) (ms : List Master) → BackingBy known v cause pool k heap places ms → IsStored heap ms
   words_stored Null cause pool k heap places ms r = absurd r
   words_stored (Names o) cause pool k heap places ms r = (Some o, r.stored)
   words_stored (Scalar n) cause pool k heap places ms r = absurd r
+  words_stored (Part object_id base) cause pool k heap places ms r = absurd r
 
   -- By what is next.
   frame_stored : (f : Frame Value) (k : Control) (heap : List Object) (places operands : List Value) (ms : List Master) → ReadyBy known f k heap places operands ms → IsStored heap ms
@@ -97,11 +100,15 @@ module _ (known : Known) where
   frame_stored Closes k heap places operands ms r = (None, r.stored)
   frame_stored (Leaves mode) k heap places operands ms r = (None, r.stored)
   frame_stored (Calls procedure b actuals) k heap places operands ms r = (None, r.stored)
-  frame_stored (Returns actuals) k heap places operands ms r = (None, r.stored)
+  frame_stored (Returns actuals references) k heap places operands ms r = (None, r.stored)
   frame_stored (Evaluates right) k heap places operands ms r = evaluates_stored right k heap places ms r
   frame_stored (Computes e) k heap places operands ms r = (None, r.stored)
   frame_stored (Follows cs) k heap places operands ms r = path_stored (first_or Null operands) cs k heap places ms r
   frame_stored (TestsNull equal) k heap places operands ms r = (None, r.stored)
+  frame_stored (Refers p) k heap places operands ms r = (None, r.stored)
+  frame_stored (RefersIn first t) k heap places operands ms r = (None, r.stored)
+  frame_stored (Opens path) k heap places operands ms r = (None, r.stored)
+  frame_stored (OpensIn c) k heap places operands ms r = (None, r.stored)
   frame_stored (Continues links) k heap places operands ms r = (None, r.stored)
   frame_stored (Applies operator) k heap places operands ms r = (None, r.stored)
   frame_stored (AppliesAlone operator) k heap places operands ms r = (None, r.stored)

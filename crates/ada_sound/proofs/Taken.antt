@@ -30,11 +30,12 @@ use Rattle.ada_owners.specs.Places.{access_at}
 use Rattle.ada_owners.proofs.Objects.{listed_at}
 use Rattle.ada_owners.specs.Walks.{walk}
 use Rattle.ada_typed.specs.Holding.{cells_of}
+use Rattle.ada_typed.proofs.Values.{OperandKind, of_kind}
 use Rattle.ada_typed.proofs.Control as typed
 use Rattle.ada_sound.proofs.Objects.{set_here, set_other}
 use Rattle.ada_sound.proofs.Values.{same_or_not}
 use Rattle.ada_sound.proofs.Stored.{Stored, stored_filled}
-use Rattle.ada_sound.proofs.Fits.{Outer, Outsiders, Fit, component_access, names_object, is_object, null_object, none_spared, place_at, null_fit, lose, put_null, put_alias, root_names, hand_of, move_fit, store_blank, store_owner}
+use Rattle.ada_sound.proofs.Fits.{Outsiders, Fit, component_access, names_object, is_object, null_object, plain_object, none_spared, place_at, null_fit, lose, put_null, put_alias, root_names, hand_of, move_fit, store_blank, store_owner}
 use Rattle.ada_sound.proofs.Invariant.{Known, Control, Rooms, MayRaise, component_among, Goes, Raised, RunsOn, Takes, Working, ways}
 use Rattle.ada_sound.proofs.Outcomes.{using_goes, ends_goes}
 use Rattle.ada_sound.proofs.Followings.{first_kept, kept_apart}
@@ -42,22 +43,22 @@ use Rattle.ada_sound.proofs.Raising.{or_right}
 use Rattle.ada_sound.proofs.Assigned.{value_goes, kind_names, selected_of, leads_from}
 
 -- What typing says of a variable and of a component that a value goes to.
-pub variable_goes : (p : ProgramForm) (heap : List Object) (kind : VariableKind) (kinds : List VariableKind) (x : ℕ) (k : Control) → typed.Fits p (cells_of heap) (kind ∷ kinds) (Stores x ∷ k) → variable_access p.variables x ≡ access_of (Some kind)
+pub variable_goes : (p : ProgramForm) (heap : List Object) (kind : VariableKind) (kinds : List OperandKind) (x : ℕ) (k : Control) → typed.Fits p (cells_of heap) (of_kind kind ∷ kinds) (Stores x ∷ k) → variable_access p.variables x ≡ access_of (Some kind)
 variable_goes p heap kind kinds x k (ks, other, same, is, more) = let one : kind ≡ other = cc same in ap access_of is ∙ ap (λ q. access_of (Some q)) (sym one)
 
-pub declared_goes : (p : ProgramForm) (heap : List Object) (kind : VariableKind) (kinds : List VariableKind) (x : ℕ) (k : Control) → typed.Fits p (cells_of heap) (kind ∷ kinds) (Declares x ∷ k) → variable_access p.variables x ≡ access_of (Some kind)
+pub declared_goes : (p : ProgramForm) (heap : List Object) (kind : VariableKind) (kinds : List OperandKind) (x : ℕ) (k : Control) → typed.Fits p (cells_of heap) (of_kind kind ∷ kinds) (Declares x ∷ k) → variable_access p.variables x ≡ access_of (Some kind)
 declared_goes p heap kind kinds x k (ks, other, same, is, more) = let one : kind ≡ other = cc same in ap access_of is ∙ ap (λ q. access_of (Some q)) (sym one)
 
-pub component_goes : (p : ProgramForm) (heap : List Object) (kind : VariableKind) (kinds : List VariableKind) (o : Id) (object : Object) (c : ℕ) (k : Control) → object_at heap o ≡ Some object → typed.Fits p (cells_of heap) (kind ∷ kinds) (StoresIn (Names o) c ∷ k) → component_access p.types object c ≡ access_of (Some kind)
+pub component_goes : (p : ProgramForm) (heap : List Object) (kind : VariableKind) (kinds : List OperandKind) (o : Id) (object : Object) (c : ℕ) (k : Control) → object_at heap o ≡ Some object → typed.Fits p (cells_of heap) (of_kind kind ∷ kinds) (StoresIn (Names o) c ∷ k) → component_access p.types object c ≡ access_of (Some kind)
 component_goes p heap kind kinds o object c k found (ks, access, other, same, named, has, leads, more) =
     let one : kind ≡ other = cc same in
-    selected_of p.types (Some (held.Access access)) object c other (kind_names heap (held.Access access) o object has found) leads ∙ ap (λ q. access_of (Some q)) (sym one)
+    selected_of p.types (Some (held.Access access)) object c other (kind_names p.types heap (held.Access access) o object has found) leads ∙ ap (λ q. access_of (Some q)) (sym one)
 
 -- A variable that a value goes to that no record object is, is none either.
-pub variable_none : (p : ProgramForm) (heap : List Object) (kind : VariableKind) (kinds : List VariableKind) (x : ℕ) (k : Control) → names_object (Some kind) ≡ false → typed.Fits p (cells_of heap) (kind ∷ kinds) (Stores x ∷ k) → is_object p.variables x ≡ false
+pub variable_none : (p : ProgramForm) (heap : List Object) (kind : VariableKind) (kinds : List OperandKind) (x : ℕ) (k : Control) → names_object (Some kind) ≡ false → typed.Fits p (cells_of heap) (of_kind kind ∷ kinds) (Stores x ∷ k) → is_object p.variables x ≡ false
 variable_none p heap kind kinds x k none (ks, other, same, is, more) = let one : kind ≡ other = cc same in ap names_object is ∙ (ap (λ q. names_object (Some q)) (sym one) ∙ none)
 
-pub declared_none : (p : ProgramForm) (heap : List Object) (kind : VariableKind) (kinds : List VariableKind) (x : ℕ) (k : Control) → names_object (Some kind) ≡ false → typed.Fits p (cells_of heap) (kind ∷ kinds) (Declares x ∷ k) → is_object p.variables x ≡ false
+pub declared_none : (p : ProgramForm) (heap : List Object) (kind : VariableKind) (kinds : List OperandKind) (x : ℕ) (k : Control) → names_object (Some kind) ≡ false → typed.Fits p (cells_of heap) (of_kind kind ∷ kinds) (Declares x ∷ k) → is_object p.variables x ≡ false
 declared_none p heap kind kinds x k none (ks, other, same, is, more) = let one : kind ≡ other = cc same in ap names_object is ∙ (ap (λ q. names_object (Some q)) (sym one) ∙ none)
 
 -- A path by its parts.
@@ -69,12 +70,12 @@ module _ {types : List TypeForm} {variables : List VariableForm} {outer : Outsid
   pub null_place : hold_at holds y ≡ hold.Null → place_at places y ≡ Null
   null_place is = rw is at (f.said y)
 
-  pub move_by : (x : ℕ) (h : Hold) → is_object variables x ≡ false → hold_at holds y ≡ h → variable_access variables x ≡ variable_access variables y → moved_by h spot ≡ None → Fit types variables outer none_spared heap (slice_set places x (place_at places y)) (slice_set (slice_set holds y (left_by_move h)) x (touched_hold h))
-  move_by x hold.Null none is same kept = let null = null_place is in rw null (put_null x none (null_fit y (null_object y (λ lost. cc (lost, is)) null f) null f))
-  move_by x (hold.Kept r) none is same kept = move_fit x y r none (rw is tt) same f
-  move_by x (hold.Own r) none is same kept = move_fit x y r none (rw is tt) same f
-  move_by x (hold.Alias r) none is same kept = absurd (cc kept)
-  move_by x hold.Lost none is same kept = absurd (cc kept)
+  pub move_by : (x : ℕ) (h : Hold) → is_object variables x ≡ false → is_object variables y ≡ false → hold_at holds y ≡ h → variable_access variables x ≡ variable_access variables y → moved_by h spot ≡ None → Fit types variables outer none_spared heap (slice_set places x (place_at places y)) (slice_set (slice_set holds y (left_by_move h)) x (touched_hold h))
+  move_by x hold.Null none other is same kept = let null = null_place is in rw null (put_null x none (null_fit y (null_object y (λ lost. cc (lost, is)) null f) null f))
+  move_by x (hold.Kept r) none other is same kept = move_fit x y r none other (rw is tt) same f
+  move_by x (hold.Own r) none other is same kept = move_fit x y r none other (rw is tt) same f
+  move_by x (hold.Alias r) none other is same kept = absurd (cc kept)
+  move_by x hold.Lost none other is same kept = absurd (cc kept)
 
   pub store_by : (o : Id) (object : Object) (c : ℕ) (h : Hold) → hold_at holds y ≡ h → object_at heap o ≡ Some object → object.listed ≡ true → component_access types object c ≡ variable_access variables y → moved_by h spot ≡ None → Fit types variables outer none_spared (store heap (Names o) c (place_at places y)) places (slice_set holds y (left_by_move h))
   store_by o object c hold.Null is found listed same kept = let null = null_place is in rw null (store_blank o object c Null found (λ p e. cc e) (null_fit y (null_object y (λ lost. cc (lost, is)) null f) null f))
@@ -83,13 +84,16 @@ module _ {types : List TypeForm} {variables : List VariableForm} {outer : Outsid
   store_by o object c (hold.Alias r) is found listed same kept = absurd (cc kept)
   store_by o object c hold.Lost is found listed same kept = absurd (cc kept)
 
+  some_hold : (h : Hold) (at : Spot) → lost_by h at ≡ None → h ≢ hold.Lost
+  some_hold h at kept lost = cc (rw lost at kept)
+
   -- What a variable names that is not lost may be lent to a borrower; so may what a component of an object in its collection names.
-  pub borrow_by : (x : ℕ) (h : Hold) → is_object variables x ≡ false → hold_at holds y ≡ h → variable_access variables x ≡ variable_access variables y → lost_by h spot ≡ None → Fit types variables outer none_spared heap (slice_set places x (place_at places y)) (slice_set holds x (borrowed_hold h))
-  borrow_by x hold.Null none is same kept = let null = null_place is in rw null (put_null x none f)
-  borrow_by x (hold.Kept r) none is same kept = put_alias x (place_at places y) r none (rw same (root_names y spot (rw is kept) f)) f
-  borrow_by x (hold.Own r) none is same kept = put_alias x (place_at places y) r none (rw same (root_names y spot (rw is kept) f)) f
-  borrow_by x (hold.Alias r) none is same kept = put_alias x (place_at places y) r none (rw same (root_names y spot (rw is kept) f)) f
-  borrow_by x hold.Lost none is same kept = absurd (cc kept)
+  pub borrow_by : (x : ℕ) (h : Hold) → is_object variables x ≡ false → is_object variables y ≡ false → hold_at holds y ≡ h → variable_access variables x ≡ variable_access variables y → lost_by h spot ≡ None → Fit types variables outer none_spared heap (slice_set places x (place_at places y)) (slice_set holds x (borrowed_hold h))
+  borrow_by x hold.Null none other is same kept = let null = null_place is in rw null (put_null x none f)
+  borrow_by x (hold.Kept r) none other is same kept = put_alias x (place_at places y) r none (plain_object y (some_hold (hold_at holds y) spot (rw is kept)) other f) (rw same (root_names y spot (rw is kept) f)) f
+  borrow_by x (hold.Own r) none other is same kept = put_alias x (place_at places y) r none (plain_object y (some_hold (hold_at holds y) spot (rw is kept)) other f) (rw same (root_names y spot (rw is kept) f)) f
+  borrow_by x (hold.Alias r) none other is same kept = put_alias x (place_at places y) r none (plain_object y (some_hold (hold_at holds y) spot (rw is kept)) other f) (rw same (root_names y spot (rw is kept) f)) f
+  borrow_by x hold.Lost none other is same kept = absurd (cc kept)
 
 -- What flow says where a path is moved to a variable, or into a component.
 pub value_gives : (types : List TypeForm) (variables : List VariableForm) (here : Spot) (cleared : Bool) (x : ℕ) (whole : Bool) (root : ℕ) (cs : List ℕ) (spot : Spot) (holds : Holds) (more raised : Holds → Type 0) → is_borrower variables x ≡ false → Goes (gives types variables here cleared x (value_of (at_path whole root cs spot)) holds) more raised → (moved_behind cleared cs (hold_at holds root) spot ≡ None) × more (slice_set (without_values (variable_of cs root) holds) x (value_hold cs (hold_at holds root))) × (follows_value whole cs ≡ true → raised holds)
@@ -193,6 +197,34 @@ kept_root known (StoresIn o d ∷ k) heap places ms whole root c cs spot w =
     let h = value_fills known.program.types g.1 g.0 whole root (c ∷ cs) spot w.holds (RunsOn known k w.rooms) (Raised among (ways known k w.rooms)) g.2 in
     ((cleared_is g.1 (hold_at w.holds root) spot h.0).1, raised_here known k w.rooms w.holds whole (c ∷ cs) among h.2 (λ may. or_right (path_raises g.0) (follows_value whole (c ∷ cs)) may))
 kept_root known (f ∷ k) heap places ms whole root c cs spot w = absurd (w.rest)
+
+-- A variable that is moved, or lent, is not lost.
+pub moved_some : (h : Hold) (spot : Spot) → moved_by h spot ≡ None → h ≢ hold.Lost
+moved_some h spot kept lost = cc (rw lost at kept)
+
+lent_some : (h : Hold) (spot : Spot) → lost_by h spot ≡ None → h ≢ hold.Lost
+lent_some h spot kept lost = cc (rw lost at kept)
+
+some_by : (types : List TypeForm) (variables : List VariableForm) (here : Spot) (cleared : Bool) (x : ℕ) (whole : Bool) (root : ℕ) (spot : Spot) (holds : Holds) (more raised : Holds → Type 0) → Goes (gives types variables here cleared x (value_of (at_path whole root [] spot)) holds) more raised → hold_at holds root ≢ hold.Lost
+some_by types variables here cleared x whole root spot holds more raised g = go (is_borrower variables x) refl
+  where
+    go : (b : Bool) → is_borrower variables x ≡ b → hold_at holds root ≢ hold.Lost
+    go true is = lent_some (hold_at holds root) spot (borrow_gives types variables here cleared x whole root [] spot holds more raised is g).0
+    go false is = moved_some (hold_at holds root) spot (value_gives types variables here cleared x whole root [] spot holds more raised is g).0
+
+pub some_root : (known : Known) (k : Control) (heap : List Object) (places : List Value) (ms : List Master) (whole : Bool) (root : ℕ) (spot : Spot) → (w : Working known heap places ms (Takes known heap places (value_of (at_path whole root [] spot)) k)) → hold_at w.holds root ≢ hold.Lost
+some_root known [] heap places ms whole root spot w = absurd (w.rest)
+some_root known (Stores x ∷ k) heap places ms whole root spot w =
+    let among : Exception → Bool = λ e. right_raises (is_same e) (value_of (at_path whole root [] spot)) in
+    some_by known.program.types known.program.variables w.rest.1.0 w.rest.0 x whole root spot w.holds (RunsOn known k w.rooms) (Raised among (ways known k w.rooms)) w.rest.1.1
+some_root known (Declares x ∷ k) heap places ms whole root spot w =
+    let among : Exception → Bool = λ e. right_raises (is_same e) (value_of (at_path whole root [] spot)) in
+    some_by known.program.types known.program.variables w.rest.2.0 w.rest.1 x whole root spot w.holds (RunsOn known k w.rooms) (Raised among (ways known k w.rooms)) w.rest.2.1
+some_root known (StoresIn o d ∷ k) heap places ms whole root spot w =
+    let g = w.rest.1 in
+    let among = component_among (path_raises g.0) (value_of (at_path whole root [] spot)) in
+    moved_some (hold_at w.holds root) spot (value_fills known.program.types g.1 g.0 whole root [] spot w.holds (RunsOn known k w.rooms) (Raised among (ways known k w.rooms)) g.2).0
+some_root known (f ∷ k) heap places ms whole root spot w = absurd (w.rest)
 
 -- The object that a variable names which is not lost is of the variable's access type.
 pub root_access : {types : List TypeForm} {variables : List VariableForm} {outer : Outsiders} {heap : List Object} {places : List Value} {holds : Holds} → Fit types variables outer none_spared heap places holds → (x : ℕ) (spot : Spot) (o : Id) (object : Object) → lost_by (hold_at holds x) spot ≡ None → place_at places x ≡ Names o → object_at heap o ≡ Some object → variable_access variables x ≡ Some object.cell.access

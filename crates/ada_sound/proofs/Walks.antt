@@ -5,30 +5,30 @@ use Rattle.std.specs.Prelude.{Option, Some, None, ◌||◌}
 use Rattle.std.specs.List.{slice_get}
 use Rattle.ada_program.specs.declared.program.Exception.TheVariants.{ConstraintError}
 use Rattle.ada_program.specs.declared.program.VariableKind.{VariableKind}
-use Rattle.ada_program.specs.Form.{PathForm, ItemForm, RightForm, nothing}
+use Rattle.ada_program.specs.Form.{ItemForm, RightForm, nothing}
 use Rattle.ada_program.specs.ProgramForm.{TypeForm}
 use Rattle.ada_program.specs.WellFormed.{access_of, selected_kind, is_this}
 use Rattle.ada_flow.specs.Flow.{Holds, passes_type, behind_end}
 use Rattle.ada_meaning.specs.declared.state.Id.{Id}
 use Rattle.ada_meaning.specs.declared.state.Value.{Value}
-use Rattle.ada_meaning.specs.declared.state.Value.TheVariants.{Null, Names, Scalar}
+use Rattle.ada_meaning.specs.declared.state.Value.TheVariants.{Null, Names, Scalar, Part}
 use Rattle.ada_meaning.specs.declared.state.Stage.{Stage}
 use Rattle.ada_meaning.specs.declared.state.Stage.TheVariants.{Building, Existing, Gone}
 use Rattle.ada_meaning.specs.declared.state.Mode.TheVariants.{Running, Raising}
-use Rattle.ada_meaning.specs.Frame.{Targets, TargetsRecord, Copies, Receives, FreesIn, Follows, Fills}
+use Rattle.ada_meaning.specs.Frame.{Targets, TargetsRecord, Copies, RefersIn, OpensIn, Receives, FreesIn, Follows, Fills}
 use Rattle.ada_meaning.specs.Event.{Followed, Quiet}
 use Rattle.ada_meaning.specs.Heap.{finds}
 use Rattle.ada_meaning.specs.State.{Activation, Master}
-use Rattle.ada_meaning.specs.Step.{raised, reading, component_next, path_next, before_last}
-use Rattle.ada_meaning.specs.Named.{Object, State, object_at, existing, seen, look, named}
+use Rattle.ada_meaning.specs.Step.{raised, reading, component_next, path_next}
+use Rattle.ada_meaning.specs.Named.{Object, State, object_at, existing, seen, look, named, whole}
 use Rattle.ada_owners.specs.Places.{access_at}
 use Rattle.ada_owners.specs.Reliance.{IsOf}
 use Rattle.ada_owners.proofs.Objects.{listed_at}
 use Rattle.ada_owners.specs.Walks.{then_found, value_found, behind, walk}
 use Rattle.ada_sound.proofs.Stored.{Stored, exists_out}
-use Rattle.ada_sound.proofs.Fits.{Fit, MayFollow, none_spared, place_at, component_access, component_is, component_follows, behind_good}
+use Rattle.ada_sound.proofs.Fits.{Fit, IsPlain, ArePlain, MayFollow, none_spared, component_access, component_is, component_follows, behind_good}
 use Rattle.ada_sound.proofs.Orderings.{as_good_then}
-use Rattle.ada_sound.proofs.Invariant.{outers, Known, Control, Rooms, To, RaisesAt, Working, Clearing, PassesNone, FillsTo, FindsFor, FillsOn, PassesTo, PassesOn, WalksOn, HalfFollows, ReadyIn, Stepped, Fine, front, final, ways}
+use Rattle.ada_sound.proofs.Invariant.{outers, Known, Control, Rooms, To, RaisesAt, Working, Clearing, PassesNone, FillsTo, FindsFor, FillsOn, PassesTo, PassesOn, HalfFollows, ReadyIn, Stepped, Fine, ways}
 use Rattle.ada_sound.proofs.Roots.{raises_null, raises_next}
 use Rattle.ada_sound.proofs.Ready.{running, at_work, stays, jumps_less, passes_ready}
 use Rattle.ada_sound.proofs.Back.{stored_before}
@@ -48,16 +48,6 @@ behind_is heap o x c w found exists at = rw (found, exists, at) refl
 -- A walk goes one selector on.
 pub walk_behind : (heap : List Object) (v : Value) (c : ℕ) (cs : List ℕ) (w : Value) → behind heap v c ≡ finds w → walk heap v (c ∷ cs) ≡ walk heap w cs
 walk_behind heap v c cs w is = ap (λ f. then_found f (λ u. walk heap u cs)) is
-
--- So does the walk of a path that is moved, as long as two selectors are left; it begins at the path's variable, and ends where one is left.
-pub walks_first : (heap : List Object) (places : List Value) (path : PathForm) → WalksOn heap places path (place_at places path.root) path.selectors
-walks_first heap places path = (refl, refl)
-
-pub walks_next : (heap : List Object) (places : List Value) (path : PathForm) (v : Value) (c d : ℕ) (cs : List ℕ) (w : Value) → behind heap v c ≡ finds w → WalksOn heap places path v (c ∷ d ∷ cs) → WalksOn heap places path w (d ∷ cs)
-walks_next heap places path v c d cs w is on = (on.0 ∙ walk_behind heap v c (before_last d cs) w is, on.1)
-
-pub walks_last : (heap : List Object) (places : List Value) (path : PathForm) (v : Value) (c : ℕ) → WalksOn heap places path v (c ∷ []) → (walk heap (place_at places path.root) (front path.selectors) ≡ finds v) × (final path.selectors ≡ Some c)
-walks_last heap places path v c on = on
 
 -- What a walk that finds something has gone through: an object that is not gone, and one of its components.
 pub record Passes (heap : List Object) (v : Value) (c : ℕ) (cs : List ℕ) (found : Value) : Type 0 where
@@ -89,6 +79,26 @@ module _ (heap : List Object) (c : ℕ) (cs : List ℕ) (u : Value) where
   passes Null e = absurd (cc e)
   passes (Names o) e = passes_name o (object_at heap o) refl e
   passes (Scalar n) e = absurd (cc e)
+  passes (Part object_id base) e = absurd (cc e)
+
+-- What a walk finds refers to no record, if it begins at what refers to none.
+pub whole_plain : (v : Value) → IsPlain (whole v)
+whole_plain Null = tt
+whole_plain (Names o) = tt
+whole_plain (Scalar n) = tt
+whole_plain (Part o first) = tt
+
+pub plain_whole : (v : Value) → IsPlain v → whole v ≡ v
+plain_whole Null plain = refl
+plain_whole (Names o) plain = refl
+plain_whole (Scalar n) plain = refl
+plain_whole (Part o first) plain = absurd plain
+
+pub walk_plain : (heap : List Object) → ArePlain heap → (cs : List ℕ) (w v : Value) → IsPlain w → walk heap w cs ≡ finds v → IsPlain v
+walk_plain heap plain [] w v is found = let same : w ≡ v = cc found in rw same at is
+walk_plain heap plain (c ∷ cs) w v is found =
+    let p = passes heap c cs v w found in
+    walk_plain heap plain cs p.w v (plain p.o p.object c p.w p.at p.holds) p.goes_on
 
 -- What is left to do where a value is found: the selectors behind it are followed first.
 abbrev pub behind_these : List ℕ → Control → Control
@@ -117,6 +127,7 @@ module _ (known : Known) (k : Control) (a : Activation Value) (rest : List (Acti
       rw (found, exists)
       (got_fine o object cs (slice_get object.cell.values c) found (exists_out o object found exists stored) (λ w is. r o object w refl found listed is))
   follow_fine c cs (Scalar n) stored follows fails r = tt
+  follow_fine c cs (Part object_id base) stored follows fails r = tt
 
   -- One selector of a walk that finds something.
   pub passes_fine : {under : Option Id} (c : ℕ) (cs : List ℕ) (v u : Value) → Stored under s.heap s.masters → walk s.heap v (c ∷ cs) ≡ finds u → ((w : Value) → walk s.heap w cs ≡ finds u → ReadyIn known Running (behind_these cs k) s.heap a.places (w ∷ below) s.masters) → Fine known s.heap s.masters (path_next named (c ∷ cs) v (running k (record a { operands = below }) rest s))
@@ -162,6 +173,12 @@ module _ (known : Known) (heap : List Object) (places : List Value) where
       (raises_next known v w c cs k rooms holds f.0, (g.0, g.1, g.2, g.3, (g.4.0 ∙ walk_behind heap v c cs w on, g.4.1)))
   finds_next (TargetsRecord first t items ∷ k) v below c cs o object w rooms holds is found listed exists at fit f = (raises_next known v w c cs k rooms holds f.0, f.1)
   finds_next (Copies first t ∷ k) v below c cs o object w rooms holds is found listed exists at fit f = (raises_next known v w c cs k rooms holds f.0, f.1)
+  finds_next (RefersIn first t ∷ k) v below c cs o object w rooms holds is found listed exists at fit f =
+      let on : behind heap v c ≡ finds w = rw is (behind_is heap o object c w found exists at) in
+      (raises_next known v w c cs k rooms holds f.0, (λ p there. f.1 p (walk_behind heap v c cs w on ∙ there)))
+  finds_next (OpensIn d ∷ k) v below c cs o object w rooms holds is found listed exists at fit f =
+      let on : behind heap v c ≡ finds w = rw is (behind_is heap o object c w found exists at) in
+      (raises_next known v w c cs k rooms holds f.0, (λ p u there. f.1 p u (walk_behind heap v c cs w on ∙ there)))
   finds_next (Receives d ∷ k) v below c cs o object w rooms holds is found listed exists at fit f = (raises_next known v w c cs k rooms holds f.0, f.1, f.2)
   finds_next (FreesIn access d ∷ k) v below c cs o object w rooms holds is found listed exists at fit f =
       let types = known.program.types in
@@ -186,6 +203,8 @@ module _ (known : Known) (heap : List Object) (places : List Value) where
   finds_raises (TargetsRecord first t items ∷ k) v below cs rooms holds null f = raises_null known v k rooms holds cs f.0 null
   finds_raises (Copies first t ∷ k) v below cs rooms holds null f = raises_null known v k rooms holds cs f.0 null
   finds_raises (Receives d ∷ k) v below cs rooms holds null f = raises_null known v k rooms holds cs f.0 null
+  finds_raises (RefersIn first t ∷ k) v below cs rooms holds null f = raises_null known v k rooms holds cs f.0 null
+  finds_raises (OpensIn d ∷ k) v below cs rooms holds null f = raises_null known v k rooms holds cs f.0 null
   finds_raises (FreesIn access d ∷ k) v below cs rooms holds null f =
       raises_less known k rooms holds f.access (raises_null known v k rooms (behind_end known.program.variables f.access holds) cs f.raises null)
   finds_raises (g ∷ k) v below cs rooms holds null f = absurd f
@@ -197,6 +216,8 @@ module _ (known : Known) (heap : List Object) (places : List Value) where
   finds_ready (TargetsRecord first t items ∷ k) v below ms w follows = at_work w (follows, w.rest.0, w.rest.1)
   finds_ready (Copies first t ∷ k) v below ms w follows = at_work w (follows, w.rest.0, w.rest.1)
   finds_ready (Receives c ∷ k) v below ms w follows = at_work w (follows, w.rest.0, w.rest.1, w.rest.2)
+  finds_ready (RefersIn first t ∷ k) v below ms w follows = at_work w (follows, w.rest)
+  finds_ready (OpensIn c ∷ k) v below ms w follows = at_work w (follows, w.rest)
   finds_ready (FreesIn access c ∷ k) v below ms w follows = at_work w (follows, w.rest)
   finds_ready (f ∷ k) v below ms w follows = absurd (w.rest)
 

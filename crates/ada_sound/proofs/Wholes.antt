@@ -8,7 +8,6 @@ use Rattle.ada_program.specs.declared.program.ComponentKind.{ComponentKind}
 use Rattle.ada_program.specs.declared.program.ComponentKind.TheVariants as component
 use Rattle.ada_program.specs.declared.program.Exception.TheVariants.{ConstraintError}
 use Rattle.ada_program.specs.declared.program.TypeDefinition.{TypeDefinition}
-use Rattle.ada_program.specs.declared.program.VariableKind.{VariableKind}
 use Rattle.ada_program.specs.declared.program.VariableKind.TheVariants as variable
 use Rattle.ada_program.specs.Form.{RecordPathForm, ItemForm, StmtsForm, assigns_record}
 use Rattle.ada_program.specs.Handling.{is_same}
@@ -18,29 +17,30 @@ use Rattle.ada_effects.specs.Effects.{effects_of, record_path_raises, items_rais
 use Rattle.ada_flow.specs.Flow.{Holds, is_owning, is_owning_record, reaches_it, copies_to, uses_in_items, uses_in_record, gives_record, ends_with}
 use Rattle.ada_meaning.specs.declared.state.Id.{Id}
 use Rattle.ada_meaning.specs.declared.state.Value.{Value}
-use Rattle.ada_meaning.specs.declared.state.Value.TheVariants.{Null, Names, Scalar}
+use Rattle.ada_meaning.specs.declared.state.Value.TheVariants.{Null, Names, Scalar, Part}
 use Rattle.ada_meaning.specs.declared.state.Mode.TheVariants.{Raising}
 use Rattle.ada_meaning.specs.Event.{Followed}
 use Rattle.ada_meaning.specs.Frame.{Does, Fills, TargetsRecord, StoresRecord}
 use Rattle.ada_meaning.specs.Heap.{finds}
 use Rattle.ada_meaning.specs.State.{Activation, Master}
-use Rattle.ada_meaning.specs.Step.{in_front, if_whole, record_in, path_next, copied_next, copies_next, record_target_next, stored_from, record_stored_next, store_record_next}
+use Rattle.ada_meaning.specs.Step.{in_front, if_whole, record_in, copied_next, copies_next, record_target_next, stored_from, record_stored_next, store_record_next, first_in, record_holder_next}
 use Rattle.ada_meaning.specs.Named.{Object, State, object_at, filled, store, look, named}
 use Rattle.ada_owners.specs.Keeping.{IsThere}
 use Rattle.ada_owners.proofs.Changes.{store_is}
 use Rattle.ada_typed.specs.Holding.{cells_of}
-use Rattle.ada_typed.proofs.Values.{AreComputed}
+use Rattle.ada_typed.proofs.Values.{OperandKind, of_kind, AreComputed}
 use Rattle.ada_typed.proofs.Control as typed
 use Rattle.ada_sound.proofs.Objects.{set_here}
 use Rattle.ada_sound.proofs.Stored.{Stored, stored_filled}
-use Rattle.ada_sound.proofs.Fits.{Fit, MayFollow, none_spared, place_at, root_follows, store_blank}
+use Rattle.ada_sound.proofs.Fits.{Fit, MayFollow, none_spared, place_at, store_blank}
 use Rattle.ada_sound.proofs.Alters.{Alters, alters_same, alters_set, alters_then}
-use Rattle.ada_sound.proofs.Invariant.{outers, Known, Control, Goes, Raised, RunsOn, RaisesAt, IsPlainIn, CopiesTo, RecordIn, Working, Fine, ways}
+use Rattle.ada_sound.proofs.Begins.{root_follows}
+use Rattle.ada_sound.proofs.Invariant.{outers, Known, Control, Goes, Raised, RunsOn, RaisesAt, IsPlainIn, CopiesTo, RecordIn, Working, Fine, ways, begun, along}
 use Rattle.ada_sound.proofs.Ready.{running, at_work, stays, runs_ready, jumps_less}
 use Rattle.ada_sound.proofs.Outcomes.{using_goes, ends_goes}
 use Rattle.ada_sound.proofs.Followings.{first_kept}
 use Rattle.ada_sound.proofs.Raising.{or_left, or_right}
-use Rattle.ada_sound.proofs.Roots.{root_object, object_there, record_raises}
+use Rattle.ada_sound.proofs.Roots.{root_object, object_there, record_raises, selected_raises}
 use Rattle.ada_sound.proofs.Assigned.{kind_names}
 use Rattle.ada_sound.proofs.Copied.{items_keep, copied_plain, RecordThere}
 use Rattle.ada_sound.proofs.Defaults.{Reaches}
@@ -135,18 +135,19 @@ module _ (known : Known) (types : List TypeDefinition) (reaches : Reaches known 
       let looks : look s.heap (Names o) ≡ finds there.0.cell = rw (there.1, (w.stored.sane o there.0 there.1).listed_exists there.2) refl in
       rw looks (copied_on k o there t below (record_in there.0.cell.values first (width_of types t)) (λ vs is. whole_length (width_of types t) (take (width_of types t) (drop first there.0.cell.values)) vs is) (at_work w w.rest.2))
   copies_fine first t (Scalar n) below w = tt
+  copies_fine first t (Part object_id base) below w = tt
 
   -- The object in which a record lies that is assigned to is found: its items come next.
-  plain_there : (first t : ℕ) (o : Id) (object : Object) (below : List Value) (kinds : List VariableKind) → object_at s.heap o ≡ Some object → object.listed ≡ true → is_owning_record known.program.types t ≡ false → (items : List ItemForm) → typed.Fits known.program (cells_of s.heap) kinds (TargetsRecord first t items ∷ k) → AreComputed (cells_of s.heap) kinds (Names o ∷ below) → IsPlainIn known s.heap (Names o) first (width_of types t)
+  plain_there : (first t : ℕ) (o : Id) (object : Object) (below : List Value) (kinds : List OperandKind) → object_at s.heap o ≡ Some object → object.listed ≡ true → is_owning_record known.program.types t ≡ false → (items : List ItemForm) → typed.Fits known.program (cells_of s.heap) kinds (TargetsRecord first t items ∷ k) → AreComputed known.program.types (cells_of s.heap) kinds (Names o ∷ below) → IsPlainIn known s.heap (Names o) first (width_of types t)
   plain_there first t o object below kinds found listed plain items (ks, access, rs, is, components, lies, fits, more) computed =
-      let newest : AreComputed (cells_of s.heap) (variable.Access access ∷ ks) (Names o ∷ below) = rw is at computed in
-      let of : Some access.0 ≡ Some object.cell.access = kind_names s.heap (variable.Access access) o object newest.0 found in
+      let newest : AreComputed known.program.types (cells_of s.heap) (of_kind (variable.Access access) ∷ ks) (Names o ∷ below) = rw is at computed in
+      let of : Some access.0 ≡ Some object.cell.access = kind_names known.program.types s.heap (variable.Access access) o object newest.0 found in
       let same : access.0 ≡ object.cell.access = cc of in
       let b = begins_some (reached_components known.program.types object.cell.access) first rs (rw same at lies) in
       let none : list_any is_owning rs ≡ false = rw components at plain in
       (object, found, listed, b.0, b.1, rw (width_is t rs components) (to_object (drop first b.0) rs b.2 none))
 
-  pub record_target_fine : (first t : ℕ) (items : List ItemForm) (v : Value) (below : List Value) (kinds : List VariableKind) → typed.Fits known.program (cells_of s.heap) kinds (TargetsRecord first t items ∷ k) → AreComputed (cells_of s.heap) kinds (v ∷ below) → Working known s.heap a.places s.masters (λ rooms holds. MayFollow s.heap v × RaisesAt known v [] k rooms holds × RecordIn known t items k rooms holds) → Fine known s.heap s.masters (record_target_next named v first (width_of types t) items (look s.heap v) (running k (record a { operands = below }) rest s))
+  pub record_target_fine : (first t : ℕ) (items : List ItemForm) (v : Value) (below : List Value) (kinds : List OperandKind) → typed.Fits known.program (cells_of s.heap) kinds (TargetsRecord first t items ∷ k) → AreComputed known.program.types (cells_of s.heap) kinds (v ∷ below) → Working known s.heap a.places s.masters (λ rooms holds. MayFollow s.heap v × RaisesAt known v [] k rooms holds × RecordIn known t items k rooms holds) → Fine known s.heap s.masters (record_target_next named v first (width_of types t) items (look s.heap v) (running k (record a { operands = below }) rest s))
   record_target_fine first t items Null below kinds fits computed w = jumps_less known k (record a { operands = below }) rest s (Raising ConstraintError) (at_work w (w.rest.1 refl))
   record_target_fine first t items (Names o) below kinds fits computed w =
       let there : IsThere s.heap o = w.rest.0 in
@@ -156,17 +157,18 @@ module _ (known : Known) (types : List TypeDefinition) (reaches : Reaches known 
       (stays known (Followed (Names o)) (running (Fills items ∷ StoresRecord (Names o) first (width_of types t) ∷ k) (record a { operands = below }) rest s)
       (tt, at_work w (in_record.1, (plain, in_record.2))) (followed o there w.stored))
   record_target_fine first t items (Scalar n) below kinds fits computed w = tt
+  record_target_fine first t items (Part object_id base) below kinds fits computed w = tt
 
   -- The values of its items go into its components.
-  named_nothing : (o : Id) (first count : ℕ) (kinds : List VariableKind) → typed.Fits known.program (cells_of s.heap) kinds (StoresRecord (Names o) first count ∷ k) → AreComputed (cells_of s.heap) kinds a.operands → IsPlainIn known s.heap (Names o) first count → NameNothing (reverse (take count a.operands))
+  named_nothing : (o : Id) (first count : ℕ) (kinds : List OperandKind) → typed.Fits known.program (cells_of s.heap) kinds (StoresRecord (Names o) first count ∷ k) → AreComputed known.program.types (cells_of s.heap) kinds a.operands → IsPlainIn known s.heap (Names o) first count → NameNothing (reverse (take count a.operands))
   named_nothing o first count kinds (ks, access, rs, is, counted, name, designates, lies, more) computed (object, found, listed, components, reached, plain) =
-      let have = (typed.split (cells_of s.heap) rs ks a.operands (rw is at computed)).0 in
-      let of : Some access.0 ≡ Some object.cell.access = kind_names s.heap (variable.Access access) o object designates found in
+      let have = (typed.split known.program.types (cells_of s.heap) rs ks a.operands (rw is at computed)).0 in
+      let of : Some access.0 ≡ Some object.cell.access = kind_names known.program.types s.heap (variable.Access access) o object designates found in
       let same : access.0 ≡ object.cell.access = cc of in
       let b = begins_some (reached_components known.program.types object.cell.access) first rs (rw same at lies) in
       let one : b.0 ≡ components = let at = b.1 in cc (at, reached) in
       let begins : begins_with (drop first components) rs ≡ true = rw one at b.2 in
-      rw counted (plain_names_nothing (cells_of s.heap) rs (reverse (take (length rs) a.operands)) (from_object (drop first components) rs begins (rw counted at plain)) have)
+      rw counted (plain_names_nothing known.program.types (cells_of s.heap) rs (reverse (take (length rs) a.operands)) (from_object (drop first components) rs begins (rw counted at plain)) have)
 
   stored_whole : (o : Id) (object : Object) (first count : ℕ) (found : Option (List Value)) → object_at s.heap o ≡ Some object → object.listed ≡ true → NameNothing (reverse (take count a.operands)) → Working known s.heap a.places s.masters (RunsOn known k) → Fine known s.heap s.masters (record_stored_next named (Names o) first (reverse (take count a.operands)) found (running k (record a { operands = drop count a.operands }) rest s))
   stored_whole o object first count None found listed none w = tt
@@ -180,7 +182,7 @@ module _ (known : Known) (types : List TypeDefinition) (reaches : Reaches known 
         says = followed o (object, found, listed) w.stored;
       }
 
-  pub store_record_fine : (o : Value) (first count : ℕ) (kinds : List VariableKind) → typed.Fits known.program (cells_of s.heap) kinds (StoresRecord o first count ∷ k) → AreComputed (cells_of s.heap) kinds a.operands → Working known s.heap a.places s.masters (λ rooms holds. IsPlainIn known s.heap o first count × RunsOn known k rooms holds) → Fine known s.heap s.masters (store_record_next named o first count (look s.heap o) (running k a rest s))
+  pub store_record_fine : (o : Value) (first count : ℕ) (kinds : List OperandKind) → typed.Fits known.program (cells_of s.heap) kinds (StoresRecord o first count ∷ k) → AreComputed known.program.types (cells_of s.heap) kinds a.operands → Working known s.heap a.places s.masters (λ rooms holds. IsPlainIn known s.heap o first count × RunsOn known k rooms holds) → Fine known s.heap s.masters (store_record_next named o first count (look s.heap o) (running k a rest s))
   store_record_fine Null first count kinds fits computed w = absurd w.rest.0
   store_record_fine (Names o) first count kinds fits computed w =
       let p = w.rest.0 in
@@ -188,13 +190,15 @@ module _ (known : Known) (types : List TypeDefinition) (reaches : Reaches known 
       let looks : look s.heap (Names o) ≡ finds p.0.cell = rw (p.1, (w.stored.sane o p.0 p.1).listed_exists p.2) refl in
       rw looks (stored_whole o p.0 first count (record_in p.0.cell.values first count) p.1 p.2 none (at_work w w.rest.1))
   store_record_fine (Scalar n) first count kinds fits computed w = absurd w.rest.0
+  store_record_fine (Part object_id base) first count kinds fits computed w = absurd w.rest.0
 
 -- A record is assigned to: its object is found first.
-pub record_begins : (known : Known) (a : Activation Value) (rest : List (Activation Value)) (s : State) (target : RecordPathForm) (items : List ItemForm) (fs : StmtsForm) (k : Control) → RecordThere known.program.types known.program.variables target → Working known s.heap a.places s.masters (λ rooms holds. Goes (gives_record known.program.types target items holds) (RunsOn known (Does fs ∷ k) rooms) (Raised (λ e. stmt_raises (effects_of known.program) (is_same e) (assigns_record target items)) (ways known k rooms))) → Fine known s.heap s.masters (path_next named target.object.selectors (place_at a.places target.object.root) (running (TargetsRecord target.first target.record_type items ∷ Does fs ∷ k) a rest s))
+pub record_begins : (known : Known) (a : Activation Value) (rest : List (Activation Value)) (s : State) (target : RecordPathForm) (items : List ItemForm) (fs : StmtsForm) (k : Control) → RecordThere known.program.types known.program.variables target → Working known s.heap a.places s.masters (λ rooms holds. Goes (gives_record known.program.types target items holds) (RunsOn known (Does fs ∷ k) rooms) (Raised (λ e. stmt_raises (effects_of known.program) (is_same e) (assigns_record target items)) (ways known k rooms))) → Fine known s.heap s.masters (record_holder_next named target (λ first. TargetsRecord first target.record_type items) (running (Does fs ∷ k) a rest s))
 record_begins known a rest s target items fs k there w =
     let program = known.program in
     let path = target.object in
-    let v = place_at a.places path.root in
+    let v = begun a.places path in
+    let first = first_in named (place_at a.places path.root) path.selectors target.first in
     let owning = is_owning_record program.types target.record_type in
     let used = uses_in_items program.types path.spot None [] items in
     let may = record_path_raises target || items_raise items in
@@ -203,11 +207,12 @@ record_begins known a rest s target items fs k there w =
     let n = ends_goes may w.holds w.holds (RunsOn known (Does fs ∷ k) w.rooms) raised' u.1 in
     let reached = first_kept w.holds (reaches_it path) (uses_in_record program.types path.spot target.record_type items) u.0 in
     let copied = first_kept w.holds (copies_to owning path.spot) used reached.1 in
-    finds_fine known a rest s a.operands (TargetsRecord target.first target.record_type items ∷ Does fs ∷ k) path.selectors v
+    finds_fine known a rest s a.operands (TargetsRecord first target.record_type items ∷ Does fs ∷ k) (along a.places path) v
     (at_work w (
-      record_raises known v (Does fs ∷ k) w.rooms w.holds path.of_record path.selectors
+      selected_raises known (place_at a.places path.root) v path.selectors (Does fs ∷ k) w.rooms w.holds
+          (record_raises known v (Does fs ∷ k) w.rooms w.holds path.of_record path.selectors
           (λ whole. object_there path.root path.spot reached.0 (root_object program.types program.variables path there.to there.leads whole) w.fit)
-          (λ raises. (let either = or_left (record_path_raises target) (items_raise items) raises in n.1 either ConstraintError either)),
+          (λ raises. (let either = or_left (record_path_raises target) (items_raise items) raises in n.1 either ConstraintError either))),
       (
         copied_plain owning path.spot copied.0,
         record {

@@ -16,14 +16,14 @@ use Rattle.ada_flow.specs.Flow.{Holds, goes, hold_at, variable_access, declarati
 use Rattle.ada_effects.specs.Effects.{effects_of}
 use Rattle.ada_meaning.specs.declared.state.Id.{Id}
 use Rattle.ada_meaning.specs.declared.state.Value.{Value}
-use Rattle.ada_meaning.specs.declared.state.Value.TheVariants.{Null, Names, Scalar}
+use Rattle.ada_meaning.specs.declared.state.Value.TheVariants.{Null, Names, Scalar, Part}
 use Rattle.ada_meaning.specs.declared.state.Stage.TheVariants.{Existing}
 use Rattle.ada_meaning.specs.Frame.{Frame}
 use Rattle.ada_meaning.specs.Frame as frame
 use Rattle.ada_meaning.specs.State.{type_housed, Item, Master}
 use Rattle.ada_meaning.specs.Heap.{finds}
 use Rattle.ada_meaning.specs.Step.{before_last, last_of, held, procedure_of}
-use Rattle.ada_meaning.specs.Named.{Object, State, object_at, named}
+use Rattle.ada_meaning.specs.Named.{Object, State, object_at, named, whole, inside}
 use Rattle.ada_meaning.specs.Law.{items_of}
 use Rattle.ada_owners.specs.Places as owners
 use Rattle.ada_owners.specs.Places.{value_at}
@@ -41,11 +41,17 @@ Exists objects masters access o =
     (object : Object) × (object_at objects o ≡ Some object) × (object.stage ≡ Existing) × (access ≡ Some object.cell.access)
     × IsAtHome masters object
 
--- Null, or the name of an object of this access type that exists.
+-- An object of this name exists, and its collection is open.
+abbrev pub IsThere : List Object → List Master → Id → Type 0
+IsThere objects masters o =
+    (object : Object) × (object_at objects o ≡ Some object) × (object.stage ≡ Existing) × IsAtHome masters object
+
+-- Null, or the name of an object of this access type that exists; or what refers to a record in an object that exists.
 abbrev pub IsValid : List Object → List Master → Option ℕ → Value → Type 0
 IsValid objects masters access Null = Unit {0}
 IsValid objects masters access (Names o) = Exists objects masters access o
 IsValid objects masters access (Scalar v) = ⊥
+IsValid objects masters access (Part o first) = IsThere objects masters o
 
 -- A value of a variable of this access type is as it is relied on to be.
 abbrev pub IsAs : List Object → List Master → Option ℕ → Hold → Value → Type 0
@@ -143,7 +149,7 @@ running_procedure s = procedure_of s.activations
 -- What is left to do behind a body: nothing behind the main one, and what its caller was to do behind that of a procedure (6.5).
 abbrev pub IsBehind : (procedure : Option ℕ) → (rest : Place) → Type 0
 IsBehind None rest = rest ≡ []
-IsBehind (Some number) rest = (actuals : List ActualForm) × (k : Place) × (rest ≡ frame.Returns actuals ∷ k)
+IsBehind (Some number) rest = (actuals : List ActualForm) × (references : List Value) × (k : Place) × (rest ≡ frame.Returns actuals references ∷ k)
 
 -- The holds that flow gives at a place, on this way from the declarations of a program's main body.
 abbrev pub IsFlowIn : (p : ProgramForm) (rest : Place) (way : List Turning) (place : Place) (holds : Holds) → Type 0
@@ -174,6 +180,7 @@ abbrev pub IsKept : List Object → List Master → Option ℕ → Value → Typ
 IsKept objects masters access Null = Unit {0}
 IsKept objects masters access (Names o) = Exists objects masters access o
 IsKept objects masters access (Scalar v) = Unit {0}
+IsKept objects masters access (Part o first) = ⊥
 
 -- A place owns what it names: a variable by what flow says of it, and each component. A component of an object that has left its collection is
 -- read as null.
@@ -192,8 +199,8 @@ pub record IsCleared (s : State) (p : owners.Place) : Type 0 where
   pub object : Id
   pub begins : s.control ≡ frame.Does (a_stmt (assigns path nothing) later) ∷ outer
   pub selects : path.selectors ≡ c ∷ cs
-  pub leads : walk s.heap (value_in s path.root) (before_last c cs) ≡ finds (Names object)
-  pub is : p ≡ owners.component object (last_of c cs)
+  pub leads : walk s.heap (whole (value_in s path.root)) (before_last (inside (value_in s path.root) c) cs) ≡ finds (Names object)
+  pub is : p ≡ owners.component object (last_of (inside (value_in s path.root) c) cs)
 
 -- Each variable holds what it is relied on to hold, and no two that own name one object. A record object that is not lost is there. Each component of
 -- an object in its collection holds null, an Integer or a Boolean, or names an object that exists. No object has two owners among variables and

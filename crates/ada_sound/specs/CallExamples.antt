@@ -1,13 +1,14 @@
 -- The bodies, the statements and the events of the programs by which the laws show what calls do, and which rules they need.
 
-use Rattle.std.specs.Prelude.{ℕ, List, [], ◌∷◌, Some, None, false, pos}
+use Rattle.std.specs.Prelude.{ℕ, List, [], ◌∷◌, ◌++◌, Some, None, true, false, pos}
+use Rattle.std.proofs.Math.ListN.{replicate}
 use Rattle.ada_values.specs.declared.operator.BinaryOperator.TheVariants as binary
 use Rattle.ada_program.specs.declared.program.Choice.TheVariants as choice
 use Rattle.ada_program.specs.declared.program.FormalMode.{FormalMode}
 use Rattle.ada_program.specs.declared.program.FormalMode.TheVariants.{In, InOut}
 use Rattle.ada_program.specs.declared.program.VariableKind.{VariableKind}
 use Rattle.ada_program.specs.declared.program.VariableKind.TheVariants as variable
-use Rattle.ada_program.specs.Form.{ActualForm, in_value, in_access, in_out_path, in_out_access, ExpressionForm, integer, reads, item_of_value, nothing, allocates, value_of, computes, declares, StmtForm, assigns, frees, writes, chooses, calls, returns, raises, StmtsForm, no_stmts, a_stmt, otherwise, a_branch, HandlersForm, no_handlers, a_handler}
+use Rattle.ada_program.specs.Form.{PathForm, RecordPathForm, ActualForm, in_value, in_access, in_record, in_out_path, in_out_access, in_out_component, in_out_record, ExpressionForm, integer, reads, is_null, null_item, item_of_value, nothing, allocates, value_of, computes, declares, StmtForm, assigns, frees, writes, chooses, calls, returns, raises, StmtsForm, no_stmts, a_stmt, otherwise, a_branch, HandlersForm, no_handlers, a_handler}
 use Rattle.ada_program.specs.ProgramForm.{VariableForm, BodyForm}
 use Rattle.ada_meaning.specs.declared.state.Value.TheVariants.{Names}
 use Rattle.ada_meaning.specs.declared.event.Cause.TheVariants.{Leaving, Freeing}
@@ -15,7 +16,10 @@ use Rattle.ada_meaning.specs.declared.event.Line.TheVariants.{Image}
 use Rattle.ada_meaning.specs.Event.{Back, Followed, Left, Line}
 use Rattle.ada_meaning.specs.Run.{Event}
 use Rattle.ada_sound.specs.Examples.{example_spot, example_path, seven_to_x, with_number, value_at, full}
+use Rattle.ada_sound.specs.OwnerExamples.{rest_is_next, pushing}
 use Rattle.ada_sound.specs.BorrowerExamples.{b_is_head}
+use Rattle.ada_sound.specs.FreeExamples.{inserting}
+use Rattle.ada_sound.specs.RecordExamples.{object_path, object_record, record_behind}
 
 -- The words of examples of calls: in a body with a formal parameter, N : Integer has number 0, and P : Link, where it is declared, has number 1. Link is the
 -- access type of number 1, and Full is an exception of the program.
@@ -187,7 +191,9 @@ giving_events =
 
 -- procedure Stop is begin raise Full; end Stop;
 abbrev pub stopping_bodies : List BodyForm
-stopping_bodies = record { formals = []; variables = []; declarations = []; statements = a_stmt (raises full) no_stmts; handlers = no_handlers; end_spot = example_spot } ∷ []
+stopping_bodies =
+    record { formals = []; variables = []; declarations = []; statements = a_stmt (raises full) no_stmts; handlers = no_handlers; end_spot = example_spot }
+    ∷ []
 
 -- X := new Cell'(Value => 7); Y := X; Free (Y); Stop; X := null;
 abbrev pub stopping_stmts : StmtsForm
@@ -363,3 +369,177 @@ claiming_stmts =
 -- Y gets what X only lends: Y frees the object, and X, which still owns it, is to free it once more.
 abbrev pub claiming_events : List Event
 claiming_events = Left 1 ∷ Back (Names (record { 0 = 0 })) 1 1 (Some 0) None (Freeing 2) ∷ []
+
+-- The words of examples whose actual parameters are records and components of objects. Link is the access type of number 1, and designates
+-- type Node is record Value : Integer; Next : Link; end record; which has number 0. Each record parameter and each record object is known by a type of
+-- its own.
+
+-- The variable that a record parameter is which is known by the type of this number.
+abbrev pub record_parameter : (object_type : ℕ) → VariableForm
+record_parameter t = unnamed (variable.Record (record { 0 = t }))
+
+-- The body of a procedure with these formal parameters, that does these statements.
+abbrev pub body_with : List FormalMode → List VariableForm → StmtsForm → BodyForm
+body_with modes variables fs = record {
+  formals = modes;
+  variables = variables;
+  declarations = [];
+  statements = fs;
+  handlers = no_handlers;
+  end_spot = example_spot;
+}
+
+-- procedure Show_Node (N : Node) is begin Put_Line (Integer'Image (N.Value)); end Show_Node;
+abbrev pub showing_node_body : BodyForm
+showing_node_body = body_with (In ∷ []) (record_parameter 2 ∷ []) (a_stmt (writes (reads (object_path 0 (0 ∷ [])))) no_stmts)
+
+-- procedure Trim (N : in out Node) is begin N.Value := N.Value + 1; Free (N.Next); Show_Node (N); end Trim;
+abbrev pub trimming_body : BodyForm
+trimming_body =
+    body_with (InOut ∷ []) (record_parameter 3 ∷ [])
+    (a_stmt (assigns (object_path 0 (0 ∷ [])) (computes (with_number binary.Add 1 (reads (object_path 0 (0 ∷ []))))))
+    (a_stmt (frees 1 (object_path 0 (1 ∷ [])))
+    (a_stmt (calls 0 (in_record (object_record 0) ∷ [])) no_stmts)))
+
+-- Both procedures.
+abbrev pub trimming_bodies : List BodyForm
+trimming_bodies = showing_node_body ∷ trimming_body ∷ []
+
+-- type Pair is record First, Second : Node; end record; R : Pair; which has number 0 in the main procedure: so R.Second begins with the component of
+-- number 2, and R.Second.Next is that of number 3.
+
+-- The record R.Second, and its component Next.
+abbrev pub second_record : RecordPathForm
+second_record = record { object = object_path 0 []; first = 2; record_type = 0 }
+
+-- That component.
+abbrev pub second_next : PathForm
+second_next = object_path 0 (3 ∷ [])
+
+-- R.Second.Next := new Node'(7, null); Show_Node (R.Second.Next.all); Trim (R.Second);
+-- Put_Line (Integer'Image (R.Second.Value)); if R.Second.Next = null then Put_Line (Integer'Image (0)); end if;
+abbrev pub trimming_stmts : StmtsForm
+trimming_stmts =
+    a_stmt (assigns second_next (allocates 1 (item_of_value (integer (pos 7)) ∷ null_item ∷ [])))
+    (a_stmt (calls 0 (in_record (record { object = second_next; first = 0; record_type = 0 }) ∷ []))
+    (a_stmt (calls 1 (in_out_record second_record ∷ []))
+    (a_stmt (writes (reads (object_path 0 (2 ∷ []))))
+    (a_stmt (chooses (a_branch (is_null true second_next) (a_stmt (writes (integer (pos 0))) no_stmts) (otherwise no_stmts))) no_stmts))))
+
+-- Show_Node follows the node of R.Second.Next. Trim changes R.Second, where it lies in R, frees that node, and passes R.Second on to Show_Node. The main
+-- procedure sees both changes: the 1, and null.
+abbrev pub trimming_events : List Event
+trimming_events =
+    replicate 3 (Followed (Names (record { 0 = 0 })))
+    ++ replicate 2 (Followed (Names (record { 0 = 1 })))
+    ++ Line (Image (pos 7))
+    ∷ Left 1
+    ∷ replicate 5 (Followed (Names (record { 0 = 0 })))
+    ++ Back (Names (record { 0 = 1 })) 1 1 (Some 0) None (Freeing 3)
+    ∷ replicate 3 (Followed (Names (record { 0 = 0 })))
+    ++ Line (Image (pos 1))
+    ∷ Left 4
+    ∷ Left 2
+    ∷ Followed (Names (record { 0 = 0 }))
+    ∷ Line (Image (pos 1))
+    ∷ Followed (Names (record { 0 = 0 }))
+    ∷ Line (Image (pos 0))
+    ∷ Back (Names (record { 0 = 0 })) 5 0 None None (Leaving 0 1)
+    ∷ Left 0
+    ∷ []
+
+-- procedure Replace (V : in out Integer; N : in out Node) is begin V := V + 5; N.Next := new Node'(9, null); end Replace;
+abbrev pub replacing_bodies : List BodyForm
+replacing_bodies =
+    body_with (InOut ∷ InOut ∷ []) (unnamed variable.Integer ∷ record_parameter 2 ∷ [])
+    (a_stmt (assigns (example_path 0 []) (computes (with_number binary.Add 5 formal_now)))
+    (a_stmt (assigns (object_path 1 (1 ∷ [])) (allocates 1 (item_of_value (integer (pos 9)) ∷ null_item ∷ []))) no_stmts))
+    ∷ []
+
+-- The component Head.Next.Value.
+abbrev pub next_value : PathForm
+next_value = example_path 0 (1 ∷ 0 ∷ [])
+
+-- Rest : access Node has number 1, and B : access Node number 2:
+-- Head := new Node'(1, Head); Head.Next := new Node'(2, Head.Next); B := Head; Rest := Head.Next; Replace (Head.Next.Value, B.all);
+-- Put_Line (Integer'Image (Rest.Value)); Put_Line (Integer'Image (Head.Next.Value));
+abbrev pub replacing_stmts : StmtsForm
+replacing_stmts =
+    pushing 1
+    (inserting 2
+    (a_stmt b_is_head
+    (a_stmt rest_is_next
+    (a_stmt (calls 0 (in_out_component next_value ∷ in_out_record (record_behind 2) ∷ []))
+    (a_stmt (writes (value_at 1))
+    (a_stmt (writes (reads next_value)) no_stmts))))))
+
+-- Replace puts another node in the place of the one to which the path of V led. The 7 goes to the component that was named before the call, which Rest
+-- still reaches, and not to that of the node which is there then.
+abbrev pub replacing_events : List Event
+replacing_events =
+    replicate 5 (Followed (Names (record { 0 = 0 })))
+    ++ Followed (Names (record { 0 = 1 }))
+    ∷ replicate 3 (Followed (Names (record { 0 = 0 })))
+    ++ Left 1
+    ∷ replicate 2 (Followed (Names (record { 0 = 1 })))
+    ++ Line (Image (pos 7))
+    ∷ Followed (Names (record { 0 = 0 }))
+    ∷ Followed (Names (record { 0 = 2 }))
+    ∷ Line (Image (pos 9))
+    ∷ Back (Names (record { 0 = 2 })) 1 3 (Some 0) None (Leaving 0 0)
+    ∷ Back (Names (record { 0 = 1 })) 1 2 (Some 0) None (Leaving 0 0)
+    ∷ Back (Names (record { 0 = 0 })) 1 1 (Some 0) None (Leaving 0 0)
+    ∷ Left 0
+    ∷ []
+
+-- procedure Ruin (N : in out Node; L : in out Link) is begin Free (L); N.Value := 1; end Ruin;
+abbrev pub ruining_bodies : List BodyForm
+ruining_bodies =
+    body_with (InOut ∷ InOut ∷ []) (record_parameter 2 ∷ unnamed (variable.Access (record { 0 = 1 })) ∷ [])
+    (a_stmt (frees 1 (example_path 1 []))
+    (a_stmt (assigns (object_path 0 (0 ∷ [])) (computes (integer (pos 1)))) no_stmts))
+    ∷ []
+
+-- B : access Node has number 2: Head := new Node'(1, Head); B := Head; Ruin (B.all, Head);
+abbrev pub ruining_stmts : StmtsForm
+ruining_stmts = pushing 1 (a_stmt b_is_head (a_stmt (calls 0 (in_out_record (record_behind 2) ∷ hands 0 ∷ [])) no_stmts))
+
+-- N stands for the node that L frees, and Ruin looks for it to change it.
+abbrev pub ruining_events : List Event
+ruining_events =
+    Followed (Names (record { 0 = 0 })) ∷ Back (Names (record { 0 = 0 })) 1 1 (Some 0) None (Freeing 2) ∷ []
+
+-- procedure Drain (V : in out Integer; L : in out Link) is begin Free (L); end Drain;
+abbrev pub draining_bodies : List BodyForm
+draining_bodies =
+    body_with (InOut ∷ InOut ∷ []) (unnamed variable.Integer ∷ unnamed (variable.Access (record { 0 = 1 })) ∷ [])
+    (a_stmt (frees 1 (example_path 1 [])) no_stmts)
+    ∷ []
+
+-- Head := new Node'(1, Head); B := Head; Drain (B.Value, Head);
+abbrev pub draining_stmts : StmtsForm
+draining_stmts = pushing 1 (a_stmt b_is_head (a_stmt (calls 0 (in_out_component (example_path 2 (0 ∷ [])) ∷ hands 0 ∷ [])) no_stmts))
+
+-- Drain ends normally, and the component is to get its value back in the node that L has freed.
+abbrev pub draining_events : List Event
+draining_events =
+    Followed (Names (record { 0 = 0 })) ∷ Back (Names (record { 0 = 0 })) 1 1 (Some 0) None (Freeing 2) ∷ Left 1 ∷ []
+
+-- R : Node has number 0: R.Next := new Node'(7, null); Spoil (R.Next);
+abbrev pub stripping_stmts : StmtsForm
+stripping_stmts =
+    a_stmt (assigns (object_path 0 (1 ∷ [])) (allocates 1 (item_of_value (integer (pos 7)) ∷ null_item ∷ [])))
+    (a_stmt (calls 0 (in_out_component (object_path 0 (1 ∷ [])) ∷ [])) no_stmts)
+
+-- when Full => Put_Line (Integer'Image (R.Next.Value));
+abbrev pub stripping_handlers : HandlersForm
+stripping_handlers = a_handler (choice.Exception full ∷ []) (a_stmt (writes (reads (object_path 0 (1 ∷ 0 ∷ [])))) no_stmts) no_handlers
+
+-- Both the component and the formal parameter own the node: Spoil frees it, and the handler looks for it by way of the component.
+abbrev pub stripping_events : List Event
+stripping_events =
+    replicate 3 (Followed (Names (record { 0 = 0 })))
+    ++ Back (Names (record { 0 = 1 })) 1 1 (Some 0) None (Freeing 2)
+    ∷ Left 1
+    ∷ Followed (Names (record { 0 = 0 }))
+    ∷ []

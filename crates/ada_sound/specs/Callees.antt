@@ -4,8 +4,10 @@
 use Rattle.std.specs.Prelude.{◌≡◌, ◌≢◌, ◌⊎◌, ℕ, Bool, true, false, ◌&&◌, ◌||◌, ◌==◌, List, [], ◌∷◌, Option, Some, None}
 use Rattle.std.specs.List.{list_any, slice_get, slice_index_or}
 use Rattle.ada_text.specs.declared.spot.Spot.{Spot}
-use Rattle.ada_program.specs.Form.{PathForm, ActualForm, in_value, in_null, in_access, in_out_path, in_out_access, ExpressionForm, integer, boolean, reads, is_null, applied_to, chained, LinksForm, no_more_links, a_link, calls}
+use Rattle.ada_program.specs.Form.{PathForm, RecordPathForm, ActualForm, in_value, in_null, in_access, in_record, in_out_path, in_out_access, in_out_component, in_out_record, ExpressionForm, integer, boolean, reads, is_null, applied_to, chained, LinksForm, no_more_links, a_link, calls}
+use Rattle.ada_program.specs.declared.program.VariableKind.{VariableKind}
 use Rattle.ada_program.specs.ProgramForm.{TypeForm, VariableForm}
+use Rattle.ada_program.specs.WellFormed.{access_of, variable_kind, selected_kind, path_access}
 use Rattle.ada_effects.specs.Effects.{call_frees}
 use Rattle.ada_flow.specs.declared.rule.Hold.TheVariants.{Own, Alias, Lost}
 use Rattle.ada_flow.specs.declared.rule.Region.{Region}
@@ -13,7 +15,6 @@ use Rattle.ada_flow.specs.declared.rule.Region.TheVariants.{Whole}
 use Rattle.ada_flow.specs.declared.rule.Rule.{Rule}
 use Rattle.ada_flow.specs.declared.rule.Rule.TheVariants.{LostValue}
 use Rattle.ada_flow.specs.Flow.{Holds, goes, faults, hold_at, variable_access, is_freed, Around, kept_at, stmt_flow}
-use Rattle.ada_meaning.specs.Calls.{variable_given}
 use Rattle.ada_owners.specs.Reliance.{Owns}
 use Rattle.ada_sound.specs.Agreement.{IsOwner}
 
@@ -130,42 +131,97 @@ abbrev mutual
   links_rely_on x no_more_links = false
   links_rely_on x (a_link operator e links) = relies_on x e || links_rely_on x links
 
--- Does one of these actual parameters? One that is lent or handed over does, where it begins with the variable.
+-- Does one of these actual parameters? One that is lent, handed over or passed by reference does, where it begins with the variable, and so does a component.
 abbrev pub value_relies_on : (x : ℕ) → ActualForm → Bool
 value_relies_on x (in_value e) = relies_on x e
 value_relies_on x in_null = false
 value_relies_on x (in_access path) = path.root == x
+value_relies_on x (in_record p) = p.object.root == x
 value_relies_on x (in_out_path path) = relies_on x (reads path)
 value_relies_on x (in_out_access path) = path.root == x
+value_relies_on x (in_out_component path) = path.root == x
+value_relies_on x (in_out_record p) = p.object.root == x
 
 -- The variable with which an actual parameter begins, where that is no expression.
 abbrev pub begins_with : ActualForm → Option ℕ
 begins_with (in_value e) = None
 begins_with in_null = None
 begins_with (in_access path) = Some path.root
+begins_with (in_record p) = Some p.object.root
 begins_with (in_out_path path) = Some path.root
 begins_with (in_out_access path) = Some path.root
+begins_with (in_out_component path) = Some path.root
+begins_with (in_out_record p) = Some p.object.root
 
--- No variable is given for a formal parameter of mode `in out` with which another actual parameter begins.
+-- The variable with which an actual parameter for a formal one of mode `in out` begins.
+abbrev pub writes_from : ActualForm → Option ℕ
+writes_from (in_value e) = None
+writes_from in_null = None
+writes_from (in_access path) = None
+writes_from (in_record p) = None
+writes_from (in_out_path path) = Some path.root
+writes_from (in_out_access path) = Some path.root
+writes_from (in_out_component path) = Some path.root
+writes_from (in_out_record p) = Some p.object.root
+
+-- No actual parameter begins with a variable with which another one begins that is for a formal parameter of mode `in out`.
 abbrev pub AreGivenApart : List ActualForm → Type 0
 AreGivenApart actuals =
-    (i j x : ℕ) (a b : ActualForm) → slice_get actuals i ≡ Some a → slice_get actuals j ≡ Some b → variable_given a ≡ Some x → begins_with b ≡ Some x
+    (i j x : ℕ) (a b : ActualForm) → slice_get actuals i ≡ Some a → slice_get actuals j ≡ Some b → writes_from a ≡ Some x → begins_with b ≡ Some x
     → i ≡ j
+
+-- A path follows a value of this access type (4.1): that of its variable, which holds this, or one behind that.
+abbrev pub IsFollowed : List TypeForm → Option VariableKind → (selectors : List ℕ) → (access : ℕ) → Type 0
+IsFollowed types kind [] t = ⊥
+IsFollowed types kind (c ∷ cs) t = (access_of kind ≡ Some t) ⊎ IsFollowed types (selected_kind types kind c) cs t
+
+-- So does the path to a record (6.2), which follows the access value to the object in which the record lies, too.
+abbrev pub FollowsTo : List TypeForm → List VariableForm → RecordPathForm → (access : ℕ) → Type 0
+FollowsTo types variables p t =
+    IsFollowed types (variable_kind variables p.object.root) p.object.selectors t ⊎ (path_access types variables p.object ≡ Some t)
+
+-- An actual parameter may be passed by reference, or gets something back as a component, by a call that may free objects of some access types: its path
+-- follows no value of these, and a component holds an Integer or a Boolean.
+abbrev pub IsPassedSafely : List TypeForm → List VariableForm → (may : ℕ → Bool) → ActualForm → Type 0
+IsPassedSafely types variables may (in_value e) = Unit {0}
+IsPassedSafely types variables may in_null = Unit {0}
+IsPassedSafely types variables may (in_access path) = Unit {0}
+IsPassedSafely types variables may (in_record p) = (t : ℕ) → may t ≡ true → FollowsTo types variables p t → ⊥
+IsPassedSafely types variables may (in_out_path path) = Unit {0}
+IsPassedSafely types variables may (in_out_access path) = Unit {0}
+IsPassedSafely types variables may (in_out_component path) =
+    (path_access types variables path ≡ None)
+    × ((t : ℕ) → may t ≡ true → IsFollowed types (variable_kind variables path.root) path.selectors t → ⊥)
+IsPassedSafely types variables may (in_out_record p) = (t : ℕ) → may t ≡ true → FollowsTo types variables p t → ⊥
+
+-- So is each of these.
+abbrev pub ArePassedSafely : List TypeForm → List VariableForm → (may : ℕ → Bool) → List ActualForm → Type 0
+ArePassedSafely types variables may actuals = (i : ℕ) (a : ActualForm) → slice_get actuals i ≡ Some a → IsPassedSafely types variables may a
+
+-- Where a call breaks no rule, what it passes by reference, and what gets something back behind it, lies in no object that it may free, nor behind one.
+abbrev pub CallsSpareWhatTheyPass : Type 0
+CallsSpareWhatTheyPass =
+    (types : List TypeForm) (variables : List VariableForm) (around : Around) (cleared : Bool) (procedure : ℕ) (actuals : List ActualForm) (holds : Holds)
+    (normal raising : Option Holds)
+    → stmt_flow types variables around cleared (calls procedure actuals) holds ≡ goes normal raising
+    → ArePassedSafely types variables (call_frees (slice_get around.effects procedure)) actuals
 
 -- Nothing is handed over that another owns.
 abbrev pub HandsNoAlias : List ActualForm → Holds → Type 0
 HandsNoAlias actuals holds = (x : ℕ) (r : Region) → IsHandedOver x actuals → hold_at holds x ≢ Alias r
 
--- A call breaks a rule if an actual parameter relies on what is lost: that of lost values, where no variable is given and used besides, and nothing is
--- handed over that another owns.
+-- A call breaks a rule if an actual parameter relies on what is lost: that of lost values, where no variable is given and used besides, nothing is handed
+-- over that another owns, and all is passed safely.
 abbrev pub LostIsNoActual : Type 0
 LostIsNoActual =
     (types : List TypeForm) (variables : List VariableForm) (around : Around) (cleared : Bool) (procedure x : ℕ) (actuals : List ActualForm) (holds : Holds)
     → list_any (value_relies_on x) actuals ≡ true → hold_at holds x ≡ Lost
     → (spot : Spot) × (rule : Rule) × (stmt_flow types variables around cleared (calls procedure actuals) holds ≡ faults spot rule)
-    × (AreGivenApart actuals → HandsNoAlias actuals holds → rule ≡ LostValue)
+    × (AreGivenApart actuals → HandsNoAlias actuals holds
+    → ArePassedSafely types variables (call_frees (slice_get around.effects procedure)) actuals → rule ≡ LostValue)
 
--- Where a call breaks no rule, no variable is given for a formal parameter of mode `in out` with which another actual parameter begins (6.4.1).
+-- Where a call breaks no rule, no actual parameter begins with a variable with which another one begins that is for a formal parameter of mode `in out`
+-- (6.4.1).
 abbrev pub NoneIsGivenTwice : Type 0
 NoneIsGivenTwice =
     (types : List TypeForm) (variables : List VariableForm) (around : Around) (cleared : Bool) (procedure : ℕ) (actuals : List ActualForm) (holds : Holds)

@@ -199,17 +199,25 @@ pub fn calls_forget_aliases()
     ensures others_stay_where_raised { callees.RaisedCallKeepsOthers }
 {}
 
-/// No actual parameter follows a value that is lost, compares it with null, lends it to a formal parameter, or hands it
-/// over to one (4.1, 4.5.2, 6.4.1): such a call breaks a rule. That is the rule of lost values, where no variable is given
-/// for a formal parameter of mode `in out` with which another actual parameter begins, and no alias is handed over.
+/// No actual parameter follows a value that is lost, compares it with null, lends it to a formal parameter, hands it over
+/// to one, or passes what lies behind it (4.1, 4.5.2, 6.4.1): such a call breaks a rule. That is the rule of lost values,
+/// where no two actual parameters begin with one variable of which one is for mode `in out`, no alias is handed over, and
+/// all is passed safely.
 pub fn lost_is_no_actual()
     ensures { callees.LostIsNoActual }
 {}
 
-/// Where a call breaks no rule, no variable is given for a formal parameter of mode `in out` with which another actual
-/// parameter begins (6.4.1): so none gets two values back, and none is lent and handed over at once.
+/// Where a call breaks no rule, no two actual parameters begin with one variable of which one is for mode `in out` (6.4.1):
+/// so none gets two values back, and none is lent and handed over at once.
 pub fn one_variable_each()
     ensures { callees.NoneIsGivenTwice }
+{}
+
+/// Where a call breaks no rule, the records that it passes by reference, and the components that get something back behind
+/// it, lie in no object of an access type of which it may free objects, nor behind one (6.2, 6.4.1); and no component that
+/// owns what it names is given for mode `in out`.
+pub fn calls_spare_what_they_pass()
+    ensures { callees.CallsSpareWhatTheyPass }
 {}
 
 /// The laws are not empty: a program is accepted and comes to a statement; it finishes after it has followed an access
@@ -240,7 +248,11 @@ pub fn one_variable_each()
 /// a procedure, which changes a component of it: behind the call the variable still owns the object, and follows and frees
 /// it. And one that hands an object over to a procedure, which frees it and gives another one back. And one whose
 /// procedure raises an exception before it changes what was handed over to it: the handler follows and frees the object,
-/// which the variable still owns.
+/// which the variable still owns. And one that passes records by reference, which lie in other records, behind access
+/// values and in formal parameters: a procedure reads a component, and another one changes one and frees what a second one
+/// owns, and the main procedure sees both changes. And one that gives a component for a formal parameter of mode `in out`,
+/// while the procedure puts another object in the place of that in which the component lies: the value goes back to the
+/// component of the object that was named before the call.
 pub fn premises_are_met()
     ensures begins { (program : Program) × IsChecked program × ReachesStatement program }
     ensures finishes { (program : Program) × IsChecked program × FinishesAfter examples.example_events program }
@@ -306,6 +318,12 @@ pub fn premises_are_met()
         × (stmt_forms program ≡ call_examples.dropping_stmts)
         × (handler_forms program ≡ call_examples.calling_handlers)
         × IsChecked program × FinishesAfter call_examples.dropping_events program }
+    ensures refers { (program : Program) × (body_forms program ≡ call_examples.trimming_bodies)
+        × (stmt_forms program ≡ call_examples.trimming_stmts)
+        × IsChecked program × FinishesAfter call_examples.trimming_events program }
+    ensures gives_back_there { (program : Program) × (body_forms program ≡ call_examples.replacing_bodies)
+        × (stmt_forms program ≡ call_examples.replacing_stmts) × borrower_examples.HasBorrower program
+        × IsChecked program × FinishesAfter call_examples.replacing_events program }
 {}
 
 /// The rules are needed. Of programs that are well formed and whose collections nest, one that breaks the rules follows
@@ -332,7 +350,10 @@ pub fn premises_are_met()
 /// else two variables get one object back, and each of them frees it. It does not move what is only lent to it: else it
 /// gives the object to a second variable, and both free it. No variable is handed over for two formal parameters: else
 /// the body follows by way of the one what it has freed by way of the other. And where an exception leaves a procedure
-/// that frees what was handed over to it, the variable is lost: else the handler follows the object that is gone.
+/// that frees what was handed over to it, the variable is lost: else the handler follows the object that is gone. No record
+/// is passed, and no component is given for mode `in out`, that lies in an object which the procedure may free: else the
+/// body changes a record that is gone, or a component that is gone is to get its value back. And no component that owns
+/// what it names is handed over: else it names what a procedure frees that an exception leaves, and the handler follows it.
 ///
 /// So are the other premises. A variable relies on values of its own access type alone: of a program that is not well
 /// formed, one of another type names what goes with a block. And components name what lasts as long as their objects: of
@@ -403,6 +424,19 @@ pub fn rules_are_needed()
         × (stmt_forms program ≡ call_examples.claiming_stmts)
         × always.Breaks AliasMoved program
         × always.HaltsAfter call_examples.claiming_events (Erroneous EndsTwice) program }
+    ensures ruins { (program : Program) × (body_forms program ≡ call_examples.ruining_bodies)
+        × (stmt_forms program ≡ call_examples.ruining_stmts) × borrower_examples.HasBorrower program
+        × always.Breaks UnsafePath program
+        × always.HaltsAfter call_examples.ruining_events (Erroneous FollowsGone) program }
+    ensures drains { (program : Program) × (body_forms program ≡ call_examples.draining_bodies)
+        × (stmt_forms program ≡ call_examples.draining_stmts) × borrower_examples.HasBorrower program
+        × always.Breaks UnsafePath program
+        × always.HaltsAfter call_examples.draining_events (Erroneous FollowsGone) program }
+    ensures strips { (program : Program) × (body_forms program ≡ call_examples.spoiling_bodies)
+        × (stmt_forms program ≡ call_examples.stripping_stmts)
+        × (handler_forms program ≡ call_examples.stripping_handlers)
+        × always.Breaks TakePair program
+        × always.HaltsAfter call_examples.stripping_events (Erroneous FollowsGone) program }
     ensures nests { (program : Program) × (stmt_forms program ≡ owner_examples.outlasting_stmts)
         × always.IsIllNested program × always.HaltsAfter owner_examples.outlasting_events (Erroneous FollowsGone) program }
 {}

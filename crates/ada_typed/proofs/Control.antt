@@ -9,11 +9,11 @@ use Rattle.ada_program.specs.declared.program.ScalarType.{ScalarType}
 use Rattle.ada_program.specs.declared.program.TypeNo.{TypeNo}
 use Rattle.ada_program.specs.declared.program.VariableKind.{VariableKind}
 use Rattle.ada_program.specs.declared.program.VariableKind.TheVariants as variable
-use Rattle.ada_program.specs.Form.{ActualForm, HandlersForm}
-use Rattle.ada_program.specs.ProgramForm.{BodyForm, ProgramForm, seen_in}
-use Rattle.ada_program.specs.WellFormed.{is_access, reached_components, record_components, held_kind, variable_kind, selected_kind, selectors_kind, unary_type, binary_type, type_of, chain_type, has_record_at, items_fit, kind_takes, initial_fits, condition_fits, has_statement, stmts_fit, branches_fit, handlers_fit, actuals_fit, formal_kinds, callable_in}
+use Rattle.ada_program.specs.Form.{ActualForm, in_value, in_null, in_access, in_record, in_out_path, in_out_access, in_out_component, in_out_record, HandlersForm}
+use Rattle.ada_program.specs.ProgramForm.{TypeForm, BodyForm, ProgramForm, seen_in}
+use Rattle.ada_program.specs.WellFormed.{is_access, reached_components, record_components, held_kind, variable_kind, selected_kind, selectors_kind, path_kind, names_record, stands_alone, unary_type, binary_type, type_of, chain_type, has_record_at, items_fit, kind_takes, initial_fits, condition_fits, has_statement, stmts_fit, branches_fit, handlers_fit, actuals_fit, formal_kinds, callable_in}
 use Rattle.ada_meaning.specs.declared.state.Value.{Value}
-use Rattle.ada_meaning.specs.declared.state.Value.TheVariants.{Null, Names, Scalar}
+use Rattle.ada_meaning.specs.declared.state.Value.TheVariants.{Null, Names, Scalar, Part}
 use Rattle.ada_meaning.specs.declared.state.Mode.{Mode}
 use Rattle.ada_meaning.specs.declared.state.Mode.TheVariants.{Running, Raising, Exiting, Returning}
 use Rattle.ada_meaning.specs.Frame.{Frame, is_loop, is_return}
@@ -21,17 +21,59 @@ use Rattle.ada_meaning.specs.Frame as frame
 use Rattle.ada_meaning.specs.Named.{State}
 use Rattle.ada_meaning.specs.State.{Activation}
 use Rattle.ada_meaning.specs.Step.{procedure_of, in_front, older}
-use Rattle.ada_typed.proofs.Values.{AreFilled, AreHeld, AreComputed, IsActive, kind_of}
+use Rattle.ada_typed.proofs.Values.{OperandKind, of_kind, refers_to, is_record_kind, RefersTo, AreFilled, AreHeld, AreComputed, IsActive, kind_of}
 
 -- The kinds of operands, newest first, once values for these components have been computed in order.
-abbrev pub onto : List ComponentKind → List VariableKind → List VariableKind
+abbrev pub onto : List ComponentKind → List OperandKind → List OperandKind
 onto [] kinds = kinds
-onto (c ∷ cs) kinds = onto cs (held_kind c ∷ kinds)
+onto (c ∷ cs) kinds = onto cs (of_kind (held_kind c) ∷ kinds)
 
 abbrev pub IsName : Value → Type 0
 IsName Null = ⊥
 IsName (Names o) = Unit {0}
 IsName (Scalar v) = ⊥
+IsName (Part o first) = ⊥
+
+-- The kinds of the operands that are computed for an actual parameter whose formal one is of a kind, in order, and of those for others behind it.
+abbrev pub kinds_given : VariableKind → ActualForm → (others : List OperandKind) → List OperandKind
+kinds_given kind (in_value e) others = of_kind kind ∷ others
+kinds_given kind in_null others = of_kind kind ∷ others
+kinds_given kind (in_access path) others = of_kind kind ∷ others
+kinds_given kind (in_record q) others = of_kind kind ∷ others
+kinds_given kind (in_out_path path) others = of_kind kind ∷ others
+kinds_given kind (in_out_access path) others = of_kind kind ∷ others
+kinds_given kind (in_out_component path) others = refers_to kind ∷ of_kind kind ∷ others
+kinds_given kind (in_out_record q) others = of_kind kind ∷ others
+
+-- The kinds of the operands of a call whose formal parameters are of these kinds, in order (6.4.1).
+abbrev pub operand_kinds : List VariableKind → List ActualForm → List OperandKind
+operand_kinds [] actuals = []
+operand_kinds (kind ∷ kinds) [] = []
+operand_kinds (kind ∷ kinds) (a ∷ rest) = kinds_given kind a (operand_kinds kinds rest)
+
+-- The kinds of what a formal parameter gives back to a component, and of what others give back behind it.
+abbrev pub kinds_stored : VariableKind → ActualForm → (others : List VariableKind) → List VariableKind
+kinds_stored kind (in_value e) others = others
+kinds_stored kind in_null others = others
+kinds_stored kind (in_access path) others = others
+kinds_stored kind (in_record q) others = others
+kinds_stored kind (in_out_path path) others = others
+kinds_stored kind (in_out_access path) others = others
+kinds_stored kind (in_out_component path) others = kind ∷ others
+kinds_stored kind (in_out_record q) others = others
+
+-- The kinds of what goes back to components, where the formal parameters are of these kinds, in order (6.4.1).
+abbrev pub stored_kinds : List VariableKind → List ActualForm → List VariableKind
+stored_kinds [] actuals = []
+stored_kinds (kind ∷ kinds) [] = []
+stored_kinds (kind ∷ kinds) (a ∷ rest) = kinds_stored kind a (stored_kinds kinds rest)
+
+-- Values refer to components that hold values of these kinds, one for each, in order.
+abbrev pub AreReferences : List TypeForm → Cells → List VariableKind → List Value → Type 0
+AreReferences types cells [] [] = Unit {0}
+AreReferences types cells [] (r ∷ rs) = ⊥
+AreReferences types cells (kind ∷ kinds) [] = ⊥
+AreReferences types cells (kind ∷ kinds) (r ∷ rs) = RefersTo types cells kind r × AreReferences types cells kinds rs
 
 -- What holds at the end of the body of a call (6.5), and at each other frame.
 abbrev pub AtReturn : (return : Bool) → (ends further : Type 0) → Type 0
@@ -67,41 +109,45 @@ FitsBehind Returning behind lands catches = catches
 
 abbrev mutual
   -- Operands of these kinds are there; what is left of the running body fits them. Where statements begin, no operand is there.
-  pub Fits : ProgramForm → Cells → List VariableKind → List (Frame Value) → Type 0
+  pub Fits : ProgramForm → Cells → List OperandKind → List (Frame Value) → Type 0
   Fits p cells kinds [] = Unit {0}
   Fits p cells kinds (frame.Elaborates ds fs hs ∷ k) = (kinds ≡ []) × (inside : Bool) × (list_all (initial_fits p.types p.variables) ds ≡ true) × (stmts_fit p.types p.variables p.texts p.exceptions (callable_in p) inside fs ≡ true) × (handlers_fit p.types p.variables p.texts p.exceptions (callable_in p) inside hs ≡ true) × WhereInside inside (Lands p cells k) × Fits p cells [] k
   Fits p cells kinds (frame.Does fs ∷ k) = (kinds ≡ []) × (inside : Bool) × (stmts_fit p.types p.variables p.texts p.exceptions (callable_in p) inside fs ≡ true) × WhereInside inside (Lands p cells k) × Fits p cells [] k
-  Fits p cells kinds (frame.Decides fs branches ∷ k) = (kinds ≡ variable.Boolean ∷ []) × (inside : Bool) × (stmts_fit p.types p.variables p.texts p.exceptions (callable_in p) inside fs ≡ true) × (branches_fit p.types p.variables p.texts p.exceptions (callable_in p) inside branches ≡ true) × WhereInside inside (Lands p cells k) × Fits p cells [] k
+  Fits p cells kinds (frame.Decides fs branches ∷ k) = (kinds ≡ of_kind variable.Boolean ∷ []) × (inside : Bool) × (stmts_fit p.types p.variables p.texts p.exceptions (callable_in p) inside fs ≡ true) × (branches_fit p.types p.variables p.texts p.exceptions (callable_in p) inside branches ≡ true) × WhereInside inside (Lands p cells k) × Fits p cells [] k
   Fits p cells kinds (frame.Repeats condition fs ∷ k) = (kinds ≡ []) × (condition_fits p.types p.variables condition ≡ true) × (has_statement fs ≡ true) × (stmts_fit p.types p.variables p.texts p.exceptions (callable_in p) true fs ≡ true) × Fits p cells [] k
-  Fits p cells kinds (frame.Turns e fs ∷ k) = (kinds ≡ variable.Boolean ∷ []) × (condition_fits p.types p.variables (Some e) ≡ true) × (has_statement fs ≡ true) × (stmts_fit p.types p.variables p.texts p.exceptions (callable_in p) true fs ≡ true) × Fits p cells [] k
-  Fits p cells kinds (frame.Ranges x fs ∷ k) = (kinds ≡ variable.Integer ∷ variable.Integer ∷ []) × (variable_kind p.variables x ≡ Some variable.Integer) × (has_statement fs ≡ true) × (stmts_fit p.types p.variables p.texts p.exceptions (callable_in p) true fs ≡ true) × Fits p cells [] k
+  Fits p cells kinds (frame.Turns e fs ∷ k) = (kinds ≡ of_kind variable.Boolean ∷ []) × (condition_fits p.types p.variables (Some e) ≡ true) × (has_statement fs ≡ true) × (stmts_fit p.types p.variables p.texts p.exceptions (callable_in p) true fs ≡ true) × Fits p cells [] k
+  Fits p cells kinds (frame.Ranges x fs ∷ k) = (kinds ≡ of_kind variable.Integer ∷ of_kind variable.Integer ∷ []) × (variable_kind p.variables x ≡ Some variable.Integer) × (has_statement fs ≡ true) × (stmts_fit p.types p.variables p.texts p.exceptions (callable_in p) true fs ≡ true) × Fits p cells [] k
   Fits p cells kinds (frame.Counts x value last fs ∷ k) = (kinds ≡ []) × (variable_kind p.variables x ≡ Some variable.Integer) × (has_statement fs ≡ true) × (stmts_fit p.types p.variables p.texts p.exceptions (callable_in p) true fs ≡ true) × Fits p cells [] k
-  Fits p cells kinds (frame.Exits ∷ k) = (kinds ≡ variable.Boolean ∷ []) × Lands p cells k × Fits p cells [] k
+  Fits p cells kinds (frame.Exits ∷ k) = (kinds ≡ of_kind variable.Boolean ∷ []) × Lands p cells k × Fits p cells [] k
   Fits p cells kinds (frame.Handles hs ∷ k) = (kinds ≡ []) × (inside : Bool) × (handlers_fit p.types p.variables p.texts p.exceptions (callable_in p) inside hs ≡ true) × WhereInside inside (Lands p cells k) × Fits p cells [] k
   Fits p cells kinds (frame.Closes ∷ k) = Fits p cells kinds k
   Fits p cells kinds (frame.Leaves mode ∷ k) = FitsBehind mode (Fits p cells kinds k) (Lands p cells k) (Catches p cells k)
-  Fits p cells kinds (frame.Calls procedure b actuals ∷ k) = (slice_get p.bodies procedure ≡ Some b) × (kinds ≡ in_front (formal_kinds b) []) × (actuals_fit p.types p.variables (formal_kinds b) actuals ≡ true) × Fits p cells [] k
-  Fits p cells kinds (frame.Returns actuals ∷ k) = (kinds ≡ [])
-  Fits p cells kinds (frame.Evaluates right ∷ k) = (kind : VariableKind) × (kind_takes p.types p.variables kind right ≡ true) × Fits p cells (kind ∷ kinds) k
-  Fits p cells kinds (frame.Computes e ∷ k) = (t : ScalarType) × (type_of p.types p.variables e ≡ Some t) × Fits p cells (kind_of t ∷ kinds) k
-  Fits p cells kinds (frame.Follows cs ∷ k) = (ks : List VariableKind) × (from : VariableKind) × (to : VariableKind) × (kinds ≡ from ∷ ks) × (selectors_kind p.types (Some from) cs ≡ Some to) × Fits p cells (to ∷ ks) k
-  Fits p cells kinds (frame.TestsNull equal ∷ k) = (ks : List VariableKind) × (access : TypeNo) × (kinds ≡ variable.Access access ∷ ks) × Fits p cells (variable.Boolean ∷ ks) k
-  Fits p cells kinds (frame.Continues links ∷ k) = (ks : List VariableKind) × (l : ScalarType) × (t : ScalarType) × (kinds ≡ kind_of l ∷ ks) × (chain_type p.types p.variables (Some l) links ≡ Some t) × Fits p cells (kind_of t ∷ ks) k
-  Fits p cells kinds (frame.Applies operator ∷ k) = (ks : List VariableKind) × (l : ScalarType) × (r : ScalarType) × (t : ScalarType) × (kinds ≡ kind_of r ∷ kind_of l ∷ ks) × (binary_type operator (Some l) (Some r) ≡ Some t) × Fits p cells (kind_of t ∷ ks) k
-  Fits p cells kinds (frame.AppliesAlone operator ∷ k) = (ks : List VariableKind) × (l : ScalarType) × (t : ScalarType) × (kinds ≡ kind_of l ∷ ks) × (unary_type operator (Some l) ≡ Some t) × Fits p cells (kind_of t ∷ ks) k
+  Fits p cells kinds (frame.Calls procedure b actuals ∷ k) = (slice_get p.bodies procedure ≡ Some b) × (kinds ≡ in_front (operand_kinds (formal_kinds b) actuals) []) × (actuals_fit p.types p.variables (formal_kinds b) actuals ≡ true) × Fits p cells [] k
+  Fits p cells kinds (frame.Returns actuals references ∷ k) = (kinds ≡ [])
+  Fits p cells kinds (frame.Evaluates right ∷ k) = (kind : VariableKind) × (kind_takes p.types p.variables kind right ≡ true) × Fits p cells (of_kind kind ∷ kinds) k
+  Fits p cells kinds (frame.Computes e ∷ k) = (t : ScalarType) × (type_of p.types p.variables e ≡ Some t) × Fits p cells (of_kind (kind_of t) ∷ kinds) k
+  Fits p cells kinds (frame.Follows cs ∷ k) = (ks : List OperandKind) × (from : VariableKind) × (to : VariableKind) × (kinds ≡ of_kind from ∷ ks) × (selectors_kind p.types (Some from) cs ≡ Some to) × (is_record_kind from ≡ false) × Fits p cells (of_kind to ∷ ks) k
+  Fits p cells kinds (frame.TestsNull equal ∷ k) = (ks : List OperandKind) × (access : TypeNo) × (kinds ≡ of_kind (variable.Access access) ∷ ks) × Fits p cells (of_kind variable.Boolean ∷ ks) k
+  Fits p cells kinds (frame.Refers q ∷ k) = (object : TypeNo) × (names_record p.types p.variables object.0 q ≡ true) × Fits p cells (of_kind (variable.Record object) ∷ kinds) k
+  Fits p cells kinds (frame.RefersIn first t ∷ k) = (ks : List OperandKind) × (access : TypeNo) × (object : TypeNo) × (rs : List ComponentKind) × (kinds ≡ of_kind (variable.Access access) ∷ ks) × (record_components p.types t ≡ Some rs) × (has_record_at (reached_components p.types access.0) first (Some rs) ≡ true) × (reached_components p.types object.0 ≡ Some rs) × Fits p cells (of_kind (variable.Record object) ∷ ks) k
+  Fits p cells kinds (frame.Opens path ∷ k) = (kind : VariableKind) × (path_kind p.types p.variables path ≡ Some kind) × (stands_alone path.selectors ≡ false) × Fits p cells (of_kind kind ∷ refers_to kind ∷ kinds) k
+  Fits p cells kinds (frame.OpensIn c ∷ k) = (ks : List OperandKind) × (access : TypeNo) × (kind : VariableKind) × (kinds ≡ of_kind (variable.Access access) ∷ ks) × (selected_kind p.types (Some (variable.Access access)) c ≡ Some kind) × Fits p cells (of_kind kind ∷ refers_to kind ∷ ks) k
+  Fits p cells kinds (frame.Continues links ∷ k) = (ks : List OperandKind) × (l : ScalarType) × (t : ScalarType) × (kinds ≡ of_kind (kind_of l) ∷ ks) × (chain_type p.types p.variables (Some l) links ≡ Some t) × Fits p cells (of_kind (kind_of t) ∷ ks) k
+  Fits p cells kinds (frame.Applies operator ∷ k) = (ks : List OperandKind) × (l : ScalarType) × (r : ScalarType) × (t : ScalarType) × (kinds ≡ of_kind (kind_of r) ∷ of_kind (kind_of l) ∷ ks) × (binary_type operator (Some l) (Some r) ≡ Some t) × Fits p cells (of_kind (kind_of t) ∷ ks) k
+  Fits p cells kinds (frame.AppliesAlone operator ∷ k) = (ks : List OperandKind) × (l : ScalarType) × (t : ScalarType) × (kinds ≡ of_kind (kind_of l) ∷ ks) × (unary_type operator (Some l) ≡ Some t) × Fits p cells (of_kind (kind_of t) ∷ ks) k
   Fits p cells kinds (frame.Fills items ∷ k) = (cs : List ComponentKind) × (items_fit p.types p.variables cs items ≡ true) × Fits p cells (onto cs kinds) k
-  Fits p cells kinds (frame.Copies first t ∷ k) = (ks : List VariableKind) × (access : TypeNo) × (rs : List ComponentKind) × (kinds ≡ variable.Access access ∷ ks) × (record_components p.types t ≡ Some rs) × (has_record_at (reached_components p.types access.0) first (Some rs) ≡ true) × Fits p cells (onto rs ks) k
-  Fits p cells kinds (frame.Creates access count ∷ k) = (ks : List VariableKind) × (cs : List ComponentKind) × (kinds ≡ onto cs ks) × (reached_components p.types access ≡ Some cs) × (count ≡ length cs) × Fits p cells (variable.Access (record { 0 = access }) ∷ ks) k
-  Fits p cells kinds (frame.Stores x ∷ k) = (ks : List VariableKind) × (kind : VariableKind) × (kinds ≡ kind ∷ ks) × (variable_kind p.variables x ≡ Some kind) × Fits p cells ks k
-  Fits p cells kinds (frame.Targets c right ∷ k) = (ks : List VariableKind) × (access : TypeNo) × (kind : VariableKind) × (kinds ≡ variable.Access access ∷ ks) × (selected_kind p.types (Some (variable.Access access)) c ≡ Some kind) × (kind_takes p.types p.variables kind right ≡ true) × Fits p cells ks k
-  Fits p cells kinds (frame.StoresIn object c ∷ k) = (ks : List VariableKind) × (access : TypeNo) × (kind : VariableKind) × (kinds ≡ kind ∷ ks) × IsName object × IsAccess cells access.0 object × (selected_kind p.types (Some (variable.Access access)) c ≡ Some kind) × Fits p cells ks k
-  Fits p cells kinds (frame.TargetsRecord first t items ∷ k) = (ks : List VariableKind) × (access : TypeNo) × (rs : List ComponentKind) × (kinds ≡ variable.Access access ∷ ks) × (record_components p.types t ≡ Some rs) × (has_record_at (reached_components p.types access.0) first (Some rs) ≡ true) × (items_fit p.types p.variables rs items ≡ true) × Fits p cells ks k
-  Fits p cells kinds (frame.StoresRecord object first count ∷ k) = (ks : List VariableKind) × (access : TypeNo) × (rs : List ComponentKind) × (kinds ≡ onto rs ks) × (count ≡ length rs) × IsName object × IsAccess cells access.0 object × (has_record_at (reached_components p.types access.0) first (Some rs) ≡ true) × Fits p cells ks k
-  Fits p cells kinds (frame.Receives c ∷ k) = (ks : List VariableKind) × (access : TypeNo) × (kinds ≡ variable.Access access ∷ ks) × (selected_kind p.types (Some (variable.Access access)) c ≡ Some variable.Integer) × Fits p cells ks k
-  Fits p cells kinds (frame.FreesIn access c ∷ k) = (ks : List VariableKind) × (holder : TypeNo) × (own : TypeNo) × (kinds ≡ variable.Access holder ∷ ks) × (selected_kind p.types (Some (variable.Access holder)) c ≡ Some (variable.Access own)) × Fits p cells ks k
-  Fits p cells kinds (frame.Declares x ∷ k) = (ks : List VariableKind) × (kind : VariableKind) × (kinds ≡ kind ∷ ks) × (variable_kind p.variables x ≡ Some kind) × Fits p cells ks k
-  Fits p cells kinds (frame.DeclaresRecord x t ∷ k) = (ks : List VariableKind) × (object : TypeNo) × (cs : List ComponentKind) × (kinds ≡ onto cs ks) × (variable_kind p.variables x ≡ Some (variable.Record object)) × (t ≡ object.0) × (reached_components p.types t ≡ Some cs) × (is_access p.types t ≡ false) × Fits p cells ks k
-  Fits p cells kinds (frame.Writes ∷ k) = (ks : List VariableKind) × (kinds ≡ variable.Integer ∷ ks) × Fits p cells ks k
+  Fits p cells kinds (frame.Copies first t ∷ k) = (ks : List OperandKind) × (access : TypeNo) × (rs : List ComponentKind) × (kinds ≡ of_kind (variable.Access access) ∷ ks) × (record_components p.types t ≡ Some rs) × (has_record_at (reached_components p.types access.0) first (Some rs) ≡ true) × Fits p cells (onto rs ks) k
+  Fits p cells kinds (frame.Creates access count ∷ k) = (ks : List OperandKind) × (cs : List ComponentKind) × (kinds ≡ onto cs ks) × (reached_components p.types access ≡ Some cs) × (count ≡ length cs) × Fits p cells (of_kind (variable.Access (record { 0 = access })) ∷ ks) k
+  Fits p cells kinds (frame.Stores x ∷ k) = (ks : List OperandKind) × (kind : VariableKind) × (kinds ≡ of_kind kind ∷ ks) × (variable_kind p.variables x ≡ Some kind) × Fits p cells ks k
+  Fits p cells kinds (frame.Targets c right ∷ k) = (ks : List OperandKind) × (access : TypeNo) × (kind : VariableKind) × (kinds ≡ of_kind (variable.Access access) ∷ ks) × (selected_kind p.types (Some (variable.Access access)) c ≡ Some kind) × (kind_takes p.types p.variables kind right ≡ true) × Fits p cells ks k
+  Fits p cells kinds (frame.StoresIn object c ∷ k) = (ks : List OperandKind) × (access : TypeNo) × (kind : VariableKind) × (kinds ≡ of_kind kind ∷ ks) × IsName object × IsAccess cells access.0 object × (selected_kind p.types (Some (variable.Access access)) c ≡ Some kind) × Fits p cells ks k
+  Fits p cells kinds (frame.TargetsRecord first t items ∷ k) = (ks : List OperandKind) × (access : TypeNo) × (rs : List ComponentKind) × (kinds ≡ of_kind (variable.Access access) ∷ ks) × (record_components p.types t ≡ Some rs) × (has_record_at (reached_components p.types access.0) first (Some rs) ≡ true) × (items_fit p.types p.variables rs items ≡ true) × Fits p cells ks k
+  Fits p cells kinds (frame.StoresRecord object first count ∷ k) = (ks : List OperandKind) × (access : TypeNo) × (rs : List ComponentKind) × (kinds ≡ onto rs ks) × (count ≡ length rs) × IsName object × IsAccess cells access.0 object × (has_record_at (reached_components p.types access.0) first (Some rs) ≡ true) × Fits p cells ks k
+  Fits p cells kinds (frame.Receives c ∷ k) = (ks : List OperandKind) × (access : TypeNo) × (kinds ≡ of_kind (variable.Access access) ∷ ks) × (selected_kind p.types (Some (variable.Access access)) c ≡ Some variable.Integer) × Fits p cells ks k
+  Fits p cells kinds (frame.FreesIn access c ∷ k) = (ks : List OperandKind) × (holder : TypeNo) × (own : TypeNo) × (kinds ≡ of_kind (variable.Access holder) ∷ ks) × (selected_kind p.types (Some (variable.Access holder)) c ≡ Some (variable.Access own)) × Fits p cells ks k
+  Fits p cells kinds (frame.Declares x ∷ k) = (ks : List OperandKind) × (kind : VariableKind) × (kinds ≡ of_kind kind ∷ ks) × (variable_kind p.variables x ≡ Some kind) × Fits p cells ks k
+  Fits p cells kinds (frame.DeclaresRecord x t ∷ k) = (ks : List OperandKind) × (object : TypeNo) × (cs : List ComponentKind) × (kinds ≡ onto cs ks) × (variable_kind p.variables x ≡ Some (variable.Record object)) × (t ≡ object.0) × (reached_components p.types t ≡ Some cs) × (is_access p.types t ≡ false) × Fits p cells ks k
+  Fits p cells kinds (frame.Writes ∷ k) = (ks : List OperandKind) × (kinds ≡ of_kind variable.Integer ∷ ks) × Fits p cells ks k
   Fits p cells kinds (frame.Ends v ∷ k) = IsName v × Fits p cells kinds k
   Fits p cells kinds (frame.GivesBack v cause pool ∷ k) = IsName v × Fits p cells kinds k
   Fits p cells kinds (frame.Clears x ∷ k) = (access : TypeNo) × (variable_kind p.variables x ≡ Some (variable.Access access)) × Fits p cells kinds k
@@ -132,11 +178,15 @@ depth (frame.Handles hs ∷ k) = depth k
 depth (frame.Closes ∷ k) = 1 + depth k
 depth (frame.Leaves mode ∷ k) = 1 + depth k
 depth (frame.Calls procedure b actuals ∷ k) = depth k
-depth (frame.Returns actuals ∷ k) = depth k
+depth (frame.Returns actuals references ∷ k) = depth k
 depth (frame.Evaluates right ∷ k) = depth k
 depth (frame.Computes e ∷ k) = depth k
 depth (frame.Follows cs ∷ k) = depth k
 depth (frame.TestsNull equal ∷ k) = depth k
+depth (frame.Refers q ∷ k) = depth k
+depth (frame.RefersIn first t ∷ k) = depth k
+depth (frame.Opens path ∷ k) = depth k
+depth (frame.OpensIn c ∷ k) = depth k
 depth (frame.Continues links ∷ k) = depth k
 depth (frame.Applies operator ∷ k) = depth k
 depth (frame.AppliesAlone operator ∷ k) = depth k
@@ -171,11 +221,15 @@ depth_behind (frame.Handles hs) k = omega arith
 depth_behind frame.Closes k = omega arith
 depth_behind (frame.Leaves mode) k = omega arith
 depth_behind (frame.Calls procedure b actuals) k = omega arith
-depth_behind (frame.Returns actuals) k = omega arith
+depth_behind (frame.Returns actuals references) k = omega arith
 depth_behind (frame.Evaluates right) k = omega arith
 depth_behind (frame.Computes e) k = omega arith
 depth_behind (frame.Follows cs) k = omega arith
 depth_behind (frame.TestsNull equal) k = omega arith
+depth_behind (frame.Refers q) k = omega arith
+depth_behind (frame.RefersIn first t) k = omega arith
+depth_behind (frame.Opens path) k = omega arith
+depth_behind (frame.OpensIn c) k = omega arith
 depth_behind (frame.Continues links) k = omega arith
 depth_behind (frame.Applies operator) k = omega arith
 depth_behind (frame.AppliesAlone operator) k = omega arith
@@ -198,16 +252,16 @@ depth_behind (frame.Clears x) k = omega arith
 depth_behind (frame.ClearsIn object c) k = omega arith
 
 -- A state whose values have their kinds, and no jump is on its way.
-pub record Ready (p : ProgramForm) (kinds : List VariableKind) (s : State) : Type 0 where
+pub record Ready (p : ProgramForm) (kinds : List OperandKind) (s : State) : Type 0 where
   pub filled : AreFilled p.types (cells_of s.heap) (cells_of s.heap)
-  pub active : IsActive (cells_of s.heap) p.variables kinds s.activations
+  pub active : IsActive p.types (cells_of s.heap) p.variables kinds s.activations
   pub runs : s.mode ≡ Running
   pub deep : depth s.control ≤ length s.masters
 
 -- The same, while a jump is on its way, which has dropped all operands.
 pub record Jumps (p : ProgramForm) (mode : Mode) (s : State) : Type 0 where
   pub filled : AreFilled p.types (cells_of s.heap) (cells_of s.heap)
-  pub active : IsActive (cells_of s.heap) p.variables [] s.activations
+  pub active : IsActive p.types (cells_of s.heap) p.variables [] s.activations
   pub jumps : s.mode ≡ mode
   pub deep : depth s.control ≤ length s.masters
 
@@ -217,7 +271,7 @@ Goes p cells mode k = FitsBehind mode ⊥ (Lands p cells k) (Catches p cells k)
 
 -- What holds of the running body, by the program as it sees it: what is left of it fits, or a jump is on its way.
 pub data TypedIn (own : ProgramForm) (s : State) : Type 0 where
-  running : (kinds : List VariableKind) → Ready own kinds s → Fits own (cells_of s.heap) kinds s.control → TypedIn own s
+  running : (kinds : List OperandKind) → Ready own kinds s → Fits own (cells_of s.heap) kinds s.control → TypedIn own s
   on_jump : (mode : Mode) → Jumps own mode s → Goes own (cells_of s.heap) mode s.control → TypedIn own s
 
 -- What the formal parameters hold of the procedure that was found (6.1).
@@ -232,27 +286,34 @@ kinds_in p (Some number) = kinds_at (slice_get p.bodies number)
 
 -- The actual parameters of the call that ends at a frame.
 abbrev pub actuals_at : Frame Value → List ActualForm
-actuals_at (frame.Returns actuals) = actuals
+actuals_at (frame.Returns actuals references) = actuals
 actuals_at f = []
 
+-- What refers there to the components that are given.
+abbrev pub references_at : Frame Value → List Value
+references_at (frame.Returns actuals references) = references
+references_at f = []
+
 -- What holds of an activation that waits for the end of a call with these actual parameters, by the program as its body sees it: no form of it waits for a
--- value, its variables hold values of their kinds, the actual parameters suit formal ones of these kinds, and what is left of its body fits.
-pub record Suspended (own : ProgramForm) (cells : Cells) (kinds : List VariableKind) (actuals : List ActualForm) (k : List (Frame Value)) (a : Activation Value) : Type 0 where
+-- value, its variables hold values of their kinds, the actual parameters suit formal ones of these kinds, the components are there that get something back,
+-- and what is left of its body fits.
+pub record Suspended (own : ProgramForm) (cells : Cells) (kinds : List VariableKind) (actuals : List ActualForm) (references : List Value) (k : List (Frame Value)) (a : Activation Value) : Type 0 where
   pub no_operands : a.operands ≡ []
-  pub held : AreHeld cells own.variables a.places
+  pub held : AreHeld own.types cells own.variables a.places
   pub suits : actuals_fit own.types own.variables kinds actuals ≡ true
+  pub referred : AreReferences own.types cells (stored_kinds kinds actuals) references
   pub fits : Fits own cells [] k
 
 -- The first of these activations waits so for the end of this body's call, behind which this is left to do, and the others wait, too.
-abbrev pub WaitsFirst : ProgramForm → Cells → (callee : Option ℕ) → List ActualForm → (behind : List (Frame Value)) → List (Activation Value) → (others : Type 0) → Type 0
-WaitsFirst p cells callee actuals k [] others = ⊥
-WaitsFirst p cells callee actuals k (a ∷ suspended) others = Suspended (seen_in a.procedure p) cells (kinds_in p callee) actuals k a × others
+abbrev pub WaitsFirst : ProgramForm → Cells → (callee : Option ℕ) → List ActualForm → (references : List Value) → (behind : List (Frame Value)) → List (Activation Value) → (others : Type 0) → Type 0
+WaitsFirst p cells callee actuals references k [] others = ⊥
+WaitsFirst p cells callee actuals references k (a ∷ suspended) others = Suspended (seen_in a.procedure p) cells (kinds_in p callee) actuals references k a × others
 
 -- For each end of a call there is one activation that waits for it, the innermost first (6.4): this body is what runs now.
 abbrev pub Waiting : ProgramForm → Cells → (callee : Option ℕ) → List (Frame Value) → (suspended : List (Activation Value)) → Type 0
 Waiting p cells callee [] suspended = (suspended ≡ [])
 Waiting p cells callee (f ∷ k) suspended =
-    AtReturn (is_return f) (WaitsFirst p cells callee (actuals_at f) k suspended (Waiting p cells (procedure_of suspended) k (older suspended))) (Waiting p cells callee k suspended)
+    AtReturn (is_return f) (WaitsFirst p cells callee (actuals_at f) (references_at f) k suspended (Waiting p cells (procedure_of suspended) k (older suspended))) (Waiting p cells callee k suspended)
 
 -- A state of a run of a well-formed program: what holds of the running body, and of the activations that wait for it.
 pub record Typed (p : ProgramForm) (s : State) : Type 0 where
@@ -265,7 +326,7 @@ inside_of p s typed = typed.inside
 
 -- Wherever an exception is raised, it finds handlers behind which what is left to do fits, or none.
 module _ (p : ProgramForm) where
-  pub catches : (cells : Cells) (k : List (Frame Value)) (kinds : List VariableKind) → Fits p cells kinds k → Catches p cells k
+  pub catches : (cells : Cells) (k : List (Frame Value)) (kinds : List OperandKind) → Fits p cells kinds k → Catches p cells k
   catches cells [] kinds fits = tt
   catches cells (frame.Elaborates ds fs hs ∷ k) kinds fits = catches cells k [] fits.6
   catches cells (frame.Does fs ∷ k) kinds fits = catches cells k [] fits.4
@@ -282,17 +343,21 @@ module _ (p : ProgramForm) where
   catches cells (frame.Leaves Exiting ∷ k) kinds fits = fits.1
   catches cells (frame.Leaves Returning ∷ k) kinds fits = fits
   catches cells (frame.Calls procedure b actuals ∷ k) kinds fits = catches cells k [] fits.3
-  catches cells (frame.Returns actuals ∷ k) kinds fits = tt
-  catches cells (frame.Evaluates right ∷ k) kinds fits = catches cells k (fits.0 ∷ kinds) fits.2
-  catches cells (frame.Computes e ∷ k) kinds fits = catches cells k (kind_of fits.0 ∷ kinds) fits.2
-  catches cells (frame.Follows cs ∷ k) kinds fits = catches cells k (fits.2 ∷ fits.0) fits.5
-  catches cells (frame.TestsNull equal ∷ k) kinds fits = catches cells k (variable.Boolean ∷ fits.0) fits.3
-  catches cells (frame.Continues links ∷ k) kinds fits = catches cells k (kind_of fits.2 ∷ fits.0) fits.5
-  catches cells (frame.Applies operator ∷ k) kinds fits = catches cells k (kind_of fits.3 ∷ fits.0) fits.6
-  catches cells (frame.AppliesAlone operator ∷ k) kinds fits = catches cells k (kind_of fits.2 ∷ fits.0) fits.5
+  catches cells (frame.Returns actuals references ∷ k) kinds fits = tt
+  catches cells (frame.Evaluates right ∷ k) kinds fits = catches cells k (of_kind fits.0 ∷ kinds) fits.2
+  catches cells (frame.Computes e ∷ k) kinds fits = catches cells k (of_kind (kind_of fits.0) ∷ kinds) fits.2
+  catches cells (frame.Follows cs ∷ k) kinds fits = catches cells k (of_kind fits.2 ∷ fits.0) fits.6
+  catches cells (frame.TestsNull equal ∷ k) kinds fits = catches cells k (of_kind variable.Boolean ∷ fits.0) fits.3
+  catches cells (frame.Refers q ∷ k) kinds fits = catches cells k (of_kind (variable.Record fits.0) ∷ kinds) fits.2
+  catches cells (frame.RefersIn first t ∷ k) kinds fits = catches cells k (of_kind (variable.Record fits.2) ∷ fits.0) fits.8
+  catches cells (frame.Opens path ∷ k) kinds fits = catches cells k (of_kind fits.0 ∷ refers_to fits.0 ∷ kinds) fits.3
+  catches cells (frame.OpensIn c ∷ k) kinds fits = catches cells k (of_kind fits.2 ∷ refers_to fits.2 ∷ fits.0) fits.5
+  catches cells (frame.Continues links ∷ k) kinds fits = catches cells k (of_kind (kind_of fits.2) ∷ fits.0) fits.5
+  catches cells (frame.Applies operator ∷ k) kinds fits = catches cells k (of_kind (kind_of fits.3) ∷ fits.0) fits.6
+  catches cells (frame.AppliesAlone operator ∷ k) kinds fits = catches cells k (of_kind (kind_of fits.2) ∷ fits.0) fits.5
   catches cells (frame.Fills items ∷ k) kinds fits = catches cells k (onto fits.0 kinds) fits.2
   catches cells (frame.Copies first t ∷ k) kinds fits = catches cells k (onto fits.2 fits.0) fits.6
-  catches cells (frame.Creates access count ∷ k) kinds fits = catches cells k (variable.Access (record { 0 = access }) ∷ fits.0) fits.5
+  catches cells (frame.Creates access count ∷ k) kinds fits = catches cells k (of_kind (variable.Access (record { 0 = access })) ∷ fits.0) fits.5
   catches cells (frame.Stores x ∷ k) kinds fits = catches cells k fits.0 fits.4
   catches cells (frame.Targets c right ∷ k) kinds fits = catches cells k fits.0 fits.6
   catches cells (frame.StoresIn object c ∷ k) kinds fits = catches cells k fits.0 fits.7
@@ -320,15 +385,15 @@ next_taken zero (x ∷ ops) v rest h = (cc, cc)
 next_taken (suc m) [] v rest h = absurd (cc)
 next_taken (suc m) (x ∷ ops) v rest h = let later = next_taken m ops v rest h in (ap (λ xs. x ∷ xs) later.0, later.1)
 
-split_next : (cells : Cells) (c : ComponentKind) (cs : List ComponentKind) (ks : List VariableKind) (m : ℕ) (ops tail : List Value) → drop m ops ≡ tail → HaveKinds cells cs (reverse (take m ops)) → AreComputed cells (held_kind c ∷ ks) tail → HaveKinds cells (c ∷ cs) (reverse (take (suc m) ops)) × AreComputed cells ks (drop (suc m) ops)
-split_next cells c cs ks m ops [] is h g = absurd g
-split_next cells c cs ks m ops (v ∷ rest) is h g =
+split_next : (types : List TypeForm) (cells : Cells) (c : ComponentKind) (cs : List ComponentKind) (ks : List OperandKind) (m : ℕ) (ops tail : List Value) → drop m ops ≡ tail → HaveKinds types cells cs (reverse (take m ops)) → AreComputed types cells (of_kind (held_kind c) ∷ ks) tail → HaveKinds types cells (c ∷ cs) (reverse (take (suc m) ops)) × AreComputed types cells ks (drop (suc m) ops)
+split_next types cells c cs ks m ops [] is h g = absurd g
+split_next types cells c cs ks m ops (v ∷ rest) is h g =
     let next = next_taken m ops v rest is in
     let turned : reverse (take (suc m) ops) ≡ v ∷ reverse (take m ops) = ap reverse next.0 ∙ reverse-append (take m ops) (v ∷ []) in
-    (subst (λ (vs : List Value). HaveKinds cells (c ∷ cs) vs) (sym turned) (g.0, h), subst (λ (vs : List Value). AreComputed cells ks vs) (sym next.1) g.1)
+    (subst (λ (vs : List Value). HaveKinds types cells (c ∷ cs) vs) (sym turned) (g.0, h), subst (λ (vs : List Value). AreComputed types cells ks vs) (sym next.1) g.1)
 
-pub split : (cells : Cells) (cs : List ComponentKind) (ks : List VariableKind) (ops : List Value) → AreComputed cells (onto cs ks) ops → HaveKinds cells cs (reverse (take (length cs) ops)) × AreComputed cells ks (drop (length cs) ops)
-split cells [] ks ops h = (tt, h)
-split cells (c ∷ cs) ks ops h =
-    let below = split cells cs (held_kind c ∷ ks) ops h in
-    split_next cells c cs ks (length cs) ops (drop (length cs) ops) refl below.0 below.1
+pub split : (types : List TypeForm) (cells : Cells) (cs : List ComponentKind) (ks : List OperandKind) (ops : List Value) → AreComputed types cells (onto cs ks) ops → HaveKinds types cells cs (reverse (take (length cs) ops)) × AreComputed types cells ks (drop (length cs) ops)
+split types cells [] ks ops h = (tt, h)
+split types cells (c ∷ cs) ks ops h =
+    let below = split types cells cs (of_kind (held_kind c) ∷ ks) ops h in
+    split_next types cells c cs ks (length cs) ops (drop (length cs) ops) refl below.0 below.1

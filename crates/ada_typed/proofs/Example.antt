@@ -28,7 +28,7 @@ use Rattle.ada_program.specs.declared.program.Choice.TheVariants as choice
 use Rattle.ada_program.specs.declared.program.Exception.{Exception}
 use Rattle.ada_program.specs.declared.program.Exception.TheVariants.{ProgramError, Declared}
 use Rattle.ada_program.specs.declared.program.Handler.{Handler}
-use Rattle.ada_program.specs.Form.{expression_form, stmt_form, path_form, record_path_form, item_of_record, in_null, in_out_path, in_out_access, integer, reads, is_null, StmtsForm, no_stmts, a_stmt, assigns, assigns_record, allocates_default, computes, gets, writes, frees, chooses, repeats, counts, exits, calls, returns, raises, encloses, otherwise, a_branch, HandlersForm, no_handlers, a_handler, declaration_forms, stmt_forms, handler_forms, statement_rules, expression_rules}
+use Rattle.ada_program.specs.Form.{expression_form, stmt_form, path_form, record_path_form, item_of_record, in_null, in_out_path, in_out_access, in_out_component, in_out_record, integer, reads, is_null, StmtsForm, no_stmts, a_stmt, assigns, assigns_record, allocates_default, computes, gets, writes, frees, chooses, repeats, counts, exits, calls, returns, raises, encloses, otherwise, a_branch, HandlersForm, no_handlers, a_handler, declaration_forms, stmt_forms, handler_forms, statement_rules, expression_rules}
 use Rattle.ada_program.specs.ProgramForm.{BodyForm, body_form, body_forms, program_form}
 use Rattle.ada_program.specs.WellFormed.{Creation, creation, created_by_all, created_by_handlers, created_in_all, creates_from, has_collections, IsWellFormed, stmts_fit, bodies_fit, callable_in}
 use Rattle.ada_meaning.specs.declared.event.Halt.TheVariants.{Finished}
@@ -78,7 +78,8 @@ abbrev parts : List Part
 parts = record { name = no_name; kind = part.Elementary (kind.Integer (pos 0)); first = record { 0 = 0 } } ∷ []
 
 abbrev types : List TypeDefinition
-types = definition.Record no_name (vec parts (omega arith)) (vec (kind.Integer (pos 0) ∷ []) (omega arith)) ∷ definition.Access no_name (record { 0 = 0 }) ∷ definition.Object (record { 0 = 0 }) ∷ []
+types = definition.Record no_name (vec parts (omega arith)) (vec (kind.Integer (pos 0) ∷ []) (omega arith)) ∷ definition.Access no_name (record { 0 = 0 }) ∷ definition.Object (record { 0 = 0 })
+    ∷ definition.Object (record { 0 = 0 }) ∷ []
 
 -- X : Link := new Cell'(Value => 7); N : Integer := X.Value; R : Cell := (Value => 3); and the parameter I
 abbrev variables : List Variable
@@ -127,13 +128,14 @@ handlers = record { choices = vec (choice.Exception failure ∷ []) (omega arith
 abbrev counted : List Stmt
 counted = stmt.Block (vec [] (omega arith)) (vec (stmt.Get n_path ∷ stmt.Raise failure ∷ []) (omega arith)) (vec handlers (omega arith)) ∷ []
 
--- loop .. end loop; for I in 1 .. 1 loop .. end loop; X := new Cell; Show (N, X, null); Free (X);
+-- loop .. end loop; for I in 1 .. 1 loop .. end loop; X := new Cell; Show (N, X, null); Swap (R, X.Value); Free (X);
 abbrev statements : List Stmt
 statements =
     stmt.Loop None (vec body (omega arith)) spot
     ∷ stmt.For (record { 0 = 3 }) (Integer (pos 1)) (Integer (pos 1)) (vec counted (omega arith)) spot
     ∷ stmt.Assign x_path (right.Default (record { 0 = 1 }))
     ∷ stmt.Call (record { 0 = 0 }) (vec (actual.InOut n_path ∷ actual.InOutAccess x_path ∷ actual.InNull ∷ []) (omega arith))
+    ∷ stmt.Call (record { 0 = 1 }) (vec (actual.InOutRecord r_all ∷ actual.InOutComponent value_path ∷ []) (omega arith))
     ∷ stmt.Free (record { 0 = 1 }) x_path
     ∷ []
 
@@ -163,10 +165,34 @@ show = record {
   end = spot;
 }
 
+-- C.Value; V
+abbrev c_value_path : Path
+c_value_path = record { root = record { 0 = 0 }; selectors = vec (record { 0 = 0 } ∷ []) (omega arith); of_record = true; spot = spot }
+
+abbrev v_path : Path
+v_path = n_path
+
+-- procedure Swap (C : in out Cell; V : in out Integer) is begin V := C.Value; C.Value := 9; end Swap;
+abbrev swap_variables : List Variable
+swap_variables =
+    record { name = no_name; spot = spot; kind = variable.Record (record { 0 = 3 }); borrows = false }
+    ∷ record { name = no_name; spot = spot; kind = variable.Integer; borrows = false }
+    ∷ []
+
+abbrev swap : Procedure
+swap = record {
+  formals = vec (mode.InOut ∷ mode.InOut ∷ []) (omega arith);
+  variables = vec swap_variables (omega arith);
+  declarations = vec [] (omega arith);
+  statements = vec (stmt.Assign v_path (right.Value (Reads c_value_path)) ∷ stmt.Assign c_value_path (right.Value (Integer (pos 9))) ∷ []) (omega arith);
+  handlers = vec [] (omega arith);
+  end = spot;
+}
+
 abbrev pub program : Program
 program = record {
   types = vec types (omega arith);
-  procedures = vec (show ∷ []) (omega arith);
+  procedures = vec (show ∷ swap ∷ []) (omega arith);
   variables = vec variables (omega arith);
   texts = vec [] (omega arith);
   exceptions = vec (no_name ∷ []) (omega arith);
@@ -197,20 +223,33 @@ forms =
     a_stmt (repeats None turn_forms spot) (
     a_stmt (counts 3 (integer (pos 1)) (integer (pos 1)) counted_forms spot) (
     a_stmt (assigns (path_form x_path) (allocates_default 1)) (
-    a_stmt (calls 0 (in_out_path (path_form n_path) ∷ in_out_access (path_form x_path) ∷ in_null ∷ [])) (a_stmt (frees 1 (path_form x_path)) no_stmts))))
+    a_stmt (calls 0 (in_out_path (path_form n_path) ∷ in_out_access (path_form x_path) ∷ in_null ∷ [])) (
+    a_stmt (calls 1 (in_out_record (record_path_form r_all) ∷ in_out_component (path_form value_path) ∷ [])) (a_stmt (frees 1 (path_form x_path)) no_stmts)))))
 
 statements_are : stmt_forms program ≡ forms
 statements_are = simp (statement_rules, expression_rules)
 
--- The body of the procedure as plain data.
+-- The bodies of the procedures as plain data.
 abbrev show_forms : StmtsForm
 show_forms = a_stmt (writes (reads (path_form q_path))) (a_stmt (returns spot) no_stmts)
 
+abbrev swap_forms : StmtsForm
+swap_forms = a_stmt (assigns (path_form v_path) (computes (reads (path_form c_value_path)))) (a_stmt (assigns (path_form c_value_path) (computes (integer (pos 9)))) no_stmts)
+
+abbrev with_forms : (of_show of_swap : StmtsForm) → List BodyForm
+with_forms of_show of_swap = record (body_form show) { statements = of_show } ∷ record (body_form swap) { statements = of_swap } ∷ []
+
 abbrev shown : List BodyForm
-shown = record (body_form show) { statements = show_forms } ∷ []
+shown = with_forms show_forms swap_forms
+
+show_is : (body_form show).statements ≡ show_forms
+show_is = simp (statement_rules, expression_rules)
+
+swap_is : (body_form swap).statements ≡ swap_forms
+swap_is = simp (statement_rules, expression_rules)
 
 bodies_are : body_forms program ≡ shown
-bodies_are = ap (λ (fs : StmtsForm). record (body_form show) { statements = fs } ∷ []) (simp (statement_rules, expression_rules))
+bodies_are = ap (λ (fs : StmtsForm). with_forms fs (body_form swap).statements) show_is ∙ ap (with_forms show_forms) swap_is
 
 -- What the program creates, with these statements.
 abbrev creations_with : StmtsForm → List Creation
@@ -247,7 +286,7 @@ some_member = omega arith
 
 finishes_from : FinishesFrom forms
 unfolding next expression_form stmt_form
-finishes_from = (_, _, there settled _ (refl, refl) (there settled _ (refl, refl) (there settled _ (refl, refl) (there settled _ (refl, refl) (there settled _ (refl, refl) (there settled _ (refl, refl) (there (grants true) _ (refl, refl) (there settled _ (refl, refl) (there settled _ (refl, refl) (there settled _ (refl, refl) (there settled _ (refl, refl) (there settled _ (refl, refl) (there settled _ (refl, refl) (there settled _ (refl, refl) (there settled _ (refl, refl) (there settled _ (refl, refl) (there settled _ (refl, refl) (there settled _ (refl, refl) (there settled _ (refl, refl) (there settled _ (refl, refl) (there settled _ (refl, refl) (there settled _ (refl, refl) (there settled _ (refl, refl) (there settled _ (refl, refl) (there settled _ (refl, refl) (there settled _ (refl, refl) (there settled _ (refl, refl) (there settled _ (refl, refl) (there settled _ (refl, refl) (there settled _ (refl, refl) (there settled _ (refl, refl) (there settled _ (refl, refl) (there settled _ (refl, refl) (there settled _ (refl, refl) (there settled _ (refl, refl) (there settled _ (refl, refl) (there settled _ (refl, refl) (there settled _ (refl, refl) (there settled _ (refl, refl) (there settled _ (refl, refl) (there settled _ (refl, refl) (there settled _ (refl, refl) (there settled _ (refl, refl) (there settled _ (refl, refl) (there settled _ (refl, refl) (there settled _ (refl, refl) (there settled _ (refl, refl) (there settled _ (refl, refl) (there settled _ (refl, refl) (there settled _ (refl, refl) (there settled _ (refl, refl) (there settled _ (refl, refl) (there settled _ (refl, refl) (there settled _ (refl, refl) (there settled _ (refl, refl) (there settled _ (refl, refl) (there settled _ (refl, refl) (there settled _ (refl, refl) (there settled _ (refl, refl) (there settled _ (refl, refl) (there settled _ (refl, refl) (there settled _ (refl, refl) (there settled _ (refl, refl) (there settled _ (refl, refl) (there settled _ (refl, refl) (there settled _ (refl, refl) (there settled _ (refl, refl) (there settled _ (refl, refl) (there settled _ (refl, refl) (there settled _ (refl, refl) (there settled _ (refl, refl) (there (grants true) _ (refl, refl) (there settled _ (refl, refl) (there settled _ (refl, refl) (there settled _ (refl, refl) (there settled _ (refl, refl) (there settled _ (refl, refl) (there settled _ (refl, refl) (there settled _ (refl, refl) (there settled _ (refl, refl) (there settled _ (refl, refl) (there settled _ (refl, refl) (there settled _ (refl, refl) (there settled _ (refl, refl) (there settled _ (refl, refl) (there settled _ (refl, refl) (there settled _ (refl, refl) (there settled _ (refl, refl) (there settled _ (refl, refl) (there settled _ (refl, refl) (there settled _ (refl, refl) (there settled _ (refl, refl) (there settled _ (refl, refl) (there settled _ (refl, refl) (there settled _ (refl, refl) (there settled _ (refl, refl) (there settled _ (refl, refl) (there settled _ (refl, refl) (there settled _ (refl, refl) (there settled _ (refl, refl) (there (takes 0) _ (some_member, refl, refl) (there settled _ (refl, refl) (there settled _ (refl, refl) (there settled _ (refl, refl) (there settled _ (refl, refl) (there settled _ (refl, refl) (there settled _ (refl, refl) (there settled _ (refl, refl) here))))))))))))))))))))))))))))))))))))))))))))))))))))))))))))))))))))))))))))))))))))))))))))))))))))))))))), refl)
+finishes_from = (_, _, there settled _ (refl, refl) (there settled _ (refl, refl) (there settled _ (refl, refl) (there settled _ (refl, refl) (there settled _ (refl, refl) (there settled _ (refl, refl) (there (grants true) _ (refl, refl) (there settled _ (refl, refl) (there settled _ (refl, refl) (there settled _ (refl, refl) (there settled _ (refl, refl) (there settled _ (refl, refl) (there settled _ (refl, refl) (there settled _ (refl, refl) (there settled _ (refl, refl) (there settled _ (refl, refl) (there settled _ (refl, refl) (there settled _ (refl, refl) (there settled _ (refl, refl) (there settled _ (refl, refl) (there settled _ (refl, refl) (there settled _ (refl, refl) (there settled _ (refl, refl) (there settled _ (refl, refl) (there settled _ (refl, refl) (there settled _ (refl, refl) (there settled _ (refl, refl) (there settled _ (refl, refl) (there settled _ (refl, refl) (there settled _ (refl, refl) (there settled _ (refl, refl) (there settled _ (refl, refl) (there settled _ (refl, refl) (there settled _ (refl, refl) (there settled _ (refl, refl) (there settled _ (refl, refl) (there settled _ (refl, refl) (there settled _ (refl, refl) (there settled _ (refl, refl) (there settled _ (refl, refl) (there settled _ (refl, refl) (there settled _ (refl, refl) (there settled _ (refl, refl) (there settled _ (refl, refl) (there settled _ (refl, refl) (there settled _ (refl, refl) (there settled _ (refl, refl) (there settled _ (refl, refl) (there settled _ (refl, refl) (there settled _ (refl, refl) (there settled _ (refl, refl) (there settled _ (refl, refl) (there settled _ (refl, refl) (there settled _ (refl, refl) (there settled _ (refl, refl) (there settled _ (refl, refl) (there settled _ (refl, refl) (there settled _ (refl, refl) (there settled _ (refl, refl) (there settled _ (refl, refl) (there settled _ (refl, refl) (there settled _ (refl, refl) (there settled _ (refl, refl) (there settled _ (refl, refl) (there settled _ (refl, refl) (there settled _ (refl, refl) (there settled _ (refl, refl) (there settled _ (refl, refl) (there settled _ (refl, refl) (there settled _ (refl, refl) (there settled _ (refl, refl) (there (grants true) _ (refl, refl) (there settled _ (refl, refl) (there settled _ (refl, refl) (there settled _ (refl, refl) (there settled _ (refl, refl) (there settled _ (refl, refl) (there settled _ (refl, refl) (there settled _ (refl, refl) (there settled _ (refl, refl) (there settled _ (refl, refl) (there settled _ (refl, refl) (there settled _ (refl, refl) (there settled _ (refl, refl) (there settled _ (refl, refl) (there settled _ (refl, refl) (there settled _ (refl, refl) (there settled _ (refl, refl) (there settled _ (refl, refl) (there settled _ (refl, refl) (there settled _ (refl, refl) (there settled _ (refl, refl) (there settled _ (refl, refl) (there settled _ (refl, refl) (there settled _ (refl, refl) (there settled _ (refl, refl) (there settled _ (refl, refl) (there settled _ (refl, refl) (there settled _ (refl, refl) (there settled _ (refl, refl) (there settled _ (refl, refl) (there settled _ (refl, refl) (there settled _ (refl, refl) (there settled _ (refl, refl) (there settled _ (refl, refl) (there settled _ (refl, refl) (there settled _ (refl, refl) (there settled _ (refl, refl) (there settled _ (refl, refl) (there settled _ (refl, refl) (there settled _ (refl, refl) (there settled _ (refl, refl) (there settled _ (refl, refl) (there settled _ (refl, refl) (there settled _ (refl, refl) (there settled _ (refl, refl) (there settled _ (refl, refl) (there settled _ (refl, refl) (there settled _ (refl, refl) (there settled _ (refl, refl) (there settled _ (refl, refl) (there settled _ (refl, refl) (there (takes 0) _ (some_member, refl, refl) (there settled _ (refl, refl) (there settled _ (refl, refl) (there settled _ (refl, refl) (there settled _ (refl, refl) (there settled _ (refl, refl) (there settled _ (refl, refl) (there settled _ (refl, refl) here))))))))))))))))))))))))))))))))))))))))))))))))))))))))))))))))))))))))))))))))))))))))))))))))))))))))))))))))))))))))))))))))), refl)
 
 pub finishes : Finishes program
 finishes =

@@ -7,7 +7,7 @@ use Rattle.std.specs.List.{slice_get, slice_set}
 use Rattle.ada_program.specs.Form.{ActualForm}
 use Rattle.ada_meaning.specs.declared.state.Id.{Id}
 use Rattle.ada_meaning.specs.declared.state.Value.{Value}
-use Rattle.ada_meaning.specs.declared.state.Value.TheVariants.{Null, Names, Scalar}
+use Rattle.ada_meaning.specs.declared.state.Value.TheVariants.{Null, Names, Scalar, Part}
 use Rattle.ada_meaning.specs.declared.state.Mode.{Mode}
 use Rattle.ada_meaning.specs.Frame.{Frame, is_return, Landing, passes_on, goes_behind, goes_in}
 use Rattle.ada_meaning.specs.Frame as frame
@@ -15,23 +15,24 @@ use Rattle.ada_meaning.specs.State.{Activation}
 use Rattle.ada_meaning.specs.Step.{procedure_of, halts, moves, tells, asks, picks, older, with_places, with_operands, operands, places, popped, jumping, put, stored_from}
 use Rattle.ada_meaning.specs.Named.{Object, State, Next, named, changed, filled, on_object, store}
 use Rattle.ada_typed.proofs.Values.{StayDesignated, designated_more, designated_set}
-use Rattle.ada_typed.proofs.Control.{actuals_at}
+use Rattle.ada_typed.proofs.Control.{actuals_at, references_at}
 use Rattle.ada_typed.proofs.Evaluations.{cell_at, cells_more}
 
 -- A call ends with these actual parameters, and this is left to do behind it.
 pub record Behind : Type 0 where
   pub actuals : List ActualForm
+  pub references : List Value
   pub left : List (Frame Value)
 
 -- What is left to do behind the body that runs (6.4): nothing waits for it, or this does.
 abbrev pub behind_call : List (Frame Value) → Option Behind
 behind_call [] = None
-behind_call (f ∷ k) = if is_return f then Some (record { actuals = actuals_at f; left = k }) else behind_call k
+behind_call (f ∷ k) = if is_return f then Some (record { actuals = actuals_at f; references = references_at f; left = k }) else behind_call k
 
 -- Does a call begin at this frame, or end?
 abbrev pub crosses : Frame Value → Bool
 crosses (frame.Calls procedure b actuals) = true
-crosses (frame.Returns actuals) = true
+crosses (frame.Returns actuals references) = true
 crosses f = false
 
 -- From one state to the other the same body runs, and what waits for it stays as it is; names stay those of objects of their access types.
@@ -75,6 +76,7 @@ pub stay_on : (change : Object → Object) (xs : List Object) (v : Value) → ((
 stay_on change xs Null keeps = λ access i h. h
 stay_on change xs (Names o) keeps = stay_changed change (slice_get xs o.0) xs o keeps refl
 stay_on change xs (Scalar v) keeps = λ access i h. h
+stay_on change xs (Part o first) keeps = λ access i h. h
 
 pub stay_stored : (xs : List Object) (o : Value) (c : ℕ) (v : Value) → StayDesignated (cells_of xs) (cells_of (store xs o c v))
 stay_stored xs o c v = stay_on (filled c v) xs o (λ x. refl)

@@ -4,7 +4,7 @@ use Rattle.std.proofs.Common.{◌≡◌, ℕ, ℤ, int_le, not, if◌then◌else
 use Rattle.std.specs.List.{slice_get, slice_index_or, slice_set}
 use Rattle.ada_program.specs.declared.program.Exception.TheVariants.{ConstraintError, StorageError, EndError}
 use Rattle.ada_program.specs.declared.program.TypeDefinition.{TypeDefinition}
-use Rattle.ada_program.specs.Form.{ActualForm, in_value, in_null, in_access, in_out_path, in_out_access, ExpressionForm, integer, boolean, reads, is_null, applied_to, chained, LinksForm, no_more_links, a_link, ItemForm, null_item, item_of_path, item_of_value, item_of_record, RightForm, nothing, value_of, allocates, allocates_default, computes, StmtForm, skips, assigns, assigns_record, frees, gets, writes, writes_text, chooses, repeats, counts, exits, calls, returns, raises as raises_it, encloses, StmtsForm, no_stmts, a_stmt, BranchesForm, otherwise, a_branch, HandlersForm, DeclarationForm, collects, declares, declares_record}
+use Rattle.ada_program.specs.Form.{RecordPathForm, ActualForm, in_value, in_null, in_access, in_record, in_out_path, in_out_access, in_out_component, in_out_record, ExpressionForm, integer, boolean, reads, is_null, applied_to, chained, LinksForm, no_more_links, a_link, ItemForm, null_item, item_of_path, item_of_value, item_of_record, RightForm, nothing, value_of, allocates, allocates_default, computes, StmtForm, skips, assigns, assigns_record, frees, gets, writes, writes_text, chooses, repeats, counts, exits, calls, returns, raises as raises_it, encloses, StmtsForm, no_stmts, a_stmt, BranchesForm, otherwise, a_branch, HandlersForm, DeclarationForm, collects, declares, declares_record}
 use Rattle.ada_program.specs.ProgramForm.{BodyForm}
 use Rattle.ada_program.specs.Typed.{reached_of, words_of, width_of}
 use Rattle.ada_values.specs.declared.operator.BinaryOperator.{BinaryOperator}
@@ -21,9 +21,9 @@ use Rattle.ada_meaning.specs.Frame.{Frame, is_return, Landing, passes_on, goes_b
 use Rattle.ada_meaning.specs.Frame as frame
 use Rattle.ada_meaning.specs.State.{Owned, declared, collection, record_object, Item, Master, height, home_of, pool_of}
 use Rattle.ada_meaning.specs.Heap.{Cell, Found, on_null, on_gone, on_other, finds}
-use Rattle.ada_meaning.specs.Step.{moves, at, operands, places, popped, owned, put, before_last, last_of, in_front, record_in, held, newest, reading, component_next, follow_next, path_next, expression_next, null_test_next, is_decided, link_next, links_next, outcome_next, item_next, items_next, copied_next, copies_next, newest_ones, without_newest, new_cell, answered, new_next, initial_values, right_next, freeing, free_next, end_next, same_pool, told_back, given_back, back_next, assign_next, target_next, stored_next, store_next, record_target_next, record_stored_next, store_record_next, frees_next, freed_next, free_component_next, free_in_next, branches_next, decided_next, turn_next, repeats_next, turned_next, count_turn_next, ranges_next, gets_next, received_next, receive_next, exit_next, exited_next, computing, call_next, stmt_next, stmts_next, line_next, record_cell, made, record_next, declaration_next, declarations_next, members_next, item_leave_next, master_leave_next, leave_next, frame_next, landed, pass_next}
-use Rattle.ada_meaning.specs.Named.{State, Next, named, look, lent, on_object, parted, finished, returned, new_object, members, reads_integer, reads_boolean, reads_null, unary_given, binary_given}
-use Rattle.ada_typed.proofs.Control.{actuals_at}
+use Rattle.ada_meaning.specs.Step.{moves, at, operands, places, popped, owned, put, before_last, last_of, in_front, record_in, held, newest, reading, component_next, follow_next, path_next, selected, named_next, holder_next, record_holder_next, first_in, computed, referred_next, refers_next, open_next, opened_next, opens_next, expression_next, null_test_next, is_decided, link_next, links_next, outcome_next, item_next, items_next, copied_next, copies_next, newest_ones, without_newest, new_cell, answered, new_next, initial_values, right_next, freeing, free_next, end_next, same_pool, told_back, given_back, back_next, assign_next, target_next, stored_next, store_next, record_target_next, record_stored_next, store_record_next, frees_next, freed_next, free_component_next, free_in_next, branches_next, decided_next, turn_next, repeats_next, turned_next, count_turn_next, ranges_next, gets_next, received_next, receive_next, exit_next, exited_next, computing, call_next, stmt_next, stmts_next, line_next, record_cell, made, record_next, declaration_next, declarations_next, members_next, item_leave_next, master_leave_next, leave_next, frame_next, landed, pass_next}
+use Rattle.ada_meaning.specs.Named.{State, Next, named, refer, whole, inside, look, lent, on_object, parted, finished, returned, new_object, members, reads_integer, reads_boolean, reads_null, unary_given, binary_given}
+use Rattle.ada_typed.proofs.Control.{actuals_at, references_at}
 use Rattle.ada_typed.proofs.Kept.{behind_call, crosses, Keeps, Each, altered, each_after, jumping_keeps, keeps_all, older_operands, older_places, operated, placed, popped_keeps, procedure_operands, procedure_places, put_keeps, stay_more, stay_on, stay_stored, stay_stored_from, still}
 
 -- Paths and expressions.
@@ -49,13 +49,27 @@ path_keeps (c ∷ cs) v s = follow_keeps v c cs (look s.heap v) s
 path_for : (f : Frame Value) (cs : List ℕ) (v : Value) (s : State) → is_return f ≡ false → Each (Keeps s) (path_next named cs v (at (f ∷ s.control) s))
 path_for f cs v s none =
     each_after s (at (f ∷ s.control) s) (path_next named cs v (at (f ∷ s.control) s))
-    (still refl refl (ap (λ (return : Bool). if return then Some (record { actuals = actuals_at f; left = s.control }) else behind_call s.control) none)) (path_keeps cs v (at (f ∷ s.control) s))
+    (still refl refl (ap (λ (return : Bool). if return then Some (record { actuals = actuals_at f; references = references_at f; left = s.control }) else behind_call s.control) none)) (path_keeps cs v (at (f ∷ s.control) s))
+
+named_keeps : (cs : List ℕ) (x : ℕ) (s : State) → Each (Keeps s) (named_next named cs x s)
+named_keeps cs x s = path_keeps (selected named (held named s x) cs) (whole (held named s x)) s
+
+holder_keeps : (c : ℕ) (cs : List ℕ) (x : ℕ) (frame_of : ℕ → Frame Value) (s : State) → ((last : ℕ) → is_return (frame_of last) ≡ false) → Each (Keeps s) (holder_next named c cs x frame_of s)
+holder_keeps c cs x frame_of s none =
+    let v = held named s x in
+    path_for (frame_of (last_of (inside v c) cs)) (before_last (inside v c) cs) (whole v) s (none (last_of (inside v c) cs))
+
+record_holder_keeps : (q : RecordPathForm) (frame_of : ℕ → Frame Value) (s : State) → ((first : ℕ) → is_return (frame_of first) ≡ false) → Each (Keeps s) (record_holder_next named q frame_of s)
+record_holder_keeps q frame_of s none =
+    let v = held named s q.object.root in
+    let first = first_in named v q.object.selectors q.first in
+    path_for (frame_of first) (selected named v q.object.selectors) (whole v) s (none first)
 
 expression_keeps : (e : ExpressionForm) (s : State) → Each (Keeps s) (expression_next named e s)
 expression_keeps (integer i) s = operated (named.integer i ∷ operands s) refl refl refl
 expression_keeps (boolean b) s = operated (named.boolean b ∷ operands s) refl refl refl
-expression_keeps (reads path) s = path_keeps path.selectors (held named s path.root) s
-expression_keeps (is_null equal path) s = path_for (frame.TestsNull equal) path.selectors (held named s path.root) s refl
+expression_keeps (reads path) s = named_keeps path.selectors path.root s
+expression_keeps (is_null equal path) s = path_for (frame.TestsNull equal) (selected named (held named s path.root) path.selectors) (whole (held named s path.root)) s refl
 expression_keeps (applied_to operator e) s = still refl refl refl
 expression_keeps (chained e links) s = still refl refl refl
 
@@ -81,14 +95,38 @@ outcome_keeps (Err WrongType) s = tt
 -- Allocators, and what is assigned.
 item_keeps : (item : ItemForm) (s : State) → Each (Keeps s) (item_next named item s)
 item_keeps null_item s = operated (Null ∷ operands s) refl refl refl
-item_keeps (item_of_path path) s = path_keeps path.selectors (held named s path.root) s
+item_keeps (item_of_path path) s = named_keeps path.selectors path.root s
 item_keeps (item_of_value e) s = still refl refl refl
-item_keeps (item_of_record p) s = path_for (frame.Copies p.first p.record_type) p.object.selectors (held named s p.object.root) s refl
+item_keeps (item_of_record p) s = record_holder_keeps p (λ first. frame.Copies first p.record_type) s (λ first. refl)
 
 items_keeps : (items : List ItemForm) (s : State) → Each (Keeps s) (items_next named items s)
 items_keeps [] s = still refl refl refl
 items_keeps (i ∷ items) s =
     each_after s (at (frame.Fills items ∷ s.control) s) (item_next named i (at (frame.Fills items ∷ s.control) s)) (still refl refl refl) (item_keeps i (at (frame.Fills items ∷ s.control) s))
+
+referred_keeps : (o : Value) (first : ℕ) (found : Option (List Value)) (s : State) → Each (Keeps s) (referred_next named o first found s)
+referred_keeps o first None s = tt
+referred_keeps o first (Some vs) s = operated (refer o first ∷ operands s) refl refl refl
+
+refers_keeps : (o : Value) (first count : ℕ) (found : Found (Cell Value)) (s : State) → Each (Keeps s) (refers_next named o first count found s)
+refers_keeps o first count on_null s = jumping_keeps (Raising ConstraintError) s
+refers_keeps o first count on_gone s = tt
+refers_keeps o first count on_other s = tt
+refers_keeps o first count (finds cell) s = referred_keeps o first (record_in cell.values first count) s
+
+open_keeps : (cs : List ℕ) (x : ℕ) (s : State) → Each (Keeps s) (open_next named cs x s)
+open_keeps [] x s = tt
+open_keeps (c ∷ cs) x s = holder_keeps c cs x (λ last. frame.OpensIn last) s (λ last. refl)
+
+opened_keeps : (o : Value) (c : ℕ) (found : Option Value) (s : State) → Each (Keeps s) (opened_next named o c found s)
+opened_keeps o c None s = tt
+opened_keeps o c (Some v) s = keeps_all s (computed (refer o c) s) (computed v (computed (refer o c) s)) (operated (refer o c ∷ operands s) refl refl refl) (operated (v ∷ operands (computed (refer o c) s)) refl refl refl)
+
+opens_keeps : (o : Value) (c : ℕ) (found : Found (Cell Value)) (s : State) → Each (Keeps s) (opens_next named o c found s)
+opens_keeps o c on_null s = jumping_keeps (Raising ConstraintError) s
+opens_keeps o c on_gone s = tt
+opens_keeps o c on_other s = tt
+opens_keeps o c (finds cell) s = opened_keeps o c (slice_get cell.values c) s
 
 copied_keeps : (o : Value) (found : Option (List Value)) (s : State) → Each (Keeps s) (copied_next named o found s)
 copied_keeps o None s = tt
@@ -115,7 +153,7 @@ new_keeps access count words (Some item) s = answered_keeps access count item wo
 
 right_keeps : (types : List TypeDefinition) (right : RightForm) (s : State) → Each (Keeps s) (right_next named types right s)
 right_keeps types nothing s = operated (Null ∷ operands s) refl refl refl
-right_keeps types (value_of path) s = path_keeps path.selectors (held named s path.root) s
+right_keeps types (value_of path) s = named_keeps path.selectors path.root s
 right_keeps types (allocates access items) s = still refl refl refl
 right_keeps types (allocates_default access) s = operated (in_front (initial_values named (reached_of types access)) (operands s)) refl refl refl
 right_keeps types (computes e) s = still refl refl refl
@@ -123,7 +161,7 @@ right_keeps types (computes e) s = still refl refl refl
 -- Frees, and the end of objects.
 freeing_keeps : (access : ℕ) (v : Value) (clears : Frame Value) (s : State) → is_return clears ≡ false → Keeps s (freeing named access v clears s)
 freeing_keeps access v clears s none =
-    altered (stay_on parted s.heap v (λ x. refl)) refl (ap (λ (return : Bool). if return then Some (record { actuals = actuals_at clears; left = s.control }) else behind_call s.control) none)
+    altered (stay_on parted s.heap v (λ x. refl)) refl (ap (λ (return : Bool). if return then Some (record { actuals = actuals_at clears; references = references_at clears; left = s.control }) else behind_call s.control) none)
 
 free_keeps : (access x : ℕ) (v : Value) (found : Found (Cell Value)) (s : State) → Each (Keeps s) (free_next named access x v found s)
 free_keeps access x v on_null s = still refl refl refl
@@ -149,7 +187,7 @@ free_in_keeps access o c (finds cell) s = free_component_keeps access o c (slice
 
 frees_keeps : (cs : List ℕ) (access x : ℕ) (s : State) → Each (Keeps s) (frees_next named cs access x s)
 frees_keeps [] access x s = free_keeps access x (held named s x) (look s.heap (held named s x)) s
-frees_keeps (c ∷ cs) access x s = path_for (frame.FreesIn access (last_of c cs)) (before_last c cs) (held named s x) s refl
+frees_keeps (c ∷ cs) access x s = holder_keeps c cs x (λ last. frame.FreesIn access last) s (λ last. refl)
 
 end_keeps : (v : Value) (found : Found (Cell Value)) (s : State) → Each (Keeps s) (end_next named v found s)
 end_keeps v on_null s = tt
@@ -174,7 +212,7 @@ back_keeps v cause pool (finds cell) s = given_keeps (same_pool pool cell.home.p
 -- Assignments.
 assign_keeps : (cs : List ℕ) (x : ℕ) (right : RightForm) (s : State) → Each (Keeps s) (assign_next named cs x right s)
 assign_keeps [] x right s = still refl refl refl
-assign_keeps (c ∷ cs) x right s = path_for (frame.Targets (last_of c cs) right) (before_last c cs) (held named s x) s refl
+assign_keeps (c ∷ cs) x right s = holder_keeps c cs x (λ last. frame.Targets last right) s (λ last. refl)
 
 target_keeps : (o : Value) (c : ℕ) (right : RightForm) (found : Found (Cell Value)) (s : State) → Each (Keeps s) (target_next named o c right found s)
 target_keeps o c right on_null s = jumping_keeps (Raising ConstraintError) s
@@ -248,7 +286,7 @@ ranges_keeps x fs (Some low) None s = tt
 ranges_keeps x fs (Some low) (Some high) s = counts_keeps (int_le low high) x low high fs s
 
 gets_keeps : (cs : List ℕ) (x : ℕ) (input : List ℤ) (s : State) → Each (Keeps s) (gets_next named cs x input s)
-gets_keeps (c ∷ cs) x input s = path_for (frame.Receives (last_of c cs)) (before_last c cs) (held named s x) s refl
+gets_keeps (c ∷ cs) x input s = holder_keeps c cs x (λ last. frame.Receives last) s (λ last. refl)
 gets_keeps [] x [] s = jumping_keeps (Raising EndError) s
 gets_keeps [] x (i ∷ input) s = placed (slice_set (places s) x (named.integer i)) refl refl refl
 
@@ -277,8 +315,11 @@ behind_computing [] k = refl
 behind_computing (in_value e ∷ rest) k = behind_computing rest k
 behind_computing (in_null ∷ rest) k = behind_computing rest k
 behind_computing (in_access path ∷ rest) k = behind_computing rest k
+behind_computing (in_record p ∷ rest) k = behind_computing rest k
 behind_computing (in_out_path path ∷ rest) k = behind_computing rest k
 behind_computing (in_out_access path ∷ rest) k = behind_computing rest k
+behind_computing (in_out_component path ∷ rest) k = behind_computing rest k
+behind_computing (in_out_record p ∷ rest) k = behind_computing rest k
 
 call_keeps : (procedure : ℕ) (actuals : List ActualForm) (found : Option BodyForm) (s : State) → Each (Keeps s) (call_next named procedure actuals found s)
 call_keeps procedure actuals None s = tt
@@ -288,7 +329,7 @@ stmt_keeps : (bodies : List BodyForm) (f : StmtForm) (s : State) → Each (Keeps
 stmt_keeps bodies skips s = still refl refl refl
 stmt_keeps bodies (assigns target right) s = assign_keeps target.selectors target.root right s
 stmt_keeps bodies (assigns_record target items) s =
-    path_for (frame.TargetsRecord target.first target.record_type items) target.object.selectors (held named s target.object.root) s refl
+    record_holder_keeps target (λ first. frame.TargetsRecord first target.record_type items) s (λ first. refl)
 stmt_keeps bodies (frees access path) s = frees_keeps path.selectors access path.root s
 stmt_keeps bodies (gets target) s = gets_keeps target.selectors target.root s.input s
 stmt_keeps bodies (writes e) s = still refl refl refl
@@ -384,12 +425,20 @@ frame_keeps types bodies (frame.Handles hs) s stays = still refl refl refl
 frame_keeps types bodies frame.Closes s stays = still refl refl refl
 frame_keeps types bodies (frame.Leaves mode) s stays = leave_keeps mode s.masters s
 frame_keeps types bodies (frame.Calls procedure b actuals) s stays = absurd (cc)
-frame_keeps types bodies (frame.Returns actuals) s stays = absurd (cc)
+frame_keeps types bodies (frame.Returns actuals references) s stays = absurd (cc)
 frame_keeps types bodies (frame.Evaluates right) s stays = right_keeps types right s
 frame_keeps types bodies (frame.Computes e) s stays = expression_keeps e s
 frame_keeps types bodies (frame.Follows cs) s stays = without_one s (path_next named cs (newest named s) (popped s)) (path_keeps cs (newest named s) (popped s))
 frame_keeps types bodies (frame.TestsNull equal) s stays =
     without_one s (null_test_next named equal (reads_null (newest named s)) (popped s)) (null_test_keeps equal (reads_null (newest named s)) (popped s))
+frame_keeps types bodies (frame.Refers p) s stays = record_holder_keeps p (λ first. frame.RefersIn first p.record_type) s (λ first. refl)
+frame_keeps types bodies (frame.RefersIn first t) s stays =
+    let found = look s.heap (newest named s) in
+    without_one s (refers_next named (newest named s) first (width_of types t) found (popped s)) (refers_keeps (newest named s) first (width_of types t) found (popped s))
+frame_keeps types bodies (frame.Opens path) s stays = open_keeps path.selectors path.root s
+frame_keeps types bodies (frame.OpensIn c) s stays =
+    let found = look s.heap (newest named s) in
+    without_one s (opens_next named (newest named s) c found (popped s)) (opens_keeps (newest named s) c found (popped s))
 frame_keeps types bodies (frame.Continues links) s stays = links_keeps links s
 frame_keeps types bodies (frame.Applies operator) s stays =
     let outcome = binary_given operator (newest named (popped s)) (newest named s) in

@@ -5,15 +5,15 @@ use Rattle.std.proofs.Common.{ℕ, Bool, true, false, List, [], ◌∷◌, Optio
 use Rattle.ada_program.specs.declared.program.VariableKind.{VariableKind}
 use Rattle.ada_program.specs.declared.program.VariableKind.TheVariants as variable
 use Rattle.ada_program.specs.Form.{ActualForm, HandlersForm}
-use Rattle.ada_program.specs.ProgramForm.{ProgramForm, seen_in}
+use Rattle.ada_program.specs.ProgramForm.{TypeForm, ProgramForm, seen_in}
 use Rattle.ada_meaning.specs.declared.state.Value.{Value}
 use Rattle.ada_meaning.specs.declared.state.Mode.TheVariants.{Running, Raising, Exiting, Returning}
 use Rattle.ada_meaning.specs.Frame.{Frame, is_loop, is_return}
 use Rattle.ada_meaning.specs.Frame as frame
 use Rattle.ada_meaning.specs.State.{Activation}
 use Rattle.ada_meaning.specs.Step.{procedure_of, older}
-use Rattle.ada_typed.proofs.Values.{StayDesignated, access_later, held_later, kind_of}
-use Rattle.ada_typed.proofs.Control.{onto, AtReturn, AtLoop, WhereInside, handlers_in, AtHandlers, Fits, Lands, Catches, actuals_at, WaitsFirst, Waiting}
+use Rattle.ada_typed.proofs.Values.{OperandKind, of_kind, refers_to, StayDesignated, access_later, refers_later, held_later, kind_of}
+use Rattle.ada_typed.proofs.Control.{onto, AtReturn, AtLoop, WhereInside, handlers_in, AtHandlers, Fits, Lands, Catches, actuals_at, references_at, kinds_in, stored_kinds, AreReferences, WaitsFirst, Waiting}
 
 inside_later : (inside : Bool) (lands later : Type 0) → (lands → later) → WhereInside inside lands → WhereInside inside later
 inside_later true lands later f h = f h
@@ -33,7 +33,7 @@ handlers_later p (Some hs) lands behind further lands_after behind_after further
 
 module _ (p : ProgramForm) (cells after : Cells) (stay : StayDesignated cells after) where
   mutual
-    pub fits_later : (k : List (Frame Value)) (kinds : List VariableKind) → Fits p cells kinds k → Fits p after kinds k
+    pub fits_later : (k : List (Frame Value)) (kinds : List OperandKind) → Fits p cells kinds k → Fits p after kinds k
     fits_later [] kinds h = tt
     fits_later (frame.Elaborates ds fs hs ∷ k) kinds h = (h.0, h.1, h.2, h.3, h.4, inside_later h.1 (Lands p cells k) (Lands p after k) (lands_later k) h.5, fits_later k [] h.6)
     fits_later (frame.Does fs ∷ k) kinds h = (h.0, h.1, h.2, inside_later h.1 (Lands p cells k) (Lands p after k) (lands_later k) h.3, fits_later k [] h.4)
@@ -50,17 +50,21 @@ module _ (p : ProgramForm) (cells after : Cells) (stay : StayDesignated cells af
     fits_later (frame.Leaves Exiting ∷ k) kinds h = (lands_later k h.0, catches_later k h.1)
     fits_later (frame.Leaves Returning ∷ k) kinds h = catches_later k h
     fits_later (frame.Calls procedure b actuals ∷ k) kinds h = (h.0, h.1, h.2, fits_later k [] h.3)
-    fits_later (frame.Returns actuals ∷ k) kinds h = h
-    fits_later (frame.Evaluates right ∷ k) kinds h = (h.0, h.1, fits_later k (h.0 ∷ kinds) h.2)
-    fits_later (frame.Computes e ∷ k) kinds h = (h.0, h.1, fits_later k (kind_of h.0 ∷ kinds) h.2)
-    fits_later (frame.Follows cs ∷ k) kinds h = (h.0, h.1, h.2, h.3, h.4, fits_later k (h.2 ∷ h.0) h.5)
-    fits_later (frame.TestsNull equal ∷ k) kinds h = (h.0, h.1, h.2, fits_later k (variable.Boolean ∷ h.0) h.3)
-    fits_later (frame.Continues links ∷ k) kinds h = (h.0, h.1, h.2, h.3, h.4, fits_later k (kind_of h.2 ∷ h.0) h.5)
-    fits_later (frame.Applies operator ∷ k) kinds h = (h.0, h.1, h.2, h.3, h.4, h.5, fits_later k (kind_of h.3 ∷ h.0) h.6)
-    fits_later (frame.AppliesAlone operator ∷ k) kinds h = (h.0, h.1, h.2, h.3, h.4, fits_later k (kind_of h.2 ∷ h.0) h.5)
+    fits_later (frame.Returns actuals references ∷ k) kinds h = h
+    fits_later (frame.Evaluates right ∷ k) kinds h = (h.0, h.1, fits_later k (of_kind h.0 ∷ kinds) h.2)
+    fits_later (frame.Computes e ∷ k) kinds h = (h.0, h.1, fits_later k (of_kind (kind_of h.0) ∷ kinds) h.2)
+    fits_later (frame.Follows cs ∷ k) kinds h = (h.0, h.1, h.2, h.3, h.4, h.5, fits_later k (of_kind h.2 ∷ h.0) h.6)
+    fits_later (frame.TestsNull equal ∷ k) kinds h = (h.0, h.1, h.2, fits_later k (of_kind variable.Boolean ∷ h.0) h.3)
+    fits_later (frame.Refers q ∷ k) kinds h = (h.0, h.1, fits_later k (of_kind (variable.Record h.0) ∷ kinds) h.2)
+    fits_later (frame.RefersIn first t ∷ k) kinds h = (h.0, h.1, h.2, h.3, h.4, h.5, h.6, h.7, fits_later k (of_kind (variable.Record h.2) ∷ h.0) h.8)
+    fits_later (frame.Opens path ∷ k) kinds h = (h.0, h.1, h.2, fits_later k (of_kind h.0 ∷ refers_to h.0 ∷ kinds) h.3)
+    fits_later (frame.OpensIn c ∷ k) kinds h = (h.0, h.1, h.2, h.3, h.4, fits_later k (of_kind h.2 ∷ refers_to h.2 ∷ h.0) h.5)
+    fits_later (frame.Continues links ∷ k) kinds h = (h.0, h.1, h.2, h.3, h.4, fits_later k (of_kind (kind_of h.2) ∷ h.0) h.5)
+    fits_later (frame.Applies operator ∷ k) kinds h = (h.0, h.1, h.2, h.3, h.4, h.5, fits_later k (of_kind (kind_of h.3) ∷ h.0) h.6)
+    fits_later (frame.AppliesAlone operator ∷ k) kinds h = (h.0, h.1, h.2, h.3, h.4, fits_later k (of_kind (kind_of h.2) ∷ h.0) h.5)
     fits_later (frame.Fills items ∷ k) kinds h = (h.0, h.1, fits_later k (onto h.0 kinds) h.2)
     fits_later (frame.Copies first t ∷ k) kinds h = (h.0, h.1, h.2, h.3, h.4, h.5, fits_later k (onto h.2 h.0) h.6)
-    fits_later (frame.Creates access count ∷ k) kinds h = (h.0, h.1, h.2, h.3, h.4, fits_later k (variable.Access (record { 0 = access }) ∷ h.0) h.5)
+    fits_later (frame.Creates access count ∷ k) kinds h = (h.0, h.1, h.2, h.3, h.4, fits_later k (of_kind (variable.Access (record { 0 = access })) ∷ h.0) h.5)
     fits_later (frame.Stores x ∷ k) kinds h = (h.0, h.1, h.2, h.3, fits_later k h.0 h.4)
     fits_later (frame.Targets c right ∷ k) kinds h = (h.0, h.1, h.2, h.3, h.4, h.5, fits_later k h.0 h.6)
     fits_later (frame.StoresIn object c ∷ k) kinds h = (h.0, h.1, h.2, h.3, h.4, access_later cells after stay h.1.0 object h.5, h.6, fits_later k h.0 h.7)
@@ -86,17 +90,23 @@ module _ (p : ProgramForm) (cells after : Cells) (stay : StayDesignated cells af
 
 -- Activations wait as well.
 module _ (p : ProgramForm) (cells after : Cells) (stay : StayDesignated cells after) where
-  first_later : (callee : Option ℕ) (actuals : List ActualForm) (k : List (Frame Value)) (suspended : List (Activation Value)) (others others_after : Type 0) → (others → others_after) → WaitsFirst p cells callee actuals k suspended others → WaitsFirst p after callee actuals k suspended others_after
-  first_later callee actuals k [] others others_after f h = h
-  first_later callee actuals k (a ∷ suspended) others others_after f h =
+  references_later : (types : List TypeForm) (kinds : List VariableKind) (rs : List Value) → AreReferences types cells kinds rs → AreReferences types after kinds rs
+  references_later types [] [] h = tt
+  references_later types [] (r ∷ rs) h = h
+  references_later types (kind ∷ kinds) [] h = h
+  references_later types (kind ∷ kinds) (r ∷ rs) h = (refers_later types cells after stay kind r h.0, references_later types kinds rs h.1)
+
+  first_later : (callee : Option ℕ) (actuals : List ActualForm) (references : List Value) (k : List (Frame Value)) (suspended : List (Activation Value)) (others others_after : Type 0) → (others → others_after) → WaitsFirst p cells callee actuals references k suspended others → WaitsFirst p after callee actuals references k suspended others_after
+  first_later callee actuals references k [] others others_after f h = h
+  first_later callee actuals references k (a ∷ suspended) others others_after f h =
       let own = seen_in a.procedure p in
-      (record { no_operands = h.0.no_operands; held = held_later cells after stay own.variables a.places h.0.held; suits = h.0.suits; fits = fits_later own cells after stay k [] h.0.fits }, f h.1)
+      (record { no_operands = h.0.no_operands; held = held_later own.types cells after stay own.variables a.places h.0.held; suits = h.0.suits; referred = references_later own.types (stored_kinds (kinds_in p callee) actuals) references h.0.referred; fits = fits_later own cells after stay k [] h.0.fits }, f h.1)
 
   pub waiting_later : (callee : Option ℕ) (k : List (Frame Value)) (suspended : List (Activation Value)) → Waiting p cells callee k suspended → Waiting p after callee k suspended
   waiting_later callee [] suspended h = h
   waiting_later callee (f ∷ k) suspended h =
       let others = Waiting p cells (procedure_of suspended) k (older suspended) in
       let others_after = Waiting p after (procedure_of suspended) k (older suspended) in
-      return_later (is_return f) (WaitsFirst p cells callee (actuals_at f) k suspended others) (Waiting p cells callee k suspended)
-      (WaitsFirst p after callee (actuals_at f) k suspended others_after) (Waiting p after callee k suspended)
-      (first_later callee (actuals_at f) k suspended others others_after (waiting_later (procedure_of suspended) k (older suspended))) (waiting_later callee k suspended) h
+      return_later (is_return f) (WaitsFirst p cells callee (actuals_at f) (references_at f) k suspended others) (Waiting p cells callee k suspended)
+      (WaitsFirst p after callee (actuals_at f) (references_at f) k suspended others_after) (Waiting p after callee k suspended)
+      (first_later callee (actuals_at f) (references_at f) k suspended others others_after (waiting_later (procedure_of suspended) k (older suspended))) (waiting_later callee k suspended) h

@@ -1,7 +1,7 @@
 -- Operators: on operands of the types that they take they give a value of their type, or raise an exception.
 
 use Rattle.ada_typed.specs.Holding.{Cells, HasKind}
-use Rattle.std.proofs.Common.{◌≡◌, ℤ, neg_ℤ, ◌+ℤ◌, ◌-ℤ◌, ◌*ℤ◌, int_div, int_rem, not, cond, ◌&&◌, Bool, true, false, Option, Some, None, Result, Ok, Err, refl, sym, ap, ◌∙◌, subst, List}
+use Rattle.std.proofs.Common.{◌≡◌, ℕ, ℤ, neg_ℤ, ◌+ℤ◌, ◌-ℤ◌, ◌*ℤ◌, int_div, int_rem, not, cond, ◌&&◌, Bool, true, false, Option, Some, None, Result, Ok, Err, refl, sym, ap, ◌∙◌, subst, List}
 use Rattle.ada_values.specs.declared.operator.UnaryOperator.{UnaryOperator}
 use Rattle.ada_values.specs.declared.operator.UnaryOperator.TheVariants as unary
 use Rattle.ada_values.specs.declared.operator.BinaryOperator.{BinaryOperator}
@@ -18,7 +18,7 @@ use Rattle.ada_program.specs.ProgramForm.{TypeForm, VariableForm}
 use Rattle.ada_program.specs.WellFormed.{is_type, given_two, given_alike, unary_type, binary_type, type_of, chain_type}
 use Rattle.ada_meaning.specs.declared.state.Id.{Id}
 use Rattle.ada_meaning.specs.declared.state.Value.{Value}
-use Rattle.ada_meaning.specs.declared.state.Value.TheVariants.{Null, Names, Scalar}
+use Rattle.ada_meaning.specs.declared.state.Value.TheVariants.{Null, Names, Scalar, Part}
 use Rattle.ada_meaning.specs.Step.{is_decided}
 use Rattle.ada_meaning.specs.Named.{named, as_value, unary_given, binary_given}
 use Rattle.ada_typed.proofs.Values.{kind_of}
@@ -255,47 +255,54 @@ unary_comes unary.Not Boolean t (scalar.Integer a) h f = absurd f
 unary_comes unary.Not Boolean t (scalar.Boolean a) h f = come_as Boolean t (Ok (scalar.Boolean (not a))) h tt
 
 -- The same over the values of a run.
-abbrev pub GivesKind : Cells → ScalarType → Result Value OperatorFault → Type 0
-GivesKind cells t (Ok v) = HasKind cells (kind_of t) v
-GivesKind cells t (Err Overflow) = Unit {0}
-GivesKind cells t (Err DivisionByZero) = Unit {0}
-GivesKind cells t (Err WrongType) = ⊥
+abbrev pub GivesKind : List TypeForm → Cells → ScalarType → Result Value OperatorFault → Type 0
+GivesKind types cells t (Ok v) = HasKind types cells (kind_of t) v
+GivesKind types cells t (Err Overflow) = Unit {0}
+GivesKind types cells t (Err DivisionByZero) = Unit {0}
+GivesKind types cells t (Err WrongType) = ⊥
 
-is_of : (cells : Cells) (t : ScalarType) (v : ScalarValue) → HasKind cells (kind_of t) (Scalar v) → IsOf t v
-is_of cells Integer (scalar.Integer i) h = tt
-is_of cells Integer (scalar.Boolean b) h = h
-is_of cells Boolean (scalar.Integer i) h = h
-is_of cells Boolean (scalar.Boolean b) h = tt
+is_of : (types : List TypeForm) (cells : Cells) (t : ScalarType) (v : ScalarValue) → HasKind types cells (kind_of t) (Scalar v) → IsOf t v
+is_of types cells Integer (scalar.Integer i) h = tt
+is_of types cells Integer (scalar.Boolean b) h = h
+is_of types cells Boolean (scalar.Integer i) h = h
+is_of types cells Boolean (scalar.Boolean b) h = tt
 
-of_kind : (cells : Cells) (t : ScalarType) (v : ScalarValue) → IsOf t v → HasKind cells (kind_of t) (Scalar v)
-of_kind cells Integer (scalar.Integer i) h = tt
-of_kind cells Integer (scalar.Boolean b) h = h
-of_kind cells Boolean (scalar.Integer i) h = h
-of_kind cells Boolean (scalar.Boolean b) h = tt
+kind_is : (types : List TypeForm) (cells : Cells) (t : ScalarType) (v : ScalarValue) → IsOf t v → HasKind types cells (kind_of t) (Scalar v)
+kind_is types cells Integer (scalar.Integer i) h = tt
+kind_is types cells Integer (scalar.Boolean b) h = h
+kind_is types cells Boolean (scalar.Integer i) h = h
+kind_is types cells Boolean (scalar.Boolean b) h = tt
 
-gives : (cells : Cells) (t : ScalarType) (outcome : Result ScalarValue OperatorFault) → Comes t outcome → GivesKind cells t (as_value outcome)
-gives cells t (Ok v) h = of_kind cells t v h
-gives cells t (Err Overflow) h = tt
-gives cells t (Err DivisionByZero) h = tt
-gives cells t (Err WrongType) h = h
+gives : (types : List TypeForm) (cells : Cells) (t : ScalarType) (outcome : Result ScalarValue OperatorFault) → Comes t outcome → GivesKind types cells t (as_value outcome)
+gives types cells t (Ok v) h = kind_is types cells t v h
+gives types cells t (Err Overflow) h = tt
+gives types cells t (Err DivisionByZero) h = tt
+gives types cells t (Err WrongType) h = h
 
 -- A scalar is one.
-no_null : (cells : Cells) (t : ScalarType) → HasKind cells (kind_of t) Null → ⊥
-no_null cells Integer h = h
-no_null cells Boolean h = h
+no_null : (types : List TypeForm) (cells : Cells) (t : ScalarType) → HasKind types cells (kind_of t) Null → ⊥
+no_null types cells Integer h = h
+no_null types cells Boolean h = h
 
-no_name : (cells : Cells) (t : ScalarType) (o : Id) → HasKind cells (kind_of t) (Names o) → ⊥
-no_name cells Integer o h = h
-no_name cells Boolean o h = h
+no_name : (types : List TypeForm) (cells : Cells) (t : ScalarType) (o : Id) → HasKind types cells (kind_of t) (Names o) → ⊥
+no_name types cells Integer o h = h
+no_name types cells Boolean o h = h
 
-pub unary_gives : (cells : Cells) (operator : UnaryOperator) (t0 t : ScalarType) (v : Value) → unary_type operator (Some t0) ≡ Some t → HasKind cells (kind_of t0) v → GivesKind cells t (unary_given operator v)
-unary_gives cells operator t0 t Null h k = absurd (no_null cells t0 k)
-unary_gives cells operator t0 t (Names o) h k = absurd (no_name cells t0 o k)
-unary_gives cells operator t0 t (Scalar a) h k = gives cells t (unary_outcome_of operator a) (unary_comes operator t0 t a h (is_of cells t0 a k))
+no_part : (types : List TypeForm) (cells : Cells) (t : ScalarType) (o : Id) (c : ℕ) → HasKind types cells (kind_of t) (Part o c) → ⊥
+no_part types cells Integer o c h = h
+no_part types cells Boolean o c h = h
 
-pub binary_gives : (cells : Cells) (operator : BinaryOperator) (l r t : ScalarType) (u v : Value) → binary_type operator (Some l) (Some r) ≡ Some t → HasKind cells (kind_of l) u → HasKind cells (kind_of r) v → GivesKind cells t (binary_given operator u v)
-binary_gives cells operator l r t Null v h f g = absurd (no_null cells l f)
-binary_gives cells operator l r t (Names o) v h f g = absurd (no_name cells l o f)
-binary_gives cells operator l r t (Scalar a) Null h f g = absurd (no_null cells r g)
-binary_gives cells operator l r t (Scalar a) (Names o) h f g = absurd (no_name cells r o g)
-binary_gives cells operator l r t (Scalar a) (Scalar b) h f g = gives cells t (outcome_of operator a b) (binary_comes operator l r t a b h (is_of cells l a f) (is_of cells r b g))
+pub unary_gives : (types : List TypeForm) (cells : Cells) (operator : UnaryOperator) (t0 t : ScalarType) (v : Value) → unary_type operator (Some t0) ≡ Some t → HasKind types cells (kind_of t0) v → GivesKind types cells t (unary_given operator v)
+unary_gives types cells operator t0 t Null h k = absurd (no_null types cells t0 k)
+unary_gives types cells operator t0 t (Names o) h k = absurd (no_name types cells t0 o k)
+unary_gives types cells operator t0 t (Part o c) h k = absurd (no_part types cells t0 o c k)
+unary_gives types cells operator t0 t (Scalar a) h k = gives types cells t (unary_outcome_of operator a) (unary_comes operator t0 t a h (is_of types cells t0 a k))
+
+pub binary_gives : (types : List TypeForm) (cells : Cells) (operator : BinaryOperator) (l r t : ScalarType) (u v : Value) → binary_type operator (Some l) (Some r) ≡ Some t → HasKind types cells (kind_of l) u → HasKind types cells (kind_of r) v → GivesKind types cells t (binary_given operator u v)
+binary_gives types cells operator l r t Null v h f g = absurd (no_null types cells l f)
+binary_gives types cells operator l r t (Names o) v h f g = absurd (no_name types cells l o f)
+binary_gives types cells operator l r t (Part o c) v h f g = absurd (no_part types cells l o c f)
+binary_gives types cells operator l r t (Scalar a) Null h f g = absurd (no_null types cells r g)
+binary_gives types cells operator l r t (Scalar a) (Names o) h f g = absurd (no_name types cells r o g)
+binary_gives types cells operator l r t (Scalar a) (Part o c) h f g = absurd (no_part types cells r o c g)
+binary_gives types cells operator l r t (Scalar a) (Scalar b) h f g = gives types cells t (outcome_of operator a b) (binary_comes operator l r t a b h (is_of types cells l a f) (is_of types cells r b g))

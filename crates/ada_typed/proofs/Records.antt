@@ -1,7 +1,7 @@
 -- Records that lie in objects: where components are alike, what they hold is of the same kinds.
 
 use Rattle.ada_typed.specs.Holding.{Cells, HasKind, HaveKinds}
-use Rattle.std.proofs.Common.{◌≡◌, ℕ, zero, suc, if◌then◌else◌, Bool, true, List, [], ◌∷◌, length, take, drop, Option, Some, None, refl, sym, ap, ◌∙◌, subst}
+use Rattle.std.proofs.Common.{◌≡◌, ℕ, zero, suc, ◌+◌, ◌&&◌, if◌then◌else◌, Bool, true, false, List, [], ◌∷◌, length, take, drop, Option, Some, None, arith, refl, sym, ap, ◌∙◌, subst}
 use Rattle.std.proofs.lemmas.Bool.{eqb-true, eq-eqb}
 use Rattle.std.specs.List.{slice_get}
 use Rattle.ada_program.specs.declared.program.ComponentKind.{ComponentKind}
@@ -10,13 +10,19 @@ use Rattle.ada_program.specs.declared.program.TypeNo.{TypeNo}
 use Rattle.ada_program.specs.declared.program.VariableKind.{VariableKind}
 use Rattle.ada_program.specs.declared.program.VariableKind.TheVariants as variable
 use Rattle.ada_program.specs.ProgramForm.{TypeForm, VariableForm}
-use Rattle.ada_program.specs.WellFormed.{reached_components, record_components, held_kind, component_kind, access_of, is_alike, begins_with, has_record_at, object_components}
+use Rattle.ada_program.specs.WellFormed.{reached_components, held_kind, component_kind, kind_among, selected_kind, access_of, is_alike, begins_with, has_record_at, object_components}
 use Rattle.ada_meaning.specs.declared.state.Value.{Value}
+use Rattle.ada_meaning.specs.declared.state.Value.TheVariants.{Null, Names, Scalar, Part}
+use Rattle.ada_meaning.specs.Named.{whole, inside}
 use Rattle.ada_meaning.specs.State.{Activation}
 use Rattle.ada_meaning.specs.Step.{operands_of, with_operands, in_front, record_in}
-use Rattle.ada_typed.proofs.Values.{AreComputed, IsActive, as_access_in}
+use Rattle.ada_typed.proofs.Values.{OperandKind, of_kind, is_record_kind, AreComputed, IsActive}
 use Rattle.ada_typed.proofs.Operators.{and_left, and_right}
 use Rattle.ada_typed.proofs.Control.{onto}
+
+both : (a b : Bool) → a ≡ true → b ≡ true → (a && b) ≡ true
+both true b h g = g
+both false b h g = absurd (cc)
 
 -- Components that are alike hold values of one kind.
 alike_kind : (c k : ComponentKind) → is_alike c k ≡ true → held_kind c ≡ held_kind k
@@ -31,46 +37,46 @@ alike_kind (component.Access access) (component.Boolean other) h = absurd (cc)
 alike_kind (component.Access access) (component.Access other) h = ap (λ (i : ℕ). variable.Access (record { 0 = i })) (eqb-true access.0 other.0 h)
 
 -- Values for components that begin with those of a record: those of the record come first, and then those that are left.
-pub onto_record : (cs rs : List ComponentKind) (kinds : List VariableKind) → begins_with cs rs ≡ true → onto (drop (length rs) cs) (onto rs kinds) ≡ onto cs kinds
+pub onto_record : (cs rs : List ComponentKind) (kinds : List OperandKind) → begins_with cs rs ≡ true → onto (drop (length rs) cs) (onto rs kinds) ≡ onto cs kinds
 onto_record cs [] kinds h = refl
 onto_record [] (k ∷ rs) kinds h = absurd (cc)
 onto_record (c ∷ cs) (k ∷ rs) kinds h =
-    ap (λ (kind : VariableKind). onto (drop (length rs) cs) (onto rs (kind ∷ kinds))) (sym (alike_kind c k (and_left (is_alike c k) (begins_with cs rs) h))) ∙
-    onto_record cs rs (held_kind c ∷ kinds) (and_right (is_alike c k) (begins_with cs rs) h)
+    ap (λ (kind : VariableKind). onto (drop (length rs) cs) (onto rs (of_kind kind ∷ kinds))) (sym (alike_kind c k (and_left (is_alike c k) (begins_with cs rs) h))) ∙
+    onto_record cs rs (of_kind (held_kind c) ∷ kinds) (and_right (is_alike c k) (begins_with cs rs) h)
 
 -- Values for components, pushed in order.
-computed_front : (cells : Cells) (cs : List ComponentKind) (kinds : List VariableKind) (vs olds : List Value) → HaveKinds cells cs vs → AreComputed cells kinds olds → AreComputed cells (onto cs kinds) (in_front vs olds)
-computed_front cells [] kinds [] olds h k = k
-computed_front cells [] kinds (v ∷ vs) olds h k = absurd h
-computed_front cells (c ∷ cs) kinds [] olds h k = absurd h
-computed_front cells (c ∷ cs) kinds (v ∷ vs) olds h k = computed_front cells cs (held_kind c ∷ kinds) vs (v ∷ olds) h.1 (h.0, k)
+computed_front : (types : List TypeForm) (cells : Cells) (cs : List ComponentKind) (kinds : List OperandKind) (vs olds : List Value) → HaveKinds types cells cs vs → AreComputed types cells kinds olds → AreComputed types cells (onto cs kinds) (in_front vs olds)
+computed_front types cells [] kinds [] olds h k = k
+computed_front types cells [] kinds (v ∷ vs) olds h k = absurd h
+computed_front types cells (c ∷ cs) kinds [] olds h k = absurd h
+computed_front types cells (c ∷ cs) kinds (v ∷ vs) olds h k = computed_front types cells cs (of_kind (held_kind c) ∷ kinds) vs (v ∷ olds) h.1 (h.0, k)
 
-pub active_front : (cells : Cells) (xs : List VariableForm) (cs : List ComponentKind) (kinds : List VariableKind) (vs : List Value) (acts : List (Activation Value)) → HaveKinds cells cs vs → IsActive cells xs kinds acts → IsActive cells xs (onto cs kinds) (with_operands (in_front vs (operands_of acts)) acts)
-active_front cells xs cs kinds vs [] have h = h
-active_front cells xs cs kinds vs (a ∷ suspended) have h = (h.0, computed_front cells cs kinds vs a.operands have h.1)
+pub active_front : (types : List TypeForm) (cells : Cells) (xs : List VariableForm) (cs : List ComponentKind) (kinds : List OperandKind) (vs : List Value) (acts : List (Activation Value)) → HaveKinds types cells cs vs → IsActive types cells xs kinds acts → IsActive types cells xs (onto cs kinds) (with_operands (in_front vs (operands_of acts)) acts)
+active_front types cells xs cs kinds vs [] have h = h
+active_front types cells xs cs kinds vs (a ∷ suspended) have h = (h.0, computed_front types cells cs kinds vs a.operands have h.1)
 
 -- The values of some components are of their kinds, too.
-kinds_dropped : (cells : Cells) (n : ℕ) (cs : List ComponentKind) (vs : List Value) → HaveKinds cells cs vs → HaveKinds cells (drop n cs) (drop n vs)
-kinds_dropped cells zero cs vs h = h
-kinds_dropped cells (suc n) [] [] h = tt
-kinds_dropped cells (suc n) [] (v ∷ vs) h = absurd h
-kinds_dropped cells (suc n) (c ∷ cs) [] h = absurd h
-kinds_dropped cells (suc n) (c ∷ cs) (v ∷ vs) h = kinds_dropped cells n cs vs h.1
+kinds_dropped : (types : List TypeForm) (cells : Cells) (n : ℕ) (cs : List ComponentKind) (vs : List Value) → HaveKinds types cells cs vs → HaveKinds types cells (drop n cs) (drop n vs)
+kinds_dropped types cells zero cs vs h = h
+kinds_dropped types cells (suc n) [] [] h = tt
+kinds_dropped types cells (suc n) [] (v ∷ vs) h = absurd h
+kinds_dropped types cells (suc n) (c ∷ cs) [] h = absurd h
+kinds_dropped types cells (suc n) (c ∷ cs) (v ∷ vs) h = kinds_dropped types cells n cs vs h.1
 
-kinds_taken : (cells : Cells) (cs rs : List ComponentKind) (vs : List Value) → HaveKinds cells cs vs → begins_with cs rs ≡ true → HaveKinds cells rs (take (length rs) vs) × (length (take (length rs) vs) ≡ length rs)
-kinds_taken cells cs [] vs h begins = (tt, refl)
-kinds_taken cells [] (k ∷ rs) vs h begins = absurd (cc)
-kinds_taken cells (c ∷ cs) (k ∷ rs) [] h begins = absurd h
-kinds_taken cells (c ∷ cs) (k ∷ rs) (v ∷ vs) h begins =
-    let later = kinds_taken cells cs rs vs h.1 (and_right (is_alike c k) (begins_with cs rs) begins) in
+kinds_taken : (types : List TypeForm) (cells : Cells) (cs rs : List ComponentKind) (vs : List Value) → HaveKinds types cells cs vs → begins_with cs rs ≡ true → HaveKinds types cells rs (take (length rs) vs) × (length (take (length rs) vs) ≡ length rs)
+kinds_taken types cells cs [] vs h begins = (tt, refl)
+kinds_taken types cells [] (k ∷ rs) vs h begins = absurd (cc)
+kinds_taken types cells (c ∷ cs) (k ∷ rs) [] h begins = absurd h
+kinds_taken types cells (c ∷ cs) (k ∷ rs) (v ∷ vs) h begins =
+    let later = kinds_taken types cells cs rs vs h.1 (and_right (is_alike c k) (begins_with cs rs) begins) in
     let kind : held_kind c ≡ held_kind k = alike_kind c k (and_left (is_alike c k) (begins_with cs rs) begins) in
-    ((subst (λ (q : VariableKind). HasKind cells q v) kind h.0, later.0), ap suc later.1)
+    ((subst (λ (q : VariableKind). HasKind types cells q v) kind h.0, later.0), ap suc later.1)
 
 -- What a record in an object holds is of the kinds of the record's components.
-pub record_held : (cells : Cells) (cs rs : List ComponentKind) (values : List Value) (first : ℕ) → HaveKinds cells cs values → begins_with (drop first cs) rs ≡ true → (vs : List Value) × (record_in values first (length rs) ≡ Some vs) × HaveKinds cells rs vs
-record_held cells cs rs values first h begins =
+pub record_held : (types : List TypeForm) (cells : Cells) (cs rs : List ComponentKind) (values : List Value) (first : ℕ) → HaveKinds types cells cs values → begins_with (drop first cs) rs ≡ true → (vs : List Value) × (record_in values first (length rs) ≡ Some vs) × HaveKinds types cells rs vs
+record_held types cells cs rs values first h begins =
     let vs = take (length rs) (drop first values) in
-    let taken = kinds_taken cells (drop first cs) rs (drop first values) (kinds_dropped cells first cs values h) begins in
+    let taken = kinds_taken types cells (drop first cs) rs (drop first values) (kinds_dropped types cells first cs values h) begins in
     (vs, ap (λ (whole : Bool). if whole then Some vs else None) (eq-eqb (length vs) (length rs) taken.1), taken.0)
 
 -- The first component of a record that lies in an object, and the others.
@@ -85,19 +91,130 @@ pub reached_record : (o : Option (List ComponentKind)) (first : ℕ) (rs : List 
 reached_record None first rs h = absurd (cc)
 reached_record (Some cs) first rs h = (cs, refl, h)
 
-record_there : (reached o : Option (List ComponentKind)) (first : ℕ) → has_record_at reached first o ≡ true → (rs : List ComponentKind) × (o ≡ Some rs) × (has_record_at reached first (Some rs) ≡ true)
+pub record_there : (reached o : Option (List ComponentKind)) (first : ℕ) → has_record_at reached first o ≡ true → (rs : List ComponentKind) × (o ≡ Some rs) × (has_record_at reached first (Some rs) ≡ true)
 record_there None o first h = absurd (cc)
 record_there (Some cs) None first h = absurd (cc)
 record_there (Some cs) (Some rs) first h = (rs, refl, h)
 
--- A path to a record leads to what names the object in which the record lies.
-pub record_found : (types : List TypeForm) (kind : Option VariableKind) (first t : ℕ) → has_record_at (object_components types (access_of kind)) first (record_components types t) ≡ true → (access : TypeNo) × (rs : List ComponentKind) × (as_access_in kind ≡ Some (variable.Access access)) × (record_components types t ≡ Some rs) × (has_record_at (reached_components types access.0) first (Some rs) ≡ true)
-record_found types None first t h = absurd (cc)
-record_found types (Some variable.Integer) first t h = absurd (cc)
-record_found types (Some variable.Boolean) first t h = absurd (cc)
-record_found types (Some (variable.Access access)) first t h =
-    let there = record_there (reached_components types access.0) (record_components types t) first h in
-    (access, there.0, refl, there.1, there.2)
-record_found types (Some (variable.Record object)) first t h =
-    let there = record_there (reached_components types object.0) (record_components types t) first h in
-    (object, there.0, refl, there.1, there.2)
+-- So records that lie in objects lead on: what is selected in a record, and what lies in it, is selected and lies in the object, from where the record begins.
+begun_kind : (cs ks : List ComponentKind) (c : ℕ) (kind : VariableKind) → begins_with cs ks ≡ true → component_kind (slice_get ks c) ≡ Some kind → component_kind (slice_get cs c) ≡ Some kind
+begun_kind cs [] c kind h is = absurd (cc)
+begun_kind [] (k ∷ ks) c kind h is = absurd (cc)
+begun_kind (d ∷ cs) (k ∷ ks) zero kind h is = ap Some (alike_kind d k (and_left (is_alike d k) (begins_with cs ks) h)) ∙ is
+begun_kind (d ∷ cs) (k ∷ ks) (suc c) kind h is = begun_kind cs ks c kind (and_right (is_alike d k) (begins_with cs ks) h) is
+
+dropped_get : (first : ℕ) (cs : List ComponentKind) (c : ℕ) → slice_get (drop first cs) c ≡ slice_get cs (first + c)
+dropped_get zero cs c = let same : c ≡ 0 + c = omega arith in ap (slice_get cs) same
+dropped_get (suc first) [] c = refl
+dropped_get (suc first) (d ∷ cs) c = let same : suc (first + c) ≡ suc first + c = omega arith in dropped_get first cs c ∙ ap (slice_get (d ∷ cs)) same
+
+none_dropped : (i j : ℕ) → Path (List ComponentKind) (drop i []) (drop j [])
+none_dropped zero zero = refl
+none_dropped zero (suc j) = refl
+none_dropped (suc i) zero = refl
+none_dropped (suc i) (suc j) = refl
+
+dropped_twice : (first i : ℕ) (cs : List ComponentKind) → drop i (drop first cs) ≡ drop (first + i) cs
+dropped_twice zero i cs = let same : i ≡ 0 + i = omega arith in ap (λ (n : ℕ). drop n cs) same
+dropped_twice (suc first) i [] = none_dropped i (suc first + i)
+dropped_twice (suc first) i (d ∷ cs) = let same : suc (first + i) ≡ suc first + i = omega arith in dropped_twice first i cs ∙ ap (λ (n : ℕ). drop n (d ∷ cs)) same
+
+alike_all : (c k r : ComponentKind) → is_alike c k ≡ true → is_alike k r ≡ true → is_alike c r ≡ true
+alike_all (component.Integer initial) (component.Integer other) r h g = g
+alike_all (component.Integer initial) (component.Boolean other) r h g = absurd (cc)
+alike_all (component.Integer initial) (component.Access access) r h g = absurd (cc)
+alike_all (component.Boolean initial) (component.Integer other) r h g = absurd (cc)
+alike_all (component.Boolean initial) (component.Boolean other) r h g = g
+alike_all (component.Boolean initial) (component.Access access) r h g = absurd (cc)
+alike_all (component.Access access) (component.Integer other) r h g = absurd (cc)
+alike_all (component.Access access) (component.Boolean other) r h g = absurd (cc)
+alike_all (component.Access access) (component.Access other) r h g =
+    subst (λ (i : ℕ). is_alike (component.Access (record { 0 = i })) r ≡ true) (sym (eqb-true access.0 other.0 h)) g
+
+begun_all : (cs ks rs : List ComponentKind) → begins_with cs ks ≡ true → begins_with ks rs ≡ true → begins_with cs rs ≡ true
+begun_all cs ks [] h g = refl
+begun_all cs [] (r ∷ rs) h g = absurd (cc)
+begun_all [] (k ∷ ks) (r ∷ rs) h g = absurd (cc)
+begun_all (c ∷ cs) (k ∷ ks) (r ∷ rs) h g =
+    both (is_alike c r) (begins_with cs rs)
+    (alike_all c k r (and_left (is_alike c k) (begins_with cs ks) h) (and_left (is_alike k r) (begins_with ks rs) g))
+    (begun_all cs ks rs (and_right (is_alike c k) (begins_with cs ks) h) (and_right (is_alike k r) (begins_with ks rs) g))
+
+begun_dropped : (i : ℕ) (cs ks rs : List ComponentKind) → begins_with cs ks ≡ true → begins_with (drop i ks) rs ≡ true → begins_with (drop i cs) rs ≡ true
+begun_dropped zero cs ks rs h g = begun_all cs ks rs h g
+begun_dropped (suc i) cs [] [] h g = refl
+begun_dropped (suc i) cs [] (r ∷ rs) h g = absurd (cc)
+begun_dropped (suc i) [] (k ∷ ks) rs h g = absurd (cc)
+begun_dropped (suc i) (c ∷ cs) (k ∷ ks) rs h g = begun_dropped i cs ks rs (and_right (is_alike c k) (begins_with cs ks) h) g
+
+-- What is selected in a record that lies in an object.
+pub inside_kind : (o ks : Option (List ComponentKind)) (first c : ℕ) (kind : VariableKind) → has_record_at o first ks ≡ true → kind_among ks c ≡ Some kind → kind_among o (first + c) ≡ Some kind
+inside_kind o None first c kind h is = absurd (cc)
+inside_kind None (Some ks) first c kind h is = absurd (cc)
+inside_kind (Some cs) (Some ks) first c kind h is =
+    ap component_kind (sym (dropped_get first cs c)) ∙ begun_kind (drop first cs) ks c kind h is
+
+-- A record that lies in one that lies in an object.
+pub inside_record : (o ks rs : Option (List ComponentKind)) (first i : ℕ) → has_record_at o first ks ≡ true → has_record_at ks i rs ≡ true → has_record_at o (first + i) rs ≡ true
+inside_record o None rs first i h g = absurd (cc)
+inside_record None (Some ks) rs first i h g = absurd (cc)
+inside_record (Some cs) (Some ks) None first i h g = absurd (cc)
+inside_record (Some cs) (Some ks) (Some rs) first i h g =
+    subst (λ (xs : List ComponentKind). begins_with xs rs ≡ true) (dropped_twice first i cs) (begun_dropped i (drop first cs) ks rs h g)
+
+-- What is found where a path begins whose variable holds a value of this kind: what it is followed from, which is no reference, and what is selected behind
+-- it, and the records that lie there, as the variable's own kind says.
+pub record Begins (types : List TypeForm) (cells : Cells) (from : VariableKind) (v : Value) : Type 0 where
+  pub root : VariableKind
+  pub plain : is_record_kind root ≡ false
+  pub has : HasKind types cells root (whole v)
+  pub selects : (c : ℕ) (kind : VariableKind) → selected_kind types (Some from) c ≡ Some kind → selected_kind types (Some root) (inside v c) ≡ Some kind
+  pub records : (i : ℕ) (rs : Option (List ComponentKind)) → has_record_at (object_components types (access_of (Some from))) i rs ≡ true → (access : TypeNo) × (root ≡ variable.Access access) × (has_record_at (reached_components types access.0) (inside v i) rs ≡ true)
+
+begins_integer : (types : List TypeForm) (cells : Cells) (v : Value) → HasKind types cells variable.Integer v → Begins types cells variable.Integer v
+begins_integer types cells Null h = absurd h
+begins_integer types cells (Names o) h = absurd h
+begins_integer types cells (Scalar held) h = record { root = variable.Integer; plain = refl; has = h; selects = λ c kind is. is; records = λ i rs is. absurd (cc) }
+begins_integer types cells (Part o first) h = absurd h
+
+begins_boolean : (types : List TypeForm) (cells : Cells) (v : Value) → HasKind types cells variable.Boolean v → Begins types cells variable.Boolean v
+begins_boolean types cells Null h = absurd h
+begins_boolean types cells (Names o) h = absurd h
+begins_boolean types cells (Scalar held) h = record { root = variable.Boolean; plain = refl; has = h; selects = λ c kind is. is; records = λ i rs is. absurd (cc) }
+begins_boolean types cells (Part o first) h = absurd h
+
+begins_access : (types : List TypeForm) (cells : Cells) (access : TypeNo) (v : Value) → HasKind types cells (variable.Access access) v → Begins types cells (variable.Access access) v
+begins_access types cells access Null h = record { root = variable.Access access; plain = refl; has = h; selects = λ c kind is. is; records = λ i rs is. (access, refl, is) }
+begins_access types cells access (Names o) h = record { root = variable.Access access; plain = refl; has = h; selects = λ c kind is. is; records = λ i rs is. (access, refl, is) }
+begins_access types cells access (Scalar held) h = absurd h
+begins_access types cells access (Part o first) h = absurd h
+
+begins_object : (types : List TypeForm) (cells : Cells) (object : TypeNo) (v : Value) → HasKind types cells (variable.Record object) v → Begins types cells (variable.Record object) v
+begins_object types cells object Null h = record { root = variable.Access object; plain = refl; has = h; selects = λ c kind is. is; records = λ i rs is. (object, refl, is) }
+begins_object types cells object (Names o) h = record { root = variable.Access object; plain = refl; has = h; selects = λ c kind is. is; records = λ i rs is. (object, refl, is) }
+begins_object types cells object (Scalar held) h = absurd h
+begins_object types cells object (Part o first) h =
+    let access : TypeNo = record { 0 = h.0.access } in
+    record {
+      root = variable.Access access;
+      plain = refl;
+      has = (h.0, h.1, refl);
+      selects = λ c kind is. inside_kind (reached_components types h.0.access) (reached_components types object.0) first c kind h.2 is;
+      records = λ i rs is. (access, refl, inside_record (reached_components types h.0.access) (reached_components types object.0) rs first i h.2 is);
+    }
+
+pub begins : (types : List TypeForm) (cells : Cells) (from : VariableKind) (v : Value) → HasKind types cells from v → Begins types cells from v
+begins types cells variable.Integer v h = begins_integer types cells v h
+begins types cells variable.Boolean v h = begins_boolean types cells v h
+begins types cells (variable.Access access) v h = begins_access types cells access v h
+begins types cells (variable.Record object) v h = begins_object types cells object v h
+
+-- A value of another kind than a record's stands for itself.
+pub stands_itself : (types : List TypeForm) (cells : Cells) (from : VariableKind) (v : Value) → is_record_kind from ≡ false → HasKind types cells from v → whole v ≡ v
+stands_itself types cells from Null other h = refl
+stands_itself types cells from (Names o) other h = refl
+stands_itself types cells from (Scalar held) other h = refl
+stands_itself types cells variable.Integer (Part o first) other h = absurd h
+stands_itself types cells variable.Boolean (Part o first) other h = absurd h
+stands_itself types cells (variable.Access access) (Part o first) other h = absurd h
+stands_itself types cells (variable.Record object) (Part o first) other h = absurd (cc)

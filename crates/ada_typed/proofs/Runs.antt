@@ -3,7 +3,7 @@
 use Rattle.ada_typed.specs.Holding.{cells_of, seen_now, HoldsKind, ObjectsHaveTheirKinds, VariablesHaveTheirKinds}
 use Rattle.std.proofs.Common.{◌≡◌, ℕ, ℤ, false, List, [], ◌∷◌, map, Some, refl, subst, arith}
 use Rattle.ada_program.specs.declared.program.Program.{Program}
-use Rattle.ada_program.specs.ProgramForm.{ProgramForm, program_form, variable_form, body_forms}
+use Rattle.ada_program.specs.ProgramForm.{TypeForm, ProgramForm, program_form, type_form, variable_form, body_forms}
 use Rattle.ada_program.specs.declared.program.VariableKind.{VariableKind}
 use Rattle.ada_program.specs.WellFormed.{IsWellFormed, variable_kind}
 use Rattle.ada_meaning.specs.declared.event.Halt.TheVariants.{Stuck}
@@ -11,16 +11,17 @@ use Rattle.ada_meaning.specs.Step.{procedure_of, halts, moves, tells, asks, pick
 use Rattle.ada_meaning.specs.Named.{State, Next, next}
 use Rattle.ada_meaning.specs.Run.{Event, Choice, settled, grants, takes, Leads, Step, Run, here, there, first_state}
 use Rattle.ada_typed.specs.Stuck.{WellFormedProgramsAreNeverStuck, WellFormedProgramsEndByTheLanguage}
-use Rattle.ada_typed.proofs.Values.{AreFilled, IsActive, active_placed, active_held, held_blank, filled_at}
+use Rattle.ada_typed.proofs.Values.{OperandKind, AreFilled, IsActive, active_placed, active_held, held_blank, filled_at}
 use Rattle.ada_typed.proofs.Control.{Typed, TypedIn, running, on_jump}
 use Rattle.ada_typed.proofs.Evaluations.{Comes, cell_at}
+use Rattle.ada_typed.proofs.Bodies.{types_seen}
 use Rattle.ada_typed.proofs.Calls.{same_filled, next_fine}
 
 -- The first state is typed: each place holds a value of its variable's kind, and nothing waits for the main body.
 pub first_typed : (program : Program) (input : List ℤ) → IsWellFormed (program_form program) → Typed (program_form program) (first_state program input)
 first_typed program input well = record {
   inside =
-      running [] (record { filled = tt; active = (held_blank [] (map variable_form program.variables.items), tt); runs = refl; deep = omega arith })
+      running [] (record { filled = tt; active = (held_blank (map type_form program.types.items) [] (map variable_form program.variables.items), tt); runs = refl; deep = omega arith })
       (refl, false, well.initials_fit, well.statements_fit, well.handlers_fit, tt, tt);
   waiting = refl;
 }
@@ -79,16 +80,17 @@ objects_have_their_kinds program well input events last o object run is =
     let typed = last_typed program well input events last run in
     filled_at p.types (cells_of last.heap) (cells_of last.heap) o.0 object.cell (typed_filled p last typed) (cell_at last.heap o.0 object is)
 
-active_holds : (own : ProgramForm) (s : State) (kinds : List VariableKind) (x : ℕ) (kind : VariableKind) → IsActive (cells_of s.heap) own.variables kinds s.activations → variable_kind own.variables x ≡ Some kind → HoldsKind s x kind
+active_holds : (own : ProgramForm) (s : State) (kinds : List OperandKind) (x : ℕ) (kind : VariableKind) → IsActive own.types (cells_of s.heap) own.variables kinds s.activations → variable_kind own.variables x ≡ Some kind → HoldsKind own.types s x kind
 active_holds own s kinds x kind active is =
-    (active_placed (cells_of s.heap) own.variables kinds s.activations x kind active is, active_held (cells_of s.heap) own.variables kinds s.activations x kind active is)
+    (active_placed own.types (cells_of s.heap) own.variables kinds s.activations x kind active is, active_held own.types (cells_of s.heap) own.variables kinds s.activations x kind active is)
 
 -- So does what the variables of the running body hold.
-pub typed_holds : (own : ProgramForm) (s : State) (x : ℕ) (kind : VariableKind) → TypedIn own s → variable_kind own.variables x ≡ Some kind → HoldsKind s x kind
+pub typed_holds : (own : ProgramForm) (s : State) (x : ℕ) (kind : VariableKind) → TypedIn own s → variable_kind own.variables x ≡ Some kind → HoldsKind own.types s x kind
 typed_holds own s x kind (running kinds ready fits) is = active_holds own s kinds x kind ready.active is
 typed_holds own s x kind (on_jump mode jumps goes) is = active_holds own s [] x kind jumps.active is
 
 pub variables_have_their_kinds : VariablesHaveTheirKinds
 variables_have_their_kinds program well input events last x kind run is =
     let p = program_form program in
-    typed_holds (seen_now p last) last x kind (last_typed program well input events last run).inside is
+    subst (λ (types : List TypeForm). HoldsKind types last x kind) (types_seen p (procedure_of last.activations))
+    (typed_holds (seen_now p last) last x kind (last_typed program well input events last run).inside is)

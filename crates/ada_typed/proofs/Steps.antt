@@ -2,6 +2,7 @@
 
 use Rattle.ada_typed.specs.Holding.{Cells, HasKind, HaveKinds, cells_of}
 use Rattle.std.proofs.Common.{◌≡◌, ℕ, zero, suc, ◌+◌, ◌<◌, ◌≤◌, ◌&&◌, not, if◌then◌else◌, Bool, true, false, ℤ, ◌+ℤ◌, pos, int_le, List, [], ◌∷◌, length, map, Option, Some, None, arith, refl, sym, ap, ◌∙◌, subst}
+use Rattle.std.proofs.lemmas.Bool.{eqb-true}
 use Rattle.std.specs.List.{slice_get, slice_index_or, list_all}
 use Rattle.ada_program.specs.declared.program.ComponentKind.{ComponentKind}
 use Rattle.ada_program.specs.declared.program.ScalarType.TheVariants.{Integer, Boolean}
@@ -10,13 +11,13 @@ use Rattle.ada_program.specs.declared.program.TypeNo.{TypeNo}
 use Rattle.ada_program.specs.declared.program.VariableKind.{VariableKind}
 use Rattle.ada_program.specs.declared.program.VariableKind.TheVariants as variable
 use Rattle.ada_program.specs.Form.{ExpressionForm, ItemForm, RightForm, StmtForm, skips, assigns, assigns_record, frees, gets, writes, writes_text, chooses, repeats, counts, exits, calls, returns, raises as raises_it, encloses, StmtsForm, no_stmts, a_stmt, BranchesForm, otherwise, a_branch, HandlersForm, DeclarationForm, collects, declares, declares_record}
-use Rattle.ada_program.specs.ProgramForm.{VariableForm, BodyForm, ProgramForm, type_form}
+use Rattle.ada_program.specs.ProgramForm.{TypeForm, record_of, access_to, object_of, VariableForm, BodyForm, ProgramForm, type_form}
 use Rattle.ada_program.specs.Typed.{reached_of, words_of}
-use Rattle.ada_program.specs.WellFormed.{reached_components, record_components, is_access, is_object_type, value_access, root_kind, selectors_kind, variable_kind, path_access, scalar_of, is_type, type_of, kind_takes, right_fits, names_borrower, lends_to, is_borrower, item_owns, item_before, is_filled, is_record_path, is_record_object, record_fits, record_initial_fits, path_kind, is_freed_by, collections_first, collection_fits, initial_fits, declarations_fit, has_type, condition_fits, has_statement, statement_fits, stmts_fit, branches_fit, handlers_fit, names_before, formal_kinds, callable_in}
+use Rattle.ada_program.specs.WellFormed.{named_in, object_in, components_reached, is_this, stands_alone, reached_components, record_components, is_access, is_object_type, value_access, root_kind, selectors_kind, variable_kind, path_access, scalar_of, is_type, type_of, kind_takes, right_fits, names_borrower, lends_to, is_borrower, item_owns, item_before, is_filled, is_record_path, is_record_object, record_fits, record_initial_fits, path_kind, is_freed_by, collections_first, collection_fits, initial_fits, declarations_fit, has_type, condition_fits, has_statement, statement_fits, stmts_fit, branches_fit, handlers_fit, names_before, formal_kinds, callable_in}
 use Rattle.ada_values.specs.declared.value.Value.TheVariants as scalar
 use Rattle.ada_meaning.specs.declared.state.Id.{Id}
 use Rattle.ada_meaning.specs.declared.state.Value.{Value}
-use Rattle.ada_meaning.specs.declared.state.Value.TheVariants.{Null, Names, Scalar}
+use Rattle.ada_meaning.specs.declared.state.Value.TheVariants.{Null, Names, Scalar, Part}
 use Rattle.ada_meaning.specs.declared.state.Stage.{Stage}
 use Rattle.ada_meaning.specs.declared.state.Stage.TheVariants.{Building, Existing, Gone}
 use Rattle.ada_meaning.specs.declared.state.Mode.{Mode}
@@ -31,15 +32,14 @@ use Rattle.ada_meaning.specs.Frame.{Frame, is_master, is_loop, is_return, Landin
 use Rattle.ada_meaning.specs.Frame as frame
 use Rattle.ada_meaning.specs.State.{Owned, declared, collection, record_object, Item, Master, height, home_of, pool_of}
 use Rattle.ada_meaning.specs.Heap.{Cell, on_gone, finds}
-use Rattle.ada_meaning.specs.Step.{halts, moves, at, older, shorter, popped, jumping, put, held, newest, new_next, end_next, same_pool, told_back, given_back, back_next, initial_values, copies_next, newest_ones, without_newest, record_target_next, store_record_next, record_cell, made, record_next, before_last, last_of, assign_next, frees_next, branches_next, decided_next, turn_next, repeats_next, turned_next, count_turn_next, ranges_next, gets_next, exit_next, exited_next, computing, call_next, stmt_next, stmts_next, line_next, declarations_next, members_next, item_leave_next, master_leave_next, leave_next, frame_next}
+use Rattle.ada_meaning.specs.Step.{halts, moves, at, older, shorter, popped, jumping, put, held, newest, new_next, end_next, same_pool, told_back, given_back, back_next, initial_values, copies_next, refers_next, open_next, newest_ones, without_newest, record_target_next, store_record_next, record_cell, made, record_next, assign_next, frees_next, branches_next, decided_next, turn_next, repeats_next, turned_next, count_turn_next, ranges_next, gets_next, exit_next, exited_next, computing, call_next, stmt_next, stmts_next, line_next, declarations_next, members_next, item_leave_next, master_leave_next, leave_next, frame_next}
 use Rattle.ada_meaning.specs.Named.{an_integer, Object, State, named, look, lent, lent_by, seen, existing, on_object, parted, finished, returned, reads_integer, reads_boolean, unary_given, binary_given, members, members_of}
-use Rattle.ada_typed.proofs.Evaluations.{Fine, initials_have, reached_shown, words_shown, width_shown, filled_items, cells_on, length_shorter, ready_kinds, ready_at, ready_pop, newest_of, held_of, put_in, ready_owning, ready_heap, fits_heap, jumped, raises, ready_made, fits_more, root_fine, path_fine, null_test_fine, expression_fine, links_fine, outcome_fine, items_fine, new_fine, right_fine}
-use Rattle.ada_typed.proofs.Values.{kind_of, root_same, active_none}
+use Rattle.ada_typed.proofs.Evaluations.{Fine, initials_have, reached_shown, words_shown, width_shown, filled_items, cells_on, length_shorter, ready_kinds, ready_at, ready_pop, newest_of, held_of, put_in, ready_owning, ready_heap, fits_heap, jumped, raises, ready_made, fits_more, holder_fine, record_holder_fine, path_fine, null_test_fine, expression_fine, links_fine, outcome_fine, items_fine, new_fine, right_fine}
+use Rattle.ada_typed.proofs.Values.{OperandKind, of_kind, refers_to, kind_of, root_same, active_none}
 use Rattle.ada_typed.proofs.Objects.{kind_there, object_reached, own_object, record_no_access}
 use Rattle.ada_typed.proofs.Operators.{and_left, and_right, typed, unary_gives, binary_gives}
-use Rattle.ada_typed.proofs.Records.{record_found}
-use Rattle.ada_typed.proofs.Targets.{split_kind, target_fine, store_fine, receive_fine}
-use Rattle.ada_typed.proofs.Wholes.{newest_have, ready_without, copies_fine, record_target_fine, store_record_fine}
+use Rattle.ada_typed.proofs.Targets.{target_fine, store_fine, receive_fine, opens_fine}
+use Rattle.ada_typed.proofs.Wholes.{newest_have, ready_without, copies_fine, refers_fine, record_target_fine, store_record_fine}
 use Rattle.ada_typed.proofs.Frees.{free_fine, free_in_fine}
 use Rattle.ada_typed.proofs.Bodies.{SeenFits, Sees}
 use Rattle.ada_typed.proofs.Actuals.{profile_found, depth_computing, computing_fits}
@@ -57,7 +57,7 @@ picked ids vs i is lt = subst (λ (ws : List Value). IsName (slice_index_or ws i
 
 module _ (p : ProgramForm) (fit : SeenFits p) (bodies : List BodyForm) (sees : Sees bodies p) where
   -- What a Free leads to (13.11.2).
-  end_stage : (stage : Stage) (o : Id) (object : Object) (s : State) (kinds : List VariableKind) → Ready p kinds s → Fits p (cells_of s.heap) kinds s.control → Fine p (end_next named (Names o) (existing object stage) s)
+  end_stage : (stage : Stage) (o : Id) (object : Object) (s : State) (kinds : List OperandKind) → Ready p kinds s → Fits p (cells_of s.heap) kinds s.control → Fine p (end_next named (Names o) (existing object stage) s)
   end_stage Gone o object s kinds ready fits = tt
   end_stage Building o object s kinds ready fits =
       let heap = on_object finished s.heap (Names o) in
@@ -68,16 +68,17 @@ module _ (p : ProgramForm) (fit : SeenFits p) (bodies : List BodyForm) (sees : S
       let same : cells_of heap ≡ cells_of s.heap = cells_on finished s.heap (Names o) (λ y. refl) in
       running kinds (ready_heap p kinds s heap same ready) (fits_heap p kinds s s.control heap same fits)
 
-  end_seen : (at_o : Option Object) (o : Id) (s : State) (kinds : List VariableKind) → Ready p kinds s → Fits p (cells_of s.heap) kinds s.control → Fine p (end_next named (Names o) (seen at_o) s)
+  end_seen : (at_o : Option Object) (o : Id) (s : State) (kinds : List OperandKind) → Ready p kinds s → Fits p (cells_of s.heap) kinds s.control → Fine p (end_next named (Names o) (seen at_o) s)
   end_seen None o s kinds ready fits = tt
   end_seen (Some object) o s kinds ready fits = end_stage object.stage o object s kinds ready fits
 
-  end_fine : (v : Value) (s : State) (kinds : List VariableKind) → IsName v → Ready p kinds s → Fits p (cells_of s.heap) kinds s.control → Fine p (end_next named v (look s.heap v) s)
+  end_fine : (v : Value) (s : State) (kinds : List OperandKind) → IsName v → Ready p kinds s → Fits p (cells_of s.heap) kinds s.control → Fine p (end_next named v (look s.heap v) s)
   end_fine Null s kinds is ready fits = absurd is
   end_fine (Names o) s kinds is ready fits = end_seen (slice_get s.heap o.0) o s kinds ready fits
   end_fine (Scalar v) s kinds is ready fits = absurd is
+  end_fine (Part o first) s kinds is ready fits = absurd is
 
-  told_fine : (pool : Option ℕ) (o : Id) (cause : Cause) (cell : Cell Value) (s : State) (kinds : List VariableKind) → Ready p kinds s → Fits p (cells_of s.heap) kinds s.control → Fine p (told_back named pool (Names o) (Back (Names o) cell.access cell.number cell.home.pool cell.home.subpool cause) (record s { heap = on_object returned s.heap (Names o) }))
+  told_fine : (pool : Option ℕ) (o : Id) (cause : Cause) (cell : Cell Value) (s : State) (kinds : List OperandKind) → Ready p kinds s → Fits p (cells_of s.heap) kinds s.control → Fine p (told_back named pool (Names o) (Back (Names o) cell.access cell.number cell.home.pool cell.home.subpool cause) (record s { heap = on_object returned s.heap (Names o) }))
   told_fine None o cause cell s kinds ready fits =
       let heap = on_object returned s.heap (Names o) in
       let same : cells_of heap ≡ cells_of s.heap = cells_on returned s.heap (Names o) (λ y. refl) in
@@ -87,22 +88,23 @@ module _ (p : ProgramForm) (fit : SeenFits p) (bodies : List BodyForm) (sees : S
       let same : cells_of heap ≡ cells_of s.heap = cells_on returned s.heap (Names o) (λ y. refl) in
       running kinds (ready_heap p kinds s heap same ready) (fits_heap p kinds s s.control heap same fits)
 
-  given_fine : (same : Bool) (o : Id) (cause : Cause) (cell : Cell Value) (s : State) (kinds : List VariableKind) → Ready p kinds s → Fits p (cells_of s.heap) kinds s.control → Fine p (if same then given_back named (Names o) cause cell s else halts (Erroneous GivesElsewhere))
+  given_fine : (same : Bool) (o : Id) (cause : Cause) (cell : Cell Value) (s : State) (kinds : List OperandKind) → Ready p kinds s → Fits p (cells_of s.heap) kinds s.control → Fine p (if same then given_back named (Names o) cause cell s else halts (Erroneous GivesElsewhere))
   given_fine true o cause cell s kinds ready fits = told_fine cell.home.pool o cause cell s kinds ready fits
   given_fine false o cause cell s kinds ready fits = tt
 
-  out_fine : (out : Bool) (o : Id) (cause : Cause) (pool : Option ℕ) (object : Object) (s : State) (kinds : List VariableKind) → Ready p kinds s → Fits p (cells_of s.heap) kinds s.control → Fine p (back_next named (Names o) cause pool (if out then finds object.cell else on_gone) s)
+  out_fine : (out : Bool) (o : Id) (cause : Cause) (pool : Option ℕ) (object : Object) (s : State) (kinds : List OperandKind) → Ready p kinds s → Fits p (cells_of s.heap) kinds s.control → Fine p (back_next named (Names o) cause pool (if out then finds object.cell else on_gone) s)
   out_fine true o cause pool object s kinds ready fits = given_fine (same_pool pool object.cell.home.pool) o cause object.cell s kinds ready fits
   out_fine false o cause pool object s kinds ready fits = tt
 
-  lent_fine : (at_o : Option Object) (o : Id) (cause : Cause) (pool : Option ℕ) (s : State) (kinds : List VariableKind) → Ready p kinds s → Fits p (cells_of s.heap) kinds s.control → Fine p (back_next named (Names o) cause pool (lent_by at_o) s)
+  lent_fine : (at_o : Option Object) (o : Id) (cause : Cause) (pool : Option ℕ) (s : State) (kinds : List OperandKind) → Ready p kinds s → Fits p (cells_of s.heap) kinds s.control → Fine p (back_next named (Names o) cause pool (lent_by at_o) s)
   lent_fine None o cause pool s kinds ready fits = tt
   lent_fine (Some object) o cause pool s kinds ready fits = out_fine object.out o cause pool object s kinds ready fits
 
-  back_fine : (v : Value) (cause : Cause) (pool : Option ℕ) (s : State) (kinds : List VariableKind) → IsName v → Ready p kinds s → Fits p (cells_of s.heap) kinds s.control → Fine p (back_next named v cause pool (lent s.heap v) s)
+  back_fine : (v : Value) (cause : Cause) (pool : Option ℕ) (s : State) (kinds : List OperandKind) → IsName v → Ready p kinds s → Fits p (cells_of s.heap) kinds s.control → Fine p (back_next named v cause pool (lent s.heap v) s)
   back_fine Null cause pool s kinds is ready fits = absurd is
   back_fine (Names o) cause pool s kinds is ready fits = lent_fine (slice_get s.heap o.0) o cause pool s kinds ready fits
   back_fine (Scalar v) cause pool s kinds is ready fits = absurd is
+  back_fine (Part o first) cause pool s kinds is ready fits = absurd is
 
   -- Statements (5.1).
   right_kind : (o : Option VariableKind) (vs : List VariableForm) (right : RightForm) → right_fits p.types vs o right ≡ true → (kind : VariableKind) × (o ≡ Some kind) × (kind_takes p.types vs kind right ≡ true)
@@ -116,29 +118,36 @@ module _ (p : ProgramForm) (fit : SeenFits p) (bodies : List BodyForm) (sees : S
   freed_kind (Some (variable.Access type)) access h = (type, refl)
   freed_kind (Some (variable.Record object)) access h = absurd (cc)
 
-  assign_fine : (of_record : Bool) (cs : List ℕ) (x : ℕ) (right : RightForm) (s : State) (kinds : List VariableKind) → Ready p kinds s → right_fits p.types p.variables (selectors_kind p.types (root_kind of_record (variable_kind p.variables x)) cs) right ≡ true → Fits p (cells_of s.heap) kinds s.control → Fine p (assign_next named cs x right s)
+  assign_fine : (of_record : Bool) (cs : List ℕ) (x : ℕ) (right : RightForm) (s : State) (kinds : List OperandKind) → Ready p kinds s → right_fits p.types p.variables (selectors_kind p.types (root_kind of_record (variable_kind p.variables x)) cs) right ≡ true → Fits p (cells_of s.heap) kinds s.control → Fine p (assign_next named cs x right s)
   assign_fine of_record (c ∷ cs) x right s kinds ready is fits =
-      let root = root_kind of_record (variable_kind p.variables x) in
-      let own = right_kind (selectors_kind p.types root (c ∷ cs)) p.variables right is in
-      let parts = split_kind p.types root c cs own.0 own.1 in
-      let found = at (frame.Targets (last_of c cs) right ∷ s.control) s in
-      root_fine p of_record (before_last c cs) x (variable.Access parts.0) found kinds (ready_at p kinds s found.control ready ready.deep) parts.1 (kinds, parts.0, own.0, refl, parts.2, own.2, fits)
+      let own = right_kind (selectors_kind p.types (root_kind of_record (variable_kind p.variables x)) (c ∷ cs)) p.variables right is in
+      holder_fine p of_record c cs x own.0 (λ last. frame.Targets last right) s kinds ready own.1 (λ last. ready.deep) (λ access last leads. (kinds, access, own.0, refl, leads, own.2, fits))
   assign_fine of_record [] x right s kinds ready is fits =
       let own = right_kind (root_kind of_record (variable_kind p.variables x)) p.variables right is in
       let there : variable_kind p.variables x ≡ Some own.0 = root_same of_record (variable_kind p.variables x) own.0 own.1 in
       running kinds (ready_at p kinds s (frame.Evaluates right ∷ frame.Stores x ∷ s.control) ready ready.deep) (own.0, own.2, (kinds, own.0, refl, there, fits))
 
-  frees_fine : (of_record : Bool) (cs : List ℕ) (access x : ℕ) (s : State) (kinds : List VariableKind) → Ready p kinds s → is_freed_by p.types access (value_access (selectors_kind p.types (root_kind of_record (variable_kind p.variables x)) cs)) ≡ true → Fits p (cells_of s.heap) kinds s.control → Fine p (frees_next named cs access x s)
+  frees_fine : (of_record : Bool) (cs : List ℕ) (access x : ℕ) (s : State) (kinds : List OperandKind) → Ready p kinds s → is_freed_by p.types access (value_access (selectors_kind p.types (root_kind of_record (variable_kind p.variables x)) cs)) ≡ true → Fits p (cells_of s.heap) kinds s.control → Fine p (frees_next named cs access x s)
   frees_fine of_record (c ∷ cs) access x s kinds ready is fits =
-      let root = root_kind of_record (variable_kind p.variables x) in
-      let own = freed_kind (selectors_kind p.types root (c ∷ cs)) access is in
-      let parts = split_kind p.types root c cs (variable.Access own.0) own.1 in
-      let found = at (frame.FreesIn access (last_of c cs) ∷ s.control) s in
-      root_fine p of_record (before_last c cs) x (variable.Access parts.0) found kinds (ready_at p kinds s found.control ready ready.deep) parts.1 (kinds, parts.0, own.0, refl, parts.2, fits)
+      let own = freed_kind (selectors_kind p.types (root_kind of_record (variable_kind p.variables x)) (c ∷ cs)) access is in
+      holder_fine p of_record c cs x (variable.Access own.0) (λ last. frame.FreesIn access last) s kinds ready own.1 (λ last. ready.deep) (λ holder last leads. (kinds, holder, own.0, refl, leads, fits))
   frees_fine of_record [] access x s kinds ready is fits =
       let own = freed_kind (root_kind of_record (variable_kind p.variables x)) access is in
       let there : variable_kind p.variables x ≡ Some (variable.Access own.0) = root_same of_record (variable_kind p.variables x) (variable.Access own.0) own.1 in
       free_fine p (held named s x) access x own.0 s kinds ready (held_of p kinds s x (variable.Access own.0) ready there) there fits
+
+  -- A component that is given (6.4.1): its object is found first.
+  open_fine : (of_record : Bool) (cs : List ℕ) (x : ℕ) (kind : VariableKind) (s : State) (kinds : List OperandKind) → Ready p kinds s → selectors_kind p.types (root_kind of_record (variable_kind p.variables x)) cs ≡ Some kind → stands_alone cs ≡ false → Fits p (cells_of s.heap) (of_kind kind ∷ refers_to kind ∷ kinds) s.control → Fine p (open_next named cs x s)
+  open_fine of_record [] x kind s kinds ready leads alone fits = absurd (cc)
+  open_fine of_record (c ∷ cs) x kind s kinds ready leads alone fits =
+      holder_fine p of_record c cs x kind (λ last. frame.OpensIn last) s kinds ready leads (λ last. ready.deep) (λ access last own. (kinds, access, kind, refl, own, fits))
+
+  -- The type of a formal parameter that is a record names that record's.
+  object_named : (o : Option TypeForm) (t : ℕ) → is_this t (object_in o) ≡ true → named_in o ≡ Some t
+  object_named None t is = absurd (cc)
+  object_named (Some (record_of name parts components)) t is = absurd (cc)
+  object_named (Some (access_to name designated)) t is = absurd (cc)
+  object_named (Some (object_of record_type)) t is = ap Some (eqb-true record_type t is)
 
   -- Branches (5.3).
   branches_fine : (branches : BranchesForm) (inside : Bool) (s : State) → Ready p [] s → branches_fit p.types p.variables p.texts p.exceptions (callable_in p) inside branches ≡ true → WhereInside inside (Lands p (cells_of s.heap) s.control) → Fits p (cells_of s.heap) [] s.control → Fine p (branches_next named branches s)
@@ -151,9 +160,10 @@ module _ (p : ProgramForm) (fit : SeenFits p) (bodies : List BodyForm) (sees : S
       running [] (ready_at p [] s (frame.Computes e ∷ frame.Decides fs branches ∷ s.control) ready ready.deep)
       (Boolean, typed Boolean (type_of p.types p.variables e) (and_left own inner former), (refl, inside, and_right own inner former, and_right (own && inner) others is, lands, fits))
 
-  decided_fine : (fs : StmtsForm) (branches : BranchesForm) (v : Value) (inside : Bool) (s : State) (cells : Cells) → HasKind cells variable.Boolean v → Ready p [] s → stmts_fit p.types p.variables p.texts p.exceptions (callable_in p) inside fs ≡ true → branches_fit p.types p.variables p.texts p.exceptions (callable_in p) inside branches ≡ true → WhereInside inside (Lands p (cells_of s.heap) s.control) → Fits p (cells_of s.heap) [] s.control → Fine p (decided_next named fs branches (reads_boolean v) s)
+  decided_fine : (fs : StmtsForm) (branches : BranchesForm) (v : Value) (inside : Bool) (s : State) (cells : Cells) → HasKind p.types cells variable.Boolean v → Ready p [] s → stmts_fit p.types p.variables p.texts p.exceptions (callable_in p) inside fs ≡ true → branches_fit p.types p.variables p.texts p.exceptions (callable_in p) inside branches ≡ true → WhereInside inside (Lands p (cells_of s.heap) s.control) → Fits p (cells_of s.heap) [] s.control → Fine p (decided_next named fs branches (reads_boolean v) s)
   decided_fine fs branches Null inside s cells has ready is others lands fits = absurd has
   decided_fine fs branches (Names o) inside s cells has ready is others lands fits = absurd has
+  decided_fine fs branches (Part o first) inside s cells has ready is others lands fits = absurd has
   decided_fine fs branches (Scalar (scalar.Integer i)) inside s cells has ready is others lands fits = absurd has
   decided_fine fs branches (Scalar (scalar.Boolean true)) inside s cells has ready is others lands fits = running [] (ready_at p [] s (frame.Does fs ∷ s.control) ready ready.deep) (refl, inside, is, lands, fits)
   decided_fine fs branches (Scalar (scalar.Boolean false)) inside s cells has ready is others lands fits = branches_fine branches inside s ready others lands fits
@@ -169,9 +179,10 @@ module _ (p : ProgramForm) (fit : SeenFits p) (bodies : List BodyForm) (sees : S
   repeats_fine (Some e) fs s ready is some own fits =
       running [] (ready_at p [] s (frame.Computes e ∷ frame.Turns e fs ∷ s.control) ready ready.deep) (Boolean, typed Boolean (type_of p.types p.variables e) is, (refl, is, some, own, fits))
 
-  turned_fine : (e : ExpressionForm) (fs : StmtsForm) (v : Value) (s : State) (cells : Cells) → HasKind cells variable.Boolean v → Ready p [] s → condition_fits p.types p.variables (Some e) ≡ true → has_statement fs ≡ true → stmts_fit p.types p.variables p.texts p.exceptions (callable_in p) true fs ≡ true → Fits p (cells_of s.heap) [] s.control → Fine p (turned_next named e fs (reads_boolean v) s)
+  turned_fine : (e : ExpressionForm) (fs : StmtsForm) (v : Value) (s : State) (cells : Cells) → HasKind p.types cells variable.Boolean v → Ready p [] s → condition_fits p.types p.variables (Some e) ≡ true → has_statement fs ≡ true → stmts_fit p.types p.variables p.texts p.exceptions (callable_in p) true fs ≡ true → Fits p (cells_of s.heap) [] s.control → Fine p (turned_next named e fs (reads_boolean v) s)
   turned_fine e fs Null s cells has ready is some own fits = absurd has
   turned_fine e fs (Names o) s cells has ready is some own fits = absurd has
+  turned_fine e fs (Part o first) s cells has ready is some own fits = absurd has
   turned_fine e fs (Scalar (scalar.Integer i)) s cells has ready is some own fits = absurd has
   turned_fine e fs (Scalar (scalar.Boolean true)) s cells has ready is some own fits = turn_fine (Some e) fs s ready is some own fits
   turned_fine e fs (Scalar (scalar.Boolean false)) s cells has ready is some own fits = running [] ready fits
@@ -186,9 +197,10 @@ module _ (p : ProgramForm) (fit : SeenFits p) (bodies : List BodyForm) (sees : S
   exit_fine true (Some e) s ready is lands fits =
       running [] (ready_at p [] s (frame.Computes e ∷ frame.Exits ∷ s.control) ready ready.deep) (Boolean, typed Boolean (type_of p.types p.variables e) is, (refl, lands, fits))
 
-  exited_fine : (v : Value) (s : State) (cells : Cells) → HasKind cells variable.Boolean v → Ready p [] s → Lands p (cells_of s.heap) s.control → Fits p (cells_of s.heap) [] s.control → Fine p (exited_next named (reads_boolean v) s)
+  exited_fine : (v : Value) (s : State) (cells : Cells) → HasKind p.types cells variable.Boolean v → Ready p [] s → Lands p (cells_of s.heap) s.control → Fits p (cells_of s.heap) [] s.control → Fine p (exited_next named (reads_boolean v) s)
   exited_fine Null s cells has ready lands fits = absurd has
   exited_fine (Names o) s cells has ready lands fits = absurd has
+  exited_fine (Part o first) s cells has ready lands fits = absurd has
   exited_fine (Scalar (scalar.Integer i)) s cells has ready lands fits = absurd has
   exited_fine (Scalar (scalar.Boolean true)) s cells has ready lands fits = exit_jump s ready lands fits
   exited_fine (Scalar (scalar.Boolean false)) s cells has ready lands fits = running [] ready fits
@@ -211,25 +223,25 @@ module _ (p : ProgramForm) (fit : SeenFits p) (bodies : List BodyForm) (sees : S
   counts_fine true x value last fs s ready is some own fits = count_turn_fine x value last fs s ready is some own fits
   counts_fine false x value last fs s ready is some own fits = running [] ready fits
 
-  high_fine : (x : ℕ) (fs : StmtsForm) (low : ℤ) (high : Value) (s : State) (cells : Cells) → HasKind cells variable.Integer high → Ready p [] s → variable_kind p.variables x ≡ Some variable.Integer → has_statement fs ≡ true → stmts_fit p.types p.variables p.texts p.exceptions (callable_in p) true fs ≡ true → Fits p (cells_of s.heap) [] s.control → Fine p (ranges_next named x fs (Some low) (reads_integer high) s)
+  high_fine : (x : ℕ) (fs : StmtsForm) (low : ℤ) (high : Value) (s : State) (cells : Cells) → HasKind p.types cells variable.Integer high → Ready p [] s → variable_kind p.variables x ≡ Some variable.Integer → has_statement fs ≡ true → stmts_fit p.types p.variables p.texts p.exceptions (callable_in p) true fs ≡ true → Fits p (cells_of s.heap) [] s.control → Fine p (ranges_next named x fs (Some low) (reads_integer high) s)
   high_fine x fs low Null s cells has ready is some own fits = absurd has
   high_fine x fs low (Names o) s cells has ready is some own fits = absurd has
+  high_fine x fs low (Part o first) s cells has ready is some own fits = absurd has
   high_fine x fs low (Scalar (scalar.Integer high)) s cells has ready is some own fits = counts_fine (int_le low high) x low high fs s ready is some own fits
   high_fine x fs low (Scalar (scalar.Boolean b)) s cells has ready is some own fits = absurd has
 
-  ranges_fine : (x : ℕ) (fs : StmtsForm) (low high : Value) (s : State) (cells : Cells) → HasKind cells variable.Integer low → HasKind cells variable.Integer high → Ready p [] s → variable_kind p.variables x ≡ Some variable.Integer → has_statement fs ≡ true → stmts_fit p.types p.variables p.texts p.exceptions (callable_in p) true fs ≡ true → Fits p (cells_of s.heap) [] s.control → Fine p (ranges_next named x fs (reads_integer low) (reads_integer high) s)
+  ranges_fine : (x : ℕ) (fs : StmtsForm) (low high : Value) (s : State) (cells : Cells) → HasKind p.types cells variable.Integer low → HasKind p.types cells variable.Integer high → Ready p [] s → variable_kind p.variables x ≡ Some variable.Integer → has_statement fs ≡ true → stmts_fit p.types p.variables p.texts p.exceptions (callable_in p) true fs ≡ true → Fits p (cells_of s.heap) [] s.control → Fine p (ranges_next named x fs (reads_integer low) (reads_integer high) s)
   ranges_fine x fs Null high s cells has too ready is some own fits = absurd has
   ranges_fine x fs (Names o) high s cells has too ready is some own fits = absurd has
+  ranges_fine x fs (Part o first) high s cells has too ready is some own fits = absurd has
   ranges_fine x fs (Scalar (scalar.Integer low)) high s cells has too ready is some own fits = high_fine x fs low high s cells too ready is some own fits
   ranges_fine x fs (Scalar (scalar.Boolean b)) high s cells has too ready is some own fits = absurd has
 
   -- The next number of the input goes to an Integer.
   gets_fine : (of_record : Bool) (cs : List ℕ) (x : ℕ) (input : List ℤ) (s : State) → Ready p [] s → is_type Integer (scalar_of (selectors_kind p.types (root_kind of_record (variable_kind p.variables x)) cs)) ≡ true → Fits p (cells_of s.heap) [] s.control → Fine p (gets_next named cs x input s)
   gets_fine of_record (c ∷ cs) x input s ready is fits =
-      let root = root_kind of_record (variable_kind p.variables x) in
-      let parts = split_kind p.types root c cs variable.Integer (integer_kind (selectors_kind p.types root (c ∷ cs)) is) in
-      let found = at (frame.Receives (last_of c cs) ∷ s.control) s in
-      root_fine p of_record (before_last c cs) x (variable.Access parts.0) found [] (ready_at p [] s found.control ready ready.deep) parts.1 ([], parts.0, refl, parts.2, fits)
+      let own = integer_kind (selectors_kind p.types (root_kind of_record (variable_kind p.variables x)) (c ∷ cs)) is in
+      holder_fine p of_record c cs x variable.Integer (λ last. frame.Receives last) s [] ready own (λ last. ready.deep) (λ access last leads. ([], access, refl, leads, fits))
   gets_fine of_record [] x [] s ready is fits = raises p [] [] EndError s ready fits
   gets_fine of_record [] x (i ∷ input) s ready is fits =
       let there = root_same of_record (variable_kind p.variables x) variable.Integer (integer_kind (root_kind of_record (variable_kind p.variables x)) is) in
@@ -246,11 +258,9 @@ module _ (p : ProgramForm) (fit : SeenFits p) (bodies : List BodyForm) (sees : S
       let leads = is_record_path p.types p.variables target in
       let filled = is_filled p.types p.variables (record_components p.types target.record_type) items in
       let others = record_fits p.types p.variables (record_components p.types target.record_type) items in
-      let found = record_found p.types (path_kind p.types p.variables target.object) target.first target.record_type (and_left leads others is) in
-      let own : is_filled p.types p.variables (Some found.1) items ≡ true = ap (λ (o : Option (List ComponentKind)). is_filled p.types p.variables o items) (sym found.3) ∙ and_left filled (list_all (item_owns p.variables) items) (and_right leads others is) in
-      let inner = frame.TargetsRecord target.first target.record_type items ∷ s.control in
-      root_fine p target.object.of_record target.object.selectors target.object.root (variable.Access found.0) (at inner s) [] (ready_at p [] s inner ready ready.deep) found.2
-      ([], found.0, found.1, refl, found.3, found.4, own, fits)
+      let filling = and_left filled (list_all (item_owns p.variables) items) (and_right leads others is) in
+      record_holder_fine p target (λ first. frame.TargetsRecord first target.record_type items) s [] ready (and_left leads others is) (λ first. ready.deep)
+      (λ access first rs recorded lies. ([], access, rs, refl, recorded, lies, ap (λ (o : Option (List ComponentKind)). is_filled p.types p.variables o items) (sym recorded) ∙ filling, fits))
   stmt_fine (frees access path) inside s ready is lands fits =
       let freed = is_freed_by p.types access (path_access p.types p.variables path) in
       frees_fine path.of_record path.selectors access path.root s [] ready (and_left freed (not (names_borrower p.variables path)) is) fits
@@ -311,14 +321,15 @@ module _ (p : ProgramForm) (fit : SeenFits p) (bodies : List BodyForm) (sees : S
       stmt_fine f inside (at (frame.Does fs ∷ s.control) s) (ready_at p [] s (frame.Does fs ∷ s.control) ready ready.deep)
       (and_left own others is) lands (refl, inside, and_right own others is, lands, fits)
 
-  line_fine : (v : Value) (s : State) (kinds : List VariableKind) (cells : Cells) → HasKind cells variable.Integer v → Ready p kinds s → Fits p (cells_of s.heap) kinds s.control → Fine p (line_next named (reads_integer v) s)
+  line_fine : (v : Value) (s : State) (kinds : List OperandKind) (cells : Cells) → HasKind p.types cells variable.Integer v → Ready p kinds s → Fits p (cells_of s.heap) kinds s.control → Fine p (line_next named (reads_integer v) s)
   line_fine Null s kinds cells has ready fits = absurd has
   line_fine (Names o) s kinds cells has ready fits = absurd has
+  line_fine (Part o first) s kinds cells has ready fits = absurd has
   line_fine (Scalar (scalar.Integer i)) s kinds cells has ready fits = running kinds ready fits
   line_fine (Scalar (scalar.Boolean b)) s kinds cells has ready fits = absurd has
 
   -- Declarations (3.11): a record object, whose components have values of their kinds.
-  made_fine : (types : List TypeDefinition) (x t : ℕ) (object : TypeNo) (cs : List ComponentKind) (values : List Value) (kinds : List VariableKind) (s : State) → HaveKinds (cells_of s.heap) cs values → Ready p kinds s → variable_kind p.variables x ≡ Some (variable.Record object) → t ≡ object.0 → reached_components p.types t ≡ Some cs → is_access p.types t ≡ false → Fits p (cells_of s.heap) kinds s.control → TypedIn p (made named types x t values s)
+  made_fine : (types : List TypeDefinition) (x t : ℕ) (object : TypeNo) (cs : List ComponentKind) (values : List Value) (kinds : List OperandKind) (s : State) → HaveKinds p.types (cells_of s.heap) cs values → Ready p kinds s → variable_kind p.variables x ≡ Some (variable.Record object) → t ≡ object.0 → reached_components p.types t ≡ Some cs → is_access p.types t ≡ false → Fits p (cells_of s.heap) kinds s.control → TypedIn p (made named types x t values s)
   made_fine types x t object cs values kinds s have ready is own reached never fits =
       running kinds (ready_made p types x t object cs values kinds s have ready is own reached never) (fits_more p kinds s.control s.heap (record_cell named t (height s.masters) values) fits)
 
@@ -330,7 +341,7 @@ module _ (p : ProgramForm) (fit : SeenFits p) (bodies : List BodyForm) (sees : S
       let known : is_object_type p.types own.0.0 ≡ true = kind_there p.types p.variables x (variable.Record own.0) fit.variables_fit own.1 in
       let there = object_reached p.types own.0.0 fit.types_fit known in
       let reached : reached_components p.types t ≡ Some there.0 = ap (reached_components p.types) own.2 ∙ there.1 in
-      let have = initials_have (cells_of s.heap) (reached_of types t) there.0 (reached_shown types t there.0 shown reached) in
+      let have = initials_have p.types (cells_of s.heap) (reached_of types t) there.0 (reached_shown types t there.0 shown reached) in
       made_fine types x t own.0 there.0 (initial_values named (reached_of types t)) [] s have ready own.1 own.2 reached (record_no_access p.types p.variables x t fit.variables_fit named_so) fits
   record_fine types shown x t (Some items) s ready is fits =
       let filled = is_filled p.types p.variables (reached_components p.types t) items in
@@ -368,10 +379,10 @@ module _ (p : ProgramForm) (fit : SeenFits p) (bodies : List BodyForm) (sees : S
       (own.0, own.2, ([], own.0, refl, own.1, (refl, fits.1, and_right (early && fitting && lending) later fits.2, fits.3, fits.4, fits.5, fits.6)))
 
   -- The leaving of a master (7.6.1).
-  ready_shorter : (kinds : List VariableKind) (s : State) → Ready p kinds s → Ready p kinds (record s { masters = shorter s.masters })
+  ready_shorter : (kinds : List OperandKind) (s : State) → Ready p kinds s → Ready p kinds (record s { masters = shorter s.masters })
   ready_shorter kinds s ready = record { filled = ready.filled; active = ready.active; runs = ready.runs; deep = omega (arith, ready.deep, length_shorter s.masters) }
 
-  members_fine : (cause : Cause) (pool : Option ℕ) (ids : List Id) (vs : List Value) (s : State) (kinds : List VariableKind) → map Names ids ≡ vs → Ready p kinds s → Fits p (cells_of s.heap) kinds s.control → Fine p (members_next named cause pool vs s)
+  members_fine : (cause : Cause) (pool : Option ℕ) (ids : List Id) (vs : List Value) (s : State) (kinds : List OperandKind) → map Names ids ≡ vs → Ready p kinds s → Fits p (cells_of s.heap) kinds s.control → Fine p (members_next named cause pool vs s)
   members_fine cause pool ids [] s kinds are ready fits = running kinds (ready_shorter kinds s ready) fits
   members_fine cause pool ids (v ∷ vs) s kinds are ready fits = λ i lt.
       let name : IsName (slice_index_or (v ∷ vs) i Null) = picked ids (v ∷ vs) i are lt in
@@ -380,26 +391,26 @@ module _ (p : ProgramForm) (fit : SeenFits p) (bodies : List BodyForm) (sees : S
       let other = ready_heap p kinds s heap same ready in
       running kinds (record { filled = other.filled; active = other.active; runs = other.runs; deep = other.deep }) (name, (name, fits_heap p kinds s s.control heap same fits))
 
-  item_leave_fine : (m : ℕ) (item : Item) (what : Owned) (s : State) (kinds : List VariableKind) → Ready p kinds s → Fits p (cells_of s.heap) kinds s.control → Fine p (item_leave_next named m item what s)
+  item_leave_fine : (m : ℕ) (item : Item) (what : Owned) (s : State) (kinds : List OperandKind) → Ready p kinds s → Fits p (cells_of s.heap) kinds s.control → Fine p (item_leave_next named m item what s)
   item_leave_fine m item (declared x) s kinds ready fits = running kinds (ready_shorter kinds s ready) fits
   item_leave_fine m item (collection access) s kinds ready fits = members_fine (Leaving m item.number) (Some (pool_of access)) (members_of s.heap item.number) (members s.heap item.number) s kinds refl ready fits
   item_leave_fine m item (record_object t) s kinds ready fits = members_fine (Leaving m item.number) None (members_of s.heap item.number) (members s.heap item.number) s kinds refl ready fits
 
-  left_jumps : (mode : Mode) (s : State) (kinds : List VariableKind) (ms : List Master) → Ready p kinds s → depth s.control ≤ length ms → Jumps p mode (record s { masters = ms; mode = mode })
-  left_jumps mode s kinds ms ready deep = record { filled = ready.filled; active = active_none (cells_of s.heap) p.variables kinds s.activations ready.active; jumps = refl; deep = deep }
+  left_jumps : (mode : Mode) (s : State) (kinds : List OperandKind) (ms : List Master) → Ready p kinds s → depth s.control ≤ length ms → Jumps p mode (record s { masters = ms; mode = mode })
+  left_jumps mode s kinds ms ready deep = record { filled = ready.filled; active = active_none p.types (cells_of s.heap) p.variables kinds s.activations ready.active; jumps = refl; deep = deep }
 
-  left_fine : (mode : Mode) (s : State) (kinds : List VariableKind) (ms : List Master) → Ready p kinds s → depth s.control ≤ length ms → Fits p (cells_of s.heap) kinds (frame.Leaves mode ∷ s.control) → TypedIn p (record s { masters = ms; mode = mode })
+  left_fine : (mode : Mode) (s : State) (kinds : List OperandKind) (ms : List Master) → Ready p kinds s → depth s.control ≤ length ms → Fits p (cells_of s.heap) kinds (frame.Leaves mode ∷ s.control) → TypedIn p (record s { masters = ms; mode = mode })
   left_fine Running s kinds ms ready deep fits = running kinds (record { filled = ready.filled; active = ready.active; runs = refl; deep = deep }) fits
   left_fine (Raising e) s kinds ms ready deep fits = on_jump (Raising e) (left_jumps (Raising e) s kinds ms ready deep) fits
   left_fine Exiting s kinds ms ready deep fits = on_jump Exiting (left_jumps Exiting s kinds ms ready deep) fits
   left_fine Returning s kinds ms ready deep fits = on_jump Returning (left_jumps Returning s kinds ms ready deep) fits
 
-  master_leave_fine : (mode : Mode) (m : ℕ) (items : List Item) (s : State) (kinds : List VariableKind) → Ready p kinds s → 1 + depth s.control ≤ length s.masters → depth s.control ≤ length (older s.masters) → Fits p (cells_of s.heap) kinds (frame.Leaves mode ∷ s.control) → Fine p (master_leave_next named mode m items s)
+  master_leave_fine : (mode : Mode) (m : ℕ) (items : List Item) (s : State) (kinds : List OperandKind) → Ready p kinds s → 1 + depth s.control ≤ length s.masters → depth s.control ≤ length (older s.masters) → Fits p (cells_of s.heap) kinds (frame.Leaves mode ∷ s.control) → Fine p (master_leave_next named mode m items s)
   master_leave_fine mode m [] s kinds ready deep below fits = left_fine mode s kinds (older s.masters) ready below fits
   master_leave_fine mode m (item ∷ items) s kinds ready deep below fits =
       item_leave_fine m item item.owned (at (frame.Leaves mode ∷ s.control) s) kinds (ready_at p kinds s (frame.Leaves mode ∷ s.control) ready deep) fits
 
-  leave_fine : (mode : Mode) (ms : List Master) (s : State) (kinds : List VariableKind) → s.masters ≡ ms → Ready p kinds s → 1 + depth s.control ≤ length s.masters → Fits p (cells_of s.heap) kinds (frame.Leaves mode ∷ s.control) → Fine p (leave_next named mode ms s)
+  leave_fine : (mode : Mode) (ms : List Master) (s : State) (kinds : List OperandKind) → s.masters ≡ ms → Ready p kinds s → 1 + depth s.control ≤ length s.masters → Fits p (cells_of s.heap) kinds (frame.Leaves mode ∷ s.control) → Fine p (leave_next named mode ms s)
   leave_fine mode [] s kinds is ready deep fits = let none : length s.masters ≡ 0 = ap length is in absurd (omega (arith, deep, none))
   leave_fine mode (m ∷ ms) s kinds is ready deep fits =
       let same : length (older s.masters) ≡ length ms = ap (λ (xs : List Master). length (older xs)) is in
@@ -407,54 +418,68 @@ module _ (p : ProgramForm) (fit : SeenFits p) (bodies : List BodyForm) (sees : S
       master_leave_fine mode m.number m.items s kinds ready deep (omega (arith, deep, same, all)) fits
 
   -- Each frame that is taken off, where no call begins or ends.
-  pub frame_fine : (types : List TypeDefinition) → map type_form types ≡ p.types → (f : Frame Value) → crosses f ≡ false → (s : State) (kinds : List VariableKind) → Ready p kinds s → depth (f ∷ s.control) ≤ length s.masters → Fits p (cells_of s.heap) kinds (f ∷ s.control) → Fine p (frame_next named types bodies f s)
+  pub frame_fine : (types : List TypeDefinition) → map type_form types ≡ p.types → (f : Frame Value) → crosses f ≡ false → (s : State) (kinds : List OperandKind) → Ready p kinds s → depth (f ∷ s.control) ≤ length s.masters → Fits p (cells_of s.heap) kinds (f ∷ s.control) → Fine p (frame_next named types bodies f s)
   frame_fine types shown (frame.Elaborates ds fs hs) stays s kinds ready deep fits =
       declarations_fine types shown ds fs hs s (ready_kinds p kinds [] s fits.0 ready) deep (refl, fits.1, fits.2, fits.3, fits.4, fits.5, fits.6)
   frame_fine types shown (frame.Does fs) stays s kinds ready deep fits = stmts_fine fs fits.1 s (ready_kinds p kinds [] s fits.0 ready) fits.2 fits.3 fits.4
   frame_fine types shown (frame.Decides fs branches) stays s kinds ready deep fits =
-      let taken = ready_kinds p kinds (variable.Boolean ∷ []) s fits.0 ready in
+      let taken = ready_kinds p kinds (of_kind variable.Boolean ∷ []) s fits.0 ready in
       decided_fine fs branches (newest named s) fits.1 (popped s) (cells_of s.heap) (newest_of p variable.Boolean [] s taken) (ready_pop p variable.Boolean [] s taken) fits.2 fits.3 fits.4 fits.5
   frame_fine types shown (frame.Repeats condition fs) stays s kinds ready deep fits = repeats_fine condition fs s (ready_kinds p kinds [] s fits.0 ready) fits.1 fits.2 fits.3 fits.4
   frame_fine types shown (frame.Turns e fs) stays s kinds ready deep fits =
-      let taken = ready_kinds p kinds (variable.Boolean ∷ []) s fits.0 ready in
+      let taken = ready_kinds p kinds (of_kind variable.Boolean ∷ []) s fits.0 ready in
       turned_fine e fs (newest named s) (popped s) (cells_of s.heap) (newest_of p variable.Boolean [] s taken) (ready_pop p variable.Boolean [] s taken) fits.1 fits.2 fits.3 fits.4
   frame_fine types shown (frame.Ranges x fs) stays s kinds ready deep fits =
-      let high = ready_kinds p kinds (variable.Integer ∷ variable.Integer ∷ []) s fits.0 ready in
-      let low = ready_pop p variable.Integer (variable.Integer ∷ []) s high in
-      ranges_fine x fs (newest named (popped s)) (newest named s) (popped (popped s)) (cells_of s.heap) (newest_of p variable.Integer [] (popped s) low) (newest_of p variable.Integer (variable.Integer ∷ []) s high)
+      let high = ready_kinds p kinds (of_kind variable.Integer ∷ of_kind variable.Integer ∷ []) s fits.0 ready in
+      let low = ready_pop p variable.Integer (of_kind variable.Integer ∷ []) s high in
+      ranges_fine x fs (newest named (popped s)) (newest named s) (popped (popped s)) (cells_of s.heap) (newest_of p variable.Integer [] (popped s) low) (newest_of p variable.Integer (of_kind variable.Integer ∷ []) s high)
       (ready_pop p variable.Integer [] (popped s) low) fits.1 fits.2 fits.3 fits.4
   frame_fine types shown (frame.Counts x value last fs) stays s kinds ready deep fits =
       counts_fine (int_le value last) x value last fs s (ready_kinds p kinds [] s fits.0 ready) fits.1 fits.2 fits.3 fits.4
   frame_fine types shown (frame.Handles hs) stays s kinds ready deep fits = running [] (ready_kinds p kinds [] s fits.0 ready) fits.4
   frame_fine types shown frame.Exits stays s kinds ready deep fits =
-      let taken = ready_kinds p kinds (variable.Boolean ∷ []) s fits.0 ready in
+      let taken = ready_kinds p kinds (of_kind variable.Boolean ∷ []) s fits.0 ready in
       exited_fine (newest named s) (popped s) (cells_of s.heap) (newest_of p variable.Boolean [] s taken) (ready_pop p variable.Boolean [] s taken) fits.1 fits.2
   frame_fine types shown frame.Closes stays s kinds ready deep fits = running kinds (ready_at p kinds s (frame.Leaves Running ∷ s.control) ready deep) fits
   frame_fine types shown (frame.Leaves mode) stays s kinds ready deep fits = leave_fine mode s.masters s kinds refl ready deep fits
   frame_fine types shown (frame.Calls procedure b actuals) stays s kinds ready deep fits = absurd (cc)
-  frame_fine types shown (frame.Returns actuals) stays s kinds ready deep fits = absurd (cc)
+  frame_fine types shown (frame.Returns actuals references) stays s kinds ready deep fits = absurd (cc)
   frame_fine types shown (frame.Evaluates right) stays s kinds ready deep fits = right_fine p types shown right fits.0 s kinds ready fits.1 fits.2
   frame_fine types shown (frame.Computes e) stays s kinds ready deep fits = expression_fine p e fits.0 s kinds ready fits.1 fits.2
   frame_fine types shown (frame.Follows cs) stays s kinds ready deep fits =
-      let taken = ready_kinds p kinds (fits.1 ∷ fits.0) s fits.3 ready in
-      path_fine p cs (newest named s) fits.1 fits.2 (popped s) fits.0 (ready_pop p fits.1 fits.0 s taken) (newest_of p fits.1 fits.0 s taken) fits.4 fits.5
+      let taken = ready_kinds p kinds (of_kind fits.1 ∷ fits.0) s fits.3 ready in
+      path_fine p cs (newest named s) fits.1 fits.2 (popped s) fits.0 (ready_pop p fits.1 fits.0 s taken) (newest_of p fits.1 fits.0 s taken) fits.5 fits.4 fits.6
   frame_fine types shown (frame.TestsNull equal) stays s kinds ready deep fits =
-      let taken = ready_kinds p kinds (variable.Access fits.1 ∷ fits.0) s fits.2 ready in
+      let taken = ready_kinds p kinds (of_kind (variable.Access fits.1) ∷ fits.0) s fits.2 ready in
       null_test_fine p equal fits.1 (newest named s) (popped s) fits.0 (cells_of s.heap) (newest_of p (variable.Access fits.1) fits.0 s taken) (ready_pop p (variable.Access fits.1) fits.0 s taken) fits.3
+  frame_fine types shown (frame.Refers q) stays s kinds ready deep fits =
+      let leads = is_record_path p.types p.variables q in
+      let this = is_this q.record_type (object_in (slice_get p.types fits.0.0)) in
+      let named_so : reached_components p.types fits.0.0 ≡ record_components p.types q.record_type = ap (components_reached p.types) (object_named (slice_get p.types fits.0.0) q.record_type (and_right leads this fits.1)) in
+      record_holder_fine p q (λ first. frame.RefersIn first q.record_type) s kinds ready (and_left leads this fits.1) (λ first. ready.deep)
+      (λ access first rs recorded lies. (kinds, access, fits.0, rs, refl, recorded, lies, named_so ∙ recorded, fits.2))
+  frame_fine types shown (frame.RefersIn first t) stays s kinds ready deep fits =
+      let taken = ready_kinds p kinds (of_kind (variable.Access fits.1) ∷ fits.0) s fits.4 ready in
+      subst (λ (m : ℕ). Fine p (refers_next named (newest named s) first m (look s.heap (newest named s)) (popped s))) (sym (width_shown types t fits.3 shown fits.5))
+      (refers_fine p (newest named s) fits.1 fits.2 first fits.3 (popped s) fits.0 (ready_pop p (variable.Access fits.1) fits.0 s taken) (newest_of p (variable.Access fits.1) fits.0 s taken) fits.6 fits.7 fits.8)
+  frame_fine types shown (frame.Opens path) stays s kinds ready deep fits = open_fine path.of_record path.selectors path.root fits.0 s kinds ready fits.1 fits.2 fits.3
+  frame_fine types shown (frame.OpensIn c) stays s kinds ready deep fits =
+      let taken = ready_kinds p kinds (of_kind (variable.Access fits.1) ∷ fits.0) s fits.3 ready in
+      opens_fine p (newest named s) fits.1 c fits.2 (popped s) fits.0 (ready_pop p (variable.Access fits.1) fits.0 s taken) (newest_of p (variable.Access fits.1) fits.0 s taken) fits.4 fits.5
   frame_fine types shown (frame.Continues links) stays s kinds ready deep fits =
-      links_fine p links fits.1 fits.2 s fits.0 (ready_kinds p kinds (kind_of fits.1 ∷ fits.0) s fits.3 ready) fits.4 fits.5
+      links_fine p links fits.1 fits.2 s fits.0 (ready_kinds p kinds (of_kind (kind_of fits.1) ∷ fits.0) s fits.3 ready) fits.4 fits.5
   frame_fine types shown (frame.Applies operator) stays s kinds ready deep fits =
-      let right = ready_kinds p kinds (kind_of fits.2 ∷ kind_of fits.1 ∷ fits.0) s fits.4 ready in
-      let left = ready_pop p (kind_of fits.2) (kind_of fits.1 ∷ fits.0) s right in
+      let right = ready_kinds p kinds (of_kind (kind_of fits.2) ∷ of_kind (kind_of fits.1) ∷ fits.0) s fits.4 ready in
+      let left = ready_pop p (kind_of fits.2) (of_kind (kind_of fits.1) ∷ fits.0) s right in
       outcome_fine p (binary_given operator (newest named (popped s)) (newest named s)) fits.3 (popped (popped s)) fits.0 (ready_pop p (kind_of fits.1) fits.0 (popped s) left)
-      (binary_gives (cells_of s.heap) operator fits.1 fits.2 fits.3 (newest named (popped s)) (newest named s) fits.5 (newest_of p (kind_of fits.1) fits.0 (popped s) left) (newest_of p (kind_of fits.2) (kind_of fits.1 ∷ fits.0) s right)) fits.6
+      (binary_gives p.types (cells_of s.heap) operator fits.1 fits.2 fits.3 (newest named (popped s)) (newest named s) fits.5 (newest_of p (kind_of fits.1) fits.0 (popped s) left) (newest_of p (kind_of fits.2) (of_kind (kind_of fits.1) ∷ fits.0) s right)) fits.6
   frame_fine types shown (frame.AppliesAlone operator) stays s kinds ready deep fits =
-      let taken = ready_kinds p kinds (kind_of fits.1 ∷ fits.0) s fits.3 ready in
+      let taken = ready_kinds p kinds (of_kind (kind_of fits.1) ∷ fits.0) s fits.3 ready in
       outcome_fine p (unary_given operator (newest named s)) fits.2 (popped s) fits.0 (ready_pop p (kind_of fits.1) fits.0 s taken)
-      (unary_gives (cells_of s.heap) operator fits.1 fits.2 (newest named s) fits.4 (newest_of p (kind_of fits.1) fits.0 s taken)) fits.5
+      (unary_gives p.types (cells_of s.heap) operator fits.1 fits.2 (newest named s) fits.4 (newest_of p (kind_of fits.1) fits.0 s taken)) fits.5
   frame_fine types shown (frame.Fills items) stays s kinds ready deep fits = items_fine p items fits.0 s kinds ready fits.1 fits.2
   frame_fine types shown (frame.Copies first t) stays s kinds ready deep fits =
-      let taken = ready_kinds p kinds (variable.Access fits.1 ∷ fits.0) s fits.3 ready in
+      let taken = ready_kinds p kinds (of_kind (variable.Access fits.1) ∷ fits.0) s fits.3 ready in
       subst (λ (m : ℕ). Fine p (copies_next named (newest named s) first m (look s.heap (newest named s)) (popped s))) (sym (width_shown types t fits.2 shown fits.4))
       (copies_fine p (newest named s) fits.1 first fits.2 (popped s) fits.0 (ready_pop p (variable.Access fits.1) fits.0 s taken) (newest_of p (variable.Access fits.1) fits.0 s taken) fits.5 fits.6)
   frame_fine types shown (frame.Creates access count) stays s kinds ready deep fits =
@@ -462,16 +487,16 @@ module _ (p : ProgramForm) (fit : SeenFits p) (bodies : List BodyForm) (sees : S
       subst (λ (m : ℕ). Fine p (new_next named access m (words_of types access) (home_of access s.masters) s)) (sym fits.4)
       (new_fine p (home_of access s.masters) access (words_of types access) s fits.0 fits.1 taken fits.3 fits.5)
   frame_fine types shown (frame.Stores x) stays s kinds ready deep fits =
-      let taken = ready_kinds p kinds (fits.1 ∷ fits.0) s fits.2 ready in
+      let taken = ready_kinds p kinds (of_kind fits.1 ∷ fits.0) s fits.2 ready in
       running fits.0 (put_in p fits.0 (popped s) x fits.1 (newest named s) (ready_pop p fits.1 fits.0 s taken) fits.3 (newest_of p fits.1 fits.0 s taken)) fits.4
   frame_fine types shown (frame.Targets c right) stays s kinds ready deep fits =
-      let taken = ready_kinds p kinds (variable.Access fits.1 ∷ fits.0) s fits.3 ready in
+      let taken = ready_kinds p kinds (of_kind (variable.Access fits.1) ∷ fits.0) s fits.3 ready in
       target_fine p (newest named s) fits.1 c right fits.2 (popped s) fits.0 (ready_pop p (variable.Access fits.1) fits.0 s taken) (newest_of p (variable.Access fits.1) fits.0 s taken) fits.4 fits.5 fits.6
   frame_fine types shown (frame.StoresIn object c) stays s kinds ready deep fits =
-      let taken = ready_kinds p kinds (fits.2 ∷ fits.0) s fits.3 ready in
+      let taken = ready_kinds p kinds (of_kind fits.2 ∷ fits.0) s fits.3 ready in
       store_fine p object fits.1 c (newest named s) fits.2 (popped s) fits.0 fits.4 (ready_pop p fits.2 fits.0 s taken) fits.5 fits.6 (newest_of p fits.2 fits.0 s taken) fits.7
   frame_fine types shown (frame.TargetsRecord first t items) stays s kinds ready deep fits =
-      let taken = ready_kinds p kinds (variable.Access fits.1 ∷ fits.0) s fits.3 ready in
+      let taken = ready_kinds p kinds (of_kind (variable.Access fits.1) ∷ fits.0) s fits.3 ready in
       subst (λ (m : ℕ). Fine p (record_target_next named (newest named s) first m items (look s.heap (newest named s)) (popped s))) (sym (width_shown types t fits.2 shown fits.4))
       (record_target_fine p (newest named s) fits.1 first fits.2 items (popped s) fits.0 (ready_pop p (variable.Access fits.1) fits.0 s taken) (newest_of p (variable.Access fits.1) fits.0 s taken) fits.5 fits.6 fits.7)
   frame_fine types shown (frame.StoresRecord object first count) stays s kinds ready deep fits =
@@ -479,13 +504,13 @@ module _ (p : ProgramForm) (fit : SeenFits p) (bodies : List BodyForm) (sees : S
       subst (λ (m : ℕ). Fine p (store_record_next named object first m (look s.heap object) s)) (sym fits.4)
       (store_record_fine p object fits.1 first fits.2 s fits.0 fits.5 taken fits.6 fits.7 fits.8)
   frame_fine types shown (frame.Receives c) stays s kinds ready deep fits =
-      let taken = ready_kinds p kinds (variable.Access fits.1 ∷ fits.0) s fits.2 ready in
+      let taken = ready_kinds p kinds (of_kind (variable.Access fits.1) ∷ fits.0) s fits.2 ready in
       receive_fine p (newest named s) fits.1 c (popped s) fits.0 (ready_pop p (variable.Access fits.1) fits.0 s taken) (newest_of p (variable.Access fits.1) fits.0 s taken) fits.3 fits.4
   frame_fine types shown (frame.FreesIn access c) stays s kinds ready deep fits =
-      let taken = ready_kinds p kinds (variable.Access fits.1 ∷ fits.0) s fits.3 ready in
+      let taken = ready_kinds p kinds (of_kind (variable.Access fits.1) ∷ fits.0) s fits.3 ready in
       free_in_fine p (newest named s) access fits.1 fits.2 c (popped s) fits.0 (ready_pop p (variable.Access fits.1) fits.0 s taken) (newest_of p (variable.Access fits.1) fits.0 s taken) fits.4 fits.5
   frame_fine types shown (frame.Declares x) stays s kinds ready deep fits =
-      let taken = ready_kinds p kinds (fits.1 ∷ fits.0) s fits.2 ready in
+      let taken = ready_kinds p kinds (of_kind fits.1 ∷ fits.0) s fits.2 ready in
       running fits.0 (ready_owning p fits.0 (put x (newest named s) (popped s)) (declared x) (put_in p fits.0 (popped s) x fits.1 (newest named s) (ready_pop p fits.1 fits.0 s taken) fits.3 (newest_of p fits.1 fits.0 s taken))) fits.4
   frame_fine types shown (frame.DeclaresRecord x t) stays s kinds ready deep fits =
       let taken = ready_kinds p kinds (onto fits.2 fits.0) s fits.3 ready in
@@ -493,7 +518,7 @@ module _ (p : ProgramForm) (fit : SeenFits p) (bodies : List BodyForm) (sees : S
       subst (λ (m : ℕ). TypedIn p (made named types x t (newest_ones named m s) (without_newest named m s))) (sym words)
       (made_fine types x t fits.1 fits.2 (newest_ones named (length fits.2) s) fits.0 (without_newest named (length fits.2) s) (newest_have p fits.2 fits.0 s taken) (ready_without p fits.2 fits.0 s taken) fits.4 fits.5 fits.6 fits.7 fits.8)
   frame_fine types shown frame.Writes stays s kinds ready deep fits =
-      let taken = ready_kinds p kinds (variable.Integer ∷ fits.0) s fits.1 ready in
+      let taken = ready_kinds p kinds (of_kind variable.Integer ∷ fits.0) s fits.1 ready in
       line_fine (newest named s) (popped s) fits.0 (cells_of s.heap) (newest_of p variable.Integer fits.0 s taken) (ready_pop p variable.Integer fits.0 s taken) fits.2
   frame_fine types shown (frame.Ends v) stays s kinds ready deep fits = end_fine v s kinds fits.0 ready fits.1
   frame_fine types shown (frame.GivesBack v cause pool) stays s kinds ready deep fits = back_fine v cause pool s kinds fits.0 ready fits.1

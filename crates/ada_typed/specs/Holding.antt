@@ -7,11 +7,11 @@ use Rattle.ada_program.specs.declared.program.VariableKind.{VariableKind}
 use Rattle.ada_program.specs.declared.program.VariableKind.TheVariants as variable
 use Rattle.ada_program.specs.declared.program.Program.{Program}
 use Rattle.ada_program.specs.ProgramForm.{TypeForm, ProgramForm, program_form, seen_in}
-use Rattle.ada_program.specs.WellFormed.{IsWellFormed, is_access, reached_components, held_kind, variable_kind}
+use Rattle.ada_program.specs.WellFormed.{IsWellFormed, is_access, reached_components, has_record_at, held_kind, variable_kind}
 use Rattle.ada_values.specs.declared.value.Value.TheVariants as scalar
 use Rattle.ada_meaning.specs.declared.state.Id.{Id}
 use Rattle.ada_meaning.specs.declared.state.Value.{Value}
-use Rattle.ada_meaning.specs.declared.state.Value.TheVariants.{Null, Names, Scalar}
+use Rattle.ada_meaning.specs.declared.state.Value.TheVariants.{Null, Names, Scalar, Part}
 use Rattle.ada_meaning.specs.State.{pool_of}
 use Rattle.ada_meaning.specs.Heap.{Cell}
 use Rattle.ada_meaning.specs.Step.{procedure_of, places, held}
@@ -28,6 +28,7 @@ IsInteger Null = ⊥
 IsInteger (Names o) = ⊥
 IsInteger (Scalar (scalar.Integer i)) = Unit {0}
 IsInteger (Scalar (scalar.Boolean b)) = ⊥
+IsInteger (Part o first) = ⊥
 
 -- A value is a Boolean (3.5.3).
 abbrev pub IsBoolean : Value → Type 0
@@ -35,6 +36,7 @@ IsBoolean Null = ⊥
 IsBoolean (Names o) = ⊥
 IsBoolean (Scalar (scalar.Integer i)) = ⊥
 IsBoolean (Scalar (scalar.Boolean b)) = Unit {0}
+IsBoolean (Part o first) = ⊥
 
 -- A name was given to an object of this access type.
 abbrev pub Designates : Cells → ℕ → Id → Type 0
@@ -45,20 +47,35 @@ abbrev pub IsAccess : Cells → ℕ → Value → Type 0
 IsAccess cells access Null = Unit {0}
 IsAccess cells access (Names o) = Designates cells access o
 IsAccess cells access (Scalar v) = ⊥
+IsAccess cells access (Part o first) = ⊥
 
--- A value is one that can be held where this kind is. A record object is named by its variable, null before that is declared.
-abbrev pub HasKind : Cells → VariableKind → Value → Type 0
-HasKind cells variable.Integer v = IsInteger v
-HasKind cells variable.Boolean v = IsBoolean v
-HasKind cells (variable.Access access) v = IsAccess cells access.0 v
-HasKind cells (variable.Record object) v = IsAccess cells object.0 v
+-- A record of the type that is known by an object's type lies in the object of this name, from a component on (6.2).
+abbrev pub LiesIn : List TypeForm → Cells → (object_type : ℕ) → Id → (first : ℕ) → Type 0
+LiesIn types cells t o first =
+    (cell : Cell Value) × (slice_get cells o.0 ≡ Some cell)
+    × (has_record_at (reached_components types cell.access) first (reached_components types t) ≡ true)
+
+-- What a record object or a record parameter holds: null before it is declared; the name of the object that is known by its type; or what refers to a
+-- record of its type (6.2).
+abbrev pub IsRecord : List TypeForm → Cells → (object_type : ℕ) → Value → Type 0
+IsRecord types cells t Null = Unit {0}
+IsRecord types cells t (Names o) = Designates cells t o
+IsRecord types cells t (Scalar v) = ⊥
+IsRecord types cells t (Part o first) = LiesIn types cells t o first
+
+-- A value is one that can be held where this kind is.
+abbrev pub HasKind : List TypeForm → Cells → VariableKind → Value → Type 0
+HasKind types cells variable.Integer v = IsInteger v
+HasKind types cells variable.Boolean v = IsBoolean v
+HasKind types cells (variable.Access access) v = IsAccess cells access.0 v
+HasKind types cells (variable.Record object) v = IsRecord types cells object.0 v
 
 -- Values are those of the components of an object, one for each, in order.
-abbrev pub HaveKinds : Cells → List ComponentKind → List Value → Type 0
-HaveKinds cells [] [] = Unit {0}
-HaveKinds cells [] (v ∷ vs) = ⊥
-HaveKinds cells (c ∷ cs) [] = ⊥
-HaveKinds cells (c ∷ cs) (v ∷ vs) = HasKind cells (held_kind c) v × HaveKinds cells cs vs
+abbrev pub HaveKinds : List TypeForm → Cells → List ComponentKind → List Value → Type 0
+HaveKinds types cells [] [] = Unit {0}
+HaveKinds types cells [] (v ∷ vs) = ⊥
+HaveKinds types cells (c ∷ cs) [] = ⊥
+HaveKinds types cells (c ∷ cs) (v ∷ vs) = HasKind types cells (held_kind c) v × HaveKinds types cells cs vs
 
 -- An object of an access type is from that type's pool (13.11).
 abbrev pub IsPooled : List TypeForm → Cell Value → Type 0
@@ -67,7 +84,7 @@ IsPooled types cell = is_access types cell.access ≡ true → cell.home.pool �
 -- What lies in an object is what the record type has that its access type designates, or that it is of; and it is from that type's pool.
 abbrev pub IsFilled : List TypeForm → Cells → Cell Value → Type 0
 IsFilled types cells cell =
-    (components : List ComponentKind) × (reached_components types cell.access ≡ Some components) × HaveKinds cells components cell.values
+    (components : List ComponentKind) × (reached_components types cell.access ≡ Some components) × HaveKinds types cells components cell.values
     × IsPooled types cell
 
 -- What lies in one object, and in all.
@@ -87,8 +104,8 @@ abbrev pub seen_now : ProgramForm → State → ProgramForm
 seen_now p s = seen_in (procedure_of s.activations) p
 
 -- The variable of a number has a place in the running activation, and a value of this kind lies there.
-abbrev pub HoldsKind : State → ℕ → VariableKind → Type 0
-HoldsKind s x kind = (slice_get (places s) x ≡ Some (held named s x)) × HasKind (cells_of s.heap) kind (held named s x)
+abbrev pub HoldsKind : List TypeForm → State → ℕ → VariableKind → Type 0
+HoldsKind types s x kind = (slice_get (places s) x ≡ Some (held named s x)) × HasKind types (cells_of s.heap) kind (held named s x)
 
 -- In every run of a well-formed program, each variable of the body that runs holds a value of its kind.
 abbrev pub VariablesHaveTheirKinds : Type 0
@@ -97,4 +114,4 @@ VariablesHaveTheirKinds =
     (input : List ℤ) (events : List Event) (last : State) (x : ℕ) (kind : VariableKind) →
     Run program (first_state program input) events last →
     variable_kind (seen_now (program_form program) last).variables x ≡ Some kind →
-    HoldsKind last x kind
+    HoldsKind (program_form program).types last x kind

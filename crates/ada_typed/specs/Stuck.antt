@@ -42,7 +42,7 @@ GetsStuck program = (input : List ℤ) × (events : List Event) × (last : State
 
 -- The premise is met: a well-formed program declares, allocates with items and without, follows, assigns, copies a record, repeats, counts, compares
 -- with null, chooses, reads, writes, frees, exits, raises an exception in a block and handles it, calls a procedure with formal parameters, also of an access
--- type, which returns, and comes to its end.
+-- type, which returns, and one with a record and a component for its formal parameters, and comes to its end.
 abbrev pub AWellFormedProgramFinishes : Type 0
 AWellFormedProgramFinishes = (program : Program) × IsWellFormed (program_form program) × Finishes program
 

@@ -28,7 +28,8 @@ pub fn variables_have_their_kinds()
 
 /// The premise is met: a well-formed program declares, allocates with items and without, follows, assigns, copies a
 /// record, repeats, counts, compares with null, chooses, reads, writes, frees, exits, raises an exception in a block and
-/// handles it, calls a procedure with formal parameters, also of an access type, which returns, and comes to its end.
+/// handles it, calls a procedure with formal parameters, also of an access type, which returns, and one with a record and
+/// a component for its formal parameters, and comes to its end.
 pub fn a_well_formed_program_finishes()
     ensures { AWellFormedProgramFinishes }
 {}

@@ -1,4 +1,4 @@
--- Calls: what is created by each procedure that may be called at a place nests there, and wherever more is open.
+-- Calls: what is created by each procedure that may be called at a place nests there, and wherever more is open that no procedure creates.
 
 use Rattle.std.proofs.Common.{◌≡◌, ℕ, Bool, true, false, cond, List, [], ◌∷◌, ◌++◌, length, refl, sym}
 use Rattle.std.specs.Prelude.{Option, Some, None, bytes_eq, codes}
@@ -11,14 +11,15 @@ use Rattle.ada_resolve.specs.declared.scope.Entity.{Entity}
 use Rattle.ada_resolve.specs.declared.scope.Entity.TheVariants as entity
 use Rattle.ada_resolve.specs.Known.{Known, Named, Part, entered, named, from_part, named_in, inner_first, outermost, unit_named, visible, parts}
 use Rattle.ada_resolve.specs.Library.{predefined}
-use Rattle.ada_resolve.proofs.Nesting.Callees.{Within, IsPlainBody, body_wider, callees_widen, callees_in, callees_last}
+use Rattle.ada_resolve.proofs.Nesting.Callees.{Wider, wider_on, bodies_theirs, body_wider, callees_widen, callees_in, callees_last}
 use Rattle.ada_resolve.proofs.WellFormed.Growing.{AreIn}
 use Rattle.ada_resolve.proofs.WellFormed.Names.{all_entered, first_of_two, within_of, unit_only}
+use Rattle.ada_resolve.proofs.WellFormed.Tables.{get_more, get_last}
 
--- a procedure creates what nests wherever these are open, and maybe others
+-- a procedure creates what nests wherever these are open, and maybe others that no body creates
 abbrev pub IsCallee : List TypeForm → List BodyForm → List ℕ → ℕ → Type 0
 IsCallee types bodies around q =
-    (f : (around : List ℕ) → Bool) × (slice_get (callees_from types [] bodies) q ≡ Some f) × ((wider : List ℕ) → Within around wider → f wider ≡ true)
+    (f : (around : List ℕ) → Bool) × (slice_get (callees_from types [] bodies) q ≡ Some f) × ((wider : List ℕ) → Wider bodies around wider → f wider ≡ true)
 
 abbrev pub EntityCalls : List TypeForm → List BodyForm → List ℕ → Entity → Type 0
 EntityCalls types bodies around (entity.Callable q) = IsCallee types bodies around q.0
@@ -34,12 +35,12 @@ PartsCall types bodies around (p ∷ ps) = NamesCall types bodies around p.names
 
 module _ (types : List TypeForm) where
   -- behind more bodies, and where more is open
-  entity_on : (bs cs : List BodyForm) (us vs : List ℕ) → AreIn bs cs → Within us vs → (e : Entity) → EntityCalls types bs us e → EntityCalls types cs vs e
+  entity_on : (bs cs : List BodyForm) (us vs : List ℕ) → AreIn bs cs → Wider bs us vs → (e : Entity) → EntityCalls types bs us e → EntityCalls types cs vs e
   entity_on bs cs us vs g w (entity.Callable q) f =
-      (f.0, callees_in types bs cs g q.0 f.0 f.1, λ wider more. f.2 wider (λ t is. more t (w t is)))
+      (f.0, callees_in types bs cs g q.0 f.0 f.1, λ wider more. f.2 wider (wider_on bs cs us vs wider g w more))
   entity_on bs cs us vs g w e f = tt
 
-  pub calls_on : (bs cs : List BodyForm) (us vs : List ℕ) → AreIn bs cs → Within us vs → (ps : List Part) → PartsCall types bs us ps → PartsCall types cs vs ps
+  pub calls_on : (bs cs : List BodyForm) (us vs : List ℕ) → AreIn bs cs → Wider bs us vs → (ps : List Part) → PartsCall types bs us ps → PartsCall types cs vs ps
   calls_on bs cs us vs g w [] f = tt
   calls_on bs cs us vs g w (p ∷ ps) f = (λ text e is. entity_on bs cs us vs g w e (f.0 text e is), calls_on bs cs us vs g w ps f.1)
 
@@ -48,13 +49,15 @@ module _ (types : List TypeForm) where
   calls_entered bodies around ns text e own old =
       all_entered (λ t x. EntityCalls types bodies around x) ns text e own (λ t x ne is. old t x is)
 
-  -- one more procedure, whose body creates no collection and nests
-  pub callee_more : (bodies : List BodyForm) (around : List ℕ) (b : BodyForm) → ((n : ℕ) (c : BodyForm) → slice_get bodies n ≡ Some c → IsPlainBody c) → IsPlainBody b → body_nests types (callees_from types [] bodies) b around ≡ true → IsCallee types (bodies ++ b ∷ []) around (length bodies)
-  callee_more bodies around b all own e = (
-    body_nests types (callees_from types [] bodies) b,
-    callees_last types bodies b,
-    λ wider more. body_wider types (callees_from types [] bodies) (callees_widen types [] bodies (λ n f is. absurd (cc is)) all) b own around wider more e,
-  )
+  -- one more procedure, whose body nests
+  pub callee_more : (bodies : List BodyForm) (around : List ℕ) (b : BodyForm) → body_nests types (callees_from types [] bodies) b around ≡ true → IsCallee types (bodies ++ b ∷ []) around (length bodies)
+  callee_more bodies around b e =
+      let all = bodies ++ b ∷ [] in
+      let before = callees_widen types all [] bodies (λ n f is. absurd (cc is)) (λ n c is. bodies_theirs all n c (get_more bodies b n c is)) in (
+        body_nests types (callees_from types [] bodies) b,
+        callees_last types bodies b,
+        λ wider more. body_wider types all (callees_from types [] bodies) before b (bodies_theirs all (length bodies) b (get_last bodies b)) around wider more e,
+      )
 
   -- nothing predefined is such a procedure
   standard_calls : (bs : List BodyForm) (us : List ℕ) (x : Entity) (a b c d f g h : Bool) → cond a (Some entity.Integer) (cond b (Some entity.Boolean) (cond c (Some (entity.Truth true)) (cond d (Some (entity.Truth false)) (cond f (Some (entity.Exception ConstraintError)) (cond g (Some (entity.Exception ProgramError)) (cond h (Some (entity.Exception StorageError)) None)))))) ≡ Some x → EntityCalls types bs us x

@@ -1,12 +1,11 @@
 -- Where the types of a part have ended: its collections nest in those around it, and its statements stand where all of these are open.
 
-use Rattle.std.proofs.Common.{◌≡◌, ◌∙◌, ℕ, ◌<◌, ◌≤◌, Bool, true, false, cond, List, [], ◌∷◌, ◌++◌, length, refl, sym, ap, arith, eqb, eq-eqb}
+use Rattle.std.proofs.Common.{◌≡◌, ◌∙◌, ℕ, ◌+◌, ◌<◌, ◌≤◌, Bool, true, false, cond, List, [], ◌∷◌, ◌++◌, length, refl, sym, arith}
 use Rattle.std.specs.Prelude.{Option, Some, None, ◌||◌, not, nat_le, is_some}
 use Rattle.std.specs.List.{list_all, slice_get}
 use Rattle.std.proofs.lemmas.Bool.{leb-true, leb-false}
 use Rattle.ada_program.specs.declared.program.ComponentKind.{ComponentKind}
 use Rattle.ada_program.specs.declared.program.ComponentKind.TheVariants as component
-use Rattle.ada_program.specs.Form.{DeclarationForm, collects, declares, declares_record}
 use Rattle.ada_program.specs.Nested.{collected, record_objects, is_one_of, kind_is_open, are_open, collection_nests, record_nests, part_nests}
 use Rattle.ada_program.specs.ProgramForm.{PartForm, TypeForm, record_of, access_to, object_of}
 use Rattle.ada_program.specs.WellFormed as fits
@@ -14,21 +13,15 @@ use Rattle.ada_resolve.specs.declared.scope.Entity.{Entity}
 use Rattle.ada_resolve.specs.declared.scope.Entity.TheVariants as entity
 use Rattle.ada_resolve.specs.Instances.{is_collected}
 use Rattle.ada_resolve.specs.Known.{Known, named}
-use Rattle.ada_resolve.proofs.Nesting.Open.{RecordOpen, EntityOpen, OpenAt, KindLies, ComponentsLie, IsOwnType, OpenAround, one_of_both, one_of_first, one_of_second, record_opener, parts_opener}
+use Rattle.ada_resolve.proofs.Nesting.Callees.{IsAway, Wider}
+use Rattle.ada_resolve.proofs.Nesting.Open.{RecordOpen, EntityOpen, OpenAt, KindLies, ComponentsLie, IsOwnType, OpenAround, all_of, collected_is, one_of_both, one_of_first, one_of_second, record_opener, parts_opener}
 use Rattle.ada_resolve.proofs.Standing.{Sound, Complete}
 use Rattle.ada_resolve.proofs.WellFormed.Counts.{count, count_known}
-use Rattle.ada_resolve.proofs.WellFormed.Created.{due}
-use Rattle.ada_resolve.proofs.WellFormed.Elaborated.{Late}
+use Rattle.ada_resolve.proofs.WellFormed.Created.{accesses, collect_later, due}
+use Rattle.ada_resolve.proofs.WellFormed.Elaborated.{Late, ended_here}
 use Rattle.ada_resolve.proofs.WellFormed.Growing.{AreIn}
 use Rattle.ada_resolve.proofs.WellFormed.Names.{EntityFits}
 use Rattle.ada_resolve.proofs.WellFormed.Tables.{both_parts, first_part, second_part, all_get, get_within}
-
--- the collections that declarations create are those that are collected
-collected_is : (es : List DeclarationForm) (a : ℕ) → is_one_of (collected es) a ≡ is_collected a es
-collected_is [] a = refl
-collected_is (collects t ∷ es) a = ap (λ b. eqb t a || b) (collected_is es a)
-collected_is (declares x source ∷ es) a = collected_is es a
-collected_is (declares_record x object initial ∷ es) a = collected_is es a
 
 -- a part creates the collections of its own access types, and of no others
 due_most : (c d : Bool) → cond c (cond d 1 0) 0 ≤ 1
@@ -48,27 +41,36 @@ due_is_one false true true e f g = absurd (cc e)
 due_is_one false true false e f g = absurd (cc g)
 due_is_one false false d e f g = absurd (cc f)
 
-one_each : (m : Known) → Late m → (a : ℕ) → cond {A = ℕ} (is_collected a m.here.elaborated) 1 0 ≡ due m.here.first_type m.types a
-one_each m l a =
-    let most : count a m.here.elaborated ≤ 1 = rw (l.one_each a) (due_most (nat_le m.here.first_type a) (fits.is_access m.types a)) in
-    sym (count_known a m.here.elaborated most) ∙ l.one_each a
+-- no body that has ended creates a collection of an access type of the part, or of one behind it
+abbrev pub IsFresh : Known → Type 0
+IsFresh m = (a : ℕ) → m.here.first_type ≤ a → IsAway m.bodies a
 
-own_collected : (m : Known) → Late m → (a : ℕ) → is_one_of (collected m.here.elaborated) a ≡ true → (m.here.first_type ≤ a) × (fits.is_access m.types a ≡ true)
-own_collected m l a e =
-    let is = one_is_due (is_collected a m.here.elaborated) (nat_le m.here.first_type a) (fits.is_access m.types a) (one_each m l a)
+one_each : (m : Known) → Late m → IsFresh m → (a : ℕ) → cond {A = ℕ} (is_collected a m.here.elaborated) 1 0 ≡ due m.here.first_type m.types a
+one_each m l f a = sym (count_known a m.here.elaborated most) ∙ own (nat_le m.here.first_type a) refl (l.one_each a)
+  where
+    most : count a m.here.elaborated ≤ 1
+    most =
+        let due_is = l.one_each a in
+        let at_most = due_most (nat_le m.here.first_type a) (fits.is_access m.types a) in
+        omega (arith, due_is, at_most)
+
+    own : (b : Bool) → nat_le m.here.first_type a ≡ b → count a m.here.elaborated + ended_here m a ≡ cond b (accesses m.types a) 0 → count a m.here.elaborated ≡ cond b (accesses m.types a) 0
+    own true behind e =
+        let none = f a (leb-true m.here.first_type a behind) in
+        let later = collect_later m.bodies m.here.first_body a in
+        omega (arith, e, none, later)
+    own false before e = omega (arith, e)
+
+own_collected : (m : Known) → Late m → IsFresh m → (a : ℕ) → is_one_of (collected m.here.elaborated) a ≡ true → (m.here.first_type ≤ a) × (fits.is_access m.types a ≡ true)
+own_collected m l f a e =
+    let is = one_is_due (is_collected a m.here.elaborated) (nat_le m.here.first_type a) (fits.is_access m.types a) (one_each m l f a)
     (sym (collected_is m.here.elaborated a) ∙ e) in
     (leb-true m.here.first_type a is.0, is.1)
 
-collected_own : (m : Known) → Late m → (a : ℕ) → nat_le m.here.first_type a ≡ true → fits.is_access m.types a ≡ true → is_one_of (collected m.here.elaborated) a ≡ true
-collected_own m l a e f =
+collected_own : (m : Known) → Late m → IsFresh m → (a : ℕ) → nat_le m.here.first_type a ≡ true → fits.is_access m.types a ≡ true → is_one_of (collected m.here.elaborated) a ≡ true
+collected_own m l f a e g =
     collected_is m.here.elaborated a ∙
-    due_is_one (is_collected a m.here.elaborated) (nat_le m.here.first_type a) (fits.is_access m.types a) (one_each m l a) e f
-
--- a test that each element passes
-all_of : (p : ℕ → Bool) (us : List ℕ) → ((a : ℕ) → is_one_of us a ≡ true → p a ≡ true) → list_all p us ≡ true
-all_of p [] w = refl
-all_of p (u ∷ us) w =
-    both_parts (p u) (list_all p us) (w u (let own : eqb u u ≡ true = eq-eqb u u refl in rw own refl)) (all_of p us (λ a e. w a (one_of_second (u ∷ []) us a e)))
+    due_is_one (is_collected a m.here.elaborated) (nat_le m.here.first_type a) (fits.is_access m.types a) (one_each m l f a) e g
 
 -- an access type is there
 access_there : (types : List TypeForm) (a : ℕ) → fits.is_access types a ≡ true → (name : List ℕ) × (d : ℕ) × (slice_get types a ≡ Some (access_to name d))
@@ -89,7 +91,7 @@ record_there types d e = by_form (slice_get types d) refl e
     by_form (Some (access_to name d)) is e = absurd (cc e)
     by_form (Some (object_of r)) is e = absurd (cc e)
 
-module _ (around : List ℕ) (m : Known) (s : Sound m) (l : Late m) (w : OpenAround around m) where
+module _ (around : List ℕ) (m : Known) (s : Sound m) (l : Late m) (f : IsFresh m) (w : OpenAround around m) where
   -- the collections that are open where the statements of the part stand
   abbrev there : List ℕ
   there = collected m.here.elaborated ++ around
@@ -98,7 +100,7 @@ module _ (around : List ℕ) (m : Known) (s : Sound m) (l : Late m) (w : OpenAro
   own_there a lies is = by_place (nat_le m.here.first_type a) refl
     where
       by_place : (b : Bool) → nat_le m.here.first_type a ≡ b → is_one_of there a ≡ true
-      by_place true behind = one_of_first (collected m.here.elaborated) around a (collected_own m l a behind is)
+      by_place true behind = one_of_first (collected m.here.elaborated) around a (collected_own m l f a behind is)
       by_place false before = one_of_second (collected m.here.elaborated) around a (lies (leb-false m.here.first_type a before))
 
   kind_there : (k : ComponentKind) → KindLies around m.here.first_type k → fits.kind_fits m.types k ≡ true → kind_is_open there k ≡ true
@@ -135,7 +137,7 @@ module _ (around : List ℕ) (m : Known) (s : Sound m) (l : Late m) (w : OpenAro
 
   access_nests : (types : List TypeForm) → AreIn m.types types → (a : ℕ) → is_one_of (collected m.here.elaborated) a ≡ true → collection_nests types around there a ≡ true
   access_nests types g a e =
-      let own = own_collected m l a e in
+      let own = own_collected m l f a e in
       let is = access_there m.types a own.1 in
       let record_is = all_get (fits.type_fits m.types) m.types a (access_to is.0 is.1) s.types_fit is.2 in
       let r = record_designated is.1 (w.forms a (access_to is.0 is.1) own.0 is.2) record_is in
@@ -160,6 +162,18 @@ module _ (around : List ℕ) (m : Known) (s : Sound m) (l : Late m) (w : OpenAro
       (all_of (collection_nests types around there) (collected m.here.elaborated) (access_nests types g))
       (all_of (record_nests types there) (record_objects m.here.elaborated) (object_nests types g))
 
+  -- what procedures create nests where the collections of the part are open, too
+  pub own_wider : Wider m.bodies around (collected m.here.elaborated ++ around)
+  own_wider = record {
+    within = λ a e. one_of_second (collected m.here.elaborated) around a e;
+    away = λ a out e. by_part a (is_one_of (collected m.here.elaborated) a) refl (is_one_of around a) out (sym (one_of_both (collected m.here.elaborated) around a) ∙ e);
+  }
+    where
+      by_part : (a : ℕ) (b : Bool) → is_one_of (collected m.here.elaborated) a ≡ b → (c : Bool) → c ≡ false → (b || c) ≡ true → IsAway m.bodies a
+      by_part a true own c out e = f a (own_collected m l f a own).0
+      by_part a false own true out e = absurd (cc out)
+      by_part a false own false out e = absurd (cc e)
+
   -- what a name of the part stands for
   entity_own : Complete m → (text : List ℕ) (e : Entity) → named text m.here.names ≡ Some e → IsOwnType m.here.first_type e → EntityFits m.types m.variables text e → EntityOpen there m.types e
   entity_own c text (entity.Incomplete t) is own fit = c text t is
@@ -168,7 +182,7 @@ module _ (around : List ℕ) (m : Known) (s : Sound m) (l : Late m) (w : OpenAro
   entity_own c text e is own fit = tt
 
   collected_before : (a : ℕ) (b c : Bool) → is_one_of (collected m.here.elaborated) a ≡ b → is_one_of around a ≡ c → (b || c) ≡ true → a < length m.types
-  collected_before a true c own out e = let is = access_there m.types a (own_collected m l a own).1 in get_within m.types a (access_to is.0 is.1) is.2
+  collected_before a true c own out e = let is = access_there m.types a (own_collected m l f a own).1 in get_within m.types a (access_to is.0 is.1) is.2
   collected_before a false true own out e = let less = w.before a out in let first = s.bounds.first in omega (arith, less, first)
   collected_before a false false own out e = absurd (cc e)
 

@@ -329,7 +329,7 @@ ended_open around k w = ends_open around (types_go_on k) k w
 pub declaration_open : (around : List ℕ) (k : Known) (d : DeclarationTree) → Sound k → OpenAround around k → Quiet (declaration_remark (known_at k d) d) → OpenAround around (declaration_known (known_at k d) d)
 declaration_open around k (incomplete_type spot name) s w q = incomplete_open around k name s w (declaration_keeps k (incomplete_type spot name) s q)
 declaration_open around k (access_type spot name designated aspect) s w q =
-    access_open_at around k name (completed_type k name) (record_found k designated) s w (slot_of k name spot q.1.1.1.0)
+    access_open_at around k name (completed_type k name) (record_found k designated) s w (slot_of k name spot q.1.1.0)
     (declaration_keeps k (access_type spot name designated aspect) s q) (λ d is. designated_open around k designated d w is)
 declaration_open around k (record_type spot name definition) s w q =
     record_type_open around k name definition s w (slot_of k name spot q.1.0) (declaration_keeps k (record_type spot name definition) s q)

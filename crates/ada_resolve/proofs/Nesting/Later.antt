@@ -1,6 +1,6 @@
 -- Where the types of a part have ended: its collections are open from there on, objects and bodies of procedures follow, and what these create nests.
 
-use Rattle.std.proofs.Common.{◌≡◌, ◌∙◌, ℕ, ◌+◌, Bool, true, false, List, [], ◌∷◌, ◌++◌, length, length-append, refl, sym, ap, subst, arith}
+use Rattle.std.proofs.Common.{◌≡◌, ◌∙◌, ℕ, ◌+◌, ◌≤◌, Bool, true, false, List, [], ◌∷◌, ◌++◌, length, length-append, refl, sym, ap, subst, arith}
 use Rattle.std.specs.Prelude.{Option, Some, None, ◌&&◌}
 use Rattle.std.specs.List.{list_all}
 use Rattle.ada_text.specs.declared.spot.Spot.{Spot}
@@ -13,7 +13,6 @@ use Rattle.ada_program.specs.declared.program.VariableKind.TheVariants as variab
 use Rattle.ada_program.specs.Form.{ItemForm, PathForm, RightForm, value_of, DeclarationForm, collects, declares, declares_record, StmtsForm, HandlersForm}
 use Rattle.ada_program.specs.Nested.{collected, record_objects, collection_nests, record_nests, part_nests, body_nests, callees_from}
 use Rattle.ada_program.specs.ProgramForm.{TypeForm, record_of, object_of}
-use Rattle.ada_program.specs.WellFormed.{created_in_all}
 use Rattle.ada_resolve.specs.declared.scope.Entity.{Entity}
 use Rattle.ada_resolve.specs.declared.scope.Entity.TheVariants as entity
 use Rattle.ada_resolve.specs.Borrowers.{borrower_created}
@@ -26,11 +25,12 @@ use Rattle.ada_resolve.specs.Resolution.{known_at, declaration_known}
 use Rattle.ada_resolve.specs.Types.{access_defined, completed_type, record_found}
 use Rattle.ada_resolve.proofs.Elaborated.{after_full, after_names}
 use Rattle.ada_resolve.proofs.Nesting.Calls.{PartsCall, calls_on, calls_entered, callee_more}
-use Rattle.ada_resolve.proofs.Nesting.Collected.{own_nests, open_behind}
+use Rattle.ada_resolve.proofs.Nesting.Callees.{IsAway, wider_same}
+use Rattle.ada_resolve.proofs.Nesting.Collected.{IsFresh, own_nests, own_wider, open_behind}
 use Rattle.ada_resolve.proofs.Nesting.Declared.{ended_open}
-use Rattle.ada_resolve.proofs.Nesting.Open.{RecordOpen, EntityOpen, NamesOpen, PartsOpen, OpenAt, OpenAround, EntityLies, one_of_second, record_later}
-use Rattle.ada_resolve.proofs.Nesting.Plain.{NoneIn, bodies_plain}
-use Rattle.ada_resolve.proofs.Standing.{Sound, Complete, longer, ended_sound, around_body, InBody, left_body}
+use Rattle.ada_resolve.proofs.Nesting.Open.{RecordOpen, EntityOpen, NamesOpen, PartsOpen, OpenAt, OpenAround, EntityLies, record_later}
+use Rattle.ada_resolve.proofs.Standing.{Sound, Complete, longer, ended_sound, ended_keeps, around_body, InBody, left_body}
+use Rattle.ada_resolve.proofs.WellFormed.Alike.{after_alike}
 use Rattle.ada_resolve.proofs.WellFormed.Elaborated.{InOrder, after_late}
 use Rattle.ada_resolve.proofs.WellFormed.Growing.{AreIn}
 use Rattle.ada_resolve.proofs.WellFormed.Names.{all_entered}
@@ -94,6 +94,7 @@ module _ (types : List TypeForm) where
   pub record EarlyOpen (around : List ℕ) (k : Known) : Type 0 where
     pub lies : OpenAround around k
     pub calls : PartsCall types k.bodies around (parts k)
+    pub fresh : IsFresh k
 
   pub data State (around : List ℕ) (k : Known) : Type 0 where
     early : EarlyOpen around k → State around k
@@ -115,14 +116,16 @@ module _ (types : List TypeForm) where
       let sound = ended_sound k s in
       let late = after_late k o in
       let lies = ended_open around k w.lies in
+      let fresh : IsFresh m = λ a behind.
+      subst (λ bs. IsAway bs a) (sym (after_alike k).bodies) (w.fresh a (subst (λ n. n ≤ a) (ended_keeps k).first_type behind)) in
       let complete : Complete m = λ text t is. c text t (ap (λ (ns : List Named). named text ns) (sym (after_names k)) ∙ is) in
       let cs = collected m.here.elaborated in
       record {
         place = record {
-          open_at = open_behind around m sound late lies complete;
-          calls = calls_on types m.bodies m.bodies around (cs ++ around) (λ i x is. is) (λ t e. one_of_second cs around t e) (parts m) (after_calls around k w.calls);
+          open_at = open_behind around m sound late fresh lies complete;
+          calls = calls_on types m.bodies m.bodies around (cs ++ around) (λ i x is. is) (own_wider around m sound late fresh lies) (parts m) (after_calls around k w.calls);
         };
-        nests = λ g. own_nests around m sound late lies types g;
+        nests = λ g. own_nests around m sound late fresh lies types g;
       }
 
   -- an object of an elementary type
@@ -196,22 +199,21 @@ module _ (types : List TypeForm) where
   late_borrower around k name None w = w
   late_borrower around k name (Some lender) w = late_value around k name true (variable.Access lender.1) (value_of lender.0) w
 
-  -- the body of a procedure, which creates no collection and nests where it stands
-  pub late_body : (around : List ℕ) (k z : Known) (head : HeadTree) (fs : StmtsForm) (hs : HandlersForm) (last : Spot) → LateOpen around k → InBody (around_body k head) z → NoneIn (created_in_all (z.bodies ++ body_of z fs hs last ∷ [])) → body_nests types (callees_from types [] z.bodies) (body_of z fs hs last) (collected k.here.elaborated ++ around) ≡ true → LateOpen around (declared (left_body (around_body k head) z (body_of z fs hs last)) head.name.text (entity.Callable (next_procedure z)))
-  late_body around k z head fs hs last w f none h =
+  -- the body of a procedure, which nests where it stands
+  pub late_body : (around : List ℕ) (k z : Known) (head : HeadTree) (fs : StmtsForm) (hs : HandlersForm) (last : Spot) → LateOpen around k → InBody (around_body k head) z → body_nests types (callees_from types [] z.bodies) (body_of z fs hs last) (collected k.here.elaborated ++ around) ≡ true → LateOpen around (declared (left_body (around_body k head) z (body_of z fs hs last)) head.name.text (entity.Callable (next_procedure z)))
+  late_body around k z head fs hs last w f h =
       let b = body_of z fs hs last in
       let us = collected k.here.elaborated ++ around in
       let text = head.name.text in
       let ns = k.here.names in
       let e = entity.Callable (next_procedure z) in
       let all = z.bodies ++ b ∷ [] in
-      let plain = bodies_plain all none in
       let grows : AreIn k.bodies all = λ i x is. get_more z.bodies b i x (f.bodies i x is) in
       let types_in : AreIn k.types z.types = λ i x is. f.types i x is in
       let more = longer k.types z.types types_in in
       let old = parts_later us k.types z.types types_in (parts k) w.place.open_at.names in
-      let called = calls_on types k.bodies all us us grows (λ t is. is) (parts k) w.place.calls in
-      let own = callee_more types z.bodies us b (λ n c is. plain n c (get_more z.bodies b n c is)) (plain (length z.bodies) b (get_last z.bodies b)) h in
+      let called = calls_on types k.bodies all us us grows (wider_same k.bodies us) (parts k) w.place.calls in
+      let own = callee_more types z.bodies us b h in
       record {
         place = record {
           open_at = record {

@@ -1,22 +1,23 @@
 -- Which collections are open at a place (7.6.1): those of the parts around it. What is said of a place names them, by the numbers of their
 -- access types, in the list `around`. All are created before the place, so their numbers are below that of any type that is declared from there on.
 
-use Rattle.std.proofs.Common.{◌≡◌, ◌∙◌, ℕ, ◌<◌, ◌≤◌, Bool, true, false, cond, List, [], ◌∷◌, ◌++◌, length, refl, sym, ap, eqb, arith}
+use Rattle.std.proofs.Common.{◌≡◌, ◌∙◌, ℕ, ◌<◌, ◌≤◌, Bool, true, false, cond, List, [], ◌∷◌, ◌++◌, length, refl, sym, ap, subst, eqb, eqb-true, eq-eqb, arith}
 use Rattle.std.specs.Prelude.{Option, Some, None, ◌||◌, bytes_eq, codes}
 use Rattle.std.specs.List.{list_all, slice_get}
 use Rattle.ada_program.specs.declared.program.ComponentKind.{ComponentKind}
 use Rattle.ada_program.specs.declared.program.ComponentKind.TheVariants as component
 use Rattle.ada_program.specs.declared.program.Exception.TheVariants.{ConstraintError, ProgramError, StorageError}
-use Rattle.ada_program.specs.Form.{DeclarationForm}
-use Rattle.ada_program.specs.Nested.{is_one_of, kind_is_open, record_objects}
+use Rattle.ada_program.specs.Form.{DeclarationForm, collects, declares, declares_record}
+use Rattle.ada_program.specs.Nested.{collected, is_one_of, kind_is_open, record_objects}
 use Rattle.ada_program.specs.ProgramForm.{PartForm, TypeForm, record_of, access_to, object_of}
 use Rattle.ada_resolve.specs.declared.library.Withs.{Withs}
 use Rattle.ada_resolve.specs.declared.scope.Entity.{Entity}
 use Rattle.ada_resolve.specs.declared.scope.Entity.TheVariants as entity
+use Rattle.ada_resolve.specs.Instances.{is_collected}
 use Rattle.ada_resolve.specs.Known.{Known, Named, Part, named, from_part, named_in, inner_first, outermost, unit_named, visible, parts}
 use Rattle.ada_resolve.specs.Library.{predefined}
 use Rattle.ada_resolve.proofs.WellFormed.Names.{first_of_two, within_of, unit_only}
-use Rattle.ada_resolve.proofs.WellFormed.Tables.{all_weaker}
+use Rattle.ada_resolve.proofs.WellFormed.Tables.{all_weaker, both_parts, first_part, second_part}
 
 -- the record type of a number is there, and its components name collections that are open around
 abbrev pub RecordOpen : (around : List ℕ) → List TypeForm → ℕ → Type 0
@@ -196,3 +197,24 @@ parts_opener us vs types (p ∷ ps) w = (λ text e is. entity_opener us vs types
 -- where types stay, records stay open
 pub record_later : (around : List ℕ) (types more : List TypeForm) (t : ℕ) → ((form : TypeForm) → slice_get types t ≡ Some form → slice_get more t ≡ Some form) → RecordOpen around types t → RecordOpen around more t
 record_later around types more t g w = (w.0, w.1, w.2, g (record_of w.0 w.1 w.2) w.3, w.4)
+
+-- the collections that declarations create are those that are collected
+pub collected_is : (es : List DeclarationForm) (a : ℕ) → is_one_of (collected es) a ≡ is_collected a es
+collected_is [] a = refl
+collected_is (collects t ∷ es) a = ap (λ b. eqb t a || b) (collected_is es a)
+collected_is (declares x source ∷ es) a = collected_is es a
+collected_is (declares_record x object initial ∷ es) a = collected_is es a
+
+-- a test that each element passes, and that each passes
+pub all_of : (p : ℕ → Bool) (us : List ℕ) → ((a : ℕ) → is_one_of us a ≡ true → p a ≡ true) → list_all p us ≡ true
+all_of p [] w = refl
+all_of p (u ∷ us) w =
+    both_parts (p u) (list_all p us) (w u (let own : eqb u u ≡ true = eq-eqb u u refl in rw own refl)) (all_of p us (λ a e. w a (one_of_second (u ∷ []) us a e)))
+
+pub of_all : (p : ℕ → Bool) (us : List ℕ) → list_all p us ≡ true → (a : ℕ) → is_one_of us a ≡ true → p a ≡ true
+of_all p [] e a is = absurd (cc is)
+of_all p (u ∷ us) e a is = by_test (eqb u a) refl (of_all p us (second_part (p u) (list_all p us) e) a) is
+  where
+    by_test : (b : Bool) → eqb u a ≡ b → (is_one_of us a ≡ true → p a ≡ true) → (b || is_one_of us a) ≡ true → p a ≡ true
+    by_test true same rest is = subst (λ (v : ℕ). p v ≡ true) (eqb-true u a same) (first_part (p u) (list_all p us) e)
+    by_test false other rest is = rest is

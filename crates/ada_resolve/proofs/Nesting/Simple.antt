@@ -25,7 +25,7 @@ use Rattle.ada_resolve.specs.Lines.{line_found, put_line_found}
 use Rattle.ada_resolve.specs.Paths.{Meant, access_value, integer_value, path_meant}
 use Rattle.ada_resolve.specs.Rights.{Assigned, a_value, a_whole, right_found}
 use Rattle.ada_resolve.specs.Statements.{statement_found, form_or_null, statement_meant}
-use Rattle.ada_resolve.proofs.Nesting.Callees.{callees_in}
+use Rattle.ada_resolve.proofs.Nesting.Callees.{callees_in, wider_same}
 use Rattle.ada_resolve.proofs.Nesting.Calls.{EntityCalls, PartsCall, visible_calls}
 use Rattle.ada_resolve.proofs.WellFormed.Growing.{AreIn}
 
@@ -83,7 +83,7 @@ module _ (types : List TypeForm) (around : List ℕ) (k : Known) (bodies : List 
   own_nests_one : (e : Entity) (alone : Bool) (arguments : List ArgumentTree) → EntityCalls types k.bodies around e → FoundNests (own_call_found (Some e) alone k arguments)
   own_nests_one (entity.Instance t) true arguments c = taker_nests (callee.Free t) arguments
   own_nests_one (entity.Instance t) false arguments c = tt
-  own_nests_one (entity.Callable p) true arguments c = rw (callees_in types k.bodies bodies grows p.0 c.0 c.1) (c.2 around (λ t e. e))
+  own_nests_one (entity.Callable p) true arguments c = rw (callees_in types k.bodies bodies grows p.0 c.0 c.1) (c.2 around (wider_same k.bodies around))
   own_nests_one (entity.Callable p) false arguments c = tt
   own_nests_one e alone arguments c = tt
 

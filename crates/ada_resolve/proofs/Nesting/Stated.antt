@@ -1,7 +1,7 @@
 -- Statements, declarations and bodies: the collections of the blocks and the calls in them nest in those that are open where they stand, where these
 -- are the types in the end.
 
-use Rattle.std.proofs.Common.{◌≡◌, ◌∙◌, ℕ, Bool, true, false, List, [], ◌∷◌, ◌++◌, refl, sym, ap, subst, arith}
+use Rattle.std.proofs.Common.{◌≡◌, ◌∙◌, ℕ, ◌≤◌, Bool, true, false, List, [], ◌∷◌, ◌++◌, length-append, refl, sym, ap, subst, arith}
 use Rattle.std.specs.Prelude.{◌&&◌}
 use Rattle.ada_text.specs.declared.spot.Spot.{Spot}
 use Rattle.ada_tree.specs.Declarations.{HeadTree}
@@ -17,17 +17,18 @@ use Rattle.ada_resolve.specs.declared.scope.Entity.TheVariants as entity
 use Rattle.ada_resolve.specs.Borrowers.{lender_found}
 use Rattle.ada_resolve.specs.Known.{Known, Part, parts, with_part, left_to, next_variable, types_go_on}
 use Rattle.ada_resolve.specs.Objects.{after_types, object_type_found, initial_found, held_of}
-use Rattle.ada_resolve.specs.Procedures.{behind_head}
+use Rattle.ada_resolve.specs.Procedures.{no_formals, with_formals, behind_head}
 use Rattle.ada_resolve.specs.Resolution.{gives, At, known_at, declaration_remark, declaration_known, LoopHead, on_condition, over_range, with_parameter, loop_of, behind_loop, Others, SequenceForm, simple_told, statement_told, sequence_told, statements_told, branches_told, handlers_told, declaration_told, declarations_told}
 use Rattle.ada_resolve.specs.Spots.{end_of}
 use Rattle.ada_resolve.proofs.Elaborated.{no_types, some_variable, object_made, borrower_made, made_full, made_back, body_back, body_late, complete_back}
+use Rattle.ada_resolve.proofs.Nesting.Callees.{IsAway, wider_same}
 use Rattle.ada_resolve.proofs.Nesting.Calls.{EntityCalls, NamesCall, PartsCall, calls_on, calls_entered}
 use Rattle.ada_resolve.proofs.Nesting.Declared.{declaration_open, object_type_at}
 use Rattle.ada_resolve.proofs.Nesting.Later.{Place, LateOpen, State, early, behind, ready, parts_later, late_object, late_borrower, late_body, IsEarly, declaration_calls}
 use Rattle.ada_resolve.proofs.Nesting.Open.{EntityOpen, NamesOpen, PartsOpen, IsOwnType}
 use Rattle.ada_resolve.proofs.Nesting.Simple.{meant_nests}
-use Rattle.ada_resolve.proofs.Standing.{Sound, Complete, Stays, IsFormal, head_formals, more_types, made_gives, gives_same, HeadIs, simple_done, if_done, loop_done, block_done, declare_done, sequence_done, procedure_done, single_done, declarations_done, statements_done, branch_done, handler_done, complete_grows, ended_sound, ended_keeps, told_sound, declarations_sound, declarations_keep, begin_open, begin_complete, part_sound, OthersStay, around_body, ended_is, body_stays, sequence_stays, head_sound, head_complete, statement_stays, statements_stay, branches_stay, handlers_stay}
-use Rattle.ada_resolve.proofs.WellFormed.Alike.{body_early, after_follows}
+use Rattle.ada_resolve.proofs.Standing.{get_front, Sound, Complete, Stays, IsFormal, head_formals, more_types, made_gives, gives_same, HeadIs, simple_done, if_done, loop_done, block_done, declare_done, sequence_done, procedure_done, single_done, declarations_done, statements_done, branch_done, handler_done, complete_grows, ended_sound, ended_keeps, told_sound, declarations_sound, declarations_keep, declaration_keeps, begin_open, begin_complete, part_sound, OthersStay, around_body, ended_is, body_stays, sequence_stays, head_sound, head_complete, statement_stays, statements_stay, branches_stay, handlers_stay}
+use Rattle.ada_resolve.proofs.WellFormed.Alike.{body_early, after_follows, declaration_alike}
 use Rattle.ada_resolve.proofs.WellFormed.Bodies.{body_begins}
 use Rattle.ada_resolve.proofs.WellFormed.Doing.{parameter_follows, part_follows}
 use Rattle.ada_resolve.proofs.WellFormed.Elaborated.{InOrder, part_early}
@@ -85,7 +86,7 @@ module _ (types : List TypeForm) where
   pub place_later : (us : List ℕ) (k m : Known) → Stays k m → Place types us k → Place types us m
   place_later us k m f w =
       let open_later = parts_later us k.types m.types f.grows.types (parts k) w.open_at.names in
-      let calls_later = calls_on types k.bodies m.bodies us us f.grows.bodies (λ t e. e) (parts k) w.calls in
+      let calls_later = calls_on types k.bodies m.bodies us us f.grows.bodies (wider_same k.bodies us) (parts k) w.calls in
       record {
         open_at = record {
           before = λ a e. let less = w.open_at.before a e in let more = more_types k m f.grows in omega (arith, less, more);
@@ -101,8 +102,8 @@ module _ (types : List TypeForm) where
       }
 
   -- where a part begins
-  begun_part : (us : List ℕ) (k : Known) → Place types us k → State types us (with_part k)
-  begun_part us k w = early (record {
+  begun_part : (us : List ℕ) (k : Known) → Ended k → Place types us k → State types us (with_part k)
+  begun_part us k b w = early (record {
     lies = record {
       before = w.open_at.before;
       outer = w.open_at.names;
@@ -111,28 +112,34 @@ module _ (types : List TypeForm) where
       objects = λ o e. absurd (cc e);
     };
     calls = (λ text e is. absurd (cc is), w.calls);
+    fresh = b.below;
   })
 
   -- where a body begins
-  begun_body : (us : List ℕ) (k : Known) (head : HeadTree) → Place types us k → State types us (behind_head k head)
+  begun_body : (us : List ℕ) (k : Known) (head : HeadTree) → Ended k → Place types us k → State types us (behind_head k head)
   unfolding behind_head
-  begun_body us k head w =
+  begun_body us k head b w =
       let f = head_formals k head.formals in
+      let own = (with_formals k head.formals no_formals).types in
+      let more = k.types ++ own in
+      let longer = length-append k.types own in
+      let open_later = parts_later us k.types more (λ t form is. get_front k.types own t form is) (parts k) w.open_at.names in
       early (record {
         lies = record {
-          before = w.open_at.before;
+          before = λ a e. let less = w.open_at.before a e in omega (arith, less, longer);
           outer = (
-            all_entered (λ t x. EntityOpen us k.types x) k.here.names head.name.text entity.Procedure tt (λ t x ne is. w.open_at.names.0 t x is),
-            w.open_at.names.1,
+            all_entered (λ t x. EntityOpen us more x) k.here.names head.name.text entity.Procedure tt (λ t x ne is. open_later.0 t x is),
+            open_later.1,
           );
           own = λ text e is. formal_own _ _ text e (f.names text e is);
-          forms = λ t form behind is. let within = get_within k.types t form is in absurd (omega (arith, behind, within));
+          forms = λ t form behind is. let within = get_within more t form is in absurd (omega (arith, behind, within));
           objects = λ o e. absurd (cc e);
         };
         calls = (
           λ text e is. formal_calls types k.bodies us _ text e (f.names text e is),
           (calls_entered types k.bodies us k.here.names head.name.text entity.Procedure tt w.calls.0, w.calls.1),
         );
+        fresh = λ a past. b.below a (omega (arith, past, longer));
       })
 
   -- where the statements of a loop begin
@@ -220,7 +227,13 @@ module _ (types : List TypeForm) where
 
   -- a declaration among the types
   early_state : (us : List ℕ) (k : Known) (d : DeclarationTree) → IsEarly types d → Sound k → State types us k → Quiet (declaration_remark (known_at k d) d) → State types us (declaration_known (known_at k d) d)
-  early_state us k d is s (early w) q = early (record { lies = declaration_open us k d s w.lies q; calls = declaration_calls types us k d is w.calls })
+  early_state us k d is s (early w) q =
+      early (record {
+        lies = declaration_open us k d s w.lies q;
+        calls = declaration_calls types us k d is w.calls;
+        fresh = λ a behind. subst (λ bs. IsAway bs a) (sym (declaration_alike k d q).bodies)
+            (w.fresh a (subst (λ n. n ≤ a) (declaration_keeps k d s q).first_type behind));
+      })
   early_state us k (incomplete_type spot name) is s (behind off w) q = absurd (no_types k spot off q.0)
   early_state us k (access_type spot name designated aspect) is s (behind off w) q = absurd (no_types k spot off q.0)
   early_state us k (record_type spot name definition) is s (behind off w) q = absurd (no_types k spot off q.0)
@@ -267,7 +280,7 @@ module _ (types : List TypeForm) where
         let z = d.body_done.1.0 in
         let ts : AreIn z.types types = subst (λ (xs : List TypeForm). AreIn xs types) (left_types z z.outer) (types_of (left_to z.outer z) done.1.0 d.known g) in
         let h = sequence_nested inside body us d.inner d.body_done (subst Sound (sym d.inner_known) (part_sound at.0 w c)) (subst InOrder (sym d.inner_known) (part_early at.0))
-        (subst Ended (sym d.inner_known) ((part_follows at.0).ended b)) (subst (λ v. State types us v) (sym d.inner_known) (begun_part us at.0 a)) ts d.told in
+        (subst Ended (sym d.inner_known) ((part_follows at.0).ended b)) (subst (λ v. State types us v) (sym d.inner_known) (begun_part us at.0 b a)) ts d.told in
         done_nests us d.known d.form
         (same_bodies us z (left_to z.outer z) (encloses z.here.elaborated d.body_done.0.0 d.body_done.0.1) (left_bodies z z.outer) (block_nests us z d.body_done.0 h))
     statement_nested inside (declare_block spot ds body) us at done w c b a g e =
@@ -277,7 +290,7 @@ module _ (types : List TypeForm) where
         let sound : Sound d.inner.0 = subst Sound (sym d.inner_known) (part_sound at.0 w c) in
         let order : InOrder d.inner.0 = subst InOrder (sym d.inner_known) (part_early at.0) in
         let ended : Ended d.inner.0 = subst Ended (sym d.inner_known) ((part_follows at.0).ended b) in
-        let state : State types us d.inner.0 = subst (λ v. State types us v) (sym d.inner_known) (begun_part us at.0 a) in
+        let state : State types us d.inner.0 = subst (λ v. State types us v) (sym d.inner_known) (begun_part us at.0 b a) in
         let h = part_by inside ds body us d.inner d.behind d.body_done sound order ended ts d.declared d.told
         (λ complete grown. declarations_nested ds us d.inner d.behind sound order ended state complete grown d.declared)
         (λ v ordered bodies there. sequence_nested inside body us d.behind d.body_done v ordered bodies there ts d.told) in
@@ -328,14 +341,13 @@ module _ (types : List TypeForm) where
         let ts : AreIn z.types types = subst (λ (v : Known). AreIn v.types types) is (g off) in
         let order : InOrder d.inner.0 = subst InOrder (sym d.inner_known) (body_early k head) in
         let ended : Ended d.inner.0 = subst Ended (sym d.inner_known) ((body_begins k head).ended ((after_follows at.0).ended b)) in
-        let state : State types vs d.inner.0 = subst (λ v. State types vs v) (sym d.inner_known) (begun_body vs k head late.place) in
+        let state : State types vs d.inner.0 = subst (λ v. State types vs v) (sym d.inner_known) (begun_body vs k head ((after_follows at.0).ended b) late.place) in
         let h = part_by false ds body vs d.inner d.behind d.done stays.inner_sound order ended ts d.declared d.told
         (λ complete grown. declarations_nested ds vs d.inner d.behind stays.inner_sound order ended state complete grown d.declared)
         (λ v ordered bodies there. sequence_nested false body vs d.behind d.done v ordered bodies there ts d.told) in
-        let behind_ended = subst Ended is ((told_ordered (body_declaration head ds body end_name) at next s o e).follows.ended b) in
         behind off
         (subst (λ v. LateOpen types us v) (sym is)
-        (late_body types us k z head fs hs last late stays.done_in behind_ended.none (block_nests vs z d.done.0 h z.bodies (λ i x there. there))))
+        (late_body types us k z head fs hs last late stays.done_in (block_nests vs z d.done.0 h z.bodies (λ i x there. there))))
     told_nested (object_declaration name type_name initial) us at next s o b w c g e =
         let d = object_declaration name type_name initial in
         let one = single_done d at next e in

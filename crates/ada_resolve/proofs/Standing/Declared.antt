@@ -115,7 +115,7 @@ access_keeps_at k name None none w slot = keeps_same k
 access_keeps_at k name (Some d) none w slot = keeps_defined k name.text (entity.Access (number_of (completed_type k name) k.types)) (completed_type k name) (access_to name.text d.0) none w slot refl tt
 
 access_keeps : (k : Known) (spot : Spot) (name designated : Ident) (aspect : Option AspectTree) → Sound k → Quiet (access_remark k spot name designated aspect) → Keeps k (access_known k name designated)
-access_keeps k spot name designated aspect w q = access_keeps_at k name (record_found k designated) (none_ended k spot q.0) w (slot_of k name spot q.1.1.1.0)
+access_keeps k spot name designated aspect w q = access_keeps_at k name (record_found k designated) (none_ended k spot q.0) w (slot_of k name spot q.1.1.0)
 
 -- `type T is record .. end record;`
 record_keeps : (k : Known) (spot : Spot) (name : Ident) (definition : RecordTree) → Sound k → Quiet (record_type_remark k spot name definition) → Keeps k (record_type_known k name definition)
@@ -239,7 +239,7 @@ ended_keeps k = ends_keeps (types_go_on k) k
 -- a declaration
 pub declaration_sound : (k : Known) (d : DeclarationTree) → Sound k → Quiet (declaration_remark (known_at k d) d) → Sound (declaration_known (known_at k d) d)
 declaration_sound k (incomplete_type spot name) w q = incomplete_sound k name w
-declaration_sound k (access_type spot name designated aspect) w q = access_sound k name designated (none_ended k spot q.0) w q.1.1.0
+declaration_sound k (access_type spot name designated aspect) w q = access_sound k name designated (none_ended k spot q.0) w q.1.0
 declaration_sound k (record_type spot name definition) w q = record_sound k name definition (none_ended k spot q.0) w
 declaration_sound k (instance spot name generic object access) w q = instance_sound_at k name (freed_found k access (record_found k object)) w (found_access k access (record_found k object) w.names)
 declaration_sound k (constant_declaration name value) w q = name_sound k name.text (entity.Number (static_value k value)) w tt tt tt tt (λ none. tt)

@@ -1,31 +1,33 @@
 -- Bodies of procedures: what is known is in order where one begins, and behind it.
 
-use Rattle.std.proofs.Common.{◌≡◌, ◌∙◌, ℕ, ◌+◌, ◌≤◌, Bool, true, false, cond, List, [], ◌∷◌, ◌++◌, length, length-append, refl, sym, ap, subst, arith}
+use Rattle.std.proofs.Common.{◌≡◌, ◌∙◌, ℕ, ◌+◌, ◌≤◌, Bool, true, false, cond, List, [], ◌∷◌, ◌++◌, length, append-nil, append_assoc, length-append, refl, sym, ap, subst, zero, suc, arith}
 use Rattle.std.specs.Prelude.{Option, Some, None, is_some}
 use Rattle.std.specs.List.{list_all, slice_get}
 use Rattle.std.proofs.lemmas.Bool.{eqb-true}
 use Rattle.ada_text.specs.declared.spot.Spot.{Spot}
 use Rattle.ada_program.specs.declared.program.FormalMode.{FormalMode}
 use Rattle.ada_program.specs.declared.program.FormalMode.TheVariants.{In, InOut}
+use Rattle.ada_program.specs.declared.program.TypeNo.{TypeNo}
 use Rattle.ada_program.specs.declared.program.VariableKind.{VariableKind}
 use Rattle.ada_program.specs.declared.program.VariableNo.{VariableNo}
 use Rattle.ada_program.specs.Form.{StmtsForm, HandlersForm}
-use Rattle.ada_program.specs.ProgramForm.{TypeForm, access_to, VariableForm, BodyForm}
+use Rattle.ada_program.specs.ProgramForm.{TypeForm, access_to, object_of, VariableForm, BodyForm}
 use Rattle.ada_program.specs.WellFormed as fits
 use Rattle.ada_tree.specs.Declarations.{FormalTree, HeadTree}
 use Rattle.ada_tree.specs.Names.{Ident}
 use Rattle.ada_resolve.specs.declared.scope.Entity.{Entity}
 use Rattle.ada_resolve.specs.declared.scope.Entity.TheVariants as entity
-use Rattle.ada_resolve.specs.Known.{Known, Named, Part, declared, entered, named, next_procedure, no_body_yet, parts, visible}
+use Rattle.ada_resolve.specs.Known.{Known, Named, Part, declared, entered, first_named, named, next_procedure, no_body_yet, parts, visible}
 use Rattle.ada_resolve.specs.Paths.{name_of_type}
-use Rattle.ada_resolve.specs.Procedures.{Formals, no_formals, formal_type, formal_kind, formal_mode, formal_entity, with_next, with_formal, with_formals, with_body, behind_head, variables_around, body_of, with_procedure, body_ended}
+use Rattle.ada_resolve.specs.Procedures.{Formals, no_formals, formal_type, formal_types, formal_kind, formal_mode, formal_entity, known_by, with_next, with_formal, with_formals, with_body, behind_head, variables_around, body_of, with_procedure, body_ended}
 use Rattle.ada_resolve.proofs.Parts.{left_parts}
 use Rattle.ada_resolve.proofs.WellFormed.Exceptions.{RaisedFits}
-use Rattle.ada_resolve.proofs.WellFormed.Names.{EntityFits, variables_behind, PartsFit, all_entered, first_of_two, named_entered, other_text, visible_fits}
+use Rattle.ada_resolve.proofs.WellFormed.Names.{EntityFits, variables_behind, PartsFit, all_entered, named_entered, other_text, visible_fits}
 use Rattle.ada_resolve.proofs.WellFormed.Tables as tables
-use Rattle.ada_resolve.proofs.WellFormed.Tables.{all_get, all_more, all_weaker, both_parts, first_part, get_more, get_last, variable_kept}
-use Rattle.ada_resolve.proofs.Standing.Order.{IsCalled, PartsCalled, AllSized, Sound, Complete, Keeps, longer}
-use Rattle.ada_resolve.proofs.Standing.Types.{name_sound}
+use Rattle.ada_resolve.proofs.WellFormed.Tables.{all_get, all_more, all_weaker, both_parts, first_part, get_more, get_last, keeps_more, variable_kept}
+use Rattle.ada_resolve.proofs.Standing.Order.{IsCalled, PartsCalled, AllSized, Sound, Complete, IsSettled, Keeps, longer, visible_settled}
+use Rattle.ada_resolve.proofs.WellFormed.Types.{record_visible}
+use Rattle.ada_resolve.proofs.Standing.Types.{name_sound, object_type_sound}
 use Rattle.ada_resolve.proofs.Standing.Kept.{old_name}
 use Rattle.ada_resolve.proofs.Standing.Inner.{own_before, parts_before, outers_fit, outers_raised, outers_called}
 
@@ -44,6 +46,12 @@ pub record FormalsSound (f : Formals) : Type 0 where
   pub names : (text : List ℕ) (e : Entity) → named text f.names ≡ Some e → IsFormal f.variables text e
   pub modes : length f.modes ≡ length f.variables
 
+-- more of a list
+pub get_front : {X : Type 0} (xs ys : List X) (i : ℕ) (x : X) → slice_get xs i ≡ Some x → slice_get (xs ++ ys) i ≡ Some x
+get_front [] ys i x e = absurd (cc e)
+get_front (z ∷ xs) ys zero x e = e
+get_front (z ∷ xs) ys (suc i) x e = get_front xs ys i x e
+
 -- and fit these types
 abbrev pub AllFormalsFit : List TypeForm → Formals → Type 0
 AllFormalsFit types f = list_all (fits.variable_fits types) f.variables ≡ true
@@ -58,8 +66,8 @@ formal_is : (mode : FormalMode) (variables : List VariableForm) (text : List ℕ
 formal_is In variables text x kind f = f
 formal_is InOut variables text x kind f = f
 
-next_sound : (name : Ident) (mode : FormalMode) (kind : VariableKind) (f : Formals) → FormalsSound f → FormalsSound (with_next name mode kind f)
-next_sound name mode kind f s =
+next_sound : (name : Ident) (mode : FormalMode) (kind : VariableKind) (types : List TypeForm) (f : Formals) → FormalsSound f → FormalsSound (with_next name mode kind types f)
+next_sound name mode kind types f s =
     let v : VariableForm = record { name = name.text; spot = name.spot; kind = kind; borrows = false } in
     let x : VariableNo = record { 0 = length f.variables } in
     record {
@@ -76,7 +84,8 @@ next_sound name mode kind f s =
 pub formal_sound : (k : Known) (f : FormalTree) (before : Formals) → FormalsSound before → FormalsSound (with_formal k f before)
 unfolding with_formal
 formal_sound k f before s =
-    next_sound f.name (formal_mode f.input f.output) (formal_kind (formal_type k before f.type_name)) before s
+    let o = formal_type k before f.type_name in
+    next_sound f.name (formal_mode f.input f.output) (formal_kind (known_by k before) o) (formal_types o) before s
 
 formals_sound : (k : Known) (fs : List FormalTree) (before : Formals) → FormalsSound before → FormalsSound (with_formals k fs before)
 formals_sound k [] before s = s
@@ -88,46 +97,130 @@ no_formal = record { names = λ text e is. absurd (cc is); modes = refl }
 pub head_formals : (k : Known) (fs : List FormalTree) → FormalsSound (with_formals k fs no_formals)
 head_formals k fs = formals_sound k fs no_formals no_formal
 
--- what a formal holds fits, where the type that is named is there
-abbrev HoldsFit : List TypeForm → Entity → Type 0
-HoldsFit types e = fits.variable_kind_fits types (formal_kind (Some e)) ≡ true
+-- what is known once these types are there too
+abbrev pub typed : List TypeForm → Known → Known
+typed types k = record k { types = k.types ++ types }
 
-formal_holds : (types : List TypeForm) (variables : List VariableForm) (text : List ℕ) (e : Entity) → IsFormal variables text e → HoldsFit types e
-formal_holds types variables text (entity.Parameter x kind) f = refl
-formal_holds types variables text (entity.Variable x kind) f = refl
-formal_holds types variables text e f = absurd f
+-- the type that a formal's type's name stands for, where it is one, is there; a record type is complete
+abbrev IsFound : Known → Option Entity → Type 0
+IsFound m (Some (entity.Record t size)) = (fits.is_record m.types t.0 ≡ true) × IsSettled m t.0
+IsFound m (Some (entity.Access t)) = fits.is_access m.types t.0 ≡ true
+IsFound m (Some e) = Unit {0}
+IsFound m None = Unit {0}
 
-entity_holds : (types : List TypeForm) (variables : List VariableForm) (text : List ℕ) (e : Entity) → EntityFits types variables text e → HoldsFit types e
-entity_holds types variables text (entity.Access t) f = rw f.1 refl
-entity_holds types variables text entity.Boolean f = refl
-entity_holds types variables text e f = refl
+formal_found : (m : Known) (variables : List VariableForm) (text : List ℕ) (e : Entity) → IsFormal variables text e → IsFound m (Some e)
+formal_found m variables text (entity.Parameter x kind) f = tt
+formal_found m variables text (entity.Variable x kind) f = tt
+formal_found m variables text e f = absurd f
 
-kind_holds : (types : List TypeForm) (o : Option Entity) → ((e : Entity) → o ≡ Some e → HoldsFit types e) → fits.variable_kind_fits types (formal_kind o) ≡ true
-kind_holds types None w = refl
-kind_holds types (Some e) w = w e refl
+entity_found : (m : Known) (text : List ℕ) (e : Entity) → Sound m → visible m text ≡ Some e → EntityFits m.types m.variables text e → IsFound m (Some e)
+entity_found m text (entity.Record t size) w is f = (record_visible m w.names text t size is, visible_settled m text t size w is)
+entity_found m text (entity.Access t) w is f = rw f.1 refl
+entity_found m text e w is f = tt
 
-formal_kind_fits : (k : Known) (before : Formals) (name : Ident) → Sound k → FormalsSound before → fits.variable_kind_fits k.types (formal_kind (formal_type k before name)) ≡ true
-formal_kind_fits k before name w s =
-    kind_holds k.types (formal_type k before name)
-    (λ e is. first_of_two (HoldsFit k.types) (named name.text before.names) (visible k name.text) e
-    (λ y own. formal_holds k.types before.variables name.text y (s.names name.text y own))
-    (λ y own. entity_holds k.types k.variables name.text y (visible_fits k w.names name.text y own)) is)
+visible_typed : (types : List TypeForm) (k : Known) (text : List ℕ) → visible (typed types k) text ≡ visible k text
+unfolding visible
+visible_typed types k text = refl
 
-formal_variable_fits : (k : Known) (f : FormalTree) (before : Formals) → Sound k → FormalsSound before → AllFormalsFit k.types before → AllFormalsFit k.types (with_formal k f before)
+type_found : (k : Known) (before : Formals) (name : Ident) → Sound (typed before.types k) → FormalsSound before → IsFound (typed before.types k) (formal_type k before name)
+type_found k before name w s = by_own (named name.text before.names) refl
+  where
+    m : Known
+    m = typed before.types k
+
+    by_around : (o : Option Entity) → visible k name.text ≡ o → IsFound m o
+    by_around None is = tt
+    by_around (Some e) is =
+        let there = visible_typed before.types k name.text ∙ is in
+        entity_found m name.text e w there (visible_fits m w.names name.text e there)
+
+    by_own : (o : Option Entity) → named name.text before.names ≡ o → IsFound m (first_named o (visible k name.text))
+    by_own None is = by_around (visible k name.text) refl
+    by_own (Some e) is = formal_found m before.variables name.text e (s.names name.text e is)
+
+-- one more type by which a formal is known
+same_types : (types : List TypeForm) → types ++ [] ≡ types
+same_types types = append-nil types
+
+own_type_sound : (m : Known) (o : Option Entity) → Sound m → IsFound m o → Sound (typed (formal_types o) m)
+own_type_sound m (Some (entity.Record t size)) w f = object_type_sound m t.0 w f.0 f.1
+own_type_sound m (Some e) w f = subst (λ (ts : List TypeForm). Sound (record m { types = ts })) (sym (same_types m.types)) w
+own_type_sound m None w f = subst (λ (ts : List TypeForm). Sound (record m { types = ts })) (sym (same_types m.types)) w
+
+own_type_keeps : (types : List TypeForm) (o : Option Entity) → tables.Keeps types (types ++ formal_types o)
+own_type_keeps types (Some (entity.Record t size)) = keeps_more types (object_of t.0)
+own_type_keeps types (Some e) = subst (λ (ts : List TypeForm). tables.Keeps types ts) (sym (same_types types)) (λ t is. is, λ t is. is)
+own_type_keeps types None = subst (λ (ts : List TypeForm). tables.Keeps types ts) (sym (same_types types)) (λ t is. is, λ t is. is)
+
+own_kind_fits : (m : Known) (own : TypeNo) (o : Option Entity) → own.0 ≡ length m.types → IsFound m o → fits.variable_kind_fits (m.types ++ formal_types o) (formal_kind own o) ≡ true
+own_kind_fits m own (Some (entity.Record t size)) same f = rw (same, get_last m.types (object_of t.0)) refl
+own_kind_fits m own (Some (entity.Access t)) same f = rw (same_types m.types) f
+own_kind_fits m own (Some entity.Boolean) same f = refl
+own_kind_fits m own (Some e) same f = refl
+own_kind_fits m own None same f = refl
+
+-- these types are those by which record objects and formals are known
+abbrev pub AllObjects : List TypeForm → Type 0
+AllObjects [] = Unit {0}
+AllObjects (object_of r ∷ types) = AllObjects types
+AllObjects (form ∷ types) = ⊥
+
+objects_more : (types more : List TypeForm) → AllObjects types → AllObjects more → AllObjects (types ++ more)
+objects_more [] more w v = v
+objects_more (object_of r ∷ types) more w v = objects_more types more w v
+objects_more (form ∷ types) more w v = absurd w
+
+own_objects : (o : Option Entity) → AllObjects (formal_types o)
+own_objects (Some (entity.Record t size)) = tt
+own_objects (Some e) = tt
+own_objects None = tt
+
+formal_objects : (k : Known) (f : FormalTree) (before : Formals) → AllObjects before.types → AllObjects (with_formal k f before).types
 unfolding with_formal
-formal_variable_fits k f before w s fit =
-    let kind = formal_kind (formal_type k before f.type_name) in
+formal_objects k f before w =
+    let o = formal_type k before f.type_name in
+    objects_more before.types (formal_types o) w (own_objects o)
+
+formals_objects : (k : Known) (fs : List FormalTree) (before : Formals) → AllObjects before.types → AllObjects (with_formals k fs before).types
+formals_objects k [] before w = w
+formals_objects k (f ∷ fs) before w = formals_objects k fs (with_formal k f before) (formal_objects k f before w)
+
+pub head_objects : (k : Known) (fs : List FormalTree) → AllObjects (with_formals k fs no_formals).types
+head_objects k fs = formals_objects k fs no_formals tt
+
+-- the formals fit, with the types by which they are known
+pub record FormalsFit (k : Known) (f : Formals) : Type 0 where
+  pub sound : Sound (typed f.types k)
+  pub fit : AllFormalsFit (k.types ++ f.types) f
+
+formal_variable_fits : (k : Known) (f : FormalTree) (before : Formals) → FormalsSound before → FormalsFit k before → FormalsFit k (with_formal k f before)
+unfolding with_formal
+formal_variable_fits k f before s w =
+    let o = formal_type k before f.type_name in
+    let own = known_by k before in
+    let m = typed before.types k in
+    let kind = formal_kind own o in
+    let types = m.types ++ formal_types o in
     let v : VariableForm = record { name = f.name.text; spot = f.name.spot; kind = kind; borrows = false } in
-    all_more (fits.variable_fits k.types) before.variables (v ∷ []) fit
-    (both_parts (fits.variable_fits k.types v) true
-    (both_parts (fits.variable_kind_fits k.types kind) true (formal_kind_fits k before f.type_name w s) refl) refl)
+    let found : IsFound m o = type_found k before f.type_name w.sound s in
+    let same : types ≡ k.types ++ (before.types ++ formal_types o) = append_assoc k.types before.types (formal_types o) in
+    let old = all_weaker (fits.variable_fits m.types) (fits.variable_fits types) (variable_kept m.types types (own_type_keeps m.types o)) before.variables w.fit in
+    let new = own_kind_fits m own o (sym (length-append k.types before.types)) found in
+    let fit = all_more (fits.variable_fits types) before.variables (v ∷ []) old
+    (both_parts (fits.variable_fits types v) true (both_parts (fits.variable_kind_fits types kind) true new refl) refl) in
+    record {
+      sound = subst (λ (ts : List TypeForm). Sound (record k { types = ts })) same (own_type_sound m o w.sound found);
+      fit = subst (λ (ts : List TypeForm). list_all (fits.variable_fits ts) (before.variables ++ v ∷ []) ≡ true) same fit;
+    }
 
-formals_fit : (k : Known) (fs : List FormalTree) (before : Formals) → Sound k → FormalsSound before → AllFormalsFit k.types before → AllFormalsFit k.types (with_formals k fs before)
-formals_fit k [] before w s fit = fit
-formals_fit k (f ∷ fs) before w s fit = formals_fit k fs (with_formal k f before) w (formal_sound k f before s) (formal_variable_fits k f before w s fit)
+formals_fit : (k : Known) (fs : List FormalTree) (before : Formals) → FormalsSound before → FormalsFit k before → FormalsFit k (with_formals k fs before)
+formals_fit k [] before s fit = fit
+formals_fit k (f ∷ fs) before s fit = formals_fit k fs (with_formal k f before) (formal_sound k f before s) (formal_variable_fits k f before s fit)
 
-head_fit : (k : Known) (fs : List FormalTree) → Sound k → AllFormalsFit k.types (with_formals k fs no_formals)
-head_fit k fs w = formals_fit k fs no_formals w no_formal refl
+pub head_fit : (k : Known) (fs : List FormalTree) → Sound k → FormalsFit k (with_formals k fs no_formals)
+head_fit k fs w =
+    formals_fit k fs no_formals no_formal
+    (record { sound = subst (λ (ts : List TypeForm). Sound (record k { types = ts })) (sym (same_types k.types)) w; fit = refl })
 
 -- what a formal holds fits, as all of them do
 held_fits : (types : List TypeForm) (variables : List VariableForm) (text : List ℕ) (x : ℕ) (kind : VariableKind) → list_all (fits.variable_fits types) variables ≡ true → IsFormalIn variables text kind x → fits.variable_kind_fits types kind ≡ true
@@ -150,27 +243,29 @@ formal_called n variables text (entity.Variable x kind) f = tt
 formal_called n variables text e f = absurd f
 
 -- the body begins
-with_body_sound : (k : Known) (f : Formals) → Sound k → FormalsSound f → AllFormalsFit k.types f → Sound (with_body f k)
-with_body_sound k f s g fit = record {
-  types_fit = s.types_fit;
-  variables_fit = fit;
-  names = (λ text e is. formal_fits k.types f.variables text e fit (g.names text e is), s.names);
-  exceptions = (λ text e is. formal_raised k.exceptions f.variables text e (g.names text e is), s.exceptions);
-  called = (λ text e is. formal_called (length k.bodies) f.variables text e (g.names text e is), s.called);
-  sized = s.sized;
-  bounds = record {
-    first = omega arith;
-    first_variable = omega arith;
-    modes = let same = g.modes in omega (arith, same);
-    first_body = omega arith;
-    open_own = λ text t is. absurd (g.names text (entity.Incomplete t) is);
-    open_unused = λ none text t is. absurd (g.names text (entity.Incomplete t) is);
-    outer_before = (
-      λ text e is. own_before k text e is (s.names.0 text e is),
-      parts_before k.here.first_type (length k.types) k.outer s.bounds.first s.bounds.outer_before,
-    );
-  };
-}
+with_body_sound : (k : Known) (f : Formals) → Sound (typed f.types k) → FormalsSound f → AllFormalsFit (k.types ++ f.types) f → Sound (with_body f k)
+with_body_sound k f s g fit =
+    let types = k.types ++ f.types in
+    record {
+      types_fit = s.types_fit;
+      variables_fit = fit;
+      names = (λ text e is. formal_fits types f.variables text e fit (g.names text e is), s.names);
+      exceptions = (λ text e is. formal_raised k.exceptions f.variables text e (g.names text e is), s.exceptions);
+      called = (λ text e is. formal_called (length k.bodies) f.variables text e (g.names text e is), s.called);
+      sized = s.sized;
+      bounds = record {
+        first = omega arith;
+        first_variable = omega arith;
+        modes = let same = g.modes in omega (arith, same);
+        first_body = omega arith;
+        open_own = λ text t is. absurd (g.names text (entity.Incomplete t) is);
+        open_unused = λ none text t is. absurd (g.names text (entity.Incomplete t) is);
+        outer_before = (
+          λ text e is. own_before (typed f.types k) text e is (s.names.0 text e is),
+          parts_before k.here.first_type (length types) k.outer s.bounds.first s.bounds.outer_before,
+        );
+      };
+    }
 
 -- what is known around a body
 abbrev pub around_body : Known → HeadTree → Known
@@ -182,7 +277,9 @@ around_sound k head s = name_sound k head.name.text entity.Procedure s tt tt tt 
 pub head_sound : (k : Known) (head : HeadTree) → Sound k → Sound (behind_head k head)
 unfolding behind_head
 head_sound k head s =
-    with_body_sound (around_body k head) (with_formals k head.formals no_formals) (around_sound k head s) (head_formals k head.formals) (head_fit k head.formals s)
+    let f = with_formals k head.formals no_formals in
+    let fit = head_fit k head.formals s in
+    with_body_sound (around_body k head) f (around_sound (typed f.types k) head fit.sound) (head_formals k head.formals) fit.fit
 
 pub head_complete : (k : Known) (head : HeadTree) → Complete (behind_head k head)
 unfolding behind_head
@@ -203,12 +300,12 @@ pub record InBody (k m : Known) : Type 0 where
 pub head_in_body : (k : Known) (head : HeadTree) → Sound k → InBody (around_body k head) (behind_head k head)
 unfolding behind_head
 head_in_body k head s = record {
-  sound = with_body_sound (around_body k head) (with_formals k head.formals no_formals) (around_sound k head s) (head_formals k head.formals) (head_fit k head.formals s);
+  sound = head_sound k head s;
   around = refl;
   outer = refl;
   withs = refl;
   procedure = refl;
-  types = λ t x is. is;
+  types = λ t x is. get_front k.types (with_formals k head.formals no_formals).types t x is;
   exceptions = λ t x is. is;
   texts = λ t x is. is;
   bodies = λ t x is. is;

@@ -1,8 +1,6 @@
 -- Statements leave the parts as they were.
 
-use Rattle.std.proofs.Common.{◌≡◌, ◌∙◌, ℕ, Bool, true, false, List, [], ◌∷◌, ◌++◌, refl, sym, ap, subst, zero, suc}
-use Rattle.std.specs.Prelude.{Some}
-use Rattle.std.specs.List.{slice_get}
+use Rattle.std.proofs.Common.{◌≡◌, ◌∙◌, ℕ, Bool, true, false, List, refl, sym, ap, subst}
 use Rattle.ada_text.specs.declared.spot.Spot.{Spot}
 use Rattle.ada_program.specs.Form.{StmtForm, StmtsForm, no_stmts, BranchesForm, otherwise, HandlersForm}
 use Rattle.ada_program.specs.Form as form
@@ -21,19 +19,13 @@ use Rattle.ada_resolve.proofs.Standing.Order.{Sound, Complete, Keeps, keeps_same
 use Rattle.ada_resolve.proofs.Standing.Given.{made_gives, HeadIs, simple_done, if_done, loop_done, block_done, declare_done, sequence_done, ProcedureDone, procedure_done, single_done, declarations_done, statements_done, branch_done, handler_done}
 use Rattle.ada_resolve.proofs.Standing.Declared.{ended_sound, ended_keeps, declaration_sound, declaration_keeps}
 use Rattle.ada_resolve.proofs.Standing.Kept.{new_slot}
-use Rattle.ada_resolve.proofs.Standing.Procedures.{around_body, around_sound, InBody, head_in_body, head_complete as body_complete, body_ended_sound, body_ended_keeps}
+use Rattle.ada_resolve.proofs.Standing.Procedures.{get_front, around_body, around_sound, InBody, head_in_body, head_complete as body_complete, body_ended_sound, body_ended_keeps}
 use Rattle.ada_resolve.proofs.Standing.Declarations.{gives_same, begin_open, begin_complete}
 use Rattle.ada_resolve.proofs.Standing.Inner.{part_complete, part_inside, parameter_sound, parameter_complete, parameter_inside, inside_on, begun_inside, leave_stays}
 
 -- the statements behind branches
 abbrev pub OthersStay : Others → Type 0
 OthersStay tail = (at : At) (done : StmtsForm × At) → Sound at.0 → Complete at.0 → tail at ≡ gives done → Stays at.0 done.1.0
-
--- more of a list
-pub get_front : {X : Type 0} (xs ys : List X) (i : ℕ) (x : X) → slice_get xs i ≡ Some x → slice_get (xs ++ ys) i ≡ Some x
-get_front [] ys i x e = absurd (cc e)
-get_front (z ∷ xs) ys zero x e = e
-get_front (z ∷ xs) ys (suc i) x e = get_front xs ys i x e
 
 -- what stays, between places that are known
 stays_from : (k begun m done : Known) → begun ≡ k → done ≡ m → Stays begun m → Stays k done

@@ -1,6 +1,6 @@
 -- The body of a procedure fits, and what is known behind it is in order.
 
-use Rattle.std.proofs.Common.{◌≡◌, ◌∙◌, ℕ, true, false, List, [], length, refl, sym, ap, subst, arith, eq-eqb}
+use Rattle.std.proofs.Common.{◌≡◌, ◌∙◌, ℕ, ◌+◌, true, false, List, [], ◌∷◌, ◌++◌, length, append_assoc, length-append, refl, sym, ap, subst, arith, eq-eqb}
 use Rattle.std.specs.Prelude.{Some, ◌&&◌}
 use Rattle.std.specs.List.{list_all, slice_get}
 use Rattle.std.proofs.lemmas.Bool.{false_from_ne_true}
@@ -8,40 +8,54 @@ use Rattle.std.proofs.lemmas.List.{append-nil}
 use Rattle.ada_text.specs.declared.spot.Spot.{Spot}
 use Rattle.ada_tree.specs.Declarations.{HeadTree}
 use Rattle.ada_program.specs.Form.{StmtsForm, HandlersForm}
-use Rattle.ada_program.specs.ProgramForm.{TypeForm}
+use Rattle.ada_program.specs.ProgramForm.{TypeForm, object_of}
 use Rattle.ada_program.specs.WellFormed as fits
 use Rattle.ada_program.specs.WellFormed.{declarations_fit, stmts_fit, handlers_fit, Creation}
 use Rattle.ada_resolve.specs.declared.scope.Entity.TheVariants as entity
-use Rattle.ada_resolve.specs.Known.{Known, declared, is_in_procedure, next_procedure, no_body_yet, no_variable_yet, parts, types_go_on}
-use Rattle.ada_resolve.specs.Procedures.{behind_head, body_of, body_ended}
-use Rattle.ada_resolve.proofs.Standing.{Sound, around_body, around_sound, InBody, left_body, ended_is}
-use Rattle.ada_resolve.proofs.Standing.Procedures.{head_complete, head_formals, body_ended_some}
+use Rattle.ada_resolve.specs.Known.{Known, declared, next_procedure, no_body_yet, no_variable_yet, types_go_on}
+use Rattle.ada_resolve.specs.Procedures.{no_formals, with_formals, behind_head, body_of, body_ended}
+use Rattle.ada_resolve.proofs.Standing.{Sound, get_front, around_body, around_sound, InBody, left_body, ended_is}
+use Rattle.ada_resolve.proofs.Standing.Procedures.{AllObjects, head_complete, head_formals, head_objects, body_ended_some}
 use Rattle.ada_resolve.proofs.WellFormed.Alike.{body_late}
 use Rattle.ada_resolve.proofs.WellFormed.Called.{callables}
-use Rattle.ada_resolve.proofs.WellFormed.Created.{accesses, collected, Creates}
+use Rattle.ada_resolve.proofs.WellFormed.Created.{accesses, accesses_object, accesses_past, collected, bodies_collect, collect_least, created_more, Creates}
 use Rattle.ada_resolve.proofs.WellFormed.Elaborated.{Late, InOrder, late}
-use Rattle.ada_resolve.proofs.WellFormed.Lasting.{Ended, ended_on, body_later, one_body_more, created_more}
+use Rattle.ada_resolve.proofs.WellFormed.Lasting.{Ended, ended_on, body_later, one_body_more}
 use Rattle.ada_resolve.proofs.WellFormed.Tables.{both_parts, second_part}
 
 -- where a body begins
 pub record BodyBegun (k inner : Known) : Type 0 where
-  pub inside : is_in_procedure (parts inner) ≡ true
-  pub types : inner.types ≡ k.types
+  pub accesses : (a : ℕ) → accesses inner.types a ≡ accesses k.types a
+  pub bodies : inner.bodies ≡ k.bodies
   pub first_type : inner.here.first_type ≡ length inner.types
   pub first_variable : inner.here.first_variable ≡ length inner.variables
+  pub first_body : inner.here.first_body ≡ length inner.bodies
   pub modes : length inner.here.modes ≡ length inner.variables
   pub ended : Ended k → Ended inner
 
+-- the types by which formals are known are no access types
+accesses_objects : (types more : List TypeForm) → AllObjects more → (a : ℕ) → accesses (types ++ more) a ≡ accesses types a
+accesses_objects types [] w a = ap (λ (ts : List TypeForm). accesses ts a) (append-nil types)
+accesses_objects types (object_of r ∷ more) w a =
+    ap (λ (ts : List TypeForm). accesses ts a) (sym (append_assoc types (object_of r ∷ []) more)) ∙
+    (accesses_objects (types ++ object_of r ∷ []) more w a ∙ accesses_object types r a)
+accesses_objects types (form ∷ more) w a = absurd w
+
 pub body_begins : (k : Known) (head : HeadTree) → BodyBegun k (behind_head k head)
 unfolding behind_head
-body_begins k head = record {
-  inside = refl;
-  types = refl;
-  first_type = refl;
-  first_variable = refl;
-  modes = (head_formals k head.formals).modes;
-  ended = λ e. ended_on k (behind_head k head) refl (omega arith) (omega arith) (λ t form is settled. (is, λ yet text u there same. head_complete k head text u there)) e;
-}
+body_begins k head =
+    let own = (with_formals k head.formals no_formals).types in
+    let longer = length-append k.types own in
+    record {
+      accesses = accesses_objects k.types own (head_objects k head.formals);
+      bodies = refl;
+      first_type = refl;
+      first_variable = refl;
+      first_body = refl;
+      modes = (head_formals k head.formals).modes;
+      ended = λ e. ended_on k (behind_head k head) refl (omega arith) (omega arith) (omega (arith, longer))
+          (λ t form is settled. (get_front k.types own t form is, λ yet text u there same. head_complete k head text u there)) e;
+    }
 
 -- its variables are created once, and it fits
 created_so : (inner z : Known) (cs : List Creation) → Creates inner z cs → fits.creates_from (length z.variables) (length inner.variables) cs ≡ true
@@ -62,9 +76,9 @@ body_is inner z fs hs last s first c declares own handled =
     (both_parts (held && created && part) stated
     (both_parts (held && created) part (both_parts held created s.variables_fit created_is) declares) own) handled
 
--- it creates no collection
-pub none_created : (inner z : Known) (cs : List Creation) → Creates inner z cs → ((a : ℕ) → accesses z.types a ≡ accesses inner.types a) → (a : ℕ) → collected a cs ≡ 0
-none_created inner z cs c same a = let all = c.collections a in let stays = same a in omega (arith, all, stays)
+-- it creates the collections of the access types in it that no body in it creates
+pub created_between : (k inner z : Known) (cs : List Creation) → ((a : ℕ) → accesses inner.types a ≡ accesses k.types a) → inner.bodies ≡ k.bodies → Creates inner z cs → (a : ℕ) → accesses k.types a + collected a cs + bodies_collect z.bodies a ≡ accesses z.types a + bodies_collect k.bodies a
+created_between k inner z cs types bodies c a = rw (sym (types a), sym bodies) (c.collections a)
 
 -- what is known behind it
 pub record BodyBehind (k next z : Known) : Type 0 where
@@ -72,8 +86,8 @@ pub record BodyBehind (k next z : Known) : Type 0 where
   pub types : next.types ≡ z.types
   pub ended : Ended z → Ended next
 
-pub body_behind : (k z : Known) (head : HeadTree) (fs : StmtsForm) (hs : HandlersForm) (last : Spot) → Sound k → Late k → InBody (around_body k head) z → ((a : ℕ) → accesses z.types a ≡ accesses k.types a) → fits.body_fits z.types z.texts z.exceptions (callables z.bodies) (body_of z fs hs last) ≡ true → ((a : ℕ) → collected a (fits.created_in (body_of z fs hs last)) ≡ 0) → BodyBehind k (body_ended head.name fs hs last z) z
-body_behind k z head fs hs last s w f same fit none =
+pub body_behind : (k z : Known) (head : HeadTree) (fs : StmtsForm) (hs : HandlersForm) (last : Spot) → Sound k → Late k → InBody (around_body k head) z → ((a : ℕ) → accesses k.types a + collected a (fits.created_in (body_of z fs hs last)) + bodies_collect z.bodies a ≡ accesses z.types a + bodies_collect k.bodies a) → fits.body_fits z.types z.texts z.exceptions (callables z.bodies) (body_of z fs hs last) ≡ true → BodyBehind k (body_ended head.name fs hs last z) z
+body_behind k z head fs hs last s w f creates fit =
     let k1 = around_body k head in
     let b = body_of z fs hs last in
     let e = entity.Callable (next_procedure z) in
@@ -81,7 +95,7 @@ body_behind k z head fs hs last s w f same fit none =
     let so : next ≡ declared (left_body k1 z b) head.name.text e = ended_is k1 z head.name fs hs last f in
     let some : no_body_yet next ≡ true → ⊥ = body_ended_some k1 z head.name fs hs last (around_sound k head s) f in
     record {
-      order = late (subst Late (sym so) (body_late k z head b e w f.types same))
+      order = late (subst Late (sym so) (body_late k z head b e s w f.types (λ i x is. f.bodies i x is) creates))
           (false_from_ne_true (types_go_on next) (λ on. some (second_part (no_variable_yet next) (no_body_yet next) on)));
       types = ap (λ (v : Known). v.types) so;
       ended = λ done. subst Ended (sym so) (record {
@@ -90,6 +104,12 @@ body_behind k z head fs hs last s w f same fit none =
             λ t form is. more t form is (λ yet. absurd (some (ap (λ (v : Known). no_body_yet v) so ∙ yet))) in
             one_body_more ts z.texts z.exceptions [] z.bodies b (done.fit ts (λ t form is settled. all t form is))
             (body_later z.types ts z.texts z.texts z.exceptions z.exceptions all (omega arith) (omega arith) (callables z.bodies) b fit);
-        none = λ a. let front = done.none a in let own = none a in let both = created_more a z.bodies b in omega (arith, front, own, both);
+        below = λ a past.
+            let front = done.below a past in
+            let none = accesses_past z.types a past in
+            let all = creates a in
+            let least = collect_least k.bodies z.bodies (λ i x is. f.bodies i x is) a in
+            let both = created_more a z.bodies b in
+            omega (arith, front, none, all, least, both);
       });
     }

@@ -1,7 +1,7 @@
 -- A procedure that may be called has a profile, and actual parameters with which nothing is wrong suit it.
 
-use Rattle.std.proofs.Common.{◌≡◌, ◌∙◌, ℕ, ◌<◌, ◌≤◌, Bool, true, false, List, [], ◌∷◌, length, refl, sym, ap, zero, suc, cond, arith, ◌==◌, eq-eqb}
-use Rattle.std.specs.Prelude.{Option, Some, None, map, take, bytes_eq, codes, not}
+use Rattle.std.proofs.Common.{◌≡◌, ◌∙◌, ℕ, ◌<◌, ◌≤◌, Bool, true, false, List, [], ◌∷◌, length, refl, sym, ap, subst, zero, suc, cond, arith, ◌==◌, eq-eqb}
+use Rattle.std.specs.Prelude.{◌&&◌, Option, Some, None, map, take, bytes_eq, codes, not}
 use Rattle.std.specs.List.{slice_get}
 use Rattle.std.proofs.lemmas.Bool.{eqb-true}
 use Rattle.ada_text.specs.declared.spot.Spot.{Spot}
@@ -10,23 +10,24 @@ use Rattle.ada_program.specs.declared.program.Exception.TheVariants.{ConstraintE
 use Rattle.ada_program.specs.declared.program.FormalMode.{FormalMode}
 use Rattle.ada_program.specs.declared.program.FormalMode.TheVariants.{In, InOut}
 use Rattle.ada_program.specs.declared.program.ProcedureNo.{ProcedureNo}
+use Rattle.ada_program.specs.declared.program.ScalarType.{ScalarType}
 use Rattle.ada_program.specs.declared.program.ScalarType.TheVariants.{Integer, Boolean}
 use Rattle.ada_program.specs.declared.program.TypeNo.{TypeNo}
 use Rattle.ada_program.specs.declared.program.VariableKind.{VariableKind}
 use Rattle.ada_program.specs.declared.program.VariableKind.TheVariants as variable
-use Rattle.ada_program.specs.Form.{PathForm, reads}
-use Rattle.ada_program.specs.ProgramForm.{TypeForm, VariableForm, BodyForm}
+use Rattle.ada_program.specs.Form.{PathForm, ActualForm, in_out_path, in_out_access, in_out_component, reads}
+use Rattle.ada_program.specs.ProgramForm.{TypeForm, record_of, access_to, object_of, VariableForm, BodyForm}
 use Rattle.ada_program.specs.WellFormed as fits
 use Rattle.ada_resolve.specs.declared.fault.NameRule.TheVariants.{WrongType}
 use Rattle.ada_resolve.specs.declared.library.Withs.{Withs}
 use Rattle.ada_resolve.specs.declared.scope.Entity.{Entity}
 use Rattle.ada_resolve.specs.declared.scope.Entity.TheVariants as entity
-use Rattle.ada_resolve.specs.Actuals.{kind_wanted, alone_wanted, variable_wanted, given_remark, given_variable, given_value, given_meant, first_mode, other_modes, given_all_remark, given_all, profile_in, profile, procedure_call_remark}
+use Rattle.ada_resolve.specs.Actuals.{kind_wanted, reference_wanted, variable_or_component, variable_wanted, given_remark, given_variable, given_value, given_meant, first_mode, other_modes, given_all_remark, given_all, profile_in, profile, procedure_call_remark}
 use Rattle.ada_resolve.specs.Expressions.{expression_meant, expression_remark}
 use Rattle.ada_resolve.specs.Known.{Known, Part, named, from_part, named_in, inner_first, outermost, unit_named, visible, parts}
 use Rattle.ada_resolve.specs.Library.{predefined}
 use Rattle.ada_resolve.specs.Operators.{access_wanted, owner_wanted}
-use Rattle.ada_resolve.specs.Paths.{Meant, unknown, null_value, access_value, lent_value, integer_value, boolean_value, path_meant}
+use Rattle.ada_resolve.specs.Paths.{Meant, unknown, null_value, access_value, lent_value, integer_value, boolean_value, record_value, path_meant, record_known_by, record_of_object}
 use Rattle.ada_resolve.specs.Spots.{expression_spot}
 use Rattle.ada_resolve.proofs.Standing.Order.{IsCalled, PartsCalled, AllSized}
 use Rattle.ada_resolve.proofs.WellFormed.Growing.{AreIn}
@@ -99,11 +100,6 @@ pub visible_called : (k : Known) → PartsCalled (length k.bodies) (parts k) →
 unfolding visible
 visible_called k w text x e = inner_called (length k.bodies) k.withs text x (named_in text (parts k)) (bytes_eq text k.procedure) (parts_called (length k.bodies) (parts k) w text) e
 
--- a variable for which a formal parameter stands is no component
-stands_alone : (selectors : List ℕ) (spot : Spot) → Quiet (alone_wanted selectors spot) → fits.stands_alone selectors ≡ true
-stands_alone [] spot q = refl
-stands_alone (c ∷ cs) spot q = absurd q
-
 same_number : (t u : ℕ) → (t == u) ≡ true → (u == t) ≡ true
 same_number t u e = eq-eqb u t (sym (eqb-true t u e))
 
@@ -114,19 +110,59 @@ access_named types variables t u path spot f typed owned =
     (rw f (same_number t.0 u.0 (quiet_unless (t.0 == u.0) spot WrongType typed)))
     (ap (λ (b : Bool). not b) (quiet_if (fits.names_borrower variables path) spot WrongType owned))
 
-variable_fits : (types : List TypeForm) (variables : List VariableForm) (kind : VariableKind) (m : Meant) (spot : Spot) → MeantFits types variables m → Quiet (variable_wanted variables kind m spot) → (fits.actual_fits types variables kind (given_variable m) ≡ true) × (fits.mode_of (given_variable m) ≡ InOut)
+-- a variable or a component of a type, which is given for a formal parameter
+abbrev GivenSo : (ActualForm → Bool) → ActualForm → Type 0
+GivenSo suits a = (suits a ≡ true) × (fits.mode_of a ≡ InOut)
+
+scalar_given : (types : List TypeForm) (variables : List VariableForm) (t : ScalarType) (path : PathForm) → fits.has_type types variables t (reads path) ≡ true → GivenSo (fits.is_scalar_given types variables t) (variable_or_component (in_out_path path) (in_out_component path) path.selectors)
+scalar_given types variables t path typed = by_selectors path.selectors refl
+  where
+    by_selectors : (cs : List ℕ) → path.selectors ≡ cs → GivenSo (fits.is_scalar_given types variables t) (variable_or_component (in_out_path path) (in_out_component path) cs)
+    by_selectors [] is = (both_parts (fits.has_type types variables t (reads path)) (fits.stands_alone path.selectors) typed (rw is refl), refl)
+    by_selectors (c ∷ cs) is = (both_parts (fits.has_type types variables t (reads path)) (not (fits.stands_alone path.selectors)) typed (rw is refl), refl)
+
+access_given : (types : List TypeForm) (variables : List VariableForm) (access : ℕ) (path : PathForm) → fits.names_access types variables access path ≡ true → GivenSo (fits.is_access_given types variables access) (variable_or_component (in_out_access path) (in_out_component path) path.selectors)
+access_given types variables access path typed = by_selectors path.selectors refl
+  where
+    by_selectors : (cs : List ℕ) → path.selectors ≡ cs → GivenSo (fits.is_access_given types variables access) (variable_or_component (in_out_access path) (in_out_component path) cs)
+    by_selectors [] is = (both_parts (fits.names_access types variables access path) (fits.stands_alone path.selectors) typed (rw is refl), refl)
+    by_selectors (c ∷ cs) is = (both_parts (fits.names_access types variables access path) (not (fits.stands_alone path.selectors)) typed (rw is refl), refl)
+
+-- a record is of the type of the formal parameter
+abbrev IsReferred : List TypeForm → List VariableForm → Option ℕ → Meant → Type 0
+IsReferred types variables o (record_value path) = (fits.is_record_path types variables path && fits.is_this path.record_type o) ≡ true
+IsReferred types variables o m = ⊥
+
+referred : (types : List TypeForm) (variables : List VariableForm) (o : Option ℕ) (m : Meant) (spot : Spot) → MeantFits types variables m → Quiet (reference_wanted o m spot) → IsReferred types variables o m
+referred types variables None m spot f q = absurd q
+referred types variables (Some t) (record_value path) spot f q =
+    both_parts (fits.is_record_path types variables path) (t == path.record_type) f (quiet_unless (t == path.record_type) spot WrongType q)
+referred types variables (Some t) unknown spot f q = absurd f
+referred types variables (Some t) m spot f q = absurd q
+
+object_known : (types : List TypeForm) (object : ℕ) → record_of_object types object ≡ fits.object_in (slice_get types object)
+unfolding record_of_object
+object_known types object = by_form (slice_get types object)
+  where
+    by_form : (o : Option TypeForm) → record_known_by o ≡ fits.object_in o
+    by_form None = refl
+    by_form (Some (record_of name ps cs)) = refl
+    by_form (Some (access_to name d)) = refl
+    by_form (Some (object_of r)) = refl
+
+record_referred : (types : List TypeForm) (variables : List VariableForm) (object : TypeNo) (m : Meant) (spot : Spot) → MeantFits types variables m → Quiet (reference_wanted (record_of_object types object.0) m spot) → IsReferred types variables (fits.object_in (slice_get types object.0)) m
+record_referred types variables object m spot f q =
+    subst (λ (o : Option ℕ). IsReferred types variables o m) (object_known types object.0) (referred types variables (record_of_object types object.0) m spot f q)
+
+variable_fits : (types : List TypeForm) (variables : List VariableForm) (kind : VariableKind) (m : Meant) (spot : Spot) → MeantFits types variables m → Quiet (variable_wanted types variables kind m spot) → GivenSo (fits.actual_fits types variables kind) (given_variable m)
 variable_fits types variables kind unknown spot f q = absurd f
-variable_fits types variables variable.Integer (integer_value (reads path)) spot f q =
-    let typed = fits.type_of types variables (reads path) in
-    (both_parts (fits.is_type Integer typed) (fits.stands_alone path.selectors) (is_of_type Integer typed f) (stands_alone path.selectors spot q), refl)
-variable_fits types variables variable.Boolean (boolean_value (reads path)) spot f q =
-    let typed = fits.type_of types variables (reads path) in
-    (both_parts (fits.is_type Boolean typed) (fits.stands_alone path.selectors) (is_of_type Boolean typed f) (stands_alone path.selectors spot q), refl)
-variable_fits types variables (variable.Access t) (access_value path u) spot f q =
-    (both_parts (fits.names_access types variables t.0 path) (fits.stands_alone path.selectors) (access_named types variables t u path spot f q.0 q.1.0) (stands_alone path.selectors spot q.1.1), refl)
+variable_fits types variables variable.Integer (integer_value (reads path)) spot f q = scalar_given types variables Integer path (is_of_type Integer (fits.type_of types variables (reads path)) f)
+variable_fits types variables variable.Boolean (boolean_value (reads path)) spot f q = scalar_given types variables Boolean path (is_of_type Boolean (fits.type_of types variables (reads path)) f)
+variable_fits types variables (variable.Access t) (access_value path u) spot f q = access_given types variables t.0 path (access_named types variables t u path spot f q.0 q.1)
+variable_fits types variables (variable.Record t) (record_value path) spot f q = (record_referred types variables t (record_value path) spot f q, refl)
 variable_fits types variables kind m spot f q = absurd q
 
-value_fits : (types : List TypeForm) (variables : List VariableForm) (kind : VariableKind) (m : Meant) (spot : Spot) → MeantFits types variables m → Quiet (kind_wanted variables kind m spot) → (fits.actual_fits types variables kind (given_value m) ≡ true) × (fits.mode_of (given_value m) ≡ In)
+value_fits : (types : List TypeForm) (variables : List VariableForm) (kind : VariableKind) (m : Meant) (spot : Spot) → MeantFits types variables m → Quiet (kind_wanted types variables kind m spot) → (fits.actual_fits types variables kind (given_value m) ≡ true) × (fits.mode_of (given_value m) ≡ In)
 value_fits types variables kind unknown spot f q = absurd f
 value_fits types variables kind (lent_value t) spot f q = absurd f
 value_fits types variables variable.Integer (integer_value e) spot f q = (is_of_type Integer (fits.type_of types variables e) f, refl)
@@ -136,13 +172,14 @@ value_fits types variables variable.Boolean m spot f q = absurd q
 value_fits types variables (variable.Access t) null_value spot f q = (refl, refl)
 value_fits types variables (variable.Access t) (access_value path u) spot f q = (access_named types variables t u path spot f q.0 q.1, refl)
 value_fits types variables (variable.Access t) m spot f q = absurd q.0
-value_fits types variables (variable.Record t) m spot f q = absurd q
+value_fits types variables (variable.Record t) (record_value path) spot f q = (record_referred types variables t (record_value path) spot f q, refl)
+value_fits types variables (variable.Record t) m spot f q = absurd (record_referred types variables t m spot f q)
 
 -- what is given suits the formal parameter, and is passed in its mode
 given_fits : (k : Known) (mode : FormalMode) (kind : VariableKind) (argument : ArgumentTree) → PartsFit k.types k.variables (parts k) → Quiet (given_remark k mode kind argument) → (fits.actual_fits k.types k.variables kind (given_meant k mode argument) ≡ true) × (fits.mode_of (given_meant k mode argument) ≡ mode)
 unfolding expression_remark
 given_fits k In kind (expression_argument e) w q =
-    value_fits k.types k.variables kind (expression_meant k e) (expression_spot e) (expression_fits k e w q.0) q.1
+    value_fits k.types k.variables kind (expression_meant k e) (expression_spot e) (expression_fits k e w q.0) q.1.0
 given_fits k InOut kind (expression_argument (path_expression path)) w q =
     variable_fits k.types k.variables kind (path_meant k path) path.root.spot (path_fits k path w q.0.1) q.1.0
 given_fits k mode kind other w q = absurd q.0

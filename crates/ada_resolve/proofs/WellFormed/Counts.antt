@@ -38,7 +38,7 @@ some_collected : (b c : Bool) (n : ℕ) → (b || c) ≡ true → (c ≡ true �
 some_collected true c n e w = omega arith
 some_collected false c n e w = let h = w e in omega arith
 
-is_counted : (a : ℕ) (es : List DeclarationForm) → is_collected a es ≡ true → 0 < count a es
+pub is_counted : (a : ℕ) (es : List DeclarationForm) → is_collected a es ≡ true → 0 < count a es
 is_counted a [] e = absurd (cc e)
 is_counted a (collects t ∷ es) e = rw (count_next a (collects t) es) (some_collected (eqb t a) (is_collected a es) (count a es) e (is_counted a es))
 is_counted a (declares x source ∷ es) e = is_counted a es e

@@ -1,11 +1,13 @@
--- What is created from one place to another: the variables that are declared, in order, and a collection for each access type.
+-- What is created from one place to another: the variables that are declared, in order, and a collection for each access type, there or in a body
+-- that ends between them.
 
-use Rattle.std.proofs.Common.{◌≡◌, ◌∙◌, ℕ, ◌+◌, ◌≤◌, ◌<◌, Bool, true, false, List, [], ◌∷◌, ◌++◌, length, refl, zero, suc, sym, ap, append_assoc, arith, cond, eqb, eq-eqb}
+use Rattle.std.proofs.Common.{◌≡◌, ◌∙◌, ℕ, ◌+◌, ◌≤◌, ◌<◌, Bool, true, false, List, [], ◌∷◌, ◌++◌, length, drop, refl, zero, suc, sym, ap, subst, append_assoc, arith, cond, eqb, eq-eqb}
 use Rattle.std.specs.Prelude.{Option, Some, None, count_by, nat_le}
 use Rattle.std.specs.List.{slice_get}
 use Rattle.std.proofs.lemmas.Bool.{leb-true, leb-false}
+use Rattle.std.proofs.lemmas.List.{append-nil}
 use Rattle.std.proofs.lemmas.List.Sums.{sum_by-append}
-use Rattle.ada_program.specs.ProgramForm.{TypeForm, record_of, access_to, object_of, VariableForm}
+use Rattle.ada_program.specs.ProgramForm.{TypeForm, record_of, access_to, object_of, VariableForm, BodyForm}
 use Rattle.ada_program.specs.WellFormed as fits
 use Rattle.ada_program.specs.WellFormed.{Creation, of_collection, of_variable}
 use Rattle.ada_resolve.specs.Known.{Known}
@@ -27,31 +29,82 @@ accesses_object (x ∷ types) r (suc a) = accesses_object types r a
 abbrev pub collected : ℕ → List Creation → ℕ
 collected a cs = count_by (fits.is_collection a) cs
 
--- from one place to another these are created: a collection for each access type, and the variables, in order
+pub collected_both : (a : ℕ) (cs ds : List Creation) → collected a (cs ++ ds) ≡ collected a cs + collected a ds
+collected_both a cs ds = sum_by-append (λ c. cond (fits.is_collection a c) 1 0) cs ds
+
+-- how many of them bodies create
+abbrev pub bodies_collect : List BodyForm → ℕ → ℕ
+bodies_collect bs a = collected a (fits.created_in_all bs)
+
+-- behind as many bodies these create as many as before, and those that end later the others
+pub collect_more : (bs cs : List BodyForm) (n : ℕ) → AreIn bs cs → n ≤ length bs → (a : ℕ) → bodies_collect cs a + bodies_collect (drop n bs) a ≡ bodies_collect bs a + bodies_collect (drop n cs) a
+collect_more bs cs zero g within a = omega arith
+collect_more [] cs (suc n) g within a = absurd (omega (arith, within))
+collect_more (b ∷ bs) [] (suc n) g within a = let no : None ≡ Some b = g zero b refl in absurd (cc no)
+collect_more (b ∷ bs) (c ∷ cs) (suc n) g within a =
+    let same : c ≡ b = let there : Some c ≡ Some b = g zero b refl in cc there in
+    let rest = collect_more bs cs n (λ i x is. g (suc i) x is) (omega (arith, within)) a in
+    let front = collected_both a (fits.created_in b) (fits.created_in_all bs) in
+    let back = collected_both a (fits.created_in b) (fits.created_in_all cs) in
+    subst (λ (x : BodyForm). bodies_collect (x ∷ cs) a + bodies_collect (drop n bs) a ≡ bodies_collect (b ∷ bs) a + bodies_collect (drop n cs) a) (sym same)
+    (omega (arith, rest, front, back))
+
+-- no body ends behind all of them
+pub none_behind : (bs : List BodyForm) (a : ℕ) → bodies_collect (drop (length bs) bs) a ≡ 0
+none_behind [] a = refl
+none_behind (b ∷ bs) a = none_behind bs a
+
+-- so what some create, more create too
+pub collect_least : (bs cs : List BodyForm) → AreIn bs cs → (a : ℕ) → bodies_collect bs a ≤ bodies_collect cs a
+collect_least bs cs g a = let all = collect_more bs cs (length bs) g (omega arith) a in let none = none_behind bs a in omega (arith, all, none)
+
+-- those that end later are among all
+pub collect_later : (bs : List BodyForm) (n a : ℕ) → bodies_collect (drop n bs) a ≤ bodies_collect bs a
+collect_later bs zero a = omega arith
+collect_later [] (suc n) a = omega arith
+collect_later (b ∷ bs) (suc n) a =
+    let rest = collect_later bs n a in let all = collected_both a (fits.created_in b) (fits.created_in_all bs) in omega (arith, rest, all)
+
+-- one more body
+pub created_more : (a : ℕ) (bs : List BodyForm) (b : BodyForm) → bodies_collect (bs ++ b ∷ []) a ≡ bodies_collect bs a + collected a (fits.created_in b)
+created_more a [] b = ap (λ cs. collected a cs) (append-nil (fits.created_in b)) ∙ omega arith
+created_more a (c ∷ bs) b =
+    let rest = created_more a bs b in
+    let front = collected_both a (fits.created_in c) (fits.created_in_all (bs ++ b ∷ [])) in
+    let back = collected_both a (fits.created_in c) (fits.created_in_all bs) in
+    omega (arith, rest, front, back)
+
+pub drop_more : (bs : List BodyForm) (n : ℕ) (b : BodyForm) → n ≤ length bs → drop n (bs ++ b ∷ []) ≡ drop n bs ++ b ∷ []
+drop_more bs zero b within = refl
+drop_more [] (suc n) b within = absurd (omega (arith, within))
+drop_more (c ∷ bs) (suc n) b within = drop_more bs n b (omega (arith, within))
+
+-- from one place to another these are created: a collection for each access type, there or in a body that ends between them, and the variables, in
+-- order
 pub record Creates (k m : Known) (cs : List Creation) : Type 0 where
-  pub collections : (a : ℕ) → accesses k.types a + collected a cs ≡ accesses m.types a
+  pub collections : (a : ℕ) → accesses k.types a + collected a cs + bodies_collect m.bodies a ≡ accesses m.types a + bodies_collect k.bodies a
   pub in_order : (n : ℕ) (rest : List Creation) → fits.creates_from n (length k.variables) (cs ++ rest) ≡ fits.creates_from n (length m.variables) rest
 
-pub creates_none : (k m : Known) → k.types ≡ m.types → k.variables ≡ m.variables → Creates k m []
-creates_none k m ts vs = record {
-  collections = λ a. rw (sym ts) (omega arith);
+pub creates_none : (k m : Known) → k.types ≡ m.types → k.variables ≡ m.variables → k.bodies ≡ m.bodies → Creates k m []
+creates_none k m ts vs bs = record {
+  collections = λ a. rw (sym ts, sym bs) (omega arith);
   in_order = λ n rest. ap (λ (xs : List VariableForm). fits.creates_from n (length xs) rest) vs;
 }
 
 pub creates_both : (k m z : Known) (cs ds : List Creation) → Creates k m cs → Creates m z ds → Creates k z (cs ++ ds)
 creates_both k m z cs ds f g = record {
   collections = λ a.
-      let front : accesses k.types a + collected a cs ≡ accesses m.types a = f.collections a in
-      let back : accesses m.types a + collected a ds ≡ accesses z.types a = g.collections a in
-      let all : collected a (cs ++ ds) ≡ collected a cs + collected a ds = sum_by-append (λ c. cond (fits.is_collection a c) 1 0) cs ds in
+      let front = f.collections a in
+      let back = g.collections a in
+      let all = collected_both a cs ds in
       omega (arith, front, back, all);
   in_order = λ n rest. ap (λ es. fits.creates_from n (length k.variables) es) (append_assoc cs ds rest) ∙ (f.in_order n (ds ++ rest) ∙ g.in_order n rest);
 }
 
 -- one variable more
-pub creates_variable : (k m : Known) → k.types ≡ m.types → length m.variables ≡ length k.variables + 1 → Creates k m (of_variable (length k.variables) ∷ [])
-creates_variable k m ts longer = record {
-  collections = λ a. rw (sym ts) (omega arith);
+pub creates_variable : (k m : Known) → k.types ≡ m.types → k.bodies ≡ m.bodies → length m.variables ≡ length k.variables + 1 → Creates k m (of_variable (length k.variables) ∷ [])
+creates_variable k m ts bs longer = record {
+  collections = λ a. rw (sym ts, sym bs) (omega arith);
   in_order = λ n rest. rw (longer, eq-eqb (length k.variables) (length k.variables) refl) refl;
 }
 
@@ -75,6 +128,22 @@ accesses_grow types more w a = by_place (nat_le (length types) a) refl (slice_ge
         let before : a < length types = get_within types a x is in let behind : length types ≤ a = leb-true (length types) a past in absurd (omega arith)
     by_place false past None is = absurd (not_past types a (leb-false (length types) a past) is)
     by_place false past (Some x) is = rw (is, w a x is) (omega arith)
+
+-- an access type with the number of one that was there is that one
+pub accesses_before : (types more : List TypeForm) → AreIn types more → (a : ℕ) → a < length types → accesses more a ≡ accesses types a
+accesses_before types more w a less = by_place (slice_get types a) refl
+  where
+    by_place : (o : Option TypeForm) → slice_get types a ≡ o → accesses more a ≡ accesses types a
+    by_place None is = absurd (not_past types a less is)
+    by_place (Some x) is = rw (is, w a x is) refl
+
+-- no type has a number past all of them
+pub accesses_past : (types : List TypeForm) (a : ℕ) → length types ≤ a → accesses types a ≡ 0
+accesses_past types a past = by_place (slice_get types a) refl
+  where
+    by_place : (o : Option TypeForm) → slice_get types a ≡ o → accesses types a ≡ 0
+    by_place None is = rw is refl
+    by_place (Some x) is = let within = get_within types a x is in absurd (omega (arith, past, within))
 
 -- one collection each, from a number on
 has_from : (cs : List Creation) (ts : List TypeForm) (k : ℕ) → ((i : ℕ) → fits.is_access ts i ≡ true → collected (k + i) cs ≡ 1) → fits.has_collections cs k ts ≡ true

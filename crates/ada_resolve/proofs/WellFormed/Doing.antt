@@ -1,6 +1,6 @@
 -- What each kind of statement, a block and the body of a procedure do has the types that it wants, given what is in them.
 
-use Rattle.std.proofs.Common.{◌≡◌, ◌∙◌, ℕ, ◌+◌, Bool, true, false, List, [], ◌∷◌, ◌++◌, length, refl, sym, ap, subst, arith}
+use Rattle.std.proofs.Common.{◌≡◌, ◌∙◌, ℕ, ◌+◌, Bool, true, false, List, [], ◌∷◌, ◌++◌, length, drop, refl, sym, ap, subst, arith}
 use Rattle.std.specs.Prelude.{Option, ◌&&◌, map}
 use Rattle.std.specs.List.{list_all}
 use Rattle.ada_text.specs.declared.spot.Spot.{Spot}
@@ -28,12 +28,12 @@ use Rattle.ada_resolve.proofs.WellFormed.Tables.{both_parts, get_last}
 use Rattle.ada_resolve.proofs.WellFormed.Growing as growing
 use Rattle.ada_resolve.proofs.WellFormed.Growing.{AreIn}
 use Rattle.ada_resolve.proofs.WellFormed.Counts.{count}
-use Rattle.ada_resolve.proofs.WellFormed.Created.{Creates, creates_none, creates_both, creates_variable, accesses, accesses_grow, due}
-use Rattle.ada_resolve.proofs.WellFormed.Elaborated.{Late, InOrder, after_late}
+use Rattle.ada_resolve.proofs.WellFormed.Created.{Creates, creates_none, creates_both, creates_variable, accesses_grow, bodies_collect, collect_more, due, none_behind}
+use Rattle.ada_resolve.proofs.WellFormed.Elaborated.{Late, InOrder, after_late, ended_here}
 use Rattle.ada_resolve.proofs.WellFormed.Alike.{body_early, after_follows}
-use Rattle.ada_resolve.proofs.WellFormed.Bodies.{BodyBegun, body_begins, body_is, none_created, body_behind}
+use Rattle.ada_resolve.proofs.WellFormed.Bodies.{BodyBegun, body_begins, body_is, created_between, body_behind}
 use Rattle.ada_resolve.proofs.WellFormed.Called.{callables, callables_in}
-use Rattle.ada_resolve.proofs.WellFormed.Lasting.{Ended, ended_on, Follows, follows_on, follows_left, keeps_within}
+use Rattle.ada_resolve.proofs.WellFormed.Lasting.{Ended, ended_on, Follows, follows_on, follows_left}
 use Rattle.ada_resolve.proofs.WellFormed.Objects.{one_longer}
 use Rattle.ada_resolve.proofs.WellFormed.Statements.{meant_fits}
 
@@ -86,9 +86,7 @@ is_done inside ks ms fs h = rw (ks, ms, fs) h
 -- texts alone are written
 texts_follow : (texts : List (List ℕ)) (k : Known) → Follows k (with_texts texts k)
 texts_follow texts k = record {
-  within = refl;
-  same = λ on a. refl;
-  ended = ended_on k (with_texts texts k) refl (longer k.texts (k.texts ++ texts) (λ i x is. get_front k.texts texts i x is)) (omega arith) (λ t form is settled. (is, settled));
+  ended = ended_on k (with_texts texts k) refl (longer k.texts (k.texts ++ texts) (λ i x is. get_front k.texts texts i x is)) (omega arith) (omega arith) (λ t form is settled. (is, settled));
 }
 
 -- a statement with no others in it
@@ -98,7 +96,7 @@ simple_fits inside s at done w e =
     let k = at.0 in
     let m = with_texts (simple_texts s) k in
     let h = meant_fits k inside s w.names w.exceptions w.sized w.called d.quiet in
-    is_done inside refl d.known d.form (h.0, subst (λ (cs : List Creation). Creates k m cs) (sym h.1) (creates_none k m refl refl), texts_follow (simple_texts s) k)
+    is_done inside refl d.known d.form (h.0, subst (λ (cs : List Creation). Creates k m cs) (sym h.1) (creates_none k m refl refl refl), texts_follow (simple_texts s) k)
 
 -- what a part has elaborated once its types end: it fits, and from where the part began it creates what is declared since then
 pub late_fits : (m : Known) → Late m → declarations_fit m.types m.variables m.here.elaborated ≡ true
@@ -107,11 +105,15 @@ late_fits m w =
     both_parts (collections_first ds && list_all (collection_fits m.types) ds) (list_all (initial_fits m.types m.variables) ds)
     (both_parts (collections_first ds) (list_all (collection_fits m.types) ds) w.collections_first w.collections_fit) w.initials_fit
 
-pub late_creates : (k m : Known) → Late m → AreIn k.types m.types → m.here.first_type ≡ length k.types → m.here.first_variable ≡ length k.variables → Creates k m (map creation m.here.elaborated)
-late_creates k m w grows first_type first_variable = record {
+pub late_creates : (k m : Known) → Late m → AreIn k.types m.types → AreIn k.bodies m.bodies → m.here.first_type ≡ length k.types → m.here.first_variable ≡ length k.variables → m.here.first_body ≡ length k.bodies → Creates k m (map creation m.here.elaborated)
+late_creates k m w grows bodies first_type first_variable first_body = record {
   collections = λ a.
-      let own : count a m.here.elaborated ≡ due (length k.types) m.types a = w.one_each a ∙ ap (λ (n : ℕ). due n m.types a) first_type in
-      ap (λ n. accesses k.types a + n) own ∙ accesses_grow k.types m.types grows a;
+      let own : count a m.here.elaborated + ended_here m a ≡ due (length k.types) m.types a = w.one_each a ∙ ap (λ (n : ℕ). due n m.types a) first_type in
+      let all = accesses_grow k.types m.types grows a in
+      let ended : ended_here m a ≡ bodies_collect (drop (length k.bodies) m.bodies) a = ap (λ n. bodies_collect (drop n m.bodies) a) first_body in
+      let more = collect_more k.bodies m.bodies (length k.bodies) bodies (omega arith) a in
+      let none = none_behind k.bodies a in
+      omega (arith, own, all, ended, more, none);
   in_order = λ n rest. ap (λ v. fits.creates_from n v (map creation m.here.elaborated ++ rest)) (sym first_variable) ∙ w.in_order n rest;
 }
 
@@ -144,9 +146,7 @@ parameter_held name k z g =
 -- the parameter's part begins
 pub parameter_follows : (name : Ident) (k : Known) → Follows k (with_parameter name k)
 parameter_follows name k = record {
-  within = refl;
-  same = λ on a. refl;
-  ended = ended_on k (with_parameter name k) refl (omega arith) (omega arith) (λ t form is settled. (is, λ yet text u there same. parameter_complete name k text u there));
+  ended = ended_on k (with_parameter name k) refl (omega arith) (omega arith) (omega arith) (λ t form is settled. (is, λ yet text u there same. parameter_complete name k text u there));
 }
 
 pub over_range_fits : (name : Ident) (k z : Known) (low high : ExpressionForm) (own : StmtsForm) (last : Spot) (inside : Bool) → Grows (with_parameter name k) z → has_type z.types z.variables Integer low ≡ true → has_type z.types z.variables Integer high ≡ true → has_statement own ≡ true → AllFit (with_parameter name k) z true own → DoneFits k z inside (counts (length k.variables) low high own last)
@@ -159,7 +159,7 @@ over_range_fits name k z low high own last inside g l u s h =
           (both_parts (held && low_is && high_is) (has_statement own)
           (both_parts (held && low_is) high_is (both_parts held low_is (parameter_held name k z g) l) u) s) h.0,
       creates_both k (with_parameter name k) z (of_variable x ∷ []) (created_by_all own)
-          (creates_variable k (with_parameter name k) refl (one_longer k.variables (record { name = name.text; spot = name.spot; kind = variable.Integer; borrows = false }))) h.1,
+          (creates_variable k (with_parameter name k) refl refl (one_longer k.variables (record { name = name.text; spot = name.spot; kind = variable.Integer; borrows = false }))) h.1,
       follows_on k (with_parameter name k) z (parameter_follows name k) h.2,
     )
 
@@ -195,9 +195,7 @@ handler_fits k m z inside cs fs hs named there g h i = (
 -- the part of a block begins
 pub part_follows : (k : Known) → Follows k (with_part k)
 part_follows k = record {
-  within = refl;
-  same = λ on a. refl;
-  ended = ended_on k (with_part k) refl (omega arith) (omega arith) (λ t form is settled. (is, λ yet text u there same. part_complete k text u there));
+  ended = ended_on k (with_part k) refl (omega arith) (omega arith) (omega arith) (λ t form is settled. (is, λ yet text u there same. part_complete k text u there));
 }
 
 -- the statements and the handlers of a part whose declarations are known: with these they fit, and from where the part began they create what is
@@ -206,7 +204,7 @@ pub record SequenceFits (m z : Known) (inside : Bool) (body : SequenceForm) : Ty
   pub declares : declarations_fit z.types z.variables z.here.elaborated ≡ true
   pub own : stmts_fit z.types z.variables z.texts z.exceptions (callables z.bodies) inside body.0 ≡ true
   pub handled : handlers_fit z.types z.variables z.texts z.exceptions (callables z.bodies) inside body.1 ≡ true
-  pub creates : (k : Known) → AreIn k.types m.types → m.here.first_type ≡ length k.types → m.here.first_variable ≡ length k.variables → Creates k z (map creation z.here.elaborated ++ created_by_all body.0 ++ created_by_handlers body.1)
+  pub creates : (k : Known) → AreIn k.types m.types → AreIn k.bodies m.bodies → m.here.first_type ≡ length k.types → m.here.first_variable ≡ length k.variables → m.here.first_body ≡ length k.bodies → Creates k z (map creation z.here.elaborated ++ created_by_all body.0 ++ created_by_handlers body.1)
   pub follows : Follows m z
 
 pub sequence_fits_by : (m o z : Known) (inside : Bool) (fs : StmtsForm) (hs : HandlersForm) → InOrder m → Complete m → Stays (after_types m) o → Stays o z → AllFit (after_types m) o inside fs → HandledFit o z inside hs → SequenceFits m z inside (fs, hs)
@@ -221,12 +219,12 @@ sequence_fits_by m o z inside fs hs order complete f g h i =
           (declarations_later r z (grows_on r o z f.grows g.grows) ds (late_fits r late));
       own = stmts_later o z g.grows inside fs h.0;
       handled = i.0;
-      creates = λ k types first_type first_variable.
+      creates = λ k types bodies first_type first_variable first_body.
           subst (λ (p : Part). Creates k z (map creation p.elaborated ++ created_by_all fs ++ created_by_handlers hs)) (sym here)
           (creates_both k o z (map creation ds ++ created_by_all fs) (created_by_handlers hs)
           (creates_both k r o (map creation ds) (created_by_all fs)
-          (late_creates k r late (λ t x is. (complete_grows m r complete keeps).types t x (types t x is)) (keeps.first_type ∙ first_type)
-          (keeps.first_variable ∙ first_variable)) h.1) i.1);
+          (late_creates k r late (λ t x is. (complete_grows m r complete keeps).types t x (types t x is)) (λ i x is. keeps.bodies i x (bodies i x is))
+          (keeps.first_type ∙ first_type) (keeps.first_variable ∙ first_variable) (keeps.first_body ∙ first_body)) h.1) i.1);
       follows = follows_on m r z (after_follows m) (follows_on r o z h.2 i.2);
     }
 
@@ -234,15 +232,15 @@ pub sequence_is : {m z z2 : Known} {b b2 : SequenceForm} (inside : Bool) → z2 
 sequence_is inside zs bs h = rw (zs, bs) h
 
 -- a block, from where its statements begin
-pub block_fits : (k m z : Known) (inside : Bool) (body : SequenceForm) → AreIn k.types m.types → m.here.first_type ≡ length k.types → m.here.first_variable ≡ length k.variables → Follows k m → Stays k (left_to z.outer z) → SequenceFits m z inside body → DoneFits k (left_to z.outer z) inside (block_of z body)
-block_fits k m z inside body types first_type first_variable follows stays f =
+pub block_fits : (k m z : Known) (inside : Bool) (body : SequenceForm) → AreIn k.types m.types → AreIn k.bodies m.bodies → m.here.first_type ≡ length k.types → m.here.first_variable ≡ length k.variables → m.here.first_body ≡ length k.bodies → Follows k m → Stays k (left_to z.outer z) → SequenceFits m z inside body → DoneFits k (left_to z.outer z) inside (block_of z body)
+block_fits k m z inside body types bodies first_type first_variable first_body follows stays f =
     let ds = z.here.elaborated in
     left_fits k z z.outer inside (block_of z body) stays (
       both_parts (declarations_fit z.types z.variables ds && stmts_fit z.types z.variables z.texts z.exceptions (callables z.bodies) inside body.0)
           (handlers_fit z.types z.variables z.texts z.exceptions (callables z.bodies) inside body.1)
           (both_parts (declarations_fit z.types z.variables ds) (stmts_fit z.types z.variables z.texts z.exceptions (callables z.bodies) inside body.0)
           f.declares f.own) f.handled,
-      f.creates k types first_type first_variable,
+      f.creates k types bodies first_type first_variable first_body,
       follows_on k m z follows f.follows,
     )
 
@@ -270,20 +268,16 @@ body_ordered head ds body end_name at next d order s keeps declares sequence =
     let follows = follows_on inner behind z o.follows f.follows in
     let grows = complete_grows inner behind s.inner_complete keeps in
     let creates : Creates inner z (created_in (body_of z fs hs last)) =
-    f.creates inner grows.types (keeps.first_type ∙ begun.first_type) (keeps.first_variable ∙ begun.first_variable) in
+    f.creates inner grows.types grows.bodies (keeps.first_type ∙ begun.first_type) (keeps.first_variable ∙ begun.first_variable) (keeps.first_body ∙ begun.first_body) in
     let same_modes : z.here.modes ≡ inner.here.modes =
     ap (λ (p : Part). p.modes) s.sequence.stays.here ∙ ((ended_keeps behind).modes ∙ keeps.modes) in
     let modes : length z.here.modes ≡ length inner.variables = ap (λ (ms : List FormalMode). length ms) same_modes ∙ begun.modes in
-    let own : (a : ℕ) → accesses z.types a ≡ accesses inner.types a = follows.same begun.inside in
-    let same : (a : ℕ) → accesses z.types a ≡ accesses k.types a = λ a. own a ∙ ap (λ ts. accesses ts a) begun.types in
     let fit = body_is inner z fs hs last s.done_in.sound modes creates f.declares f.own f.handled in
-    let after = body_behind k z head fs hs last s.before (after_late at.0 order) s.done_in same fit (none_created inner z (created_in (body_of z fs hs last)) creates own) in
+    let after = body_behind k z head fs hs last s.before (after_late at.0 order) s.done_in (created_between k inner z (created_in (body_of z fs hs last)) begun.accesses begun.bodies creates) fit in
     let types_end = after_follows at.0 in
     record {
       order = subst InOrder (sym d.known) after.order;
       follows = record {
-        within = keeps_within at.0 next.0 s.keeps;
-        same = λ on a. ap (λ (v : Known). accesses v.types a) d.known ∙ (ap (λ ts. accesses ts a) after.types ∙ (same a ∙ types_end.same on a));
         ended = λ e. subst Ended (sym d.known) (after.ended (follows.ended (begun.ended (types_end.ended e))));
       };
     }

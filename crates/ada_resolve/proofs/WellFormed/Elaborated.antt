@@ -18,7 +18,7 @@ use Rattle.ada_resolve.specs.Objects.{collections_of, missing_collections, ends_
 use Rattle.ada_resolve.proofs.WellFormed.Remarks.{Quiet, quiet_unless}
 use Rattle.ada_resolve.proofs.WellFormed.Tables.{all_more, all_weaker, both_parts, first_part, second_part}
 use Rattle.ada_resolve.proofs.WellFormed.Counts.{count, count_more, count_known, made, later_none, at_most_made}
-use Rattle.ada_resolve.proofs.WellFormed.Created.{accesses, due}
+use Rattle.ada_resolve.proofs.WellFormed.Created.{accesses, due, bodies_collect, none_behind}
 
 -- a collection is created, and no variable
 abbrev pub is_first : DeclarationForm → Bool
@@ -33,12 +33,17 @@ pub record Early (k : Known) : Type 0 where
   pub at_most_one : (a : ℕ) → count a k.here.elaborated ≤ 1
   pub own : (a : ℕ) → a < k.here.first_type → count a k.here.elaborated ≡ 0
 
--- once its types end: it creates a collection for each of its access types, and then its variables, in order
+-- how many collections of an access type the bodies create that have ended in the innermost part
+abbrev pub ended_here : Known → ℕ → ℕ
+ended_here k a = bodies_collect (drop k.here.first_body k.bodies) a
+
+-- once its types end: it creates a collection for each of its access types, but for those of its bodies, which create theirs, and then its
+-- variables, in order
 pub record Late (k : Known) : Type 0 where
   pub collections_first : fits.collections_first k.here.elaborated ≡ true
   pub collections_fit : list_all (fits.collection_fits k.types) k.here.elaborated ≡ true
   pub initials_fit : list_all (fits.initial_fits k.types k.variables) k.here.elaborated ≡ true
-  pub one_each : (a : ℕ) → count a k.here.elaborated ≡ due k.here.first_type k.types a
+  pub one_each : (a : ℕ) → count a k.here.elaborated + ended_here k a ≡ due k.here.first_type k.types a
   pub in_order : (n : ℕ) (rest : List Creation) → fits.creates_from n k.here.first_variable (map fits.creation k.here.elaborated ++ rest) ≡ fits.creates_from n (length k.variables) rest
 
 -- before the first object, or behind one
@@ -185,7 +190,11 @@ ended_late k w none = record {
   collections_first = only_first (ended k).here.elaborated (ended_first k w);
   collections_fit = ended_fit k w;
   initials_fit = all_weaker is_first (fits.initial_fits k.types k.variables) (only_fit k.types k.variables) (ended k).here.elaborated (ended_first k w);
-  one_each = λ a. ended_one k w a (nat_le k.here.first_type a) refl;
+  one_each = λ a.
+      let own = ended_one k w a (nat_le k.here.first_type a) refl in
+      let same : k.here.first_body ≡ length k.bodies = sym (eqb-true (length k.bodies) k.here.first_body (second_part (no_variable_yet k) (no_body_yet k) none)) in
+      let nothing : ended_here k a ≡ 0 = ap (λ n. bodies_collect (drop n k.bodies) a) same ∙ none_behind k.bodies a in
+      omega (arith, own, nothing);
   in_order = λ n rest. only_in_order (ended k).here.elaborated n k.here.first_variable rest (ended_first k w) ∙ ap (λ v. fits.creates_from n v rest)
       (sym (eqb-true (length k.variables) k.here.first_variable (first_part (no_variable_yet k) (no_body_yet k) none)));
 }

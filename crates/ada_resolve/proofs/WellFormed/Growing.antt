@@ -14,7 +14,7 @@ use Rattle.ada_program.specs.declared.program.VariableKind.{VariableKind}
 use Rattle.ada_program.specs.declared.program.VariableKind.TheVariants as variable
 use Rattle.ada_program.specs.declared.program.ScalarType.{ScalarType}
 use Rattle.ada_program.specs.declared.program.ScalarType.TheVariants.{Integer, Boolean}
-use Rattle.ada_program.specs.Form.{PathForm, ActualForm, in_value, in_null, in_access, in_out_path, in_out_access, RecordPathForm, ExpressionForm, integer, boolean, reads, is_null, applied_to, chained, LinksForm, no_more_links, a_link, ItemForm, null_item, item_of_path, item_of_value, item_of_record, RightForm, nothing, value_of, allocates, allocates_default, computes, StmtForm, skips, assigns, assigns_record, frees, gets, writes, writes_text, chooses, repeats, counts, exits, calls, returns, raises, encloses, StmtsForm, no_stmts, a_stmt, BranchesForm, otherwise, a_branch, HandlersForm, no_handlers, a_handler, DeclarationForm, collects, declares, declares_record}
+use Rattle.ada_program.specs.Form.{PathForm, ActualForm, in_value, in_null, in_access, in_record, in_out_path, in_out_access, in_out_component, in_out_record, RecordPathForm, ExpressionForm, integer, boolean, reads, is_null, applied_to, chained, LinksForm, no_more_links, a_link, ItemForm, null_item, item_of_path, item_of_value, item_of_record, RightForm, nothing, value_of, allocates, allocates_default, computes, StmtForm, skips, assigns, assigns_record, frees, gets, writes, writes_text, chooses, repeats, counts, exits, calls, returns, raises, encloses, StmtsForm, no_stmts, a_stmt, BranchesForm, otherwise, a_branch, HandlersForm, no_handlers, a_handler, DeclarationForm, collects, declares, declares_record}
 use Rattle.ada_program.specs.ProgramForm.{TypeForm, VariableForm}
 use Rattle.ada_program.specs.WellFormed as fits
 use Rattle.ada_resolve.proofs.WellFormed.Tables.{both_parts, first_part, second_part, all_weaker}
@@ -449,6 +449,12 @@ module _ (types more : List TypeForm) (variables others : List VariableForm) (ts
       let alone = fits.stands_alone path.selectors in
       both_parts (fits.has_type more others t (reads path)) alone (has_type_stays t (reads path) (first_part typed alone h)) (second_part typed alone h)
   scalar_given_stays t (in_out_access path) h = absurd (cc h)
+  scalar_given_stays t (in_record p) h = absurd (cc h)
+  scalar_given_stays t (in_out_component path) h =
+      let typed = fits.has_type types variables t (reads path) in
+      let within = not (fits.stands_alone path.selectors) in
+      both_parts (fits.has_type more others t (reads path)) within (has_type_stays t (reads path) (first_part typed within h)) (second_part typed within h)
+  scalar_given_stays t (in_out_record p) h = absurd (cc h)
 
   access_named_stays : (access : ℕ) (path : PathForm) → fits.names_access types variables access path ≡ true → fits.names_access more others access path ≡ true
   access_named_stays access path h =
@@ -467,12 +473,37 @@ module _ (types more : List TypeForm) (variables others : List VariableForm) (ts
       let own = fits.names_access types variables access path in
       let alone = fits.stands_alone path.selectors in
       both_parts (fits.names_access more others access path) alone (access_named_stays access path (first_part own alone h)) (second_part own alone h)
+  access_given_stays access (in_record p) h = absurd (cc h)
+  access_given_stays access (in_out_component path) h =
+      let own = fits.names_access types variables access path in
+      let within = not (fits.stands_alone path.selectors) in
+      both_parts (fits.names_access more others access path) within (access_named_stays access path (first_part own within h)) (second_part own within h)
+  access_given_stays access (in_out_record p) h = absurd (cc h)
+
+  object_stays : (object t : ℕ) → fits.is_this t (fits.object_in (slice_get types object)) ≡ true → fits.is_this t (fits.object_in (slice_get more object)) ≡ true
+  object_stays object t h = found_stays (slice_get types object) refl h
+    where
+      found_stays : (o : Option TypeForm) → slice_get types object ≡ o → fits.is_this t (fits.object_in o) ≡ true → fits.is_this t (fits.object_in (slice_get more object)) ≡ true
+      found_stays None is h = absurd (cc h)
+      found_stays (Some x) is h = rw (ts object x is) h
+
+  record_named_stays : (object : ℕ) (p : RecordPathForm) → fits.names_record types variables object p ≡ true → fits.names_record more others object p ≡ true
+  record_named_stays object p h =
+      let leads = fits.is_record_path types variables p in
+      let this = fits.is_this p.record_type (fits.object_in (slice_get types object)) in
+      both_parts (fits.is_record_path more others p) (fits.is_this p.record_type (fits.object_in (slice_get more object)))
+      (record_path_stays p (first_part leads this h)) (object_stays object p.record_type (second_part leads this h))
+
+  record_given_stays : (object : ℕ) (a : ActualForm) → fits.is_record_given types variables object a ≡ true → fits.is_record_given more others object a ≡ true
+  record_given_stays object (in_record p) h = record_named_stays object p h
+  record_given_stays object (in_out_record p) h = record_named_stays object p h
+  record_given_stays object a h = absurd (cc h)
 
   actual_stays : (kind : VariableKind) (a : ActualForm) → fits.actual_fits types variables kind a ≡ true → fits.actual_fits more others kind a ≡ true
   actual_stays variable.Integer a h = scalar_given_stays Integer a h
   actual_stays variable.Boolean a h = scalar_given_stays Boolean a h
   actual_stays (variable.Access access) a h = access_given_stays access.0 a h
-  actual_stays (variable.Record object) a h = absurd (cc h)
+  actual_stays (variable.Record object) a h = record_given_stays object.0 a h
 
   actuals_stay : (kinds : List VariableKind) (actuals : List ActualForm) → fits.actuals_fit types variables kinds actuals ≡ true → fits.actuals_fit more others kinds actuals ≡ true
   actuals_stay [] [] h = refl

@@ -1,17 +1,16 @@
 -- The bodies of procedures that have ended fit, and go on fitting as more is declared.
 
-use Rattle.std.proofs.Common.{◌≡◌, ◌∙◌, ℕ, ◌+◌, ◌≤◌, true, false, cond, List, [], ◌∷◌, ◌++◌, length, append_assoc, refl, sym, ap, subst, arith}
+use Rattle.std.proofs.Common.{◌≡◌, ℕ, ◌≤◌, true, false, List, [], ◌∷◌, ◌++◌, length, append_assoc, refl, sym, subst, arith}
 use Rattle.std.specs.Prelude.{Some, ◌&&◌}
 use Rattle.std.specs.List.{list_all, slice_get}
 use Rattle.std.proofs.lemmas.List.{append-nil}
-use Rattle.std.proofs.lemmas.List.Sums.{sum_by-append}
 use Rattle.ada_program.specs.ProgramForm.{TypeForm, BodyForm}
 use Rattle.ada_program.specs.WellFormed as fits
-use Rattle.ada_resolve.specs.Known.{Known, Part, is_in_procedure, left_to, parts}
-use Rattle.ada_resolve.proofs.Standing.Order.{Complete, IsSettled, Keeps, Stays}
+use Rattle.ada_resolve.specs.Known.{Known, Part, left_to}
+use Rattle.ada_resolve.proofs.Standing.Order.{Complete, IsSettled, Stays}
 use Rattle.ada_resolve.proofs.Standing.Procedures.{types_keep}
 use Rattle.ada_resolve.proofs.WellFormed.Called.{callables}
-use Rattle.ada_resolve.proofs.WellFormed.Created.{accesses, collected}
+use Rattle.ada_resolve.proofs.WellFormed.Created.{bodies_collect}
 use Rattle.ada_resolve.proofs.WellFormed.Growing as growing
 use Rattle.ada_resolve.proofs.WellFormed.Growing.{AreIn}
 use Rattle.ada_resolve.proofs.WellFormed.Tables.{all_weaker, both_parts, first_part, second_part, variable_kept}
@@ -67,67 +66,39 @@ one_body_more types texts exceptions callable (c ∷ bs) b h g =
     (one_body_more types texts exceptions next bs b (second_part own rest h)
     (subst (λ ps. fits.body_fits types texts exceptions ps b ≡ true) (sym (append_assoc callable (fits.profile_of c ∷ []) (callables bs))) g))
 
--- what they create
-pub collected_both : (a : ℕ) (cs ds : List fits.Creation) → collected a (cs ++ ds) ≡ collected a cs + collected a ds
-collected_both a cs ds = sum_by-append (λ c. cond (fits.is_collection a c) 1 0) cs ds
-
-pub created_more : (a : ℕ) (bs : List BodyForm) (b : BodyForm) → collected a (fits.created_in_all (bs ++ b ∷ [])) ≡ collected a (fits.created_in_all bs) + collected a (fits.created_in b)
-created_more a [] b = ap (λ cs. collected a cs) (append-nil (fits.created_in b)) ∙ omega arith
-created_more a (c ∷ bs) b =
-    let rest = created_more a bs b in
-    let front = collected_both a (fits.created_in c) (fits.created_in_all (bs ++ b ∷ [])) in
-    let back = collected_both a (fits.created_in c) (fits.created_in_all bs) in
-    omega (arith, rest, front, back)
-
--- the bodies that have ended fit, whatever types that are still incomplete become, and create no collection
+-- the bodies that have ended fit, whatever types that are still incomplete become, and create collections of types that are there
 pub record Ended (k : Known) : Type 0 where
   pub fit : (ts : List TypeForm) → ((t : ℕ) (form : TypeForm) → slice_get k.types t ≡ Some form → IsSettled k t → slice_get ts t ≡ Some form) → fits.bodies_fit ts k.texts k.exceptions [] k.bodies ≡ true
-  pub none : (a : ℕ) → collected a (fits.created_in_all k.bodies) ≡ 0
+  pub below : (a : ℕ) → length k.types ≤ a → bodies_collect k.bodies a ≡ 0
 
 -- where no body ends, they go on fitting
-pub ended_on : (k m : Known) → m.bodies ≡ k.bodies → length k.texts ≤ length m.texts → length k.exceptions ≤ length m.exceptions → ((t : ℕ) (form : TypeForm) → slice_get k.types t ≡ Some form → IsSettled k t → (slice_get m.types t ≡ Some form) × IsSettled m t) → Ended k → Ended m
-ended_on k m same texts exceptions keeps e = record {
+pub ended_on : (k m : Known) → m.bodies ≡ k.bodies → length k.texts ≤ length m.texts → length k.exceptions ≤ length m.exceptions → length k.types ≤ length m.types → ((t : ℕ) (form : TypeForm) → slice_get k.types t ≡ Some form → IsSettled k t → (slice_get m.types t ≡ Some form) × IsSettled m t) → Ended k → Ended m
+ended_on k m same texts exceptions types keeps e = record {
   fit = λ ts w. subst (λ bs. fits.bodies_fit ts m.texts m.exceptions [] bs ≡ true) (sym same)
       (bodies_later ts ts k.texts m.texts k.exceptions m.exceptions (λ i x is. is) texts exceptions [] k.bodies
       (e.fit ts (λ t form is settled. let so = keeps t form is settled in w t form so.0 so.1)));
-  none = λ a. subst (λ bs. collected a (fits.created_in_all bs) ≡ 0) (sym same) (e.none a);
+  below = λ a past. subst (λ bs. bodies_collect bs a ≡ 0) (sym same) (e.below a (omega (arith, past, types)));
 }
 
 -- where no type is incomplete
 pub ended_all : (k : Known) → Complete k → Ended k → fits.bodies_fit k.types k.texts k.exceptions [] k.bodies ≡ true
 ended_all k c e = e.fit k.types (λ t form is settled. is)
 
--- from one place to another behind it in the same part: it is in a procedure or not as the other is, and in one no access type is declared
+-- from one place to another behind it in the same part: the bodies that have ended go on fitting
 pub record Follows (k m : Known) : Type 0 where
-  pub within : is_in_procedure (parts m) ≡ is_in_procedure (parts k)
-  pub same : is_in_procedure (parts k) ≡ true → (a : ℕ) → accesses m.types a ≡ accesses k.types a
   pub ended : Ended k → Ended m
 
 pub follows_same : (k : Known) → Follows k k
-follows_same k = record { within = refl; same = λ on a. refl; ended = λ e. e }
+follows_same k = record { ended = λ e. e }
 
 pub follows_on : (k m z : Known) → Follows k m → Follows m z → Follows k z
-follows_on k m z f g = record {
-  within = g.within ∙ f.within;
-  same = λ on a. g.same (f.within ∙ on) a ∙ f.same on a;
-  ended = λ e. g.ended (f.ended e);
-}
-
-pub keeps_within : (k m : Known) → Keeps k m → is_in_procedure (parts m) ≡ is_in_procedure (parts k)
-keeps_within k m w = rw (w.around, w.outer) refl
-
-pub stays_within : (k m : Known) → Stays k m → is_in_procedure (parts m) ≡ is_in_procedure (parts k)
-stays_within k m w = rw (w.here, w.outer) refl
+follows_on k m z f g = record { ended = λ e. g.ended (f.ended e) }
 
 -- where the innermost part ends
 pub follows_left : (k z : Known) (ps : List Part) → Stays k (left_to ps z) → Follows k z → Follows k (left_to ps z)
 follows_left k z [] s f = record {
-  within = stays_within k (left_to [] z) s;
-  same = f.same;
-  ended = λ e. ended_on z (left_to [] z) refl (omega arith) (omega arith) (λ t form is settled. (is, λ yet text u there same. s.complete text u there)) (f.ended e);
+  ended = λ e. ended_on z (left_to [] z) refl (omega arith) (omega arith) (omega arith) (λ t form is settled. (is, λ yet text u there same. s.complete text u there)) (f.ended e);
 }
 follows_left k z (p ∷ ps) s f = record {
-  within = stays_within k (left_to (p ∷ ps) z) s;
-  same = f.same;
-  ended = λ e. ended_on z (left_to (p ∷ ps) z) refl (omega arith) (omega arith) (λ t form is settled. (is, λ yet text u there same. s.complete text u there)) (f.ended e);
+  ended = λ e. ended_on z (left_to (p ∷ ps) z) refl (omega arith) (omega arith) (omega arith) (λ t form is settled. (is, λ yet text u there same. s.complete text u there)) (f.ended e);
 }

@@ -161,7 +161,7 @@ created_late k name borrows kind s w f =
           (rw (borrows_last k.variables o) (lent_stays k.types k.types k.variables (k.variables ++ o ∷ []) (λ i x is. is)
           (λ i x is. get_more k.variables o i x is) kind borrows s f.0 f.1)))
           refl);
-      one_each = λ a. count_more a es (declares (length k.variables) s ∷ []) ∙ (let h = w.one_each a in omega (arith, h));
+      one_each = λ a. let h = w.one_each a in let all = count_more a es (declares (length k.variables) s ∷ []) in omega (arith, h, all);
       in_order = λ n rest.
           ap (λ cs. fits.creates_from n k.here.first_variable (cs ++ rest)) (map_append fits.creation es (declares (length k.variables) s ∷ [])) ∙
           (ap (λ cs. fits.creates_from n k.here.first_variable cs) (append_assoc (map fits.creation es) (of_variable (length k.variables) ∷ []) rest) ∙
@@ -215,7 +215,8 @@ record_late k name t initial w f =
       one_each = λ a.
           let h = w.one_each a in
           let same : due k.here.first_type more a ≡ due k.here.first_type k.types a = ap (λ (n : ℕ). cond (nat_le k.here.first_type a) n 0) (accesses_object k.types t.0 a) in
-          count_more a es (d ∷ []) ∙ omega (arith, h, same);
+          let all = count_more a es (d ∷ []) in
+          omega (arith, h, same, all);
       in_order = λ n rest.
           ap (λ cs. fits.creates_from n k.here.first_variable (cs ++ rest)) (map_append fits.creation es (d ∷ [])) ∙
           (ap (λ cs. fits.creates_from n k.here.first_variable cs) (append_assoc (map fits.creation es) (of_variable (length k.variables) ∷ []) rest) ∙

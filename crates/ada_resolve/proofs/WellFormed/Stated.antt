@@ -87,8 +87,8 @@ mutual
       let z = d.body_done.1.0 in
       let left = leave_stays at.0 z w c (sequence_inside at.0 d.inner.0 z f (sequence_stays inside body d.inner d.body_done f.sound d.told)) in
       is_done inside refl d.known d.form
-      (block_fits at.0 d.inner.0 z inside d.body_done.0 f.grows.types (ap (λ (v : Known). v.here.first_type) d.inner_known)
-      (ap (λ (v : Known). v.here.first_variable) d.inner_known) (subst (λ v. Follows at.0 v) (sym d.inner_known) (part_follows at.0)) left
+      (block_fits at.0 d.inner.0 z inside d.body_done.0 f.grows.types f.grows.bodies (ap (λ (v : Known). v.here.first_type) d.inner_known)
+      (ap (λ (v : Known). v.here.first_variable) d.inner_known) (ap (λ (v : Known). v.here.first_body) d.inner_known) (subst (λ v. Follows at.0 v) (sym d.inner_known) (part_follows at.0)) left
       (sequence_fit inside body d.inner d.body_done f.sound (subst InOrder (sym d.inner_known) (part_early at.0)) d.told))
   statement_fit inside (declare_block spot ds body) at done w c e =
       let d = declare_done inside spot ds body at done e in
@@ -101,8 +101,8 @@ mutual
       let left = leave_stays at.0 z w c (sequence_inside at.0 d.behind.0 z begun (sequence_stays inside body d.behind d.body_done sound d.told)) in
       let o = declarations_ordered ds d.inner d.behind f.sound (subst InOrder (sym d.inner_known) (part_early at.0)) d.declared in
       is_done inside refl d.known d.form
-      (block_fits at.0 d.behind.0 z inside d.body_done.0 begun.grows.types (keeps.first_type ∙ ap (λ (v : Known). v.here.first_type) d.inner_known)
-      (keeps.first_variable ∙ ap (λ (v : Known). v.here.first_variable) d.inner_known)
+      (block_fits at.0 d.behind.0 z inside d.body_done.0 begun.grows.types begun.grows.bodies (keeps.first_type ∙ ap (λ (v : Known). v.here.first_type) d.inner_known)
+      (keeps.first_variable ∙ ap (λ (v : Known). v.here.first_variable) d.inner_known) (keeps.first_body ∙ ap (λ (v : Known). v.here.first_body) d.inner_known)
       (follows_on at.0 d.inner.0 d.behind.0 (subst (λ v. Follows at.0 v) (sym d.inner_known) (part_follows at.0)) o.follows) left
       (sequence_fit inside body d.behind d.body_done sound o.order d.told))
   statement_fit inside s at done w c e = simple_fits inside s at done w e
@@ -146,7 +146,7 @@ mutual
   pub statements_fit : (inside : Bool) (ss : StatementsTree) (at : At) (done : StmtsForm × At) → Sound at.0 → Complete at.0 → statements_told inside ss at ≡ gives done → AllFit at.0 done.1.0 inside done.0
   statements_fit inside no_statements at done w c e =
       let same : (no_stmts, at) ≡ done = cc e in
-      subst (λ (v : StmtsForm × At). AllFit at.0 v.1.0 inside v.0) same (refl, creates_none at.0 at.0 refl refl, follows_same at.0)
+      subst (λ (v : StmtsForm × At). AllFit at.0 v.1.0 inside v.0) same (refl, creates_none at.0 at.0 refl refl refl, follows_same at.0)
   statements_fit inside (a_statement s ss) at done w c e =
       let d = statements_done inside s ss at done e in
       let stays = statement_stays inside s at d.own w c d.told in
@@ -182,7 +182,7 @@ mutual
   pub handlers_all_fit : (inside : Bool) (hs : HandlersTree) (at : At) (done : HandlersForm × At) → Sound at.0 → Complete at.0 → handlers_told inside hs at ≡ gives done → HandledFit at.0 done.1.0 inside done.0
   handlers_all_fit inside no_handlers at done w c e =
       let same : (form.no_handlers, at) ≡ done = cc e in
-      subst (λ (v : HandlersForm × At). HandledFit at.0 v.1.0 inside v.0) same (refl, creates_none at.0 at.0 refl refl, follows_same at.0)
+      subst (λ (v : HandlersForm × At). HandledFit at.0 v.1.0 inside v.0) same (refl, creates_none at.0 at.0 refl refl refl, follows_same at.0)
   handlers_all_fit inside (a_handler spot choices ss hs) at done w c e =
       let d = handler_done inside spot choices ss hs at done e in
       let k = at.0 in

@@ -114,7 +114,7 @@ taking_fits k texts inside callee.Get m spot a h q = getting_fits k texts inside
 
 actual_fits : (k : Known) (texts : List (List ℕ)) (inside : Bool) (taker : Callee) (argument : ArgumentTree) → PartsFit k.types k.variables (parts k) → Takes k taker → Quiet (actual_remark k taker argument) → FormFits k texts inside (actual_found k taker argument)
 unfolding expression_remark
-actual_fits k texts inside taker (expression_argument (path_expression path)) w a q = taking_fits k texts inside taker (path_meant k path) path.root.spot a (path_fits k path w q.0.1) q.1.0
+actual_fits k texts inside taker (expression_argument (path_expression path)) w a q = taking_fits k texts inside taker (path_meant k path) path.root.spot a (path_fits k path w q.0.1) q.1.1
 actual_fits k texts inside taker argument w a q = tt
 
 taker_fits : (k : Known) (texts : List (List ℕ)) (inside : Bool) (taker : Callee) (called : Spot) (arguments : List ArgumentTree) → PartsFit k.types k.variables (parts k) → Takes k taker → Quiet (taker_remark k taker called arguments) → FormFits k texts inside (taker_found k taker arguments)

@@ -1,4 +1,4 @@
--- By twenty-four programs and their runs.
+-- By twenty-six programs and their runs.
 use Rattle.ada_sound.proofs.Example as example
 use Rattle.ada_sound.proofs.ExampleBlocks as blocks
 use Rattle.ada_sound.proofs.ExampleTargets as targets
@@ -90,3 +90,16 @@ returns-clause-hands_over c = (calls.renewing, calls.renewing_declares, calls.re
 
 pub returns-clause-keeps : goal.returns-clause-keeps
 returns-clause-keeps c = (calls.dropping, calls.dropping_declares, calls.dropping_form, calls.dropping_handles, calls.dropping_accepted, calls.drops)
+
+pub returns-clause-refers : goal.returns-clause-refers
+returns-clause-refers c = (calls.trimming, calls.trimming_declares, calls.trimming_form, calls.trimming_accepted, calls.trims)
+
+pub returns-clause-gives_back_there : goal.returns-clause-gives_back_there
+returns-clause-gives_back_there c = (
+  calls.replacing,
+  calls.replacing_declares,
+  calls.replacing_form,
+  calls.replacing_borrows,
+  calls.replacing_accepted,
+  calls.replaces,
+)

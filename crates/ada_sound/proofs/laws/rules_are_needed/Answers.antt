@@ -1,4 +1,4 @@
--- By twenty-three programs and their runs.
+-- By twenty-six programs and their runs.
 use Rattle.ada_sound.proofs.Example as example
 use Rattle.ada_sound.proofs.ExampleBlocks as blocks
 use Rattle.ada_sound.proofs.ExampleTargets as targets
@@ -98,3 +98,19 @@ returns-clause-cuts c = (calls.cutting, calls.cutting_declares, calls.cutting_fo
 
 pub returns-clause-claims : goal.returns-clause-claims
 returns-clause-claims c = (calls.claiming, calls.claiming_declares, calls.claiming_form, calls.claiming_breaks, calls.claims)
+
+pub returns-clause-ruins : goal.returns-clause-ruins
+returns-clause-ruins c = (calls.ruining, calls.ruining_declares, calls.ruining_form, calls.ruining_borrows, calls.ruining_breaks, calls.ruins)
+
+pub returns-clause-drains : goal.returns-clause-drains
+returns-clause-drains c = (calls.draining, calls.draining_declares, calls.draining_form, calls.draining_borrows, calls.draining_breaks, calls.drains)
+
+pub returns-clause-strips : goal.returns-clause-strips
+returns-clause-strips c = (
+  calls.stripping,
+  calls.stripping_declares,
+  calls.stripping_form,
+  calls.stripping_handles,
+  calls.stripping_breaks,
+  calls.strips,
+)

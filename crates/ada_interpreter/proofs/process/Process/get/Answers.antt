@@ -4,8 +4,8 @@ use Rattle.ada_interpreter.specs.Process.{frame_of, state_of, replaced}
 use Rattle.ada_interpreter.proofs.ComponentLemmas.{gets_split}
 use Rattle.ada_interpreter.proofs.process.Process.get.Goals as goal
 
-pub returns-in-Some : goal.returns-in-Some
-returns-in-Some c =
+pub returns-in_ok-component-in-Some : goal.returns-in_ok-component-in-Some
+returns-in_ok-component-in-Some c =
     let parts = c.in-Some.ensures.cases in
-    let split = gets_split c.in-Some.before.now c.in-Some.last.now c.args.target.now.root.0 c.args.self.now.input (replaced (frame_of c.args.rest) (state_of c.args.self.now)) in
+    let split = gets_split c.in-Some.before.now c.in-Some.last.now c.in_ok-component-in-Some.component c.args.target.now.root.0 c.args.self.now.input (replaced (frame_of c.args.rest) (state_of c.args.self.now)) c.in_ok-component-in-Some.ensures in
     rw (sym c.as_slice.ensures.value, parts.0, split) c.find.ensures

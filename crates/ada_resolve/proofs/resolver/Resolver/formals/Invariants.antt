@@ -12,6 +12,6 @@ invariant-loop-formal l = record {
       with_formals (known_of l.self) (map formal_of (drop l.formal-index l.formals)) (formals_in l.made) ≡
       with_formals (known_of l.self) (map formal_of l.formals) no_formals;
   remark :
-      noted (formals_remark (known_of l.self) l.first (formals_in l.made) (map formal_of (drop l.formal-index l.formals))) l.notes ≡
-      noted (formals_remark (known_of l.self) l.first no_formals (map formal_of l.formals)) l.initial.notes;
+      noted (formals_remark (known_of l.self) (formals_in l.made) (map formal_of (drop l.formal-index l.formals))) l.notes ≡
+      noted (formals_remark (known_of l.self) no_formals (map formal_of l.formals)) l.initial.notes;
 }

@@ -1,0 +1,25 @@
+with Ada.Text_IO;
+with Ada.Unchecked_Deallocation;
+
+procedure Main is
+   type Node;
+   type Link is access Node;
+   type Node is record
+      Value : Integer := 0;
+      Next  : Link;
+   end record;
+   procedure Free is new Ada.Unchecked_Deallocation (Node, Link);
+   procedure Next (I : in out Integer) is
+   begin
+      I := I + 1;
+   end Next;
+   procedure Twice (N : in out Node) is
+   begin
+      Next (N.Value);
+      Next (N.Value);
+   end Twice;
+   A : Link := new Node'(1, null);
+begin
+   Twice (A.all);
+   Ada.Text_IO.Put_Line (Integer'Image (A.Value));
+end Main;

@@ -1,0 +1,21 @@
+with Ada.Text_IO;
+with Ada.Unchecked_Deallocation;
+
+procedure Main is
+   type Node;
+   type Link is access Node;
+   type Node is record
+      Value : Integer := 0;
+      Next  : Link;
+   end record;
+   procedure Free is new Ada.Unchecked_Deallocation (Node, Link);
+   procedure Take (L : in out Link) is
+   begin
+      L := null;
+   end Take;
+   A : Link := new Node'(1, null);
+   B : Link;
+begin
+   B := A;
+   Take (A.Next);
+end Main;

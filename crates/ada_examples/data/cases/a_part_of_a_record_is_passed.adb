@@ -1,0 +1,29 @@
+with Ada.Text_IO;
+with Ada.Unchecked_Deallocation;
+
+procedure Main is
+   type Node;
+   type Link is access Node;
+   type Node is record
+      Value : Integer := 0;
+      Next  : Link;
+   end record;
+   procedure Free is new Ada.Unchecked_Deallocation (Node, Link);
+   type Box is record
+      Inner : Node;
+      Open  : Boolean := True;
+   end record;
+   procedure Add (N : in out Node; Amount : Integer) is
+   begin
+      N.Value := N.Value + Amount;
+   end Add;
+   procedure Show (N : Node) is
+   begin
+      Ada.Text_IO.Put_Line (Integer'Image (N.Value));
+   end Show;
+   X : Box;
+begin
+   Add (X.Inner, 5);
+   Ada.Text_IO.Put_Line (Integer'Image (X.Inner.Value));
+   Show (X.Inner);
+end Main;

@@ -1,0 +1,26 @@
+with Ada.Text_IO;
+with Ada.Unchecked_Deallocation;
+
+procedure Main is
+   type Node;
+   type Link is access Node;
+   type Node is record
+      Value : Integer := 0;
+      Next  : Link;
+   end record;
+   procedure Free is new Ada.Unchecked_Deallocation (Node, Link);
+   procedure Add (N : in out Node; Amount : Integer) is
+   begin
+      N.Value := N.Value + Amount;
+   end Add;
+   procedure Show (N : Node) is
+   begin
+      Ada.Text_IO.Put_Line (Integer'Image (N.Value));
+   end Show;
+   R : Node;
+begin
+   Add (R, 3);
+   Show (R);
+   Add (R, R.Value);
+   Ada.Text_IO.Put_Line (Integer'Image (R.Value));
+end Main;

@@ -1,8 +1,0 @@
-use Rattle.std.proofs.Common.{◌≡◌, drop, map}
-use Rattle.ada_flow.specs.Flow.{is_begun_with}
-use Rattle.ada_program.specs.Form.{actual_form}
-use Rattle.ada_flow.proofs.calls.is_begun_with.Given as goal
-
--- what is left tells of all
-abbrev pub invariant-actuals : goal.invariant-actuals
-invariant-actuals l = is_begun_with (map actual_form (drop l.actual-index l.actuals)) l.variable.0 ≡ is_begun_with (map actual_form l.actuals) l.variable.0

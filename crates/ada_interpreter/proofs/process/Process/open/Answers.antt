@@ -1,0 +1,11 @@
+-- The path is that to the object, and the component behind it.
+use Rattle.std.proofs.Common.{sym}
+use Rattle.ada_interpreter.specs.Process.{state_of, passed}
+use Rattle.ada_interpreter.proofs.ComponentLemmas.{opens_split}
+use Rattle.ada_interpreter.proofs.process.Process.open.Goals as goal
+
+pub returns-in_ok-component-in-Some : goal.returns-in_ok-component-in-Some
+returns-in_ok-component-in-Some c =
+    let parts = c.in-Some.ensures.cases in
+    let split = opens_split c.in-Some.before.now c.in-Some.last.now c.in_ok-component-in-Some.component c.args.path.now.root.0 (passed (state_of c.args.self.now)) c.in_ok-component-in-Some.ensures in
+    rw (sym c.as_slice.ensures.value, parts.0, split) c.read_then.ensures
