@@ -130,8 +130,8 @@ module _ (program : Program) (procedure : Option ℕ) (gs : List Suspension) whe
   )
 
 -- The main body has no caller, so no suspended activation has an alias.
-pub none_suspended : (program : Program) (procedure : Option ℕ) (may : ℕ → Bool) → Spares (known_in program procedure []) may
-none_suspended program procedure may t is = ((λ d x e b. cc e), (λ o refers of. absurd refers))
+pub none_suspended : (program : Program) (procedure : Option ℕ) → let p : ProgramForm = (known_in program procedure []).program in Spares (known_in program procedure []) (body_frees p.types (effects_of p) (main_body p))
+none_suspended program procedure t is = (((λ d x e b. cc e), (λ o refers of. absurd refers)), is)
 
 -- Behind a call no alias is left of what its procedure may free.
 no_alias : (h : Hold) → Borrows (without_alias true h) → ⊥

@@ -1,6 +1,6 @@
 -- What the rules let through: a borrower owns nothing of what it gets, and nothing is moved to it.
 
-use Rattle.std.proofs.Common.{◌≡◌, ◌≢◌, ℕ, Bool, true, false, List, [], ◌∷◌, refl, sym, ◌∙◌}
+use Rattle.std.proofs.Common.{◌≡◌, ℕ, Bool, true, false, List, [], ◌∷◌, refl, sym, ◌∙◌}
 use Rattle.std.specs.Prelude.{Option, Some}
 use Rattle.std.specs.List.{slice_set}
 use Rattle.ada_program.specs.Form.{PathForm, RightForm, nothing, value_of, allocates, allocates_default, computes}
@@ -9,7 +9,6 @@ use Rattle.ada_text.specs.declared.spot.Spot.{Spot}
 use Rattle.ada_program.specs.WellFormed.{is_borrower, names_borrower, lends_to}
 use Rattle.ada_flow.specs.declared.rule.Hold.{Hold}
 use Rattle.ada_flow.specs.declared.rule.Hold.TheVariants as hold
-use Rattle.ada_flow.specs.declared.rule.Region.{Region}
 use Rattle.ada_flow.specs.declared.rule.Rule.TheVariants.{LostValue}
 use Rattle.ada_flow.specs.Flow.{Holds, hold_at, faults, goes, declared_at, moved_by_right, borrowed_hold, right_hold, gives, gives_path}
 use Rattle.ada_sound.specs.Owners.{DeclaredBorrowersMoveNothing, DeclaredBorrowersOwnNothing, BorrowersMoveNothing, BorrowersOwnNothing, LostIsNotBorrowed}

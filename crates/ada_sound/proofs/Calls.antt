@@ -42,7 +42,7 @@ use Rattle.ada_sound.proofs.GivenBack.{gives_some, get_less}
 use Rattle.ada_sound.proofs.Outcomes.{to_here}
 use Rattle.ada_sound.proofs.Ready.{stays}
 use Rattle.ada_sound.proofs.Bodies.{effect_at, callee_get, callee_sees}
-use Rattle.ada_sound.proofs.Invariant.{begun, along, Known, Control, Rooms, RunsOn, Working, CallsOn, ArePassed, handed_at, Hands, Waits, body_among, effect_in, kept_in, left_in, outers, outer_of}
+use Rattle.ada_sound.proofs.Invariant.{CoveredIn, begun, along, Known, Control, Rooms, RunsOn, Working, CallsOn, ArePassed, handed_at, Hands, Waits, body_among, effect_in, kept_in, left_in, outers, outer_of}
 use Rattle.ada_sound.proofs.Callers.{Suspension, caller_of, callers_of, known_in, Stands}
 use Rattle.ada_sound.proofs.Returns.{Crosses}
 
@@ -257,6 +257,12 @@ module _ (program : Program) (number : ℕ) (b : BodyForm) (given : List ActualF
             let effect = effect_at caller.program.types caller.program.bodies number b w.rest.0 in
             rw effect (rw (← sees) at may)
 
+        -- What may be freed by the body may be freed by the call.
+        freed_by_it : (t : ℕ) → CoveredIn callee.program t → call_frees (effect_in caller number) t ≡ true
+        freed_by_it t may =
+            let effect = effect_at caller.program.types caller.program.bodies number b w.rest.0 in
+            rw effect (rw (← sees) at may)
+
         -- What is handed over goes to no record parameter.
         handed_formal : (i : ℕ) → Given i → (x : ℕ) → handed_at given i ≡ Some x → is_object b.variables i ≡ false
         handed_formal i (inl none) x is = let e = none.0 in absurd (cc (is, e))
@@ -286,6 +292,7 @@ module _ (program : Program) (number : ℕ) (b : BodyForm) (given : List ActualF
           hands = subst (λ (p : ProgramForm). Hands p caller.program given waiting.before) sees hands_before;
           passes = passes_by;
           opened = all_opened caller.program.types caller.program.variables frees s.heap a.places w.holds exist w.fit (formal_kinds b) given values references suits.0 refer w.rest.6;
+          covers = λ t may. (w.rest.3 t (freed_by_it t may)).1;
         }
           where
             passes_by : (i x : ℕ) → handed_at given i ≡ Some x → place_at values i ≡ place_at a.places x
@@ -344,5 +351,5 @@ module _ (program : Program) (number : ℕ) (b : BodyForm) (given : List ActualF
       passes_spared t may of o is =
           let suits = (and_parts (actuals_fit caller.program.types caller.program.variables (formal_kinds b) given) (modes_fit b.formals given) w.rest.5).0 in
           all_spared caller.program.types caller.program.variables frees s.heap a.places w.holds (λ p x found listed. (w.stored.sane p x found).listed_exists listed) w.fit
-          w.rest.7 t may of (λ p known. (w.rest.3 t may).1 p known of) (formal_kinds b) given values references suits
+          w.rest.7 t may of (λ p known. (w.rest.3 t may).0.1 p known of) (formal_kinds b) given values references suits
           (passed_in_order s.heap a.places given a.operands passed) (referred_in_order s.heap a.places given a.operands passed) w.rest.6 o is

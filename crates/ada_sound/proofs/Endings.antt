@@ -144,6 +144,7 @@ module _ (known : Known) where
           out = exists_out o e.object e.found e.exists e.stored;
           own = b.1;
           stored = stored_finish o e.object e.found e.stored;
+          covered = e.covered;
           rest = behind_set o e.object (finished e.object) s.heap e.found e.parted refl (λ objects places at spared holds f. finish_fit o e.object at e.parted f) cause e.object.cell.home.item a.places s.masters k b.2;
         }),
       );
@@ -210,6 +211,7 @@ module _ (known : Known) where
             to_pool = refl;
             to_subpool = refl;
             home = leaves_home cause o b.object k b.rest;
+            covered = b.covered;
             back = (returned b.object, set_here s.heap o.0 b.object (returned b.object) b.found, refl);
           };
         }
@@ -258,6 +260,7 @@ module _ (known : Known) where
               exists = exists;
               parted = refl;
               stored = stored_part o x member.found w.stored;
+              covered = tt;
               rest = (
                 refl,
                 sym (from x.cell.access x.cell.home.pool type),

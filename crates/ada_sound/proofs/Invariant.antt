@@ -14,7 +14,7 @@ use Rattle.ada_program.specs.declared.program.VariableKind.TheVariants as variab
 use Rattle.ada_program.specs.declared.program.TypeNo.{TypeNo}
 use Rattle.ada_program.specs.WellFormed.{is_access, access_of, kind_among, selectors_kind, variable_kind, record_components, reached_components, items_fit, is_record_object, profile_of, suits_profile}
 use Rattle.ada_program.specs.Handling.{is_same, handler_of}
-use Rattle.ada_effects.specs.Effects.{expression_raises, links_raise, items_raise, path_raises, record_path_raises, condition_raises, unary_raises, binary_raises, right_raises, declaration_raises, stmts_raise, branches_raise, handlers_raise, Effect, call_raises, body_raises, stmts_free, branches_free, handlers_free, call_frees, effects_of}
+use Rattle.ada_effects.specs.Effects.{expression_raises, links_raise, items_raise, path_raises, record_path_raises, condition_raises, unary_raises, binary_raises, right_raises, declaration_raises, stmts_raise, branches_raise, handlers_raise, Effect, call_raises, body_raises, stmts_free, branches_free, handlers_free, body_frees, call_frees, effects_of}
 use Rattle.ada_flow.specs.declared.rule.Hold.TheVariants as hold
 use Rattle.ada_flow.specs.declared.rule.Region.TheVariants.{Whole}
 use Rattle.ada_flow.specs.Flow.{Holds, hold_at, variable_access, lost_by, Outcome, faults, goes, Use, uses_in, uses_in_links, uses_in_item, named_by_item, is_owning, is_owning_record, owns_at_first, broken_among, without_values, moved_by_items, passes_type, behind_end, gives, gives_component, clears, compares_it, uses_in_actuals, Keeping, keeping_of, kept_at, is_kept, handed_back, left_unkept, owed_from, gives_back, all_give_back, are_as_good, have_exit, branches_have_exit, handlers_have_exit, is_left, condition_flow, stmts_flow, branches_flow, handlers_flow, declaration_flow, Gone as GoneWith, collected, is_among, left, left_by_call, nothing_gone, Around}
@@ -35,7 +35,7 @@ use Rattle.ada_meaning.specs.Heap.{Home, finds}
 use Rattle.ada_meaning.specs.Step.{halts, moves, tells, asks, picks, first_or, older, in_front, before_last, last_of, selected, first_in, places, operands}
 use Rattle.ada_meaning.specs.Named.{Object, State, Next, object_at, named, store, whole, inside}
 use Rattle.ada_meaning.specs.Run.{Event}
-use Rattle.ada_meaning.specs.Law.{AtItem, leaving_by, LeavesHome}
+use Rattle.ada_meaning.specs.Law.{leaving_by, LeavesHome}
 use Rattle.ada_sound.specs.Agreement.{Turning, Comes, ComesBy, ComesTo}
 use Rattle.ada_sound.proofs.Items.{NoMaster}
 use Rattle.ada_sound.proofs.Stored.{Stored}
@@ -182,9 +182,26 @@ MayReturn variables owed within holds = all_give_back owed (left variables withi
 abbrev pub OnReturn : List VariableForm → Around → (Holds → Type 0) → Type 0
 OnReturn variables around returned = (holds : Holds) → MayReturn variables around.owed around.within holds → returned holds
 
--- Objects may be freed only of access types of which no suspended activation has an alias, and of which no call refers to an object.
+-- A body, or what it calls, may free objects of this access type (13.11.2).
+abbrev pub CoveredIn : ProgramForm → (access : ℕ) → Type 0
+CoveredIn p t = body_frees p.types (effects_of p) (main_body p) t ≡ true
+
+-- Where words go back by a Free, it is of such a type.
+abbrev pub IsCovered : ProgramForm → Cause → (access : ℕ) → Type 0
+IsCovered p (Freeing number) t = CoveredIn p t
+IsCovered p (Leaving m item) t = Unit {0}
+IsCovered p (Assigning number) t = Unit {0}
+IsCovered p (Undoing number) t = Unit {0}
+
+abbrev pub WillBeCovered : ProgramForm → (access : ℕ) → Control → Type 0
+WillBeCovered p t [] = Unit {0}
+WillBeCovered p t (GivesBack v cause pool ∷ k) = IsCovered p cause t
+WillBeCovered p t (f ∷ k) = Unit {0}
+
+-- Objects may be freed only of access types of which no suspended activation has an alias, and of which no call refers to an object; and only of those
+-- that the running body may free.
 abbrev pub Spares : Known → (may : ℕ → Bool) → Type 0
-Spares known may = (t : ℕ) → may t ≡ true → NoOuterAlias known.program.types (outers known) t
+Spares known may = (t : ℕ) → may t ≡ true → NoOuterAlias known.program.types (outers known) t × CoveredIn known.program t
 
 -- Where a statement of the running body stands: the start of the innermost loop around it, if there is one, what goes with the blocks since, and with all
 -- blocks around it and the body.
@@ -640,6 +657,7 @@ pub record Releasing (known : Known) (heap : List Object) (v : Value) (cs : List
   pub of_type : access_of (selectors_kind known.program.types from (cs ++ c ∷ [])) ≡ access
   pub own : (t : ℕ) → access ≡ Some t → is_access known.program.types t ≡ true
   pub spares : (t : ℕ) → access ≡ Some t → NoOuterAlias known.program.types (outers known) t
+  pub covered : (t : ℕ) → access ≡ Some t → CoveredIn known.program t
   pub raises : RaisesAt known v cs k rooms (behind_end known.program.variables access holds)
   pub runs : RunsOn known k rooms (behind_end known.program.variables access holds)
 
@@ -858,6 +876,7 @@ pub record Ending (known : Known) (o : Id) (k : Control) (heap : List Object) (p
   pub exists : object.stage ≡ Existing
   pub parted : object.listed ≡ false
   pub stored : Stored (Some o) heap masters
+  pub covered : WillBeCovered known.program object.cell.access k
   pub rest : ThenBack known o object.cell.home heap places masters k
 
 abbrev pub EndingBy : Known → Value → Control → List Object → List Value → List Master → Type 0
@@ -874,6 +893,7 @@ pub record Backing (known : Known) (o : Id) (cause : Cause) (pool : Option ℕ) 
   pub out : object.out ≡ true
   pub own : pool ≡ object.cell.home.pool
   pub stored : Stored (Some o) heap masters
+  pub covered : IsCovered known.program cause object.cell.access
   pub rest : Behind known cause object.cell.home.item heap places masters k
 
 abbrev pub BackingBy : Known → Value → Cause → Option ℕ → Control → List Object → List Value → List Master → Type 0
@@ -1108,6 +1128,7 @@ pub record Waits (body : ProgramForm) (w : Caller) (ws : List Caller) : Type 0 w
   pub hands : Hands body w.program w.actuals w.before
   pub passes : (i x : ℕ) → handed_at w.actuals i ≡ Some x → place_at w.passed i ≡ place_at w.places x
   pub opened : AreOpened w.program.types w.referenced w.references
+  pub covers : (t : ℕ) → CoveredIn body t → CoveredIn w.program t
 
 -- So does each caller, for the body that it called.
 abbrev pub AllWait : ProgramForm → List Caller → Type 0
@@ -1137,7 +1158,7 @@ pub record Standing (known : Known) (s : State) : Type 0 where
   pub low : LieBelow s.heap known.callers
 
 -- The words of an object go back.
-pub record GoesBack (v : Value) (access number : ℕ) (pool subpool : Option ℕ) (leaving : Option AtItem) (before : List Object) (after : State) : Type 0 where
+pub record GoesBack (p : ProgramForm) (cause : Cause) (v : Value) (access number : ℕ) (pool subpool : Option ℕ) (before : List Object) (after : State) : Type 0 where
   pub id : Id
   pub object : Object
   pub is : v ≡ Names id
@@ -1147,7 +1168,8 @@ pub record GoesBack (v : Value) (access number : ℕ) (pool subpool : Option ℕ
   pub numbered : object.cell.number ≡ number
   pub to_pool : object.cell.home.pool ≡ pool
   pub to_subpool : object.cell.home.subpool ≡ subpool
-  pub home : LeavesHome object.cell.home leaving
+  pub home : LeavesHome object.cell.home (leaving_by (Some cause))
+  pub covered : IsCovered p cause access
   pub back : BackIn after.heap id
 
 -- An object is followed whose words are out.
@@ -1158,21 +1180,21 @@ pub record IsFollowed (v : Value) (before : List Object) : Type 0 where
   pub found : object_at before id ≡ Some object
   pub out : object.out ≡ true
 
--- What an event says of the objects before it and of the state after it.
-abbrev pub Says : Event → List Object → State → Type 0
-Says (Born object part turn type number by) before after = ⊥
-Says (Finalized object part turn type number cause) before after = ⊥
-Says (Back object access number pool subpool cause) before after = GoesBack object access number pool subpool (leaving_by (Some cause)) before after
-Says (Followed object) before after = IsFollowed object before
-Says (Left master) before after = Unit {0}
-Says (Line line) before after = Unit {0}
-Says Quiet before after = Unit {0}
+-- What an event of a body says of the objects before it and of the state after it.
+abbrev pub Says : ProgramForm → Event → List Object → State → Type 0
+Says p (Born object part turn type number by) before after = ⊥
+Says p (Finalized object part turn type number cause) before after = ⊥
+Says p (Back object access number pool subpool cause) before after = GoesBack p cause object access number pool subpool before after
+Says p (Followed object) before after = IsFollowed object before
+Says p (Left master) before after = Unit {0}
+Says p (Line line) before after = Unit {0}
+Says p Quiet before after = Unit {0}
 
 -- One step: what it keeps, and what it does.
 pub record Stepped (known : Known) (before : List Object) (e : Event) (after : State) : Type 0 where
   pub ready : Ready known after
   pub alters : Alters before e after.heap
-  pub says : Says e before after
+  pub says : Says known.program e before after
 
 -- No run ends at an erroneous action; where one comes to its end, no master is left.
 abbrev pub EndsWell : Halt → List Object → List Master → Type 0

@@ -142,5 +142,7 @@ pub mod ExampleRecords
 pub mod ExampleCalls
 -- where a statement begins
 pub mod Agreeing
+-- what effects cover
+pub mod Covered
 -- the laws
 pub mod Headline

@@ -55,7 +55,7 @@ none_left known mode ms (gone ∷ rooms) holds r g = nowhere_goes mode holds g
 
 module _ (known : Known) where
   -- A step that leaves objects as they are.
-  pub stays : (e : Event) (after : State) → Ready known after → Says e after.heap after → Stepped known after.heap e after
+  pub stays : (e : Event) (after : State) → Ready known after → Says known.program e after.heap after → Stepped known after.heap e after
   stays e after r says = record { ready = r; alters = alters_same after.heap e; says = says }
 
   -- Where a master is to be left, nothing relies on the components of its objects.
@@ -170,10 +170,10 @@ module _ (known : Known) where
     ready_on vs r = stays Quiet (running k (record a { operands = vs }) rest s) (tt, r) tt
 
     -- What is left of the program goes on.
-    pub runs_on : Working known s.heap a.places s.masters (RunsOn known k) → (e : Event) → Says e s.heap (running k a rest s) → Stepped known s.heap e (running k a rest s)
+    pub runs_on : Working known s.heap a.places s.masters (RunsOn known k) → (e : Event) → Says known.program e s.heap (running k a rest s) → Stepped known s.heap e (running k a rest s)
     runs_on w e says = stays e (running k a rest s) (tt, runs_ready k s.heap a.places a.operands s.masters w) says
 
-    pub resumes_on : Resumes known s.heap a.places s.masters k → (e : Event) → Says e s.heap (running k a rest s) → Stepped known s.heap e (running k a rest s)
+    pub resumes_on : Resumes known s.heap a.places s.masters k → (e : Event) → Says known.program e s.heap (running k a rest s) → Stepped known s.heap e (running k a rest s)
     resumes_on r e says = stays e (running k a rest s) (tt, resumes_ready k s.heap a.places a.operands s.masters r) says
 
     pub goes_in_mode : (mode : Mode) → Working known s.heap a.places s.masters (GoesOn known mode k) → Stepped known s.heap Quiet (in_mode mode k a rest s)

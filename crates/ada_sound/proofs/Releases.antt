@@ -1,6 +1,6 @@
 -- Free (P.C): the object of the component is found, what the component names is to end, and the component becomes null.
 
-use Rattle.std.proofs.Common.{◌≡◌, ◌≢◌, ℕ, Bool, true, false, ◌||◌, ◌==◌, List, [], ◌∷◌, ◌++◌, refl, sym, ap, ◌∙◌, ◌⊎◌, inl, inr}
+use Rattle.std.proofs.Common.{subst, ◌≡◌, ◌≢◌, ℕ, Bool, true, false, ◌||◌, ◌==◌, List, [], ◌∷◌, ◌++◌, refl, sym, ap, ◌∙◌, ◌⊎◌, inl, inr}
 use Rattle.std.proofs.lemmas.Bool.{eqb-true, eq-eqb}
 use Rattle.std.specs.Prelude.{Option, Some, None}
 use Rattle.std.specs.List.{slice_get}
@@ -33,7 +33,7 @@ use Rattle.ada_sound.proofs.Objects.{set_here}
 use Rattle.ada_sound.proofs.Stored.{stored_part}
 use Rattle.ada_sound.proofs.Alters.{alters_set}
 use Rattle.ada_sound.proofs.Assigned.{freed_at}
-use Rattle.ada_sound.proofs.Invariant.{begun, outers, Pooled, Known, Control, Goes, Raised, RunsOn, PassesNone, Releasing, Working, Stepped, Fine, ways}
+use Rattle.ada_sound.proofs.Invariant.{Spares, CoveredIn, begun, outers, Pooled, Known, Control, Goes, Raised, RunsOn, PassesNone, Releasing, Working, Stepped, Fine, ways}
 use Rattle.ada_sound.proofs.Ready.{running, at_work, stays, runs_ready, jumps_less}
 use Rattle.ada_sound.proofs.Outcomes.{ends_goes}
 use Rattle.ada_sound.proofs.Roots.{access_leads, root_object, object_there, front_raises}
@@ -107,7 +107,7 @@ passes_root types outer heap kind v b c cs to (Some t) leads spares passes = by 
 
 module _ (known : Known) (a : Activation Value) (rest : List (Activation Value)) (s : State) where
   -- A Free of a component begins: its object is found first.
-  pub free_begins : (c : ℕ) (cs : List ℕ) (access : ℕ) (path : PathForm) (fs : StmtsForm) (k : Control) (among : Exception → Bool) → (path_raises path ≡ true → among ConstraintError ≡ true) → is_freed_by known.program.types access (path_access known.program.types known.program.variables path) ≡ true → ((t : ℕ) → is_this t (path_access known.program.types known.program.variables path) ≡ true → NoOuterAlias known.program.types (outers known) t) → path.selectors ≡ c ∷ cs → Working known s.heap a.places s.masters (λ rooms holds. Goes (frees_path known.program.types known.program.variables (c ∷ cs) path holds) (RunsOn known (Does fs ∷ k) rooms) (Raised among (ways known k rooms))) → Fine known s.heap s.masters (path_next named (before_last (inside (place_at a.places path.root) c) cs) (begun a.places path) (running (FreesIn access (last_of (inside (place_at a.places path.root) c) cs) ∷ Does fs ∷ k) a rest s))
+  pub free_begins : (c : ℕ) (cs : List ℕ) (access : ℕ) (path : PathForm) (fs : StmtsForm) (k : Control) (among : Exception → Bool) → (path_raises path ≡ true → among ConstraintError ≡ true) → is_freed_by known.program.types access (path_access known.program.types known.program.variables path) ≡ true → Spares known (λ t. is_this t (path_access known.program.types known.program.variables path)) → path.selectors ≡ c ∷ cs → Working known s.heap a.places s.masters (λ rooms holds. Goes (frees_path known.program.types known.program.variables (c ∷ cs) path holds) (RunsOn known (Does fs ∷ k) rooms) (Raised among (ways known k rooms))) → Fine known s.heap s.masters (path_next named (before_last (inside (place_at a.places path.root) c) cs) (begun a.places path) (running (FreesIn access (last_of (inside (place_at a.places path.root) c) cs) ∷ Does fs ∷ k) a rest s))
   free_begins c cs access path fs k among may freed spares is w =
       let types = known.program.types in
       let variables = known.program.variables in
@@ -122,7 +122,7 @@ module _ (known : Known) (a : Activation Value) (rest : List (Activation Value))
       let from_kind : selectors_kind types (variable_kind variables path.root) (c ∷ cs) ≡ Some to.0 = ap (λ (ds : List ℕ). selectors_kind types (variable_kind variables path.root) ds) (sym is) ∙ to.1 in
       let named_type : access_of (Some to.0) ≡ own = ap access_of (sym to.1) ∙ (at.2 ∙ sym at.1) in
       let from_here : selectors_kind types b.from (inside v c ∷ cs) ≡ Some to.0 = b.leads c cs to.0 from_kind in
-      let spares_own : (t : ℕ) → own ≡ Some t → NoOuterAlias types (outers known) t = λ t same. spares t (ap (is_this t) same ∙ eq-eqb t t refl) in
+      let spares_own : (t : ℕ) → own ≡ Some t → NoOuterAlias types (outers known) t = λ t same. (spares t (ap (is_this t) same ∙ eq-eqb t t refl)).0 in
       let is_own : (t : ℕ) → own ≡ Some t → is_access types t ≡ true = λ t same. (let one : at.0 ≡ t = let other = at.1 in cc (same, other) in rw (← one) at.3) in
       finds_fine known a rest s a.operands (FreesIn access (last_of (inside v c) cs) ∷ Does fs ∷ k) (before_last (inside v c) cs) (begun a.places path)
       (at_work w (record {
@@ -133,6 +133,7 @@ module _ (known : Known) (a : Activation Value) (rest : List (Activation Value))
         of_type = rw (front_last (inside v c) cs) (ap access_of from_here ∙ named_type);
         own = is_own;
         spares = spares_own;
+        covered = λ t same. (spares t (ap (is_this t) same ∙ eq-eqb t t refl)).1;
         raises = front_raises known (begun a.places path) (Does fs ∷ k) w.rooms (behind_end variables own w.holds) path.of_record c (inside v c) cs
             (λ whole. object_there path.root path.spot kept.0 (root_object types variables path leads.0 leads.1 whole) w.fit)
             (λ raises. (let follows : path_raises path ≡ true = rw is raises in g.2 follows ConstraintError (may follows)));
@@ -181,6 +182,7 @@ module _ (known : Known) (a : Activation Value) (rest : List (Activation Value))
               exists = exists;
               parted = refl;
               stored = stored_part p there.object there.found w.stored;
+              covered = subst (λ (u : ℕ). CoveredIn known.program u) (sym there.access) (w.rest.covered t is_t);
               rest = (
                 refl,
                 sym (pooled p there.object there.found (rw there.access (w.rest.own t is_t))),

@@ -80,46 +80,46 @@ named_out heap v id o x is found out named =
     some_same : (p q : Id) → Some p ≡ Some q → p ≡ q
     some_same p q e = cc e
 
-back_out : (e : Event) (heap : List Object) (after : State) (o : Id) → Says e heap after → back_of e ≡ Some o → OutIn heap o
-back_out (Born v part turn type number by) heap after o says is = absurd says
-back_out (Finalized v part turn type number cause) heap after o says is = absurd says
-back_out (Back v access number pool subpool cause) heap after o says is = named_out heap v says.id o says.object says.is says.found says.out is
-back_out (Followed v) heap after o says is = absurd (cc is)
-back_out (Left master) heap after o says is = absurd (cc is)
-back_out (Line line) heap after o says is = absurd (cc is)
-back_out Quiet heap after o says is = absurd (cc is)
+back_out : (p : ProgramForm) (e : Event) (heap : List Object) (after : State) (o : Id) → Says p e heap after → back_of e ≡ Some o → OutIn heap o
+back_out p (Born v part turn type number by) heap after o says is = absurd says
+back_out p (Finalized v part turn type number cause) heap after o says is = absurd says
+back_out p (Back v access number pool subpool cause) heap after o says is = named_out heap v says.id o says.object says.is says.found says.out is
+back_out p (Followed v) heap after o says is = absurd (cc is)
+back_out p (Left master) heap after o says is = absurd (cc is)
+back_out p (Line line) heap after o says is = absurd (cc is)
+back_out p Quiet heap after o says is = absurd (cc is)
 
-followed_out : (e : Event) (heap : List Object) (after : State) (o : Id) → Says e heap after → followed_of e ≡ Some o → OutIn heap o
-followed_out (Born v part turn type number by) heap after o says is = absurd says
-followed_out (Finalized v part turn type number cause) heap after o says is = absurd says
-followed_out (Back v access number pool subpool cause) heap after o says is = absurd (cc is)
-followed_out (Followed v) heap after o says is = named_out heap v says.id o says.object says.is says.found says.out is
-followed_out (Left master) heap after o says is = absurd (cc is)
-followed_out (Line line) heap after o says is = absurd (cc is)
-followed_out Quiet heap after o says is = absurd (cc is)
+followed_out : (p : ProgramForm) (e : Event) (heap : List Object) (after : State) (o : Id) → Says p e heap after → followed_of e ≡ Some o → OutIn heap o
+followed_out p (Born v part turn type number by) heap after o says is = absurd says
+followed_out p (Finalized v part turn type number cause) heap after o says is = absurd says
+followed_out p (Back v access number pool subpool cause) heap after o says is = absurd (cc is)
+followed_out p (Followed v) heap after o says is = named_out heap v says.id o says.object says.is says.found says.out is
+followed_out p (Left master) heap after o says is = absurd (cc is)
+followed_out p (Line line) heap after o says is = absurd (cc is)
+followed_out p Quiet heap after o says is = absurd (cc is)
 
 -- What goes back is back after.
-back_in : (e : Event) (heap : List Object) (after : State) (o : Id) → Says e heap after → back_of e ≡ Some o → BackIn after.heap o
-back_in (Born v part turn type number by) heap after o says is = absurd says
-back_in (Finalized v part turn type number cause) heap after o says is = absurd says
-back_in (Back v access number pool subpool cause) heap after o says is = let same : Some says.id ≡ Some o = rw says.is at is in rw (← some_same says.id o same) says.back
+back_in : (p : ProgramForm) (e : Event) (heap : List Object) (after : State) (o : Id) → Says p e heap after → back_of e ≡ Some o → BackIn after.heap o
+back_in p (Born v part turn type number by) heap after o says is = absurd says
+back_in p (Finalized v part turn type number cause) heap after o says is = absurd says
+back_in p (Back v access number pool subpool cause) heap after o says is = let same : Some says.id ≡ Some o = rw says.is at is in rw (← some_same says.id o same) says.back
   where
     some_same : (p q : Id) → Some p ≡ Some q → p ≡ q
     some_same p q e = cc e
-back_in (Followed v) heap after o says is = absurd (cc is)
-back_in (Left master) heap after o says is = absurd (cc is)
-back_in (Line line) heap after o says is = absurd (cc is)
-back_in Quiet heap after o says is = absurd (cc is)
+back_in p (Followed v) heap after o says is = absurd (cc is)
+back_in p (Left master) heap after o says is = absurd (cc is)
+back_in p (Line line) heap after o says is = absurd (cc is)
+back_in p Quiet heap after o says is = absurd (cc is)
 
 -- Nothing is finalized yet.
-none_final : (e : Event) (heap : List Object) (after : State) → Says e heap after → finalized_of e ≡ None
-none_final (Born v part turn type number by) heap after says = absurd says
-none_final (Finalized v part turn type number cause) heap after says = absurd says
-none_final (Back v access number pool subpool cause) heap after says = refl
-none_final (Followed v) heap after says = refl
-none_final (Left master) heap after says = refl
-none_final (Line line) heap after says = refl
-none_final Quiet heap after says = refl
+none_final : (p : ProgramForm) (e : Event) (heap : List Object) (after : State) → Says p e heap after → finalized_of e ≡ None
+none_final p (Born v part turn type number by) heap after says = absurd says
+none_final p (Finalized v part turn type number cause) heap after says = absurd says
+none_final p (Back v access number pool subpool cause) heap after says = refl
+none_final p (Followed v) heap after says = refl
+none_final p (Left master) heap after says = refl
+none_final p (Line line) heap after says = refl
+none_final p Quiet heap after says = refl
 
 none_differs : {X : Type 0} (a : Option X) → Differ a None
 none_differs None = tt
@@ -139,14 +139,14 @@ differ_out heap (Some o) (Some p) back out = λ same.
     absurd (cc (b, y.2))
 
 -- Words go home as an event says, and objects keep their homes.
-goes_home : (e : Event) (heap : List Object) (after : State) → Says e heap after → IsBackHome heap e
-goes_home (Born v part turn type number by) heap after says = absurd says
-goes_home (Finalized v part turn type number cause) heap after says = absurd says
-goes_home (Back v access number pool subpool cause) heap after says = rw says.is (says.object, says.found, says.of_type, says.numbered, says.to_pool, says.to_subpool, says.home)
-goes_home (Followed v) heap after says = tt
-goes_home (Left master) heap after says = tt
-goes_home (Line line) heap after says = tt
-goes_home Quiet heap after says = tt
+goes_home : (p : ProgramForm) (e : Event) (heap : List Object) (after : State) → Says p e heap after → IsBackHome heap e
+goes_home p (Born v part turn type number by) heap after says = absurd says
+goes_home p (Finalized v part turn type number cause) heap after says = absurd says
+goes_home p (Back v access number pool subpool cause) heap after says = rw says.is (says.object, says.found, says.of_type, says.numbered, says.to_pool, says.to_subpool, says.home)
+goes_home p (Followed v) heap after says = tt
+goes_home p (Left master) heap after says = tt
+goes_home p (Line line) heap after says = tt
+goes_home p Quiet heap after says = tt
 
 -- Each object is still there, as the object that it was.
 abbrev KeepsObjects : List Object → List Object → Type 0
@@ -169,8 +169,9 @@ home_kept before after Quiet keeps h = tt
 
 -- What a step does to objects, and what its event says of them.
 pub record Does (before : List Object) (e : Event) (after : State) : Type 0 where
+  pub body : ProgramForm
   pub alters : Alters before e after.heap
-  pub says : Says e before after
+  pub says : Says body e before after
 
 -- From one state to the other the same body runs, and what waits for it stays as it is.
 pub record SameBody (s after : State) : Type 0 where
@@ -257,10 +258,12 @@ module _ (program : Program) (number : ℕ) (b : BodyForm) (given : List ActualF
       let freed = freed_by_call program number b given k a rest gs s w stands t may in
       let caller = known_in program a.procedure gs in
       let same = same_types a.procedure (program_form program) ∙ sym (same_types (Some number) (program_form program)) in
-      let refers = referenced program number b given k a [] gs s in
-      subst (λ (types : List TypeForm). NoOuterAlias types (outers called) t) same
-      (call_spares caller.program.types caller.program.variables (slice_get (effects_of caller.program) number) given a.places (values program number b given k a [] gs s) refers w.holds (outers caller) t freed (w.rest.3 t freed)
-      (λ of o is. passes_spared program number b given k a [] gs s w passed t freed of o is))
+      let refers = referenced program number b given k a [] gs s in (
+        subst (λ (types : List TypeForm). NoOuterAlias types (outers called) t) same
+            (call_spares caller.program.types caller.program.variables (slice_get (effects_of caller.program) number) given a.places (values program number b given k a [] gs s) refers w.holds (outers caller) t freed (w.rest.3 t freed).0
+            (λ of o is. passes_spared program number b given k a [] gs s w passed t freed of o is)),
+        may,
+      )
 
   runs_called : (rest : List (Activation Value)) → Stands program gs (record s { activations = a ∷ rest }) → RunsOn called (Elaborates b.declarations b.statements b.handlers ∷ Returns given (references program number b given k a [] gs s) ∷ k) (gone_with b.declarations ∷ []) (first_holds b.formals b.variables)
   runs_called rest stands =
@@ -394,11 +397,11 @@ leads_fine program s (picks n taken) settled e after f l = absurd l
 leads_fine program s (picks n taken) (grants granted) e after f l = absurd l
 leads_fine program s (picks n taken) (takes i) e after f l = rw (l.1, l.2) (f i l.0)
 
-crossed : (program : Program) (s : State) (choice : Choice) (e : Event) (after : State) → Sound program s → Step program s choice e after → Crosses program s.heap e after
+pub crossed : (program : Program) (s : State) (choice : Choice) (e : Event) (after : State) → Sound program s → Step program s choice e after → Crosses program s.heap e after
 crossed program s choice e after r step = leads_fine program s (next program.types.items (body_forms program) s) choice e after (step_fine program s r) step
 
 pub stepped : (program : Program) (s : State) (choice : Choice) (e : Event) (after : State) → Sound program s → Step program s choice e after → Does s.heap e after
-stepped program s choice e after r step = let st = (crossed program s choice e after r step).stepped in record { alters = st.alters; says = st.says }
+stepped program s choice e after r step = let st = (crossed program s choice e after r step).stepped in record { body = (known_in program (running_procedure after) (crossed program s choice e after r step).suspensions).program; alters = st.alters; says = st.says }
 
 pub sound_step : (program : Program) (s : State) (choice : Choice) (e : Event) (after : State) → Sound program s → Step program s choice e after → Sound program after
 sound_step program s choice e after r step =
@@ -479,7 +482,7 @@ WentBack e s = (o : Id) → back_of e ≡ Some o → BackIn s.heap o
 
 went_born : (program : Program) (e : Event) (before : List Object) (after : State) → Does before e after → WentBack e after
 unfolding WentBack
-went_born program e before after st = λ o is. back_in e before after o st.says is
+went_born program e before after st = λ o is. back_in st.body e before after o st.says is
 
 went_kept : (program : Program) (d : Event) (s : State) (e : Event) (after : State) → Does s.heap e after → WentBack d s → WentBack d after
 unfolding WentBack
@@ -488,15 +491,15 @@ went_kept program d s e after st h = λ o is. let b = h o is in let y = st.alter
 -- The words of an object go back at most once, and none is followed after.
 pub back_once : {program : Program} {s last : State} {events : List Event} → Run program s events last → Sound program s → AllPairs BackTwoObjects events
 unfolding WentBack
-back_once = all_pairs BackTwoObjects WentBack went_born (λ program d s choice e after r step h. let st = stepped program s choice e after r step in (differ_out s.heap (back_of d) (back_of e) h (λ o is. back_out e s.heap after o st.says is), went_kept program d s e after st h))
+back_once = all_pairs BackTwoObjects WentBack went_born (λ program d s choice e after r step h. let st = stepped program s choice e after r step in (differ_out s.heap (back_of d) (back_of e) h (λ o is. back_out st.body e s.heap after o st.says is), went_kept program d s e after st h))
 
 pub followed_before_back : {program : Program} {s last : State} {events : List Event} → Run program s events last → Sound program s → AllPairs FollowedBeforeBack events
 unfolding WentBack
-followed_before_back = all_pairs FollowedBeforeBack WentBack went_born (λ program d s choice e after r step h. let st = stepped program s choice e after r step in (differ_out s.heap (back_of d) (followed_of e) h (λ o is. followed_out e s.heap after o st.says is), went_kept program d s e after st h))
+followed_before_back = all_pairs FollowedBeforeBack WentBack went_born (λ program d s choice e after r step h. let st = stepped program s choice e after r step in (differ_out s.heap (back_of d) (followed_of e) h (λ o is. followed_out st.body e s.heap after o st.says is), went_kept program d s e after st h))
 
 -- A controlled value is finalized at most once: none is yet.
 pub finalized_once : {program : Program} {s last : State} {events : List Event} → Run program s events last → Sound program s → AllPairs FinalizedTwoValues events
-finalized_once = all_pairs FinalizedTwoValues (λ d s. Unit {0}) (λ program e before after st. tt) (λ program d s choice e after r step h. (rw (none_final e s.heap after (stepped program s choice e after r step).says) (none_differs (finalized_of d)), tt))
+finalized_once = all_pairs FinalizedTwoValues (λ d s. Unit {0}) (λ program e before after st. tt) (λ program d s choice e after r step h. (rw (none_final (stepped program s choice e after r step).body e s.heap after (stepped program s choice e after r step).says) (none_differs (finalized_of d)), tt))
 
 -- Words go back home.
 pub back_home : {program : Program} {s last : State} {events : List Event} → Run program s events last → Sound program s → All (IsBackHome last.heap) events
@@ -508,7 +511,7 @@ back_home {program} {s = s} {last = last} run r = go run r
     go {t = t} (there {event = e} {events = es} choice mid step rest) r' =
         let st = stepped program t choice e mid r' step in
         All-cons (IsBackHome last.heap) e es
-        (home_kept t.heap last.heap e (objects_kept (there choice mid step rest) r') (goes_home e t.heap mid st.says))
+        (home_kept t.heap last.heap e (objects_kept (there choice mid step rest) r') (goes_home st.body e t.heap mid st.says))
         (go rest (sound_step program t choice e mid r' step))
 
 -- The words of an object are back exactly where an event says so.
@@ -521,7 +524,7 @@ told_run {program} {s = s} o (there {event = e} choice mid step run) r b =
 happened_back : {program : Program} {s last : State} {events : List Event} (o : Id) → Run program s events last → Sound program s → Happened (GivesBackOf o) events → BackIn last.heap o
 happened_back o here r h = absurd h
 happened_back {program} {s = s} o (there {event = e} choice mid step run) r (inl h) =
-    let st = stepped program s choice e mid r step in back_kept o run (sound_step program s choice e mid r step) (back_in e s.heap mid o st.says h)
+    let st = stepped program s choice e mid r step in back_kept o run (sound_step program s choice e mid r step) (back_in st.body e s.heap mid o st.says h)
 happened_back {program} {s = s} o (there {event = e} choice mid step run) r (inr h) = happened_back o run (sound_step program s choice e mid r step) h
 
 pub back_is_told : {program : Program} {s last : State} {events : List Event} → s.heap ≡ [] → Run program s events last → Sound program s → (o : Id) (x : Object) → object_at last.heap o ≡ Some x → IsBack x ↔ Happened (GivesBackOf o) events

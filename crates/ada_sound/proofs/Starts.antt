@@ -6,7 +6,7 @@ use Rattle.ada_program.specs.declared.program.Program.{Program}
 use Rattle.ada_program.specs.ProgramForm.{TypeForm, VariableForm, program_form, main_body, seen_in}
 use Rattle.ada_program.specs.WellFormed.{IsWellFormed}
 use Rattle.ada_program.specs.Nested.{CollectionsNest}
-use Rattle.ada_effects.specs.Effects.{body_frees, effects_of}
+use Rattle.ada_effects.specs.Effects.{effects_of}
 use Rattle.ada_flow.specs.declared.rule.Hold.TheVariants as hold
 use Rattle.ada_flow.specs.Flow.{hold_at, keeping_of, body_flow, first_holds, gone_with, have_exit, handlers_have_exit, ObeysRules}
 use Rattle.ada_meaning.specs.Step.{blanks}
@@ -69,7 +69,7 @@ ready_first program input well obeys =
         stored = record { counted = tt; sane = λ o x e. absurd (cc e) };
         roomed = (tt, refl);
         fit = first_fit p.types p.variables (blanks named p.variables) (first_holds [] p.variables) (lost_first p.variables);
-        rest = body_runs program None [] (body_obeys program None tt obeys) (none_out program None well) (none_on program None well) (none_suspended program None (body_frees p.types (effects_of p) (main_body p))) tt;
+        rest = body_runs program None [] (body_obeys program None tt obeys) (none_out program None well) (none_on program None well) (none_suspended program None) tt;
       },
     )
 

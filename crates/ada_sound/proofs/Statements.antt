@@ -23,14 +23,14 @@ use Rattle.ada_meaning.specs.Named.{Object, State, named}
 use Rattle.ada_sound.proofs.Stored.{stored_owning, stored_entered}
 use Rattle.ada_typed.specs.Holding.{cells_of}
 use Rattle.ada_typed.proofs.Values.{AreHeld}
-use Rattle.ada_sound.proofs.Fits.{NoOuterAlias, is_object, weaker_fit, put_lost}
+use Rattle.ada_sound.proofs.Fits.{is_object, weaker_fit, put_lost}
 use Rattle.ada_sound.proofs.Orderings.{good_losing}
 use Rattle.ada_sound.proofs.Assigned.{freed_at}
 use Rattle.ada_sound.proofs.Roots.{root_object, value_root, right_leads, integer_leads}
 use Rattle.ada_sound.proofs.Copied.{record_there}
 use Rattle.ada_sound.proofs.Records.{has_place, record_fine}
 use Rattle.ada_sound.proofs.Wholes.{record_begins}
-use Rattle.ada_sound.proofs.Invariant.{owed_in, Pooled, Known, Where, outers, below, Control, Rooms, Roomed, Goes, Raised, Doing, Choosing, TurnsTo, condition_among, component_among, Counting, Elaborating, Handled, Outside, RunsOn, Deciding, TurningOn, ExitingTo, Computing, IsOne, Pairs, Takes, Working, Resumes, EvaluatesTo, Fine, ways}
+use Rattle.ada_sound.proofs.Invariant.{Spares, owed_in, Pooled, Known, Where, below, Control, Rooms, Roomed, Goes, Raised, Doing, Choosing, TurnsTo, condition_among, component_among, Counting, Elaborating, Handled, Outside, RunsOn, Deciding, TurningOn, ExitingTo, Computing, IsOne, Pairs, Takes, Working, Resumes, EvaluatesTo, Fine, ways}
 use Rattle.ada_sound.proofs.Ready.{running, at_work, with_less, at_less, stays, lost_stored, ready_on, runs_on, jumps, jumps_less}
 use Rattle.ada_sound.proofs.Nestings.{Starting, starts, others_do, branch_does, chooses_from, repeats_from, turn_runs, counts_from, count_runs, exit_parts, encloses_from}
 use Rattle.ada_sound.proofs.Outcomes.{return_goes, goes_map, to_before, raised_before, raised_less, then_goes, using_goes, computed_goes}
@@ -175,7 +175,7 @@ module _ (known : Known) where
         let cleared = begins_pair (assigns target right) fs in
         component_begins known a rest s cleared c cs target right fs k is whole (at_work w (w.rest, pairs_component c cs target right fs k is))
 
-    frees_fine : (cs : List ℕ) (access : ℕ) (path : PathForm) (fs : StmtsForm) (k : Control) → Pooled known.program.types s.heap → is_freed_by known.program.types access (path_access known.program.types known.program.variables path) ≡ true → ((t : ℕ) → is_this t (path_access known.program.types known.program.variables path) ≡ true → NoOuterAlias known.program.types (outers known) t) → path.selectors ≡ cs → Working known s.heap a.places s.masters (λ rooms holds. Goes (frees_path known.program.types known.program.variables cs path holds) (RunsOn known (Does fs ∷ k) rooms) (Raised (free_among path) (ways known k rooms))) → Fine known s.heap s.masters (frees_next named cs access path.root (running (Does fs ∷ k) a rest s))
+    frees_fine : (cs : List ℕ) (access : ℕ) (path : PathForm) (fs : StmtsForm) (k : Control) → Pooled known.program.types s.heap → is_freed_by known.program.types access (path_access known.program.types known.program.variables path) ≡ true → Spares known (λ t. is_this t (path_access known.program.types known.program.variables path)) → path.selectors ≡ cs → Working known s.heap a.places s.masters (λ rooms holds. Goes (frees_path known.program.types known.program.variables cs path holds) (RunsOn known (Does fs ∷ k) rooms) (Raised (free_among path) (ways known k rooms))) → Fine known s.heap s.masters (frees_next named cs access path.root (running (Does fs ∷ k) a rest s))
     frees_fine [] access path fs k pooled freed spares is w =
         let own = freed_at known.program.types known.program.variables access path freed in
         free_fine known a rest s access path.root (value_root known.program.types known.program.variables path own.0 is own.1) path.spot fs k (λ rooms. Raised (free_among path) (ways known k rooms)) pooled own.0 (sym (ap (λ (cs : List ℕ). access_of (selectors_kind known.program.types (variable_kind known.program.variables path.root) cs)) is) ∙ own.2) own.3 (spares own.0 (ap (is_this own.0) own.1 ∙ eq-eqb own.0 own.0 refl)) w

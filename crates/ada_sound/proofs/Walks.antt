@@ -191,6 +191,7 @@ module _ (known : Known) (heap : List Object) (places : List Value) where
         of_type = f.of_type;
         own = f.own;
         spares = f.spares;
+        covered = f.covered;
         raises = raises_next known v w c cs k rooms (behind_end known.program.variables f.access holds) f.raises;
         runs = f.runs;
       }

@@ -1,22 +1,34 @@
 -- What the rules say of a call: it moves nothing but what it hands over, and that comes back; it leaves no alias of what the procedure may free; no actual
 -- parameter relies on what is lost; and no variable that gets something back is used for another actual parameter.
 
-use Rattle.std.specs.Prelude.{◌≡◌, ◌≢◌, ◌⊎◌, ℕ, Bool, true, false, ◌&&◌, ◌||◌, ◌==◌, List, [], ◌∷◌, Option, Some, None}
+use Rattle.std.specs.Prelude.{◌≡◌, ◌≢◌, ◌⊎◌, ℕ, ℤ, Bool, true, false, ◌&&◌, ◌||◌, ◌==◌, List, [], ◌∷◌, Option, Some, None}
 use Rattle.std.specs.List.{list_any, slice_get, slice_index_or}
 use Rattle.ada_text.specs.declared.spot.Spot.{Spot}
 use Rattle.ada_program.specs.Form.{PathForm, RecordPathForm, ActualForm, in_value, in_null, in_access, in_record, in_out_path, in_out_access, in_out_component, in_out_record, ExpressionForm, integer, boolean, reads, is_null, applied_to, chained, LinksForm, no_more_links, a_link, calls}
 use Rattle.ada_program.specs.declared.program.VariableKind.{VariableKind}
-use Rattle.ada_program.specs.ProgramForm.{TypeForm, VariableForm}
+use Rattle.ada_program.specs.ProgramForm.{TypeForm, VariableForm, program_form}
 use Rattle.ada_program.specs.WellFormed.{access_of, variable_kind, selected_kind, path_access}
-use Rattle.ada_effects.specs.Effects.{call_frees}
+use Rattle.ada_program.specs.declared.program.Exception.{Exception}
+use Rattle.ada_program.specs.declared.program.Program.{Program}
+use Rattle.ada_program.specs.Handling.{is_same}
+use Rattle.ada_effects.specs.Effects.{call_frees, call_raises, effects_of}
 use Rattle.ada_flow.specs.declared.rule.Hold.TheVariants.{Own, Alias, Lost}
 use Rattle.ada_flow.specs.declared.rule.Region.{Region}
 use Rattle.ada_flow.specs.declared.rule.Region.TheVariants.{Whole}
 use Rattle.ada_flow.specs.declared.rule.Rule.{Rule}
 use Rattle.ada_flow.specs.declared.rule.Rule.TheVariants.{LostValue}
 use Rattle.ada_flow.specs.Flow.{Holds, goes, faults, hold_at, variable_access, is_freed, Around, kept_at, stmt_flow}
+use Rattle.ada_meaning.specs.declared.event.Cause.TheVariants.{Leaving, Freeing, Assigning, Undoing}
+use Rattle.ada_meaning.specs.declared.state.Mode.TheVariants.{Raising}
+use Rattle.ada_meaning.specs.declared.state.Value.{Value}
+use Rattle.ada_meaning.specs.Event.{Born, Finalized, Back, Followed, Left, Line, Quiet}
+use Rattle.ada_meaning.specs.State.{Activation}
+use Rattle.ada_meaning.specs.Named.{State}
+use Rattle.ada_meaning.specs.Run.{Event, Choice, Step, Run, first_state}
+use Rattle.ada_meaning.specs.Calls.{EndsBody}
 use Rattle.ada_owners.specs.Reliance.{Owns}
-use Rattle.ada_sound.specs.Agreement.{IsOwner}
+use Rattle.ada_sound.specs.Always.{InEveryRun}
+use Rattle.ada_sound.specs.Agreement.{IsOwner, running_procedure}
 
 -- A call comes to its end with these holds.
 abbrev pub CallEnds : List TypeForm → List VariableForm → Around → (procedure : ℕ) → (actuals : List ActualForm) → (holds after : Holds) → Type 0
@@ -227,3 +239,32 @@ NoneIsGivenTwice =
     (types : List TypeForm) (variables : List VariableForm) (around : Around) (cleared : Bool) (procedure : ℕ) (actuals : List ActualForm) (holds : Holds)
     (normal raising : Option Holds)
     → stmt_flow types variables around cleared (calls procedure actuals) holds ≡ goes normal raising → AreGivenApart actuals
+
+-- What goes back by a Free is of an access type of which calls of a procedure may free objects (13.11.2).
+abbrev pub IsCovered : Program → (procedure : ℕ) → Event → Type 0
+IsCovered program procedure (Born object part turn type number by) = Unit {0}
+IsCovered program procedure (Finalized object part turn type number cause) = Unit {0}
+IsCovered program procedure (Back object access number pool subpool (Leaving master item)) = Unit {0}
+IsCovered program procedure (Back object access number pool subpool (Freeing free)) =
+    call_frees (slice_get (effects_of (program_form program)) procedure) access ≡ true
+IsCovered program procedure (Back object access number pool subpool (Assigning assignment)) = Unit {0}
+IsCovered program procedure (Back object access number pool subpool (Undoing allocator)) = Unit {0}
+IsCovered program procedure (Followed object) = Unit {0}
+IsCovered program procedure (Left master) = Unit {0}
+IsCovered program procedure (Line line) = Unit {0}
+IsCovered program procedure Quiet = Unit {0}
+
+-- Effects cover what calls do: where a step gives words back by a Free, calls of each procedure whose body is at work then, or waits for one that it
+-- called, may free objects of that type.
+abbrev pub FreesAreCovered : Program → Type 0
+FreesAreCovered program =
+    (input : List ℤ) (events : List Event) (before after : State) (choice : Choice) (e : Event)
+    → Run program (first_state program input) events before → Step program before choice e after
+    → (depth : ℕ) (a : Activation Value) (procedure : ℕ) → slice_get after.activations depth ≡ Some a → a.procedure ≡ Some procedure
+    → IsCovered program procedure e
+
+-- An exception that leaves the body of a procedure is one that calls of the procedure may raise (11.4).
+abbrev pub RaisesAreCovered : Program → Type 0
+RaisesAreCovered program = InEveryRun program
+    (λ events last. (procedure : ℕ) (e : Exception) → running_procedure last ≡ Some procedure → EndsBody last → last.mode ≡ Raising e
+    → call_raises (slice_get (effects_of (program_form program)) procedure) (is_same e) ≡ true)

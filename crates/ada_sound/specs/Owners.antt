@@ -4,7 +4,7 @@
 use Rattle.std.specs.Prelude.{◌≡◌, ◌≢◌, ◌⊎◌, ℕ, Bool, true, false, List, [], ◌∷◌, ◌++◌, Option, Some}
 use Rattle.std.specs.List.{slice_get}
 use Rattle.ada_program.specs.Form.{PathForm, RecordPathForm, ItemForm, item_of_path, item_of_record, RightForm, nothing, value_of, allocates, allocates_default, StmtForm, assigns, assigns_record, frees, StmtsForm, a_stmt, declares, declares_record}
-use Rattle.ada_flow.specs.declared.rule.Hold.TheVariants.{Own, Alias, Lost}
+use Rattle.ada_flow.specs.declared.rule.Hold.TheVariants.{Alias, Lost}
 use Rattle.ada_flow.specs.declared.rule.Region.{Region}
 use Rattle.ada_flow.specs.declared.rule.Rule.TheVariants.{LostValue}
 use Rattle.ada_program.specs.declared.program.ComponentKind.{ComponentKind}

@@ -7,7 +7,7 @@ use Rattle.ada_sound.proofs.ExampleBorrowers as borrowers
 use Rattle.ada_sound.proofs.ExampleFrees as frees
 use Rattle.ada_sound.proofs.ExampleRecords as records
 use Rattle.ada_sound.proofs.ExampleCalls as calls
-use Rattle.ada_sound.proofs.laws.premises_are_met.Goals as goal
+use Rattle.ada_sound.proofs.examples.premises_are_met.Goals as goal
 
 pub returns-clause-begins : goal.returns-clause-begins
 returns-clause-begins c = (example.program, example.accepted, example.reaches)

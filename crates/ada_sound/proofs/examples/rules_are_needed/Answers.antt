@@ -7,7 +7,7 @@ use Rattle.ada_sound.proofs.ExampleBorrowers as borrowers
 use Rattle.ada_sound.proofs.ExampleFrees as frees
 use Rattle.ada_sound.proofs.ExampleRecords as records
 use Rattle.ada_sound.proofs.ExampleCalls as calls
-use Rattle.ada_sound.proofs.laws.rules_are_needed.Goals as goal
+use Rattle.ada_sound.proofs.examples.rules_are_needed.Goals as goal
 
 pub returns-clause-follows : goal.returns-clause-follows
 returns-clause-follows c = (example.following_gone, example.following_breaks, example.follows)

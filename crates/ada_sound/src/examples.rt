@@ -1,0 +1,240 @@
+//! Beside the laws, programs: those that meet the premises, and those that each rule is needed to refuse.
+
+ghost use Rattle.std.specs.Prelude.{◌≡◌, [], ◌∷◌};
+ghost use Rattle.ada_program.specs.declared.program.Program.{Program};
+ghost use Rattle.ada_program.specs.Form.{declaration_forms, stmt_forms, handler_forms};
+ghost use Rattle.ada_program.specs.ProgramForm.{body_forms};
+ghost use Rattle.ada_flow.specs.declared.rule.Hold.TheVariants.{Null};
+ghost use Rattle.ada_flow.specs.declared.rule.Rule.TheVariants.{LostValue, AliasMoved, TakePair, LoopState, UnsafePath, FormalNotOwned, RecordCopied};
+ghost use Rattle.ada_program.specs.declared.program.Exception.TheVariants.{ConstraintError};
+ghost use Rattle.ada_meaning.specs.declared.event.Halt.TheVariants.{Unhandled, Erroneous};
+ghost use Rattle.ada_meaning.specs.declared.event.Why.TheVariants.{FollowsGone, EndsTwice};
+ghost use Rattle.ada_sound.specs.Always as always;
+ghost use Rattle.ada_sound.specs.Always.{IsChecked, ReachesStatement, FinishesAfter, HaltsSomewhere};
+ghost use Rattle.ada_sound.specs.Examples as examples;
+ghost use Rattle.ada_sound.specs.BorrowerExamples as borrower_examples;
+ghost use Rattle.ada_sound.specs.FreeExamples as free_examples;
+ghost use Rattle.ada_sound.specs.OwnerExamples as owner_examples;
+ghost use Rattle.ada_sound.specs.RecordExamples as record_examples;
+ghost use Rattle.ada_sound.specs.CallExamples as call_examples;
+
+/// The laws are not empty: a program is accepted and comes to a statement; it finishes after it has followed an access
+/// value, written a line, freed an object, and left its main procedure, with which another object went. And one is
+/// accepted whose main procedure is left by an exception. And one whose loop goes two turns: in the first one an object
+/// is allocated, in the second one it is followed and freed, and an exit leaves the loop. And one with a condition of
+/// its loop, one of its exit, and a return. And one with nested loops, `elsif` and a return inside a loop, whose lines
+/// and objects tell each turn, each branch, and where each jump lands. And one whose loop raises an exception of its
+/// own in its second turn: the handler that names it follows and frees the object of the first one. And one whose loop
+/// is left by an exit out of a block: the object of the block's collection goes with the block, and an outer one stays
+/// until the end. And one where an exception leaves a block before the handler behind it begins, which returns. And one
+/// with a `for` loop that reads numbers until there is none. And one that reads a number into a component of an object,
+/// adds to it in a loop, and writes what the component then holds. And one that makes a list, each new node of which
+/// owns the one before it, takes its tail by take pairs, and frees it node by node. And one whose borrower walks such a
+/// list, which keeps its owners. And one whose borrower is null where a loop begins that gives it a value. And one that
+/// puts two nodes into a list behind its first one: each of them takes what the component held that it goes to, and so
+/// a borrower meets the newer one before the older one. And one that frees a component, whose access type is not the
+/// one on the way to it: the component is null then, and to free it once more has no effect. And one whose objects have
+/// no items: it reads what a component holds at first. And one with a record object, which is an object, too: a
+/// component of it gets a new object, which a take pair takes and which is freed, and the record object goes back with
+/// its own item, to no pool. And one that copies records of Integers: into a record object that is declared, into a new
+/// object, from an aggregate, and from the object that an access value gives access to. And one that calls procedures,
+/// one of which calls the other one twice: a call returns early, the two nested ones make an object each and free it, and
+/// the second of these raises an exception, which leaves both procedures; the handler in the main procedure follows and
+/// frees what that one still owns. And one whose borrower has a value where it calls a procedure that frees an object of
+/// the same access type, and gets its value once more behind it. And one whose variable gets a value back from a call that
+/// ends normally, through a call in a call, and none from a call that an exception leaves. And one that lends an object to
+/// a procedure, which changes a component of it: behind the call the variable still owns the object, and follows and frees
+/// it. And one that hands an object over to a procedure, which frees it and gives another one back. And one whose
+/// procedure raises an exception before it changes what was handed over to it: the handler follows and frees the object,
+/// which the variable still owns. And one that passes records by reference, which lie in other records, behind access
+/// values and in formal parameters: a procedure reads a component, and another one changes one and frees what a second one
+/// owns, and the main procedure sees both changes. And one that gives a component for a formal parameter of mode `in out`,
+/// while the procedure puts another object in the place of that in which the component lies: the value goes back to the
+/// component of the object that was named before the call.
+pub fn premises_are_met()
+    ensures begins { (program : Program) × IsChecked program × ReachesStatement program }
+    ensures finishes { (program : Program) × IsChecked program × FinishesAfter examples.example_events program }
+    ensures raises { (program : Program) × IsChecked program × HaltsSomewhere (Unhandled ConstraintError) program }
+    ensures repeats { (program : Program) × (stmt_forms program ≡ examples.repeating_stmts)
+        × IsChecked program × FinishesAfter examples.repeating_events program }
+    ensures returns { (program : Program) × (stmt_forms program ≡ examples.returning_stmts)
+        × IsChecked program × FinishesAfter examples.returning_events program }
+    ensures nests { (program : Program) × (stmt_forms program ≡ examples.nesting_stmts)
+        × IsChecked program × FinishesAfter examples.nesting_events program }
+    ensures handles { (program : Program) × (stmt_forms program ≡ examples.handling_stmts)
+        × (handler_forms program ≡ examples.handling_handlers)
+        × IsChecked program × FinishesAfter examples.handling_events program }
+    ensures encloses { (program : Program) × (stmt_forms program ≡ examples.enclosing_stmts)
+        × IsChecked program × FinishesAfter examples.enclosing_events program }
+    ensures unwinds { (program : Program) × (stmt_forms program ≡ examples.unwinding_stmts)
+        × (handler_forms program ≡ examples.unwinding_handlers)
+        × IsChecked program × FinishesAfter examples.unwinding_events program }
+    ensures counts { (program : Program) × (stmt_forms program ≡ examples.counting_stmts)
+        × (handler_forms program ≡ examples.counting_handlers)
+        × IsChecked program × FinishesAfter examples.counting_events program }
+    ensures fills { (program : Program) × (stmt_forms program ≡ examples.filling_stmts)
+        × IsChecked program × FinishesAfter examples.filling_events program }
+    ensures owns { (program : Program) × (stmt_forms program ≡ owner_examples.owning_stmts)
+        × IsChecked program × FinishesAfter owner_examples.owning_events program }
+    ensures defaults { (program : Program) × (stmt_forms program ≡ owner_examples.default_stmts)
+        × IsChecked program × FinishesAfter owner_examples.default_events program }
+    ensures records { (program : Program) × (stmt_forms program ≡ owner_examples.record_stmts)
+        × IsChecked program × FinishesAfter owner_examples.record_events program }
+    ensures copies { (program : Program) × (declaration_forms program ≡ record_examples.copying_declarations)
+        × (stmt_forms program ≡ record_examples.copying_stmts)
+        × IsChecked program × FinishesAfter record_examples.copying_events program }
+    ensures walks { (program : Program) × (stmt_forms program ≡ borrower_examples.walking_stmts)
+        × borrower_examples.HasBorrower program
+        × IsChecked program × FinishesAfter borrower_examples.walking_events program }
+    ensures borrows_in_loop { (program : Program)
+        × (stmt_forms program ≡ borrower_examples.lending_stmts) × borrower_examples.HasBorrower program
+        × IsChecked program × FinishesAfter borrower_examples.lending_events program }
+    ensures inserts { (program : Program)
+        × (stmt_forms program ≡ free_examples.inserting_stmts) × borrower_examples.HasBorrower program
+        × IsChecked program × FinishesAfter free_examples.inserting_events program }
+    ensures frees_components { (program : Program)
+        × (stmt_forms program ≡ free_examples.freeing_stmts)
+        × IsChecked program × FinishesAfter free_examples.freeing_events program }
+    ensures calls { (program : Program) × (body_forms program ≡ call_examples.calling_bodies)
+        × (stmt_forms program ≡ call_examples.calling_stmts)
+        × (handler_forms program ≡ call_examples.calling_handlers)
+        × IsChecked program × FinishesAfter call_examples.calling_events program }
+    ensures borrows_around_calls { (program : Program) × (body_forms program ≡ call_examples.showing_body ∷ [])
+        × (stmt_forms program ≡ call_examples.relending_stmts) × borrower_examples.HasBorrower program
+        × IsChecked program × FinishesAfter call_examples.relending_events program }
+    ensures gives_back { (program : Program) × (body_forms program ≡ call_examples.giving_bodies)
+        × (stmt_forms program ≡ call_examples.giving_stmts)
+        × (handler_forms program ≡ call_examples.giving_handlers)
+        × IsChecked program × FinishesAfter call_examples.giving_events program }
+    ensures lends { (program : Program) × (body_forms program ≡ call_examples.bumping_bodies)
+        × (stmt_forms program ≡ call_examples.bumping_stmts)
+        × IsChecked program × FinishesAfter call_examples.bumping_events program }
+    ensures hands_over { (program : Program) × (body_forms program ≡ call_examples.renewing_bodies)
+        × (stmt_forms program ≡ call_examples.renewing_stmts)
+        × IsChecked program × FinishesAfter call_examples.renewing_events program }
+    ensures keeps { (program : Program) × (body_forms program ≡ call_examples.dropping_bodies)
+        × (stmt_forms program ≡ call_examples.dropping_stmts)
+        × (handler_forms program ≡ call_examples.calling_handlers)
+        × IsChecked program × FinishesAfter call_examples.dropping_events program }
+    ensures refers { (program : Program) × (body_forms program ≡ call_examples.trimming_bodies)
+        × (stmt_forms program ≡ call_examples.trimming_stmts)
+        × IsChecked program × FinishesAfter call_examples.trimming_events program }
+    ensures gives_back_there { (program : Program) × (body_forms program ≡ call_examples.replacing_bodies)
+        × (stmt_forms program ≡ call_examples.replacing_stmts) × borrower_examples.HasBorrower program
+        × IsChecked program × FinishesAfter call_examples.replacing_events program }
+{}
+
+/// The rules are needed. Of programs that are well formed and whose collections nest, one that breaks the rules follows
+/// an access value whose object is gone, and one ends an object twice. So is the rule of loops: of a program that breaks
+/// it at the end of a loop's body, an object is freed in one turn and followed in the next one; of a program that breaks
+/// it at an exit, it is followed behind the loop. A handler begins with what is known where the exception is raised: by
+/// what is known where its statements begin, or where they end, a program's handler would be fine, yet it follows what
+/// is gone. It would follow it, too, if what an operator may raise did not count: `-` raises, of the first Integer
+/// (4.5); or if what the body of a procedure may raise did not count where it is called (6.4, 11.4). Behind a block its
+/// collections are gone, also where an exit leaves it: of a program whose outer variable names an object of one of
+/// them, that object is followed there. To assign to a component follows the value before it (4.1, 5.2): a lost one
+/// would reach into an object that is gone. A value is moved out of a component by a take pair: else both name an
+/// object that only one of them frees. And two items of an allocator move two paths: else two components name one
+/// object, which ends twice. Behind Free a borrower of the same access type is lost: else it follows the object that is
+/// gone. And the target of a take pair is not on the way to what is taken: else the statement that is to clear the
+/// component clears another one, and a borrower that still names the object takes the value out of it once more. The
+/// path of a component to be freed does not pass the component's own access type: else it may free the object in which
+/// that component lies, which is gone where the component is to become null. And of components an item moves the one
+/// alone that the new object goes to: else two of them name one object, which one gives to a variable that frees it,
+/// and the other one is followed. And a record with a component of an access type is not copied: else a component of
+/// the copy names the same object, which is freed by way of one record and followed by way of the other.
+///
+/// So are the rules of calls. At a normal end of its body a procedure gives back only what its formal parameters own:
+/// else two variables get one object back, and each of them frees it. It does not move what is only lent to it: else it
+/// gives the object to a second variable, and both free it. No variable is handed over for two formal parameters: else
+/// the body follows by way of the one what it has freed by way of the other. And where an exception leaves a procedure
+/// that frees what was handed over to it, the variable is lost: else the handler follows the object that is gone. No record
+/// is passed, and no component is given for mode `in out`, that lies in an object which the procedure may free: else the
+/// body changes a record that is gone, or a component that is gone is to get its value back. And no component that owns
+/// what it names is handed over: else it names what a procedure frees that an exception leaves, and the handler follows it.
+///
+/// So are the other premises. A variable relies on values of its own access type alone: of a program that is not well
+/// formed, one of another type names what goes with a block. And components name what lasts as long as their objects: of
+/// a program whose collections do not nest, an object outlasts what its component names.
+pub fn rules_are_needed()
+    ensures follows { (program : Program) × always.Breaks LostValue program × HaltsSomewhere (Erroneous FollowsGone) program }
+    ensures ends { (program : Program) × always.Breaks LostValue program × HaltsSomewhere (Erroneous EndsTwice) program }
+    ensures loops { (program : Program) × (stmt_forms program ≡ examples.losing_stmts)
+        × always.Breaks LoopState program × always.HaltsAfter examples.losing_events (Erroneous FollowsGone) program }
+    ensures exits { (program : Program) × (stmt_forms program ≡ examples.leaving_stmts)
+        × always.Breaks LoopState program × HaltsSomewhere (Erroneous FollowsGone) program }
+    ensures raises { (program : Program) × (stmt_forms program ≡ examples.raising_stmts)
+        × (handler_forms program ≡ examples.raising_handlers)
+        × always.Breaks LostValue program × always.IsFineAtEnds (Null ∷ Null ∷ []) program
+        × always.HaltsAfter examples.raising_events (Erroneous FollowsGone) program }
+    ensures operators { (program : Program) × (stmt_forms program ≡ examples.overflowing_stmts)
+        × (handler_forms program ≡ examples.overflowing_handlers)
+        × always.Breaks LostValue program × always.HaltsAfter examples.raising_events (Erroneous FollowsGone) program }
+    ensures calls { (program : Program) × (body_forms program ≡ call_examples.stopping_bodies)
+        × (stmt_forms program ≡ call_examples.stopping_stmts)
+        × (handler_forms program ≡ examples.raising_handlers)
+        × always.Breaks LostValue program × always.IsFineAtEnds (Null ∷ Null ∷ []) program
+        × always.HaltsAfter call_examples.stopping_events (Erroneous FollowsGone) program }
+    ensures outlives { (program : Program) × (stmt_forms program ≡ examples.outliving_stmts)
+        × always.Breaks LostValue program × always.HaltsAfter examples.outliving_events (Erroneous FollowsGone) program }
+    ensures escapes { (program : Program) × (stmt_forms program ≡ examples.escaping_stmts)
+        × always.Breaks LoopState program × always.HaltsAfter examples.outliving_events (Erroneous FollowsGone) program }
+    ensures mistypes { (program : Program) × (stmt_forms program ≡ examples.mistyping_stmts)
+        × always.IsIllFormed program × always.HaltsAfter examples.mistyping_events (Erroneous FollowsGone) program }
+    ensures stores { (program : Program) × (stmt_forms program ≡ examples.storing_stmts)
+        × always.Breaks LostValue program × always.HaltsAfter examples.storing_events (Erroneous FollowsGone) program }
+    ensures pairs { (program : Program) × (stmt_forms program ≡ owner_examples.pairing_stmts)
+        × always.Breaks TakePair program × always.HaltsAfter owner_examples.pairing_events (Erroneous FollowsGone) program }
+    ensures items { (program : Program) × (stmt_forms program ≡ owner_examples.items_stmts)
+        × always.Breaks LostValue program × always.HaltsAfter owner_examples.items_events (Erroneous EndsTwice) program }
+    ensures dangles { (program : Program) × (stmt_forms program ≡ borrower_examples.dangling_stmts)
+        × borrower_examples.HasBorrower program
+        × always.Breaks LostValue program
+        × always.HaltsAfter borrower_examples.dangling_events (Erroneous FollowsGone) program }
+    ensures overtakes { (program : Program) × (stmt_forms program ≡ borrower_examples.overtaking_stmts)
+        × borrower_examples.HasBorrower program
+        × always.Breaks TakePair program
+        × always.HaltsAfter borrower_examples.overtaking_events (Erroneous FollowsGone) program }
+    ensures passes { (program : Program)
+        × (stmt_forms program ≡ free_examples.passing_stmts) × borrower_examples.HasBorrower program
+        × always.Breaks UnsafePath program
+        × always.HaltsAfter free_examples.passing_events (Erroneous FollowsGone) program }
+    ensures doubles { (program : Program) × (stmt_forms program ≡ free_examples.doubling_stmts)
+        × always.Breaks TakePair program
+        × always.HaltsAfter free_examples.doubling_events (Erroneous FollowsGone) program }
+    ensures copies { (program : Program) × (stmt_forms program ≡ record_examples.duplicating_stmts)
+        × always.Breaks RecordCopied program
+        × always.HaltsAfter record_examples.duplicating_events (Erroneous FollowsGone) program }
+    ensures shares { (program : Program) × (body_forms program ≡ call_examples.sharing_bodies)
+        × (stmt_forms program ≡ call_examples.sharing_stmts)
+        × always.Breaks FormalNotOwned program
+        × always.HaltsAfter call_examples.sharing_events (Erroneous EndsTwice) program }
+    ensures spoils { (program : Program) × (body_forms program ≡ call_examples.spoiling_bodies)
+        × (stmt_forms program ≡ call_examples.spoiling_stmts)
+        × (handler_forms program ≡ examples.raising_handlers)
+        × always.Breaks LostValue program
+        × always.HaltsAfter call_examples.spoiling_events (Erroneous FollowsGone) program }
+    ensures cuts { (program : Program) × (body_forms program ≡ call_examples.cutting_bodies)
+        × (stmt_forms program ≡ call_examples.cutting_stmts)
+        × always.Breaks UnsafePath program
+        × always.HaltsAfter call_examples.cutting_events (Erroneous FollowsGone) program }
+    ensures claims { (program : Program) × (body_forms program ≡ call_examples.claiming_bodies)
+        × (stmt_forms program ≡ call_examples.claiming_stmts)
+        × always.Breaks AliasMoved program
+        × always.HaltsAfter call_examples.claiming_events (Erroneous EndsTwice) program }
+    ensures ruins { (program : Program) × (body_forms program ≡ call_examples.ruining_bodies)
+        × (stmt_forms program ≡ call_examples.ruining_stmts) × borrower_examples.HasBorrower program
+        × always.Breaks UnsafePath program
+        × always.HaltsAfter call_examples.ruining_events (Erroneous FollowsGone) program }
+    ensures drains { (program : Program) × (body_forms program ≡ call_examples.draining_bodies)
+        × (stmt_forms program ≡ call_examples.draining_stmts) × borrower_examples.HasBorrower program
+        × always.Breaks UnsafePath program
+        × always.HaltsAfter call_examples.draining_events (Erroneous FollowsGone) program }
+    ensures strips { (program : Program) × (body_forms program ≡ call_examples.spoiling_bodies)
+        × (stmt_forms program ≡ call_examples.stripping_stmts)
+        × (handler_forms program ≡ call_examples.stripping_handlers)
+        × always.Breaks TakePair program
+        × always.HaltsAfter call_examples.stripping_events (Erroneous FollowsGone) program }
+    ensures nests { (program : Program) × (stmt_forms program ≡ owner_examples.outlasting_stmts)
+        × always.IsIllNested program × always.HaltsAfter owner_examples.outlasting_events (Erroneous FollowsGone) program }
+{}
