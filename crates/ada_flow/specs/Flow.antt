@@ -610,10 +610,11 @@ abbrev pub passes_freed : List TypeForm → (may : ℕ → Bool) → Option Vari
 passes_freed types may kind [] = false
 passes_freed types may kind (c ∷ cs) = is_freed may (access_of kind) || passes_freed types may (selected_kind types kind c) cs
 
--- So does the path to a component, or to a record, which follows the access value to the object in which the record lies, too.
+-- So does the path to a component, whose values of these types are followed up to its last name.
 abbrev pub component_passes : List TypeForm → List VariableForm → (may : ℕ → Bool) → PathForm → Bool
 component_passes types variables may path = passes_freed types may (variable_kind variables path.root) path.selectors
 
+-- So does the path to a record, which follows the access value to the object in which the record lies, too.
 abbrev pub record_passes : List TypeForm → List VariableForm → (may : ℕ → Bool) → RecordPathForm → Bool
 record_passes types variables may p =
     component_passes types variables may p.object || is_freed may (path_access types variables p.object)

@@ -4,16 +4,17 @@ ghost use Rattle.std.specs.Prelude.{◌≡◌, [], ◌∷◌, ◌++◌, take, dr
 ghost use Rattle.std.specs.List.{slice_index_or, slice_set};
 ghost use Rattle.ada_program.specs.Form.{actual_form};
 ghost use Rattle.ada_program.specs.ProgramForm.{variable_form};
-ghost use Rattle.ada_meaning.specs.Step.{first_or, older, places_of, operands_of, with_places, with_operands, in_front, blank, blanks, given_places, copied_back, stored_back, operand_count, given_values, references_in};
+ghost use Rattle.ada_meaning.specs.Step.{first_or, older, places_of, operands_of, with_places, with_operands, in_front, blanks, given_places, copied_back, stored_back, operand_count, given_values, references_in};
 ghost use Rattle.ada_meaning.specs.Named.{named};
-ghost use Rattle.ada_interpreter.specs.Activations.{is_component};
 
+use crate::given::{
+    copy_back_behind, lay_blanks, lay_places, operand_count, push_references, push_stored,
+};
 use crate::stack::Stack;
-use crate::values::{set_value, set_value_behind, value_at, values_behind};
+use crate::values::{set_value_behind, value_at, values_behind};
 use ada_meaning::Value;
 use ada_program::VariableNo;
-use ada_program::program::{Actual, ProcedureNo, Variable, VariableKind};
-use ada_values::Value as Scalar;
+use ada_program::program::{Actual, ProcedureNo, Variable};
 use std::alloc::{AllocError, Global};
 use std::marker::Model;
 
@@ -26,7 +27,7 @@ struct Begun {
 }
 
 /// The activations that have begun (6.4), seen as the list of them, the running one first. Once the stacks have grown,
-/// a call that gives no component takes no memory.
+/// a call takes no memory.
 #[derive(Drop)]
 pub(crate) struct Activations {
     alloc: Global,
@@ -37,6 +38,8 @@ pub(crate) struct Activations {
     /// What pending forms of the running one have computed. A call is a statement: no form of its caller waits for a
     /// value.
     operands: Stack<Value>,
+    /// Vectors that calls which have ended no longer use, whatever lies in them: the next calls take them.
+    spare: Vec<Vec<Value>>,
 }
 
 impl Model for Activations {
@@ -72,6 +75,7 @@ impl Activations {
             begun,
             places,
             operands: Stack::new(alloc),
+            spare: Vec::new(alloc),
         })
     }
 
@@ -200,13 +204,24 @@ impl Activations {
         let base = self.places.len();
         let computed = self.operands.newest(operand_count(actuals));
         lay_places(&mut self.places, actuals, computed, variables)?;
-        let references = references_in(self.alloc, actuals, computed)?;
+        let mut references = empty(&mut self.spare, self.alloc);
+        push_references(&mut references, actuals, computed)?;
         self.begun.push(Begun {
             procedure: Some(procedure),
             base,
         })?;
         self.operands.clear();
         Ok(references)
+    }
+
+    /// What referred to components is no longer used: its vector waits for a later call, if it has room for anything. Where
+    /// memory is wanted for that and refused, the vector is dropped.
+    pub(crate) fn put_by(&mut self, references: Vec<Value>)
+        ensures { self.new ≡ self.old }
+    {
+        if references.capacity() > 0 {
+            let _ = self.spare.push(references);
+        }
     }
 
     /// The running activation ends normally (6.4.1, 6.5), and its caller goes on: its variables get back what they are to
@@ -269,196 +284,15 @@ impl Activations {
     }
 }
 
-/// The formal parameters in the places from `callee` on give back what they hold to their caller's variables, whose places
-/// are those from `caller` on in front of them.
-fn copy_back_behind(places: &mut [Value], caller: usize, callee: usize, actuals: &[Actual])
-    ensures given { let held = drop caller (take callee places.old) in
-        drop caller (take callee places.new)
-        ≡ copied_back (map actual_form actuals.now) (drop callee places.old) held }
-    ensures before { take caller (take callee places.new) ≡ take caller (take callee places.old) }
-    ensures formals { drop callee places.new ≡ drop callee places.old }
+/// An empty vector: one of those that wait, if there is one.
+fn empty(spare: &mut Vec<Vec<Value>>, alloc: Global) -> Vec<Value>
+    ensures { result.items ≡ [] }
 {
-    if callee < places.len() {
-        let (callers, formals) = places.split_at_mut(callee);
-        if caller < callers.len() {
-            let (_, variables) = callers.split_at_mut(caller);
-            copy_back(variables, formals, actuals);
+    match spare.pop() {
+        Some(mut vector) => {
+            vector.clear();
+            vector
         }
-    }
-}
-
-/// Each formal parameter of mode `in out` gives back what it holds to the variable for which it stands, from left to right
-/// (6.4.1).
-fn copy_back(variables: &mut [Value], formals: &[Value], actuals: &[Actual])
-    ensures { variables.new ≡ copied_back (map actual_form actuals.now) formals.now variables.old }
-{
-    for (actual, held) in actuals.iter().zip(formals) {
-        match actual {
-            Actual::InOut(path) | Actual::InOutAccess(path) => {
-                set_value(variables, path.root.0, *held);
-            }
-            Actual::In(_)
-            | Actual::InNull
-            | Actual::InAccess(_)
-            | Actual::InRecord(_)
-            | Actual::InOutComponent(_)
-            | Actual::InOutRecord(_) => {}
-        }
-    }
-}
-
-/// Is an actual parameter a component, for a formal one of mode `in out`? It takes two operands: what refers to it, and its
-/// value (6.4.1).
-fn is_component(actual: &Actual) -> bool
-    ensures { result ≡ is_component (actual_form actual.now) }
-{
-    match actual {
-        Actual::InOutComponent(_) => true,
-        Actual::In(_)
-        | Actual::InNull
-        | Actual::InAccess(_)
-        | Actual::InRecord(_)
-        | Actual::InOut(_)
-        | Actual::InOutAccess(_)
-        | Actual::InOutRecord(_) => false,
-    }
-}
-
-/// How many operands the values of actual parameters are.
-fn operand_count(actuals: &[Actual]) -> usize
-    ensures { result ≡ operand_count (map actual_form actuals.now) }
-{
-    let mut count = 0;
-    for actual in actuals {
-        count += if is_component(actual) { 2 } else { 1 };
-    }
-    count
-}
-
-/// The places of a body's variables are laid behind others: the first ones hold the values of the actual parameters (6.4.1),
-/// which are among these operands.
-fn lay_places(
-    places: &mut Vec<Value>,
-    actuals: &[Actual],
-    computed: &[Value],
-    variables: &[Variable],
-) -> Result<(), AllocError>
-    ensures { let values = given_values (map actual_form actuals.now) computed.now in
-        OnOk result
-        (places.new.items ≡ places.old.items ++ given_places named values (map variable_form variables.now)) }
-{
-    let base = places.len();
-    lay_values(places, actuals, computed)?;
-    let formals = places.len() - base;
-    lay_blanks(places, variables_behind(variables, formals))
-}
-
-/// The values of actual parameters are laid behind other places, in order: that of a component stands behind what refers to
-/// it.
-fn lay_values(
-    places: &mut Vec<Value>,
-    actuals: &[Actual],
-    computed: &[Value],
-) -> Result<(), AllocError>
-    ensures { let values = given_values (map actual_form actuals.now) computed.now in
-        OnOk result (places.new.items ≡ places.old.items ++ values) }
-{
-    let mut left = computed;
-    for actual in actuals {
-        if is_component(actual) {
-            left = values_behind(left, 1);
-        }
-        match left.split_first() {
-            None => return Ok(()),
-            Some((value, behind)) => {
-                places.push(*value)?;
-                left = behind;
-            }
-        }
-    }
-    Ok(())
-}
-
-/// What refers to the components that are given, in order: where there are none, it takes no memory.
-fn references_in(
-    alloc: Global,
-    actuals: &[Actual],
-    computed: &[Value],
-) -> Result<Vec<Value>, AllocError>
-    ensures { IfOk result
-        (λ references. references.items ≡ references_in (map actual_form actuals.now) computed.now) }
-{
-    let mut references = Vec::new(alloc);
-    let mut left = computed;
-    for actual in actuals {
-        let Some((first, behind)) = left.split_first() else {
-            return Ok(references);
-        };
-        if is_component(actual) {
-            let Some((_, others)) = behind.split_first() else {
-                return Ok(references);
-            };
-            references.push(*first)?;
-            left = others;
-        } else {
-            left = behind;
-        }
-    }
-    Ok(references)
-}
-
-/// What formal parameters hold that give it back to components (6.4.1) is put onto operands: the first one becomes the newest.
-fn push_stored(
-    operands: &mut Stack<Value>,
-    formals: &[Value],
-    actuals: &[Actual],
-) -> Result<(), AllocError>
-    ensures { let stored = stored_back (map actual_form actuals.now) formals.now in
-        OnOk result (operands.new ≡ stored ++ operands.old) }
-{
-    let mut left = if actuals.len() < formals.len() {
-        actuals.len()
-    } else {
-        formals.len()
-    };
-    'actuals: while left > 0 {
-        left -= 1;
-        if is_component(&actuals[left]) {
-            operands.push(formals[left])?;
-        }
-    }
-    Ok(())
-}
-
-/// The variables from a number on.
-fn variables_behind(variables: &[Variable], first: usize) -> &[Variable]
-    ensures { result.now ≡ drop first variables.now }
-{
-    if first < variables.len() {
-        &variables[first..]
-    } else {
-        &[]
-    }
-}
-
-/// What lies in the places of variables before their declarations are elaborated is laid behind other places.
-fn lay_blanks(places: &mut Vec<Value>, variables: &[Variable]) -> Result<(), AllocError>
-    ensures { OnOk result
-        (places.new.items ≡ places.old.items ++ blanks named (map variable_form variables.now)) }
-{
-    for variable in variables {
-        places.push(blank(variable.kind))?;
-    }
-    Ok(())
-}
-
-/// What lies in a variable's place before its declaration is elaborated: a value of its kind.
-fn blank(kind: VariableKind) -> Value
-    ensures { result ≡ blank named kind }
-{
-    match kind {
-        VariableKind::Integer => Value::Scalar(Scalar::Integer(0)),
-        VariableKind::Boolean => Value::Scalar(Scalar::Boolean(false)),
-        VariableKind::Access(_) | VariableKind::Record(_) => Value::Null,
+        None => Vec::new(alloc),
     }
 }

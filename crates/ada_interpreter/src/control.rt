@@ -92,6 +92,7 @@ impl<'a> Process<'a> {
                         unreachable!()
                     };
                     self.resume(actuals, references.as_slice())?;
+                    self.activations.put_by(references);
                     Ok(QUIET)
                 }
                 Frame::Evaluates(right) => self.evaluate(program, right),
@@ -171,6 +172,7 @@ impl<'a> Process<'a> {
                     unreachable!()
                 };
                 self.leave_body(mode, actuals, references.as_slice())?;
+                self.activations.put_by(references);
                 Ok(QUIET)
             }
             Some(frame) => {

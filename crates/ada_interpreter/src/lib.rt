@@ -8,8 +8,7 @@
 //! its collection, and an access type its newest open collection. An exception looks at the handlers that it comes to,
 //! the step that copies or fills a record costs as much as the record is long, the steps in which a call begins cost
 //! as much as it has actual parameters and its procedure has variables, and the step in which it ends costs as much as
-//! it has actual parameters. Once the machine's stacks have grown, a call takes no memory, but for one that gives
-//! components for formal parameters of mode `in out`: what refers to them is kept as long as its body runs.
+//! it has actual parameters. Once the machine's stacks have grown, a call takes no memory.
 #![tactic(auto)]
 
 mod activations;
@@ -25,6 +24,7 @@ mod endings;
 mod expressions;
 mod frame;
 mod frees;
+mod given;
 mod handling;
 mod input;
 mod listed;

@@ -235,7 +235,7 @@ module _ (s : State) (a b : Activation Value) where
   -- A return that gives nothing back to a component.
   no_component_back_refused : (path : PathForm) (u : Value) → EndsNormally s.mode → Ending (in_out_component path ∷ []) s → GoesOnWith (u ∷ []) [] → ⊥
   no_component_back_refused path u normal is stays =
-      let got = (back_with (in_out_component path ∷ []) (u ∷ []) [] normal is stays).operands (omega arith) in
+      let got = (back_with (in_out_component path ∷ []) (u ∷ []) [] normal is stays).operands in
       let more : b.operands ≡ u ∷ b.operands = got.2 ∙ ap (λ (us : List Value). us ++ b.operands) (one_goes path u got.0 got.1) in
       let long : length b.operands ≡ length (u ∷ b.operands) = ap length more in
       absurd (omega (arith, long))
@@ -245,14 +245,14 @@ module _ (s : State) (a b : Activation Value) where
       (path other : PathForm) (u v : Value) → u ≢ v → EndsNormally s.mode → Ending (in_out_component path ∷ in_out_component other ∷ []) s
       → GoesOnWith (u ∷ v ∷ []) (v ∷ u ∷ []) → ⊥
   swapped_back_refused path other u v apart normal is stays =
-      let got = (back_with (in_out_component path ∷ in_out_component other ∷ []) (u ∷ v ∷ []) (v ∷ u ∷ []) normal is stays).operands (omega arith) in
+      let got = (back_with (in_out_component path ∷ in_out_component other ∷ []) (u ∷ v ∷ []) (v ∷ u ∷ []) normal is stays).operands in
       let other_order : v ∷ u ∷ b.operands ≡ u ∷ v ∷ b.operands = got.2 ∙ ap (λ (us : List Value). us ++ b.operands) (two_go path other u v got.0 got.1) in
       apart (cc)
 
   -- A record that gives back what refers to it, as if it were a value.
   record_back_refused : (p : RecordPathForm) (u : Value) → EndsNormally s.mode → Ending (in_out_record p ∷ []) s → GoesOnWith (u ∷ []) (u ∷ []) → ⊥
   record_back_refused p u normal is stays =
-      let got = (back_with (in_out_record p ∷ []) (u ∷ []) (u ∷ []) normal is stays).operands (omega arith) in
+      let got = (back_with (in_out_record p ∷ []) (u ∷ []) (u ∷ []) normal is stays).operands in
       let more : u ∷ b.operands ≡ b.operands = got.2 ∙ ap (λ (us : List Value). us ++ b.operands) (none_goes p u got.0 got.1) in
       let long : length (u ∷ b.operands) ≡ length b.operands = ap length more in
       absurd (omega (arith, long))

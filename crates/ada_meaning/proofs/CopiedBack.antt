@@ -1,12 +1,12 @@
 -- What a caller gets back where the body of its call ends.
 
-use Rattle.std.proofs.Common.{◌≡◌, ℕ, ◌<◌, ◌≤◌, inl, inr, List, [], ◌∷◌, ◌++◌, length, Some, arith, refl, sym, ap, ◌∙◌, subst}
+use Rattle.std.proofs.Common.{◌≡◌, ℕ, ◌<◌, inl, inr, List, [], ◌∷◌, ◌++◌, length, Some, arith, refl, sym, ap, ◌∙◌, subst}
 use Rattle.std.specs.List.{slice_get, slice_set}
 use Rattle.ada_program.specs.Form.{ActualForm, in_value, in_null, in_access, in_record, in_out_path, in_out_access, in_out_component, in_out_record}
 use Rattle.ada_meaning.specs.declared.state.Value.{Value}
 use Rattle.ada_meaning.specs.State.{Activation}
 use Rattle.ada_meaning.specs.Step.{older, places_of, operands_of, with_places, with_operands, copied_back, stored_back}
-use Rattle.ada_meaning.specs.Calls.{callers_in, variable_given, IsGiven, GoBack, none, skips, takes, GetsBack, ComesBack}
+use Rattle.ada_meaning.specs.Calls.{callers_in, variable_given, IsGiven, GoBack, none, no_more, skips, takes, GetsBack, ComesBack}
 use Rattle.ada_meaning.proofs.Records.{get_set, get_other, set_length}
 
 -- As many variables as before are there.
@@ -81,18 +81,18 @@ last_holds (in_out_path path ∷ front) behind a x held (v ∷ vs) places gives 
 last_holds (in_out_access path ∷ front) behind a x held (v ∷ vs) places gives last is within =
     last_holds front behind a x held vs (slice_set places path.root v) gives last is (omega (arith, within, set_length places path.root v))
 
--- What goes back to components, where there is a formal parameter for each actual one.
-go_back : (actuals : List ActualForm) (vs : List Value) → length actuals ≤ length vs → GoBack actuals vs (stored_back actuals vs)
-go_back [] vs there = none
-go_back (a ∷ rest) [] there = absurd (omega (arith, there))
-go_back (in_value e ∷ rest) (v ∷ vs) there = skips (λ never. never) (go_back rest vs (omega (arith, there)))
-go_back (in_null ∷ rest) (v ∷ vs) there = skips (λ never. never) (go_back rest vs (omega (arith, there)))
-go_back (in_access path ∷ rest) (v ∷ vs) there = skips (λ never. never) (go_back rest vs (omega (arith, there)))
-go_back (in_record p ∷ rest) (v ∷ vs) there = skips (λ never. never) (go_back rest vs (omega (arith, there)))
-go_back (in_out_path path ∷ rest) (v ∷ vs) there = skips (λ never. never) (go_back rest vs (omega (arith, there)))
-go_back (in_out_access path ∷ rest) (v ∷ vs) there = skips (λ never. never) (go_back rest vs (omega (arith, there)))
-go_back (in_out_component path ∷ rest) (v ∷ vs) there = takes tt (go_back rest vs (omega (arith, there)))
-go_back (in_out_record p ∷ rest) (v ∷ vs) there = skips (λ never. never) (go_back rest vs (omega (arith, there)))
+-- What goes back to components.
+go_back : (actuals : List ActualForm) (vs : List Value) → GoBack actuals vs (stored_back actuals vs)
+go_back [] vs = none
+go_back (a ∷ rest) [] = no_more
+go_back (in_value e ∷ rest) (v ∷ vs) = skips (λ never. never) (go_back rest vs)
+go_back (in_null ∷ rest) (v ∷ vs) = skips (λ never. never) (go_back rest vs)
+go_back (in_access path ∷ rest) (v ∷ vs) = skips (λ never. never) (go_back rest vs)
+go_back (in_record p ∷ rest) (v ∷ vs) = skips (λ never. never) (go_back rest vs)
+go_back (in_out_path path ∷ rest) (v ∷ vs) = skips (λ never. never) (go_back rest vs)
+go_back (in_out_access path ∷ rest) (v ∷ vs) = skips (λ never. never) (go_back rest vs)
+go_back (in_out_component path ∷ rest) (v ∷ vs) = takes tt (go_back rest vs)
+go_back (in_out_record p ∷ rest) (v ∷ vs) = skips (λ never. never) (go_back rest vs)
 
 gets_back :
     (actuals : List ActualForm) (callee caller : Activation Value)
@@ -102,7 +102,7 @@ gets_back :
     })
 gets_back actuals callee caller = record {
   procedure = refl;
-  operands = λ there. (stored_back actuals callee.places, go_back actuals callee.places there, refl);
+  operands = (stored_back actuals callee.places, go_back actuals callee.places, refl);
   count = length_back actuals callee.places caller.places;
   others = λ x apart. others_hold actuals callee.places caller.places x apart;
   back = λ front behind a x held is gives last there within.

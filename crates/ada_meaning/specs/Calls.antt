@@ -1,6 +1,6 @@
 -- Calls (6.4, 6.5), in any step and any run of any program: what they do to activations, and what comes next where one begins and ends.
 
-use Rattle.std.specs.Prelude.{◌≡◌, ◌⊎◌, ℕ, ◌+◌, ◌<◌, ◌≤◌, ℤ, Bool, List, [], ◌∷◌, ◌++◌, length, map, take, drop, reverse, Option, Some, None}
+use Rattle.std.specs.Prelude.{◌≡◌, ◌⊎◌, ℕ, ◌+◌, ◌<◌, ℤ, Bool, List, [], ◌∷◌, ◌++◌, length, map, take, drop, reverse, Option, Some, None}
 use Rattle.std.specs.List.{slice_get}
 use Rattle.ada_values.specs.declared.value.Value.TheVariants as scalar
 use Rattle.ada_program.specs.declared.program.Exception.{Exception}
@@ -95,9 +95,10 @@ IsComponent (in_out_access path) = ⊥
 IsComponent (in_out_component path) = Unit {0}
 IsComponent (in_out_record p) = ⊥
 
--- These values, of formal parameters, are given back to components (6.4.1), in order.
+-- These values, of formal parameters, are given back to components (6.4.1), in order. Where there is no formal parameter, nothing is.
 pub data GoBack : List ActualForm → (formals given_back : List Value) → Type 0 where
   none : {others : List Value} → GoBack [] others []
+  no_more : {a : ActualForm} {rest : List ActualForm} → GoBack (a ∷ rest) [] []
   skips : {a : ActualForm} {rest : List ActualForm} {v : Value} {vs given_back : List Value}
       → (IsComponent a → ⊥) → GoBack rest vs given_back → GoBack (a ∷ rest) (v ∷ vs) given_back
   takes : {a : ActualForm} {rest : List ActualForm} {v : Value} {vs given_back : List Value}
@@ -105,12 +106,11 @@ pub data GoBack : List ActualForm → (formals given_back : List Value) → Type
 
 -- What a caller gets back, once the body of its call has ended normally (6.4.1): it has the same variables, and those that are given for no formal
 -- parameter of mode `in out` hold what they held. Each one that is given holds what the last formal parameter holds for which it is given. What goes to
--- components are the newest operands, if the callee has all of its formal parameters.
+-- components are the newest operands.
 pub record GetsBack (actuals : List ActualForm) (callee caller later : Activation Value) : Type 0 where
   pub procedure : later.procedure ≡ caller.procedure
   pub operands :
-      length actuals ≤ length callee.places
-      → (given_back : List Value) × GoBack actuals callee.places given_back × (later.operands ≡ given_back ++ caller.operands)
+      (given_back : List Value) × GoBack actuals callee.places given_back × (later.operands ≡ given_back ++ caller.operands)
   pub count : length later.places ≡ length caller.places
   pub others : (x : ℕ) → (IsGiven x actuals → ⊥) → slice_get later.places x ≡ slice_get caller.places x
   pub back :

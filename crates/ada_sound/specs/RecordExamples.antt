@@ -14,10 +14,11 @@ use Rattle.ada_sound.specs.Examples.{example_path}
 abbrev pub object_path : ℕ → List ℕ → PathForm
 object_path x cs = record (example_path x cs) { of_record = true }
 
--- The record of type 0 that a record object is, and the one to which a variable gives access (4.1).
+-- The record of type 0 that a record object is (4.1).
 abbrev pub object_record : ℕ → RecordPathForm
 object_record x = record { object = object_path x []; first = 0; record_type = 0 }
 
+-- The record of type 0 to which a variable gives access (4.1).
 abbrev pub record_behind : ℕ → RecordPathForm
 record_behind x = record { object = example_path x []; first = 0; record_type = 0 }
 

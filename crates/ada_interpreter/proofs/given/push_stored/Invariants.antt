@@ -2,7 +2,7 @@
 use Rattle.std.proofs.Common.{◌≡◌, ◌++◌, ◌≤◌, length, map, drop}
 use Rattle.ada_program.specs.Form.{actual_form}
 use Rattle.ada_meaning.specs.Step.{stored_back}
-use Rattle.ada_interpreter.proofs.activations.push_stored.Given as goal
+use Rattle.ada_interpreter.proofs.given.push_stored.Given as goal
 
 abbrev pub invariant-actuals : goal.invariant-actuals
 invariant-actuals l = record {

@@ -2,7 +2,7 @@
 use Rattle.std.proofs.Common.{◌≡◌, ◌+◌, ◌*◌, ◌≤◌, map, drop}
 use Rattle.ada_program.specs.Form.{actual_form}
 use Rattle.ada_meaning.specs.Step.{operand_count}
-use Rattle.ada_interpreter.proofs.activations.operand_count.Given as goal
+use Rattle.ada_interpreter.proofs.given.operand_count.Given as goal
 
 abbrev pub invariant-loop-actual : goal.invariant-loop-actual
 invariant-loop-actual l = record {

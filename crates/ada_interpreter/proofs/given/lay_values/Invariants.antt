@@ -2,7 +2,7 @@
 use Rattle.std.proofs.Common.{◌≡◌, ◌++◌, map, drop}
 use Rattle.ada_program.specs.Form.{actual_form}
 use Rattle.ada_meaning.specs.Step.{given_values}
-use Rattle.ada_interpreter.proofs.activations.lay_values.Given as goal
+use Rattle.ada_interpreter.proofs.given.lay_values.Given as goal
 
 abbrev pub invariant-loop-actual : goal.invariant-loop-actual
 invariant-loop-actual l =

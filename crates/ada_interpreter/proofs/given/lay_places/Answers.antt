@@ -3,7 +3,7 @@ use Rattle.std.proofs.Common.{◌≡◌, ℕ, length, map, drop, ap, ◌∙◌, 
 use Rattle.ada_program.specs.Form.{actual_form}
 use Rattle.ada_meaning.specs.Step.{given_values}
 use Rattle.ada_interpreter.proofs.ActivationLemmas.{laid, count_laid}
-use Rattle.ada_interpreter.proofs.activations.lay_places.Goals as goal
+use Rattle.ada_interpreter.proofs.given.lay_places.Goals as goal
 
 pub returns : goal.returns
 returns c =

@@ -3,7 +3,7 @@ use Rattle.std.proofs.Common.{◌≡◌, ◌++◌, map, drop}
 use Rattle.ada_program.specs.ProgramForm.{variable_form}
 use Rattle.ada_meaning.specs.Step.{blanks}
 use Rattle.ada_meaning.specs.Named.{named}
-use Rattle.ada_interpreter.proofs.activations.lay_blanks.Given as goal
+use Rattle.ada_interpreter.proofs.given.lay_blanks.Given as goal
 
 abbrev pub invariant-loop-variable : goal.invariant-loop-variable
 invariant-loop-variable l =

@@ -3,8 +3,8 @@ use Rattle.std.proofs.Common.{inl, inr, List, ◌++◌, sym, ap, ◌∙◌, arit
 use Rattle.ada_meaning.specs.declared.state.Value.{Value}
 use Rattle.ada_meaning.specs.declared.state.Value.TheVariants.{Null}
 use Rattle.ada_interpreter.proofs.OperandLemmas.{none_stored, stored_before}
-use Rattle.ada_interpreter.proofs.activations.push_stored.Goals as goal
-use Rattle.ada_interpreter.proofs.activations.push_stored.Goals.{then-actuals-formals, else-actuals-formals}
+use Rattle.ada_interpreter.proofs.given.push_stored.Goals as goal
+use Rattle.ada_interpreter.proofs.given.push_stored.Goals.{then-actuals-formals, else-actuals-formals}
 
 pub actuals-init : goal.actuals-init
 actuals-init c = elim c.if-actuals-formals.branch [

@@ -2,8 +2,9 @@
 use Rattle.std.proofs.Common.{◌≡◌, ◌++◌, map, drop}
 use Rattle.ada_program.specs.Form.{actual_form}
 use Rattle.ada_meaning.specs.Step.{references_in}
-use Rattle.ada_interpreter.proofs.activations.references_in.Given as goal
+use Rattle.ada_interpreter.proofs.given.push_references.Given as goal
 
 abbrev pub invariant-loop-actual : goal.invariant-loop-actual
 invariant-loop-actual l =
-    l.references.items ++ references_in (map actual_form (drop l.actual-index l.actuals)) l.left ≡ references_in (map actual_form l.actuals) l.computed
+    l.references.items ++ references_in (map actual_form (drop l.actual-index l.actuals)) l.left
+    ≡ l.fn.references.items ++ references_in (map actual_form l.actuals) l.computed

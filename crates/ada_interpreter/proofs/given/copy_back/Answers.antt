@@ -2,7 +2,7 @@
 use Rattle.std.proofs.Common.{◌∙◌}
 use Rattle.std.proofs.lemmas.Slice.Zip.{either_empty_from_Zip}
 use Rattle.ada_interpreter.proofs.ActivationLemmas.{no_more_gives}
-use Rattle.ada_interpreter.proofs.activations.copy_back.Goals as goal
+use Rattle.ada_interpreter.proofs.given.copy_back.Goals as goal
 
 pub returns : goal.returns
 returns c =

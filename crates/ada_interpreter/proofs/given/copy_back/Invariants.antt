@@ -4,7 +4,7 @@ use Rattle.std.specs.Iterator.Adapters.{zip_first, zip_second}
 use Rattle.std.specs.Slice.Iter.{iter_rest}
 use Rattle.ada_program.specs.Form.{actual_form}
 use Rattle.ada_meaning.specs.Step.{copied_back}
-use Rattle.ada_interpreter.proofs.activations.copy_back.Given as goal
+use Rattle.ada_interpreter.proofs.given.copy_back.Given as goal
 
 abbrev pub invariant-loop-actual : goal.invariant-loop-actual
 invariant-loop-actual l =

@@ -4,7 +4,7 @@ use Rattle.std.proofs.lemmas.List.{drop_all}
 use Rattle.ada_program.specs.Form.{actual_form}
 use Rattle.ada_meaning.specs.declared.state.Value.{Value}
 use Rattle.ada_interpreter.proofs.ActivationLemmas.{none_gives, none_gets}
-use Rattle.ada_interpreter.proofs.activations.copy_back_behind.Goals as goal
+use Rattle.ada_interpreter.proofs.given.copy_back_behind.Goals as goal
 
 pub returns-else-caller-callers-clause-given : goal.returns-else-caller-callers-clause-given
 returns-else-caller-callers-clause-given c =
