@@ -1,6 +1,8 @@
 //! What stands between tokens: separators and comments.
 
 ghost use Rattle.std.specs.Prelude.{◌≡◌, ◌+◌, ◌≤◌, ◌<◌, length, drop};
+ghost use Rattle.std.specs.List.{prefix_len};
+ghost use Rattle.ada_text.specs.Bytes.{stays_on_line};
 ghost use Rattle.ada_text.specs.Gap.{begins_comment, next_start};
 ghost use Rattle.ada_text.specs.Place.{StandsIn};
 
@@ -16,6 +18,18 @@ fn begins_comment(source: &[u8], at: usize) -> bool
     source[at] == b'-' && has_byte(source, at + 1, b'-')
 }
 
+/// How many bytes of a text stand on its first line, the line feed aside.
+fn line_len(text: &[u8]) -> usize
+    ensures { result ≡ prefix_len stays_on_line text.now }
+{
+    for (i, byte) in text.iter().enumerate() {
+        if *byte == b'\n' {
+            return i;
+        }
+    }
+    text.len()
+}
+
 /// The first place from `start` on where neither a separator nor a comment stands.
 ///
 /// A comment runs from `--` to the line's end and may hold any byte (2.7).
@@ -27,17 +41,14 @@ pub fn past_gap(source: &[u8], start: Place) -> Place
     ensures stands { StandsIn source.now result }
 {
     let mut place = start;
-    let mut in_comment = false;
     while place.at < source.len() {
-        let byte = source[place.at];
-        if in_comment {
-            in_comment = byte != b'\n';
-        } else if begins_comment(source, place.at) {
-            in_comment = true;
-        } else if !is_separator(byte) {
+        if begins_comment(source, place.at) {
+            place = place.past(source, line_len(&source[place.at..]));
+        } else if is_separator(source[place.at]) {
+            place = place.next(source);
+        } else {
             return place;
         }
-        place = place.next(source);
     }
     place
 }
