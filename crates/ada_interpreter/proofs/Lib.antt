@@ -18,3 +18,5 @@ pub mod ActivationLemmas
 pub mod CallLemmas
 -- what formal parameters give back to components
 pub mod OperandLemmas
+-- values that expressions have at once
+pub mod AtOnceLemmas

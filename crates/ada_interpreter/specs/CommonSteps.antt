@@ -1,13 +1,18 @@
 -- The common steps: what making one of them does to a run in progress.
 
-use Rattle.std.specs.Prelude.{◌≡◌, ℕ, Bool, true, false, Result, Ok, Err}
+use Rattle.std.specs.Prelude.{◌≡◌, ℕ, ◌-◌, ◌<◌, Bool, true, false, List, ◌∷◌, Option, Some, None, Result, Ok, Err}
 use Rattle.std.specs.declared.alloc.AllocError.{AllocError}
 use Rattle.ada_program.specs.declared.program.Program.{Program}
+use Rattle.ada_program.specs.Form.{StmtForm, StmtsForm, no_stmts, a_stmt}
 use Rattle.ada_program.specs.ProgramForm.{body_forms}
+use Rattle.ada_meaning.specs.declared.state.Value.{Value}
+use Rattle.ada_meaning.specs.declared.state.Mode.TheVariants.{Running}
+use Rattle.ada_meaning.specs.Frame.{Frame}
+use Rattle.ada_meaning.specs.Frame as frame
 use Rattle.ada_meaning.specs.Event.{Quiet}
 use Rattle.ada_meaning.specs.State.{begins}
-use Rattle.ada_meaning.specs.Step.{moves}
-use Rattle.ada_meaning.specs.Named.{State, Next, next}
+use Rattle.ada_meaning.specs.Step.{moves, at, stmt_next}
+use Rattle.ada_meaning.specs.Named.{State, Next, next, named}
 use Rattle.ada_meaning.specs.Chosen.{begun_with}
 use Rattle.ada_interpreter.specs.declared.process.Process.{Process}
 use Rattle.ada_interpreter.specs.Process.{state_of}
@@ -22,3 +27,38 @@ MayMove coming before (Err e) after = Unit {0}
 pub data GoesQuietly (program : Program) (first : State) : (statements : ℕ) → State → Type 0 where
   stays : GoesQuietly program first 0 first
   goes_on : {statements : ℕ} {last : State} (before_it : ℕ) (mid : State) → GoesQuietly program first before_it mid → next program.types.items (body_forms program) mid ≡ moves Quiet last → statements ≡ begun_with (begins mid) before_it → GoesQuietly program first statements last
+
+-- Quiet steps one after another that leave nothing open, and in which no statement begins.
+pub data GoesWithin (program : Program) (first : State) : State → Type 0 where
+  stays_within : GoesWithin program first first
+  goes_within : {last : State} (mid : State) → GoesWithin program first mid → begins mid ≡ false → next program.types.items (body_forms program) mid ≡ moves Quiet last → GoesWithin program first last
+
+-- What comes is a quiet step, and from there such steps lead on to a state.
+pub record GoesOn (program : Program) (coming : Next) (last : State) : Type 0 where
+  pub mid : State
+  pub comes : coming ≡ moves Quiet mid
+  pub behind : GoesWithin program mid last
+
+-- What is left to do once statements come, before other things: nothing of them, where none is left.
+abbrev pub statements_left : StmtsForm → List (Frame Value) → List (Frame Value)
+statements_left no_stmts k = k
+statements_left (a_stmt f fs) k = frame.Does (a_stmt f fs) ∷ k
+
+-- What comes is made so, with steps behind it; or nothing changes; unless memory runs out.
+abbrev pub MayGoOn : (program : Program) → (coming : Next) → (before : Process) → (made : Result Bool AllocError) → (after : Process) → Type 0
+MayGoOn program coming before (Ok true) after = GoesOn program coming (state_of after)
+MayGoOn program coming before (Ok false) after = after ≡ before
+MayGoOn program coming before (Err e) after = Unit {0}
+
+-- A statement is done, with all of its steps, whatever comes behind it; or nothing changes.
+abbrev pub IsDone : StmtForm → (before : Process) → (done : Bool) → (after : Process) → Type 0
+IsDone f before true after =
+    (program : Program) (fs : StmtsForm) (k : List (Frame Value)) → before.mode ≡ Running →
+    GoesOn program (stmt_next named (body_forms program) f (at (frame.Does fs ∷ k) (state_of before))) (at (frame.Does fs ∷ k) (state_of after))
+IsDone f before false after = after ≡ before
+
+-- Statements begin, and quiet steps follow, so that fewer may begin; or nothing changes; unless memory runs out.
+abbrev pub MayBegin : (program : Program) → (limit : ℕ) → (before : Process) → (made : Result (Option ℕ) AllocError) → (after : Process) → Type 0
+MayBegin program limit before (Ok (Some left)) after = (left < limit) × GoesQuietly program (state_of before) (limit - left) (state_of after)
+MayBegin program limit before (Ok None) after = after ≡ before
+MayBegin program limit before (Err e) after = Unit {0}

@@ -8,6 +8,8 @@ pub mod Activations
 pub mod Masters
 -- the state of a run in progress, and what a turn of it does
 pub mod Process
+-- values that expressions have at once
+pub mod AtOnce
 -- the common steps of a run in progress
 pub mod CommonSteps
 -- the machine: steps, with who answers what they leave open

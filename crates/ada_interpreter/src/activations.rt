@@ -1,6 +1,6 @@
 //! The activations of bodies, with the places of all of them behind one another.
 
-ghost use Rattle.std.specs.Prelude.{◌≡◌, [], ◌∷◌, ◌++◌, take, drop, reverse, map, Some, None, IfOk, OnOk};
+ghost use Rattle.std.specs.Prelude.{◌≡◌, ◌≢◌, IfSome, [], ◌∷◌, ◌++◌, take, drop, reverse, map, Some, None, IfOk, OnOk};
 ghost use Rattle.std.specs.List.{slice_index_or, slice_set};
 ghost use Rattle.ada_program.specs.Form.{actual_form};
 ghost use Rattle.ada_program.specs.ProgramForm.{variable_form};
@@ -89,6 +89,16 @@ impl Activations {
                 value_at(places, variable.0)
             }
             None => Value::Null,
+        }
+    }
+
+    /// What the variables of the running activation hold, if one runs.
+    pub(crate) fn running_places(&self) -> Option<&[Value]>
+        ensures { IfSome result (λ places. (self.now ≢ []) × (places_of self.now ≡ places.now)) }
+    {
+        match self.begun.at(0) {
+            Some(running) => Some(values_behind(self.places.as_slice(), running.base)),
+            None => None,
         }
     }
 

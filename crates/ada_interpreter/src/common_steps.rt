@@ -1,25 +1,22 @@
 //! The steps that most of a run consists of: statements, loops and expressions that go on without anybody being told or
 //! asked. Each is made with small answers, and copies no frame.
 
-ghost use Rattle.std.specs.Prelude.{◌≡◌, ◌≤◌, ◌-◌, List, pos, ◌+ℤ◌, IfOk};
-ghost use Rattle.std.specs.Option.{option_copied};
+ghost use Rattle.std.specs.Prelude.{◌≡◌, ◌<◌, ◌≤◌, ◌-◌, List, [], ◌∷◌, IfOk, OnOk};
 ghost use Rattle.ada_program.specs.declared.program.TypeDefinition.{TypeDefinition};
-ghost use Rattle.ada_program.specs.ProgramForm.{BodyForm};
-ghost use Rattle.ada_program.specs.Form.{expression_form, condition_form, stmt_form, stmts_form, branches_form};
+ghost use Rattle.ada_program.specs.ProgramForm.{BodyForm, body_forms};
+ghost use Rattle.ada_program.specs.Form.{right_form, stmt_form, stmts_form};
 ghost use Rattle.ada_meaning.specs.Frame as frame;
 ghost use Rattle.ada_meaning.specs.Step as step;
-ghost use Rattle.ada_meaning.specs.Named.{next, named, reads_boolean};
-ghost use Rattle.ada_interpreter.specs.CommonSteps.{MayMove, GoesQuietly};
+ghost use Rattle.ada_meaning.specs.Named.{next, named};
+ghost use Rattle.ada_interpreter.specs.CommonSteps.{MayMove, MayGoOn, MayBegin, GoesQuietly, statements_left};
 ghost use Rattle.ada_interpreter.specs.Process.{state_of, passed, replaced};
 
 use crate::frame::Frame;
 use crate::process::Process;
-use crate::values::truth;
+use ada_meaning::Mode;
 use ada_meaning::laws::steps_make_lighter;
-use ada_meaning::{Mode, Value};
-use ada_program::program::{Branch, Expression};
-use ada_program::{Program, Stmt, VariableNo};
-use ada_values::Value as Scalar;
+use ada_program::program::Right;
+use ada_program::{Path, Program, Stmt};
 use std::alloc::AllocError;
 
 impl<'a> Process<'a> {
@@ -45,18 +42,18 @@ impl<'a> Process<'a> {
             if left == 0 {
                 return Ok(left);
             }
-            if !self.begin_common_statement()? {
-                return Ok(left);
+            match self.begin_common_statements(left)? {
+                None => return Ok(left),
+                Some(now) => left = now,
             }
-            left -= 1;
         }
     }
 
     /// Makes the next step, if it is a common one that begins no statement; else nothing changes.
     #[tactic(auto, unfolding(ada_meaning::specs::Named::next))]
     fn make_common_step(&mut self) -> Result<bool, AllocError>
-        ensures { (types : List TypeDefinition) (bodies : List BodyForm) →
-            MayMove (next types bodies (state_of self.old)) self.old result self.new }
+        ensures { (program : Program) →
+            MayGoOn program (next program.types.items (body_forms program) (state_of self.old)) self.old result self.new }
     {
         match self.mode {
             Mode::Running => self.go_on_commonly(),
@@ -64,34 +61,68 @@ impl<'a> Process<'a> {
         }
     }
 
-    /// Begins the next statement, if it is a common one; else nothing changes.
-    #[tactic(auto, unfolding(ada_meaning::specs::Named::next))]
-    fn begin_common_statement(&mut self) -> Result<bool, AllocError>
-        ensures { (types : List TypeDefinition) (bodies : List BodyForm) →
-            MayMove (next types bodies (state_of self.old)) self.old result self.new }
+    /// Begins the next statement, if it is a common one, and those behind it that are done at once, at most `limit` in all.
+    /// Returns how many may still begin; none where nothing changes.
+    fn begin_common_statements(&mut self, limit: u32) -> Result<Option<u32>, AllocError>
+        requires some { 0 < limit }
+        ensures { (program : Program) → MayBegin program limit self.old result self.new }
     {
         match self.mode {
-            Mode::Running => self.begin_commonly(),
-            _ => Ok(false),
+            Mode::Running => self.begin_commonly(limit),
+            _ => Ok(None),
         }
     }
 
-    /// Makes the step of the statements that are first of what is left to do.
-    fn begin_commonly(&mut self) -> Result<bool, AllocError>
-        ensures { let s = state_of self.old in (types : List TypeDefinition) (bodies : List BodyForm) →
-            MayMove (step.running_next named types bodies s.control s) self.old result self.new }
+    /// Begins the statements that are first of what is left to do.
+    fn begin_commonly(&mut self, limit: u32) -> Result<Option<u32>, AllocError>
+        requires some { 0 < limit }
+        ensures { (program : Program) → (state_of self.old).mode ≡ Mode.Running →
+            MayBegin program limit self.old result self.new }
     {
         match self.frames.top() {
             Some(Frame::Does(statements)) => {
                 let statements = *statements;
-                self.do_next(statements)
+                self.do_next(statements, limit)
             }
-            _ => Ok(false),
+            _ => Ok(None),
+        }
+    }
+
+    /// Makes the step of the first of what is left to do. Where a condition is known at once, what it decides is done, too.
+    fn go_on_commonly(&mut self) -> Result<bool, AllocError>
+        ensures { let s = state_of self.old in (program : Program) → s.mode ≡ Mode.Running →
+            MayGoOn program (step.running_next named program.types.items (body_forms program) s.control s)
+            self.old result self.new }
+    {
+        match self.frames.top() {
+            Some(
+                Frame::Repeats {
+                    condition: Some(condition),
+                    statements,
+                },
+            ) => {
+                let condition = *condition;
+                let statements = *statements;
+                self.repeat_at_once(condition, statements)
+            }
+            Some(
+                Frame::Decides {
+                    statements,
+                    branches,
+                    otherwise,
+                },
+            ) => {
+                let statements = *statements;
+                let branches = *branches;
+                let otherwise = *otherwise;
+                self.decide_next(statements, branches, otherwise)
+            }
+            _ => self.go_on_by_one(),
         }
     }
 
     /// Makes the step of the first of what is left to do.
-    fn go_on_commonly(&mut self) -> Result<bool, AllocError>
+    fn go_on_by_one(&mut self) -> Result<bool, AllocError>
         ensures { let s = state_of self.old in (types : List TypeDefinition) (bodies : List BodyForm) →
             MayMove (step.running_next named types bodies s.control s) self.old result self.new }
     {
@@ -156,16 +187,6 @@ impl<'a> Process<'a> {
                     let statements = *statements;
                     self.count_next(parameter, value, last, statements)
                 }
-                Frame::Decides {
-                    statements,
-                    branches,
-                    otherwise,
-                } => {
-                    let statements = *statements;
-                    let branches = *branches;
-                    let otherwise = *otherwise;
-                    self.decide_next(statements, branches, otherwise)
-                }
                 _ => Ok(false),
             },
         }
@@ -185,17 +206,43 @@ impl<'a> Process<'a> {
         }
     }
 
-    /// The statements that are left (5.1).
-    fn do_next(&mut self, statements: &'a [Stmt]) -> Result<bool, AllocError>
-        ensures { let s = state_of self.old in (bodies : List BodyForm) →
-            MayMove (step.stmts_next named bodies (stmts_form statements.now) (passed s)) self.old result self.new }
+    /// The statements that are left (5.1): those that are done at once, or else the first of them.
+    fn do_next(&mut self, statements: &'a [Stmt], limit: u32) -> Result<Option<u32>, AllocError>
+        requires some { 0 < limit }
+        requires top { let s = state_of self.old in
+            s.control ≡ frame.Does (stmts_form statements.now) ∷ step.older s.control }
+        ensures { (program : Program) → (state_of self.old).mode ≡ Mode.Running →
+            MayBegin program limit self.old result self.new }
+    {
+        let (rest, left) = self.run_at_once(statements, limit);
+        if left == limit {
+            return self.begin_first(statements, limit);
+        }
+        self.go_behind_statement(rest)?;
+        if rest.is_empty() {
+            Ok(Some(self.make_turns(left)?))
+        } else {
+            Ok(Some(left))
+        }
+    }
+
+    /// The first of the statements that are left (5.1).
+    fn begin_first(&mut self, statements: &'a [Stmt], limit: u32) -> Result<Option<u32>, AllocError>
+        requires some { 0 < limit }
+        requires top { let s = state_of self.old in
+            s.control ≡ frame.Does (stmts_form statements.now) ∷ step.older s.control }
+        ensures { (program : Program) → (state_of self.old).mode ≡ Mode.Running →
+            MayBegin program limit self.old result self.new }
     {
         match statements.split_first() {
-            None => {
-                self.pass();
-                Ok(true)
+            None => Ok(None),
+            Some((first, rest)) => {
+                if self.execute_next(first, rest)? {
+                    Ok(Some(limit - 1))
+                } else {
+                    Ok(None)
+                }
             }
-            Some((first, rest)) => self.execute_next(first, rest),
         }
     }
 
@@ -203,171 +250,59 @@ impl<'a> Process<'a> {
     #[tactic(auto, using(std::proofs::lemmas::Grind::common_steps, ada_program::specs::Form::statement_rules))]
     fn execute_next(&mut self, statement: &'a Stmt, rest: &'a [Stmt]) -> Result<bool, AllocError>
         ensures { let s = replaced (frame.Does (stmts_form rest.now)) (state_of self.old) in
-            (bodies : List BodyForm) →
-            MayMove (step.stmt_next named bodies (stmt_form statement.now) s) self.old result self.new }
+            (program : Program) → s.mode ≡ Mode.Running →
+            MayGoOn program (step.stmt_next named (body_forms program) (stmt_form statement.now) s)
+            self.old result self.new }
     {
         match statement {
-            Stmt::Null => {
-                self.replace(Frame::Does(rest))?;
-                Ok(true)
-            }
-            Stmt::Assign { target, value } => {
-                if target.selectors.is_empty() {
-                    self.replace_by_three(
-                        Frame::Evaluates(Some(value)),
-                        Frame::Stores(target.root),
-                        Frame::Does(rest),
-                    )?;
-                    Ok(true)
-                } else {
-                    Ok(false)
-                }
+            Stmt::Assign { target, value } if target.selectors.is_empty() => {
+                self.assign_next(target, value, rest)
             }
             Stmt::If {
                 branches,
                 otherwise,
             } => {
                 self.replace(Frame::Does(rest))?;
-                self.choose(branches.as_slice(), otherwise.as_slice())?;
+                self.choose_next(branches.as_slice(), otherwise.as_slice())?;
                 Ok(true)
             }
+            Stmt::Exit { condition, spot: _ } => self.exit_at_once(condition.as_ref(), rest),
             _ => Ok(false),
         }
     }
 
-    /// A loop comes to its next turn (5.5).
-    fn repeat_next(
+    /// A variable is assigned (5.2).
+    fn assign_next(
         &mut self,
-        condition: Option<&'a Expression>,
-        statements: &'a [Stmt],
+        target: &'a Path,
+        value: &'a Right,
+        rest: &'a [Stmt],
     ) -> Result<bool, AllocError>
-        ensures { let s = passed (state_of self.old) in
-            MayMove
-            (step.repeats_next named (condition_form (option_copied condition.entry)) (stmts_form statements.now) s)
+        requires { target.now.selectors.items ≡ [] }
+        ensures { let s = replaced (frame.Does (stmts_form rest.now)) (state_of self.old) in
+            (program : Program) →
+            MayGoOn program (step.assign_next named [] target.now.root.0 (right_form value.now) s)
             self.old result self.new }
     {
-        match condition {
-            None => match statements.first() {
-                None => Ok(false),
-                Some(_) => {
-                    self.replace_by_two(
-                        Frame::Does(statements),
-                        Frame::Repeats {
-                            condition: None,
-                            statements,
-                        },
-                    )?;
-                    Ok(true)
-                }
-            },
-            Some(condition) => {
-                self.replace_by_two(
-                    Frame::Computes(condition),
-                    Frame::Turns {
-                        condition,
-                        statements,
-                    },
-                )?;
-                Ok(true)
-            }
-        }
+        self.replace_by_three(
+            Frame::Evaluates(Some(value)),
+            Frame::Stores(target.root),
+            Frame::Does(rest),
+        )?;
+        Ok(true)
     }
 
-    /// The condition of a loop is known (5.5).
-    fn turn_next(
-        &mut self,
-        condition: &'a Expression,
-        statements: &'a [Stmt],
-    ) -> Result<bool, AllocError>
-        ensures { let s = passed (state_of self.old) in
-            MayMove
-            (step.turned_next named (expression_form condition.now) (stmts_form statements.now) (reads_boolean (step.newest named s)) (step.popped s))
-            self.old result self.new }
+    /// The statements behind one that is done are left to do (5.1): nothing, where there are none.
+    pub(crate) fn go_behind_statement(&mut self, rest: &'a [Stmt]) -> Result<(), AllocError>
+        ensures { let s = state_of self.old in
+            OnOk result
+            (state_of self.new ≡ step.at (statements_left (stmts_form rest.now) (step.older s.control)) s) }
     {
-        match truth(self.newest()) {
-            None => Ok(false),
-            Some(true) => match statements.first() {
-                None => Ok(false),
-                Some(_) => {
-                    self.pop();
-                    self.replace_by_two(
-                        Frame::Does(statements),
-                        Frame::Repeats {
-                            condition: Some(condition),
-                            statements,
-                        },
-                    )?;
-                    Ok(true)
-                }
-            },
-            Some(false) => {
-                self.pass();
-                self.pop();
-                Ok(true)
-            }
-        }
-    }
-
-    /// A `for` loop comes to its next turn (5.5).
-    fn count_next(
-        &mut self,
-        parameter: VariableNo,
-        value: i32,
-        last: i32,
-        statements: &'a [Stmt],
-    ) -> Result<bool, AllocError>
-        ensures { let s = passed (state_of self.old) in
-            MayMove (step.counts_next named parameter.0 (value +ℤ pos 1) last (stmts_form statements.now) s)
-            self.old result self.new }
-    {
-        if value >= last {
+        if rest.is_empty() {
             self.pass();
-            return Ok(true);
-        }
-        match statements.first() {
-            None => Ok(false),
-            Some(_) => {
-                self.replace_by_two(
-                    Frame::Does(statements),
-                    Frame::Counts {
-                        parameter,
-                        value: value + 1,
-                        last,
-                        statements,
-                    },
-                )?;
-                self.put(parameter, Value::Scalar(Scalar::Integer(value + 1)));
-                Ok(true)
-            }
-        }
-    }
-
-    /// The condition of a branch is known (5.3).
-    fn decide_next(
-        &mut self,
-        statements: &'a [Stmt],
-        branches: &'a [Branch],
-        otherwise: &'a [Stmt],
-    ) -> Result<bool, AllocError>
-        ensures { let s = passed (state_of self.old) in
-            let left = branches_form branches.now (stmts_form otherwise.now) in
-            MayMove
-            (step.decided_next named (stmts_form statements.now) left (reads_boolean (step.newest named s)) (step.popped s))
-            self.old result self.new }
-    {
-        match truth(self.newest()) {
-            None => Ok(false),
-            Some(true) => {
-                self.pop();
-                self.replace(Frame::Does(statements))?;
-                Ok(true)
-            }
-            Some(false) => {
-                self.pass();
-                self.pop();
-                self.choose(branches, otherwise)?;
-                Ok(true)
-            }
+            Ok(())
+        } else {
+            self.replace(Frame::Does(rest))
         }
     }
 }

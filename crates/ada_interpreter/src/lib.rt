@@ -13,10 +13,13 @@
 
 mod activations;
 mod allocators;
+mod at_once;
 mod branches;
 mod calls;
 mod choices;
+mod common_branches;
 mod common_steps;
+mod common_turns;
 mod common_values;
 mod components;
 mod control;

@@ -111,7 +111,7 @@ impl<'a> Process<'a> {
 }
 
 /// Does the left operand decide a short-circuit form (4.5.1)? Its right operand isn't evaluated then.
-fn is_decided(operator: BinaryOperator, left: Value) -> bool
+pub(crate) fn is_decided(operator: BinaryOperator, left: Value) -> bool
     ensures { result ≡ step.is_decided named operator (reads_boolean left) }
 {
     match (operator, left) {
