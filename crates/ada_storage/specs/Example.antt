@@ -15,10 +15,11 @@ seen [] = []
 seen (quiet ∷ es) = seen es
 seen (e ∷ es) = e ∷ seen es
 
--- A part with one in it, and a part alone.
+-- A part with one in it.
 abbrev pub nested : Forest
 nested = tree 1 (tree 0 none none) none
 
+-- A part in which nothing lies.
 abbrev pub alone : Forest
 alone = tree 0 none none
 
@@ -39,6 +40,7 @@ undone_events =
     ∷ left 1
     ∷ []
 
+-- There is a run with these events that comes to its end.
 abbrev pub AnInitializeRaises : Type 0
 AnInitializeRaises = InSomeRun (λ events last. (seen events ≡ undone_events) × (last.control ≡ stops))
 
@@ -67,6 +69,7 @@ nested_events =
     ∷ left 1
     ∷ []
 
+-- There is a run with these events that comes to its end.
 abbrev pub MastersNest : Type 0
 MastersNest = InSomeRun (λ events last. (seen events ≡ nested_events) × (last.control ≡ stops))
 

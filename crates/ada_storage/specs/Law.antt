@@ -40,7 +40,7 @@ abbrev pub Happened : (Event → Type 0) → List Event → Type 0
 Happened P [] = ⊥
 Happened P (e ∷ es) = P e ⊎ Happened P es
 
--- An event does not finalize this value; and no later event finalizes the value that an earlier one does.
+-- An event does not finalize this value.
 abbrev pub NotFinalized : Value → Event → Type 0
 NotFinalized v (born w by) = Unit {0}
 NotFinalized v (finalized w cause) = w ≢ v
@@ -48,6 +48,7 @@ NotFinalized v (back o cause) = Unit {0}
 NotFinalized v (left m) = Unit {0}
 NotFinalized v quiet = Unit {0}
 
+-- No later event finalizes the value that an earlier one does.
 abbrev pub Once : Event → Event → Type 0
 Once (born v by) f = Unit {0}
 Once (finalized v cause) f = NotFinalized v f
@@ -64,7 +65,7 @@ AfterBirth Born (back o cause ∷ es) = AfterBirth Born es
 AfterBirth Born (left m ∷ es) = AfterBirth Born es
 AfterBirth Born (quiet ∷ es) = AfterBirth Born es
 
--- An event is of no value of an object, and not of its words; and so it is once they went back.
+-- An event is of no value of an object, and not of its words.
 abbrev pub Elsewhere : (object : ℕ) → Event → Type 0
 Elsewhere o (born v by) = v.object ≢ o
 Elsewhere o (finalized v cause) = v.object ≢ o
@@ -72,6 +73,7 @@ Elsewhere o (back x cause) = x ≢ o
 Elsewhere o (left m) = Unit {0}
 Elsewhere o quiet = Unit {0}
 
+-- Once the words of an object went back, no later event is of it.
 abbrev pub BeforeBack : Event → Event → Type 0
 BeforeBack (born v by) f = Unit {0}
 BeforeBack (finalized v cause) f = Unit {0}
@@ -79,7 +81,7 @@ BeforeBack (back o cause) f = Elsewhere o f
 BeforeBack (left m) f = Unit {0}
 BeforeBack quiet f = Unit {0}
 
--- An event finalizes this value, or tells that it has come to exist.
+-- An event finalizes this value.
 abbrev pub IsFinalized : Value → Event → Type 0
 IsFinalized v (born w by) = ⊥
 IsFinalized v (finalized w cause) = w ≡ v
@@ -87,6 +89,7 @@ IsFinalized v (back o cause) = ⊥
 IsFinalized v (left m) = ⊥
 IsFinalized v quiet = ⊥
 
+-- An event tells that this value has come to exist.
 abbrev pub IsBorn : Value → Event → Type 0
 IsBorn v (born w by) = w ≡ v
 IsBorn v (finalized w cause) = ⊥
@@ -101,6 +104,7 @@ NotAbove m i (freeing x) = Unit {0}
 NotAbove m i (undoing x) = Unit {0}
 NotAbove m i (assigning x) = Unit {0}
 
+-- An event by such a cause is at no item with a greater number.
 abbrev pub EventNotAbove : (master item : ℕ) → Event → Type 0
 EventNotAbove m i (born v by) = Unit {0}
 EventNotAbove m i (finalized v cause) = NotAbove m i cause
@@ -108,12 +112,14 @@ EventNotAbove m i (back o cause) = NotAbove m i cause
 EventNotAbove m i (left n) = Unit {0}
 EventNotAbove m i quiet = Unit {0}
 
+-- Where a leaving is the cause of an event, a later one of the same leaving is at no later item.
 abbrev pub CauseFalls : Cause → Event → Type 0
 CauseFalls (leaving m i) f = EventNotAbove m i f
 CauseFalls (freeing x) f = Unit {0}
 CauseFalls (undoing x) f = Unit {0}
 CauseFalls (assigning x) f = Unit {0}
 
+-- So it is for each two events: what a master owns goes in reverse order of its creation (7.6.1).
 abbrev pub InReverse : Event → Event → Type 0
 InReverse (born v by) f = Unit {0}
 InReverse (finalized v cause) f = CauseFalls cause f
@@ -138,6 +144,7 @@ abbrev pub birth : (object : ℕ) → Value → Birth → List ℕ → List ℕ
 birth o v creation ps = cond (v.object == o) (v.part ∷ ps) ps
 birth o v adjustment ps = ps
 
+-- The parts of an object that have been initialized, once an event came.
 abbrev pub first_of : (object : ℕ) → Event → List ℕ → List ℕ
 first_of o (born v by) ps = birth o v by ps
 first_of o (finalized v cause) ps = ps
@@ -145,6 +152,7 @@ first_of o (back x cause) ps = ps
 first_of o (left m) ps = ps
 first_of o quiet ps = ps
 
+-- Those of all objects.
 abbrev pub and_then : Births → Event → Births
 and_then B e o = first_of o e (B o)
 
@@ -212,10 +220,11 @@ Falling (adjusts o f js done k) = Falling k
 
 -- The laws.
 
--- A value is finalized at most once (7.6.1), and only after it came to exist.
+-- A value is finalized at most once (7.6.1).
 abbrev pub FinalizedOnce : Type 0
 FinalizedOnce = InEveryRun (λ events last. EachTwo Once events)
 
+-- What is finalized has come to exist before (7.6.1).
 abbrev pub BornBefore : Type 0
 BornBefore = InEveryRun (λ events last. AfterBirth (λ v. ⊥) events)
 

@@ -102,10 +102,11 @@ pub record State : Type 0 where
   pub created : ℕ
   pub next : ℕ
 
--- A table once one entry is this, for an object, or for a part of one.
+-- A table once the entry of one object is this.
 abbrev pub put : {X : Type 0} → (ℕ → X) → ℕ → X → ℕ → X
 put f a v x = cond (x == a) v (f x)
 
+-- A table of parts once the entry of one part of one object is this.
 abbrev pub put_part : {X : Type 0} → (ℕ → ℕ → X) → (object part : ℕ) → X → ℕ → ℕ → X
 put_part f o p v x q = cond (x == o) (cond (q == p) v (f x q)) (f x q)
 
@@ -125,21 +126,23 @@ abbrev pub in_list : ℕ → List ℕ → ℕ
 in_list q [] = 0
 in_list q (p ∷ ps) = same q p + in_list q ps
 
--- Among the parts of a forest, or of several.
+-- Among the parts of a forest.
 abbrev pub in_forest : (part : ℕ) → Forest → ℕ
 in_forest q none = 0
 in_forest q (tree p inside others) = same q p + (in_forest q inside + in_forest q others)
 
+-- Among the parts of several forests.
 abbrev pub in_forests : (part : ℕ) → List Forest → ℕ
 in_forests q [] = 0
 in_forests q (f ∷ fs) = in_forest q f + in_forests q fs
 
--- In what is left of an initialization.
+-- In one thing that is left of an initialization.
 abbrev pub in_job : (part : ℕ) → Job → ℕ
 in_job q (all_in f) = in_forest q f
 in_job q (call p) = same q p
 in_job q (called p) = same q p
 
+-- In all that is left of an initialization.
 abbrev pub in_jobs : (part : ℕ) → List Job → ℕ
 in_jobs q [] = 0
 in_jobs q (j ∷ js) = in_job q j + in_jobs q js
@@ -149,6 +152,7 @@ abbrev pub in_owned : (object : ℕ) → Owned → ℕ
 in_owned x (declared o) = same x o
 in_owned x (collection os) = in_list x os
 
+-- Among all that these items are.
 abbrev pub in_items : (object : ℕ) → List Item → ℕ
 in_items x [] = 0
 in_items x (i ∷ is) = in_owned x i.owned + in_items x is
@@ -170,10 +174,12 @@ abbrev pub of_members : (object : ℕ) → Owned → ℕ
 of_members x (declared o) = 0
 of_members x (collection os) = in_list x os
 
+-- How often it is a member of the collections among these items.
 abbrev pub in_members : (object : ℕ) → List Item → ℕ
 in_members x [] = 0
 in_members x (i ∷ is) = of_members x i.owned + in_members x is
 
+-- How often it is a member of any collection of any master.
 abbrev pub listed : (object : ℕ) → Control → ℕ
 listed x stops = 0
 listed x (acts m k) = in_members x m.items + listed x k
@@ -202,13 +208,16 @@ abbrev pub owned_open : Owned → ℕ
 owned_open (declared o) = 0
 owned_open (collection os) = 1
 
+-- How many collections are open under that number among these items.
 abbrev pub items_open : (item : ℕ) → List Item → ℕ
 items_open c [] = 0
 items_open c (i ∷ is) = cond (i.number == c) (owned_open i.owned) 0 + items_open c is
 
+-- How many are open under it in a master, if that has this number.
 abbrev pub master_open : (master item : ℕ) → Master → ℕ
 master_open a c m = cond (m.number == a) (items_open c m.items) 0
 
+-- How many are open under it in the master of that number, wherever that stands.
 abbrev pub opens : (master item : ℕ) → Control → ℕ
 opens a c stops = 0
 opens a c (acts m k) = master_open a c m + opens a c k
@@ -225,16 +234,20 @@ abbrev pub without : (object : ℕ) → List ℕ → List ℕ
 without o [] = []
 without o (x ∷ xs) = cond (x == o) (without o xs) (x ∷ without o xs)
 
+-- What is owned once the object has left it, if that is a collection.
 abbrev pub parted_owned : (object : ℕ) → Owned → Owned
 parted_owned o (declared x) = declared x
 parted_owned o (collection os) = collection (without o os)
 
+-- An item once the object has left its collection.
 abbrev pub parted_item : (object : ℕ) → Item → Item
 parted_item o i = record i { owned = parted_owned o i.owned }
 
+-- A master once the object has left each of its collections.
 abbrev pub parted_master : (object : ℕ) → Master → Master
 parted_master o m = record m { items = map (parted_item o) m.items }
 
+-- All that is under way once the object has left each collection of each master.
 abbrev pub parted : (object : ℕ) → Control → Control
 parted x stops = stops
 parted x (acts m k) = acts (parted_master x m) (parted x k)
@@ -251,12 +264,15 @@ abbrev pub joined_owned : (object : ℕ) → Owned → Owned
 joined_owned o (declared x) = declared x
 joined_owned o (collection os) = collection (o ∷ os)
 
+-- An item once the object has joined its collection, if the item has this number.
 abbrev pub joined_item : (item object : ℕ) → Item → Item
 joined_item c o i = record i { owned = cond (i.number == c) (joined_owned o i.owned) i.owned }
 
+-- A master once the object has joined the collection of its item, if the master has this number.
 abbrev pub joined_master : (master item object : ℕ) → Master → Master
 joined_master a c o m = record m { items = cond (m.number == a) (map (joined_item c o) m.items) m.items }
 
+-- All that is under way once the object has joined that collection.
 abbrev pub joined : (master item object : ℕ) → Control → Control
 joined a c x stops = stops
 joined a c x (acts m k) = acts (joined_master a c x m) (joined a c x k)
@@ -268,11 +284,12 @@ joined a c x (undoes n o done k) = undoes n o done (joined a c x k)
 joined a c x (assigns n o f fs k) = assigns n o f fs (joined a c x k)
 joined a c x (adjusts o f js done k) = adjusts o f js done (joined a c x k)
 
--- How often the first part lies in the second, in a forest, or in several.
+-- How often the first part lies in the second, in a forest.
 abbrev pub within : (part whole : ℕ) → Forest → ℕ
 within p q none = 0
 within p q (tree x inside others) = cond (q == x) (in_forest p inside) 0 + (within p q inside + within p q others)
 
+-- How often it lies so in several forests.
 abbrev pub withins : (part whole : ℕ) → List Forest → ℕ
 withins p q [] = 0
 withins p q (f ∷ fs) = within p q f + withins p q fs
@@ -282,11 +299,12 @@ abbrev pub is_top : (part : ℕ) → Forest → Bool
 is_top x none = false
 is_top x (tree p inside others) = cond (x == p) true (is_top x others)
 
--- What lies in it, and the forest without it.
+-- What lies in the part.
 abbrev pub kids_of : (part : ℕ) → Forest → Forest
 kids_of x none = none
 kids_of x (tree p inside others) = cond (x == p) inside (kids_of x others)
 
+-- The forest without the part and what lies in it.
 abbrev pub others_of : (part : ℕ) → Forest → Forest
 others_of x none = none
 others_of x (tree p inside others) = cond (x == p) others (tree p inside (others_of x others))

@@ -55,10 +55,12 @@ abbrev pub performed : (code : Bool) → Control → State → State
 performed true k s = calls k s
 performed false k s = at k s
 
+-- It is, if the part has a value; to finalize one that does not exist is erroneous.
 abbrev pub finalize_by : (alive code : Bool) → (object part : ℕ) → Cause → Control → State → Outcome
 finalize_by false code o p cause k s = erroneous
 finalize_by true code o p cause k s = goes (finalized (value_at o p s) cause) (performed code k (dies o p s))
 
+-- So for a part as it is in a state.
 abbrev pub finalize : (code : Bool) → (object part : ℕ) → Cause → Control → State → Outcome
 finalize code o p cause k s = finalize_by (s.alive o p) code o p cause k s
 
@@ -74,6 +76,7 @@ frame (at_leaving m i mode k) o fs = finalizes m i o fs mode k
 frame (at_free n k) o fs = frees n o fs k
 frame (at_assignment n f k) o fs = assigns n o f fs k
 
+-- What the events of an ending are caused by.
 abbrev pub cause_of : Ending → Cause
 cause_of (at_leaving m i mode k) = leaving m.number i
 cause_of (at_free n k) = freeing n
@@ -99,6 +102,7 @@ abbrev pub ends_whole : (others : Forest) → (code : Bool) → (part : ℕ) →
 ends_whole none code p inside ending o fs s = finalize code o p (cause_of ending) (frame ending o (inside ∷ fs)) s
 ends_whole (tree q more others) code p inside ending o fs s = stuck
 
+-- The next step of an ending, by what is left: parts are taken one by one, in any order (7.6.1).
 abbrev pub ends : (left : List Forest) → Choice → Ending → (object : ℕ) → State → Outcome
 ends [] goes_on ending o s = ended ending o s
 ends [] c ending o s = stuck
@@ -123,6 +127,7 @@ abbrev pub frame_of : Beginning → (object : ℕ) → List Job → (done : List
 frame_of (at_creation joins k) o js done = initializes o joins js done k
 frame_of (at_adjustment f k) o js done = adjusts o f js done k
 
+-- How values come to exist by a beginning.
 abbrev pub birth_of : Beginning → Birth
 birth_of (at_creation joins k) = creation
 birth_of (at_adjustment f k) = adjustment
@@ -142,6 +147,7 @@ abbrev pub joins_items : (number : ℕ) → Control → (object : ℕ) → State
 joins_items c (acts m k) o s = owns_by (is_above c m.items) c (declared o) m k s
 joins_items c k o s = stuck
 
+-- An allocated object joins the collection that is open under that number, which there is once.
 abbrev pub joins_by : (count : ℕ) → (master item object : ℕ) → Control → State → Outcome
 joins_by (suc zero) a c o k s = goes quiet (at (joined a c o k) s)
 joins_by n a c o k s = stuck
@@ -159,6 +165,7 @@ begins_part false x beginning o f js done s = stuck
 begins_part true x beginning o f js done s =
     goes quiet (at (frame_of beginning o (all_in (kids_of x f) ∷ call x ∷ all_in (others_of x f) ∷ js) done) s)
 
+-- The next step of a beginning, by what is left: parts get their values one by one, in any order, what lies in one before it (7.6).
 abbrev pub begins : List Job → Choice → Beginning → (object : ℕ) → (done : List ℕ) → State → Outcome
 begins [] c beginning o done s = begun c beginning o s
 begins (all_in none ∷ js) goes_on beginning o done s = goes quiet (at (frame_of beginning o js done) s)
@@ -188,6 +195,7 @@ abbrev pub member : (is_there : ℕ) → (object : ℕ) → Item → List Item �
 member zero o i is m mode k s = stuck
 member (suc n) o i is m mode k s = goes quiet (at (finalizes (parted_master o m) i.number o ((s.objects o).shape ∷ []) mode (parted o k)) s)
 
+-- What an item owns: a declared object is finalized, members of a collection are taken in any order, and then the collection goes.
 abbrev pub leave_owned : Owned → Choice → Item → List Item → Master → Mode → Control → State → Outcome
 leave_owned (declared o) goes_on i is m mode k s =
     goes quiet (at (finalizes (record m { items = is }) i.number o ((s.objects o).shape ∷ []) mode k) s)
@@ -197,6 +205,7 @@ leave_owned (collection []) c i is m mode k s = stuck
 leave_owned (collection (o ∷ os)) (takes x) i is m mode k s = member (in_list x (o ∷ os)) x i is m mode k s
 leave_owned (collection (o ∷ os)) c i is m mode k s = stuck
 
+-- The next step of a leaving, by the items that are left.
 abbrev pub leave : List Item → Choice → Master → Mode → Control → State → Outcome
 leave [] goes_on m mode k s = goes (left m.number) (record s { control = k; mode = mode })
 leave [] c m mode k s = stuck
@@ -210,6 +219,7 @@ creates home joins f m k s = record s {
   created = suc s.created;
 }
 
+-- An allocator of a collection that is open under that number (4.8).
 abbrev pub allocates_by : (count : ℕ) → (master item : ℕ) → (parts : Forest) → Master → Control → State → Outcome
 allocates_by (suc zero) a c f m k s = goes quiet (creates a (to_collection a c) f m k s)
 allocates_by n a c f m k s = stuck
@@ -245,6 +255,7 @@ act (allocates a c f w) m k s = allocates_by (opens a c (acts m k)) a c f m k s
 act (deallocates o) m k s = frees_by (listed o (acts m k)) (assigned o (acts m k)) o m k s
 act (copies o f w) m k s = copies_by (s.objects o).lives (all_alive (s.alive o) f) o f m k s
 
+-- The next step where no exception is on its way.
 abbrev pub running_step : Choice → Control → State → Outcome
 running_step c stops s = stuck
 running_step c (acts m k) s = act c m k s
@@ -263,11 +274,13 @@ raising_act catches m k s = goes quiet (record s { control = acts m k; mode = ru
 raising_act goes_on m k s = goes quiet (record s { control = leaves m raising k; mode = running })
 raising_act c m k s = stuck
 
+-- The next step where one is.
 abbrev pub raising_step : Choice → Control → State → Outcome
 raising_step c (acts m k) s = raising_act c m k s
 raising_step c (initializes o joins js done k) s = goes quiet (record s { control = undoes s.next o done k; mode = running; next = suc s.next })
 raising_step c k s = stuck
 
+-- The next step in a mode.
 abbrev pub mode_step : Mode → Choice → State → Outcome
 mode_step running c s = running_step c s.control s
 mode_step raising c s = raising_step c s.control s
