@@ -9,7 +9,7 @@ use Rattle.ada_effects.specs.Found.{effects_in, left_of}
 use Rattle.ada_effects.specs.Taken.{with_handlers, have_others}
 use Rattle.ada_program.specs.declared.program.Exception.{Exception}
 use Rattle.ada_program.specs.declared.program.Exception.TheVariants.{ConstraintError, StorageError, EndError}
-use Rattle.ada_program.specs.Form.{RightForm, nothing, value_of, allocates, allocates_default, computes, DeclarationForm, collects, declares, declares_record, StmtForm, skips, assigns, assigns_record, frees, gets, writes, writes_text, chooses, repeats, counts, exits, calls, returns, raises, encloses, StmtsForm, no_stmts, a_stmt, BranchesForm, otherwise, a_branch, HandlersForm, no_handlers, a_handler}
+use Rattle.ada_program.specs.Form.{RightForm, nothing, value_of, allocates, allocates_default, computes, DeclarationForm, creates_pool, collects, declares, declares_record, StmtForm, skips, assigns, assigns_record, frees, gets, writes, writes_text, chooses, repeats, counts, exits, calls, returns, raises, encloses, StmtsForm, no_stmts, a_stmt, BranchesForm, otherwise, a_branch, HandlersForm, no_handlers, a_handler}
 use Rattle.ada_program.specs.Handling.{is_same, is_taken}
 use Rattle.ada_effects.proofs.Calls.{Within, One, AllEach, either, one_of, itself, call_stays, call_has_one, held_each}
 use Rattle.ada_effects.proofs.Sameness.{are_equal}
@@ -35,6 +35,7 @@ right_stays p q w (allocates_default access) h = w StorageError h
 right_stays p q w (computes e) h = checked p q w (expression_raises e) h
 
 declaration_stays : (p q : Exception → Bool) → Within p q → (d : DeclarationForm) → declaration_raises p d ≡ true → declaration_raises q d ≡ true
+declaration_stays p q w (creates_pool pool) h = cc
 declaration_stays p q w (collects access) h = cc
 declaration_stays p q w (declares x right) h = right_stays p q w right h
 declaration_stays p q w (declares_record x object initial) h = checked p q w (initial_raises initial) h
@@ -108,6 +109,7 @@ right_has_one p (allocates_default access) h = itself p StorageError h
 right_has_one p (computes e) h = one_checked p (expression_raises e) h
 
 declaration_has_one : (p : Exception → Bool) (d : DeclarationForm) → declaration_raises p d ≡ true → One p (λ r. declaration_raises r d)
+declaration_has_one p (creates_pool pool) h = cc
 declaration_has_one p (collects access) h = cc
 declaration_has_one p (declares x right) h = right_has_one p right h
 declaration_has_one p (declares_record x object initial) h = one_checked p (initial_raises initial) h

@@ -52,7 +52,7 @@ fn answer(rt: &HostRuntime, source: &[u8], run: bool) -> io::Result<Option<Statu
         rt.alloc(),
         &mut reader,
         &mut input,
-        &Options::new(run),
+        &Options::new(rt.alloc(), run),
         &mut out,
     ) {
         Ok(status) => Ok(Some(status)),

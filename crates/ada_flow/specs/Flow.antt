@@ -10,7 +10,7 @@ use Rattle.ada_program.specs.declared.program.FormalMode.TheVariants.{In, InOut}
 use Rattle.ada_program.specs.declared.program.Program.{Program}
 use Rattle.ada_program.specs.declared.program.VariableKind.{VariableKind}
 use Rattle.ada_program.specs.declared.program.VariableKind.TheVariants as variable
-use Rattle.ada_program.specs.Form.{ActualForm, in_value, in_null, in_access, in_record, in_out_path, in_out_access, in_out_component, in_out_record, PathForm, RecordPathForm, ExpressionForm, integer, boolean, reads, is_null, applied_to, chained, LinksForm, no_more_links, a_link, ItemForm, null_item, item_of_path, item_of_value, item_of_record, RightForm, nothing, value_of, allocates, allocates_default, computes, StmtForm, skips, assigns, assigns_record, frees, gets, writes, writes_text, chooses, repeats, counts, exits, calls, returns, raises, encloses, StmtsForm, no_stmts, a_stmt, BranchesForm, otherwise, a_branch, HandlersForm, no_handlers, a_handler, DeclarationForm, collects, declares, declares_record}
+use Rattle.ada_program.specs.Form.{ActualForm, in_value, in_null, in_access, in_record, in_out_path, in_out_access, in_out_component, in_out_record, PathForm, RecordPathForm, ExpressionForm, integer, boolean, reads, is_null, applied_to, chained, LinksForm, no_more_links, a_link, ItemForm, null_item, item_of_path, item_of_value, item_of_record, RightForm, nothing, value_of, allocates, allocates_default, computes, StmtForm, skips, assigns, assigns_record, frees, gets, writes, writes_text, chooses, repeats, counts, exits, calls, returns, raises, encloses, StmtsForm, no_stmts, a_stmt, BranchesForm, otherwise, a_branch, HandlersForm, no_handlers, a_handler, DeclarationForm, creates_pool, collects, declares, declares_record}
 use Rattle.ada_program.specs.ProgramForm.{TypeForm, type_form, VariableForm, variable_form, BodyForm, nowhere, ProgramForm, main_body, program_form}
 use Rattle.ada_program.specs.WellFormed.{record_components, reached_components, access_of, variable_kind, selected_kind, path_access, is_this, is_borrower, names_borrower}
 use Rattle.ada_effects.specs.Effects.{expression_raises, path_raises, record_path_raises, actuals_raise, items_raise, initial_raises, Effect, call_raises, call_frees, passes, effect_of}
@@ -773,6 +773,7 @@ all_touched (x ∷ xs) holds = all_touched xs (touched x holds)
 -- What a loop's start holds for the declarations of a block in its body (3.3.1).
 abbrev pub touched_by_all : List VariableForm → List DeclarationForm → Holds → Holds
 touched_by_all variables [] holds = holds
+touched_by_all variables (creates_pool pool ∷ ds) holds = touched_by_all variables ds holds
 touched_by_all variables (collects access ∷ ds) holds = touched_by_all variables ds holds
 touched_by_all variables (declares x right ∷ ds) holds = touched_by_all variables ds (all_touched (moved_by_right (is_borrower variables x) right) holds)
 touched_by_all variables (declares_record x object initial ∷ ds) holds = touched_by_all variables ds holds
@@ -895,6 +896,7 @@ pub record Gone : Type 0 where
 -- The access types whose collections declarations create, and the types by which the record objects are known that they create.
 abbrev pub collected : List DeclarationForm → List ℕ
 collected [] = []
+collected (creates_pool pool ∷ ds) = collected ds
 collected (collects access ∷ ds) = access ∷ collected ds
 collected (declares x right ∷ ds) = collected ds
 collected (declares_record x object initial ∷ ds) = object ∷ collected ds
@@ -902,6 +904,7 @@ collected (declares_record x object initial ∷ ds) = object ∷ collected ds
 -- The variables that declarations create.
 abbrev pub declared : List DeclarationForm → List ℕ
 declared [] = []
+declared (creates_pool pool ∷ ds) = declared ds
 declared (collects access ∷ ds) = declared ds
 declared (declares x right ∷ ds) = x ∷ declared ds
 declared (declares_record x object initial ∷ ds) = x ∷ declared ds
@@ -1004,6 +1007,7 @@ uses_in_initial types spot t (Some items) = copies_to (owns_at_first types t) sp
 
 -- Declarations, in order (3.11). A record object owns itself as long as it is there.
 abbrev pub declaration_flow : List TypeForm → List VariableForm → DeclarationForm → Holds → Outcome
+declaration_flow types variables (creates_pool pool) holds = ends_with false holds holds
 declaration_flow types variables (collects access) holds = ends_with false holds holds
 declaration_flow types variables (declares x right) holds = gives types variables (declared_at variables x) false x right holds
 declaration_flow types variables (declares_record x object initial) holds =

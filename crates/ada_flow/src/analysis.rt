@@ -132,7 +132,7 @@ fn declaration(
         (declaration_flow (types_in around.now) (variables_in around.now) (declaration_form declaration.now) known.old.holds.items) }
 {
     match declaration {
-        Declaration::Collection(_) => Ok(()),
+        Declaration::Pool(_) | Declaration::Collection(_) => Ok(()),
         Declaration::Variable {
             variable,
             initial: Some(value),

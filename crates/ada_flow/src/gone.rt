@@ -66,7 +66,7 @@ fn collected(alloc: Global, declarations: &[Declaration]) -> Result<Vec<TypeNo>,
             } => {
                 types.push(*known)?;
             }
-            Declaration::Variable { .. } => {}
+            Declaration::Pool(_) | Declaration::Variable { .. } => {}
         }
     }
     Ok(types)
@@ -91,7 +91,7 @@ fn declared(alloc: Global, declarations: &[Declaration]) -> Result<Vec<VariableN
             } => {
                 created.push(*variable)?;
             }
-            Declaration::Collection(_) => {}
+            Declaration::Pool(_) | Declaration::Collection(_) => {}
         }
     }
     Ok(created)

@@ -80,6 +80,7 @@ fn touch_by(variables: &[Variable], known: &mut Known, declaration: &Declaration
             variable: _,
             initial: None,
         }
+        | Declaration::Pool(_)
         | Declaration::Collection(_)
         | Declaration::Record { .. } => {}
     }

@@ -9,9 +9,10 @@ use Rattle.ada_values.specs.declared.operator.BinaryOperator.{BinaryOperator}
 use Rattle.ada_values.specs.declared.operator.UnaryOperator.{UnaryOperator}
 use Rattle.ada_values.specs.declared.fault.OperatorFault.{OperatorFault}
 use Rattle.ada_values.specs.Outcome.{outcome_of, unary_outcome_of}
+use Rattle.ada_program.specs.declared.program.Branch.{Branch}
 use Rattle.ada_program.specs.declared.program.Program.{Program}
 use Rattle.ada_program.specs.declared.program.Stmt.{Stmt}
-use Rattle.ada_program.specs.Form.{PathForm, ExpressionForm, integer, boolean, reads, is_null, applied_to, chained, LinksForm, no_more_links, a_link, RightForm, nothing, value_of, allocates, allocates_default, computes, StmtsForm, no_stmts, a_stmt, BranchesForm, a_branch, stmts_form, StmtForm, stmt_form}
+use Rattle.ada_program.specs.Form.{PathForm, ExpressionForm, integer, boolean, reads, is_null, applied_to, chained, LinksForm, no_more_links, a_link, RightForm, nothing, value_of, allocates, allocates_default, computes, StmtsForm, no_stmts, a_stmt, BranchesForm, a_branch, branches_form, stmts_form, StmtForm, stmt_form}
 use Rattle.ada_program.specs.ProgramForm.{body_forms}
 use Rattle.ada_meaning.specs.declared.state.Value.{Value}
 use Rattle.ada_meaning.specs.declared.state.Value.TheVariants.{Null, Names, Scalar, Part}
@@ -21,11 +22,11 @@ use Rattle.ada_meaning.specs.Frame.{Frame, begins_by}
 use Rattle.ada_meaning.specs.Frame as frame
 use Rattle.ada_meaning.specs.Event.{Quiet}
 use Rattle.ada_meaning.specs.State.{Activation, begins, begins_in, begins_among}
-use Rattle.ada_meaning.specs.Step.{moves, is_decided, named_next, null_test_next, outcome_next, link_next, assign_next, branches_next, decided_next, repeats_next, turned_next, exit_next, exited_next, frame_next, running_next, mode_next, at, first_or, older, places_of, operands_of, with_operands, places, newest, computed, popped, put, stmt_next, counts_next}
+use Rattle.ada_meaning.specs.Step.{moves, is_decided, named_next, null_test_next, outcome_next, link_next, assign_next, branches_next, decided_next, repeats_next, turned_next, turn_next, exit_next, exited_next, frame_next, running_next, mode_next, at, first_or, older, places_of, operands_of, with_operands, places, newest, computed, popped, put, stmt_next, counts_next}
 use Rattle.ada_meaning.specs.Named.{State, next, named, boolean_in, reads_boolean, reads_null, as_value, whole, an_integer}
 use Rattle.ada_interpreter.specs.AtOnce.{variable_at_once, test_of, test_at_once, if_given, applied_at_once, both_at_once, link_at_once, value_at_once, links_at_once, right_at_once}
-use Rattle.ada_interpreter.specs.CommonSteps.{GoesWithin, stays_within, GoesOn, statements_left, GoesQuietly}
-use Rattle.ada_interpreter.proofs.CommonStepLemmas.{joined, one_within, one_statement_more, quietly_within, none_made}
+use Rattle.ada_interpreter.specs.CommonSteps.{GoesWithin, stays_within, GoesOn, ComesTo, statements_left, GoesQuietly}
+use Rattle.ada_interpreter.proofs.CommonStepLemmas.{goes_once, joined, one_within, one_statement_more, quietly_within, none_made}
 
 module _ (program : Program) (s : State) (a : Activation Value) (suspended : List (Activation Value)) where
   -- The state with this left to do, and these operands.
@@ -321,15 +322,15 @@ module _ (program : Program) (s : State) (e : ExpressionForm) (b : Bool) (runs :
   }
 
 -- a turn of a loop begins, where it has a statement
-pub begins_turn : (e : ExpressionForm) (statements : List Stmt) (s : State) → (length statements == 0) ≡ false → turned_next named e (stmts_form statements) (Some true) s ≡ moves Quiet (at (frame.Does (stmts_form statements) ∷ frame.Repeats (Some e) (stmts_form statements) ∷ s.control) s)
-begins_turn e [] s some = absurd (cc some)
-begins_turn e (f ∷ fs) s some = refl
+pub begins_turn : (condition : Option ExpressionForm) (statements : List Stmt) (s : State) → (length statements == 0) ≡ false → turn_next named condition (stmts_form statements) s ≡ moves Quiet (at (frame.Does (stmts_form statements) ∷ frame.Repeats condition (stmts_form statements) ∷ s.control) s)
+begins_turn condition [] s some = absurd (cc some)
+begins_turn condition (f ∷ fs) s some = refl
 
 -- Statements that are done at once, one after another.
 
 -- the first of them
-pub statement_done : (program : Program) (first s t : State) (f : StmtForm) (fs : StmtsForm) (k : List (Frame Value)) (limit left : ℕ) → s.mode ≡ Running → GoesQuietly program first (limit - left) (at (frame.Does (a_stmt f fs) ∷ k) s) → GoesOn program (stmt_next named (body_forms program) f (at (frame.Does fs ∷ k) s)) (at (frame.Does fs ∷ k) t) → 0 < left → left ≤ limit → GoesQuietly program first (limit - (left - 1)) (at (frame.Does fs ∷ k) t)
-statement_done program first s t f fs k limit left runs so_far on some within =
+pub statement_done : (program : Program) (first s last : State) (f : StmtForm) (fs : StmtsForm) (k : List (Frame Value)) (limit left : ℕ) → s.mode ≡ Running → GoesQuietly program first (limit - left) (at (frame.Does (a_stmt f fs) ∷ k) s) → GoesOn program (stmt_next named (body_forms program) f (at (frame.Does fs ∷ k) s)) last → 0 < left → left ≤ limit → GoesQuietly program first (limit - (left - 1)) last
+statement_done program first s last f fs k limit left runs so_far on some within =
     one_statement_more limit left so_far
     (record {
       mid = on.mid;
@@ -343,9 +344,21 @@ pub behind_done : (program : Program) (first t : State) (fs : StmtsForm) (k : Li
 behind_done program first t fs k statements runs so_far = quietly_within so_far (done_within program fs k t runs)
 
 -- a frame that begins no statement goes on
-pub frame_within : (program : Program) (s : State) (f : Frame Value) (k : List (Frame Value)) → s.mode ≡ Running → s.control ≡ f ∷ k → begins_by f ≡ false → (last : State) → GoesOn program (frame_next named program.types.items (body_forms program) f (at k s)) last → GoesWithin program s last
-frame_within program s f k runs first starts last on =
-    joined (one_within program s on.mid (none_begins s f k runs first starts) (frame_comes program s f k runs first ∙ on.comes)) on.behind
+pub comes_to : (program : Program) (s : State) (f : Frame Value) (k : List (Frame Value)) → s.mode ≡ Running → s.control ≡ f ∷ k → begins_by f ≡ false → (last : State) → GoesOn program (frame_next named program.types.items (body_forms program) f (at k s)) last → ComesTo program s last
+comes_to program s f k runs first starts last on = (
+  none_begins s f k runs first starts,
+  record {
+    mid = on.mid;
+    comes = ap (λ (c : List (Frame Value)). running_next named program.types.items (body_forms program) c s) first ∙ on.comes;
+    behind = on.behind;
+  },
+)
+
+-- so steps are made in which no statement begins
+pub comes_within : (program : Program) (s last : State) → s.mode ≡ Running → ComesTo program s last → GoesWithin program s last
+unfolding next
+comes_within program s last runs to =
+    joined (one_within program s to.1.mid to.0 (ap (λ (m : Mode). mode_next named program.types.items (body_forms program) m s) runs ∙ to.1.comes)) to.1.behind
 
 -- the first statement begins, with steps behind it
 pub first_begun : (program : Program) (s last : State) (statements : List Stmt) (f : Stmt) (fs : List Stmt) (limit : ℕ) → s.mode ≡ Running → s.control ≡ frame.Does (stmts_form statements) ∷ older s.control → statements ≡ f ∷ fs → GoesOn program (stmt_next named (body_forms program) (stmt_form f) (at (frame.Does (stmts_form fs) ∷ older s.control) s)) last → 0 < limit → GoesQuietly program s (limit - (limit - 1)) last
@@ -366,9 +379,20 @@ pub counts_turn : (x : ℕ) (value last : ℤ) (statements : List Stmt) (s : Sta
 counts_turn x value last [] s up some = absurd (cc some)
 counts_turn x value last (f ∷ fs) s up some = rw up refl
 
--- statements were done at once, and what is left of them is first
-pub ran : (program : Program) (s u after : State) (fs rest : StmtsForm) (statements : ℕ) → s.control ≡ frame.Does fs ∷ older s.control → u.control ≡ s.control → u.mode ≡ Running → GoesQuietly program (at (frame.Does fs ∷ older s.control) s) statements (at (frame.Does rest ∷ older s.control) u) → after ≡ at (statements_left rest (older u.control)) u → GoesQuietly program s statements after
-ran program s u after fs rest statements top same runs run is =
-    let from : GoesQuietly program s statements (at (frame.Does rest ∷ older s.control) u) = subst (λ (k : List (Frame Value)). GoesQuietly program (at k s) statements (at (frame.Does rest ∷ older s.control) u)) (sym top) run in
-    let last : at (statements_left rest (older s.control)) u ≡ after = ap (λ (k : List (Frame Value)). at (statements_left rest (older k)) u) (sym same) ∙ sym is in
-    subst (GoesQuietly program s statements) last (behind_done program s u rest (older s.control) statements runs from)
+-- it is done, where there is no next value
+pub counts_done : (x : ℕ) (value last : ℤ) (fs : StmtsForm) (s : State) → int_le value last ≡ false → counts_next named x value last fs s ≡ moves Quiet s
+counts_done x value last fs s past = rw past refl
+
+-- what is left to do stays, where its first thing is taken off and put on again
+pub put_on_again : (s : State) (f : Frame Value) (k : List (Frame Value)) → s.control ≡ f ∷ k → at (f ∷ older s.control) s ≡ s
+put_on_again s f k first = ap (λ (c : List (Frame Value)). at (f ∷ older c) s) first ∙ ap (λ (c : List (Frame Value)). at c s) (sym first)
+
+-- all statements were done at once
+pub all_done : (program : Program) (first u : State) (statements : List Stmt) (k : List (Frame Value)) (n : ℕ) → length statements ≡ 0 → u.mode ≡ Running → GoesQuietly program first n (at (frame.Does (stmts_form statements) ∷ k) u) → GoesQuietly program first n (at k u)
+all_done program first u [] k n none runs so_far = behind_done program first u no_stmts k n runs so_far
+all_done program first u (f ∷ fs) k n none runs so_far = absurd (omega (arith, none))
+
+-- no branch is left, and the others are done
+pub others_chosen : (program : Program) (s : State) (branches : List Branch) (fs : StmtsForm) → length branches ≡ 0 → GoesOn program (branches_next named (branches_form branches fs) s) (at (frame.Does fs ∷ s.control) s)
+others_chosen program s [] fs none = goes_once refl
+others_chosen program s (b ∷ bs) fs none = absurd (omega (arith, none))

@@ -1,6 +1,10 @@
 -- Quiet steps one after another, as the machine makes them within a limit of statements.
 
-use Rattle.std.proofs.Common.{◌≡◌, ℕ, ◌+◌, ◌-◌, ◌<◌, ◌≤◌, Bool, true, false, Result, Ok, Err, refl, sym, ap, subst, arith}
+use Rattle.std.proofs.Common.{◌≡◌, ℕ, ◌+◌, ◌-◌, ◌<◌, ◌≤◌, Bool, true, false, List, [], ◌∷◌, length, reverse, Result, Ok, Err, IfOk, refl, sym, ap, ◌∙◌, subst, arith}
+use Rattle.std.proofs.Math.ListN.{set, get_or}
+use Rattle.std.proofs.lemmas.Grind.{get_or_head}
+use Rattle.std.proofs.lemmas.List.{get_or-reverse, reverse-reverse, length-reverse}
+use Rattle.std.specs.Prelude.{ℤ}
 use Rattle.std.specs.declared.alloc.AllocError.{AllocError}
 use Rattle.ada_program.specs.declared.program.Program.{Program}
 use Rattle.ada_program.specs.ProgramForm.{body_forms}
@@ -11,8 +15,10 @@ use Rattle.ada_meaning.specs.Named.{State, Next, next}
 use Rattle.ada_meaning.specs.Run.{settled, Leads}
 use Rattle.ada_meaning.specs.Chosen.{begun_with}
 use Rattle.ada_meaning.specs.Ending.{weight, StepsMakeLighter}
+use Rattle.ada_interpreter.specs.declared.frame.Frame.{Frame as HeldFrame}
 use Rattle.ada_interpreter.specs.declared.process.Process.{Process}
-use Rattle.ada_interpreter.specs.CommonSteps.{MayMove, GoesQuietly, stays, goes_on, GoesWithin, stays_within, goes_within, GoesOn, MayGoOn}
+use Rattle.ada_interpreter.specs.CommonSteps.{MayMove, GoesQuietly, stays, goes_on, GoesWithin, stays_within, goes_within, GoesOn, MayGoOn, counted_to, newest_counted_to}
+use Rattle.ada_interpreter.proofs.StackLemmas.{set_newest}
 
 -- Steps within a statement, one after another.
 
@@ -89,3 +95,26 @@ pub within_limit : {program : Program} {first mid last : State} (limit left now 
 within_limit {program} {first} {mid} {last} limit left now so_far more within further =
     let count : limit - left + (left - now) ≡ limit - now = omega (arith, within, further) in
     subst (λ (n : ℕ). GoesQuietly program first n last) count (quietly_joined so_far more)
+
+-- What comes of a result, where two facts hold of it.
+pub both_ok : {T E : Type 0} (r : Result T E) (P Q R : T → Type 0) → ((x : T) → P x → Q x → R x) → IfOk r P → IfOk r Q → IfOk r R
+both_ok (Ok x) P Q R f p q = f x p q
+both_ok (Err e) P Q R f p q = tt
+
+-- The newest frame is counted on where it lies, at the end of a list that is kept oldest first.
+
+-- the item at the end of such a list is the newest
+pub newest_item : {X : Type 0} (zs : List X) (y d : X) → get_or (reverse (y ∷ zs)) (length zs) d ≡ y
+newest_item zs y d = get_or-reverse (y ∷ zs) (length zs) d (omega arith) ∙ get_or_head y zs (length (y ∷ zs) - 1 - length zs) d (omega arith)
+
+pub newest_counted : (xs ys : List HeldFrame) (n : ℕ) (count : ℤ) (old new : HeldFrame) → reverse xs ≡ ys → n + 1 ≡ length xs → old ≡ get_or xs n old → new ≡ counted_to count old → reverse (set xs n new) ≡ newest_counted_to count ys
+newest_counted xs ys n count old new view is at counted = set_newest xs ys n new view is ∙ by ys (sym (ap (λ (l : List HeldFrame). reverse l) (sym view) ∙ reverse-reverse xs)) is
+  where
+    by : (ys : List HeldFrame) → xs ≡ reverse ys → n + 1 ≡ length xs → set ys 0 new ≡ newest_counted_to count ys
+    by [] back is = absurd (omega (arith, is, ap (λ (l : List HeldFrame). length l) back))
+    by (y ∷ zs) back is = ap (λ (f : HeldFrame). f ∷ zs) (counted ∙ ap (λ (f : HeldFrame). counted_to count f) same)
+      where
+        same : old ≡ y
+        same =
+            let size : n ≡ length zs = omega (arith, is, ap (λ (l : List HeldFrame). length l) back, length-reverse (y ∷ zs)) in
+            at ∙ (ap (λ (l : List HeldFrame). get_or l n old) back ∙ (ap (λ (m : ℕ). get_or (reverse (y ∷ zs)) m old) size ∙ newest_item zs y old))

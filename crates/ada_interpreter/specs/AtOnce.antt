@@ -1,6 +1,6 @@
 -- Values that expressions have at once: no path in them follows a value, and no operator raises an exception.
 
-use Rattle.std.specs.Prelude.{ℕ, Bool, true, false, not, List, [], ◌∷◌, Option, Some, None, Result, Ok, Err}
+use Rattle.std.specs.Prelude.{ℕ, ◌<◌, length, Bool, true, false, not, List, [], ◌∷◌, Option, Some, None, Result, Ok, Err}
 use Rattle.std.specs.List.{slice_index_or}
 use Rattle.ada_values.specs.declared.value.Value.{Value as ScalarValue}
 use Rattle.ada_values.specs.declared.value.Value.TheVariants as scalar
@@ -13,6 +13,8 @@ use Rattle.ada_meaning.specs.declared.state.Value.{Value}
 use Rattle.ada_meaning.specs.declared.state.Value.TheVariants.{Null, Names, Scalar, Part}
 use Rattle.ada_meaning.specs.Step.{is_decided}
 use Rattle.ada_meaning.specs.Named.{named, boolean_in, reads_null, whole}
+use Rattle.ada_interpreter.specs.declared.turn.NextTurn.{NextTurn}
+use Rattle.ada_interpreter.specs.declared.turn.NextTurn.TheVariants.{Begins, Ends, Unknown}
 
 -- The number or the truth that a value is.
 abbrev pub scalar_in : Value → Option ScalarValue
@@ -42,11 +44,12 @@ abbrev pub if_given : Result ScalarValue OperatorFault → Option ScalarValue
 if_given (Ok v) = Some v
 if_given (Err fault) = None
 
--- What an operator gives of its operand, or of both.
+-- What an operator gives of its operand.
 abbrev pub applied_at_once : UnaryOperator → Option ScalarValue → Option ScalarValue
 applied_at_once operator None = None
 applied_at_once operator (Some v) = if_given (unary_outcome_of operator v)
 
+-- What it gives of both of its operands.
 abbrev pub both_at_once : BinaryOperator → ScalarValue → Option ScalarValue → Option ScalarValue
 both_at_once operator left None = None
 both_at_once operator left (Some right) = if_given (outcome_of operator left right)
@@ -80,3 +83,9 @@ right_at_once places (value_of path) = None
 right_at_once places (allocates access items) = None
 right_at_once places (allocates_default access) = None
 right_at_once places (computes e) = value_at_once places e
+
+-- A turn of a loop that begins has a statement (5.5).
+abbrev pub HasStatement : NextTurn → Type 0
+HasStatement (Begins statements) = 0 < length statements.now
+HasStatement Ends = Unit {0}
+HasStatement Unknown = Unit {0}

@@ -1,9 +1,9 @@
 -- The common steps: what making one of them does to a run in progress.
 
-use Rattle.std.specs.Prelude.{◌≡◌, ℕ, ◌-◌, ◌<◌, Bool, true, false, List, ◌∷◌, Option, Some, None, Result, Ok, Err}
+use Rattle.std.specs.Prelude.{◌≡◌, ℕ, ℤ, ◌-◌, ◌<◌, Bool, true, false, List, [], ◌∷◌, map, length, Option, Some, None, Result, Ok, Err}
 use Rattle.std.specs.declared.alloc.AllocError.{AllocError}
 use Rattle.ada_program.specs.declared.program.Program.{Program}
-use Rattle.ada_program.specs.Form.{StmtForm, StmtsForm, no_stmts, a_stmt}
+use Rattle.ada_program.specs.Form.{StmtForm, StmtsForm, no_stmts, a_stmt, stmts_form}
 use Rattle.ada_program.specs.ProgramForm.{body_forms}
 use Rattle.ada_meaning.specs.declared.state.Value.{Value}
 use Rattle.ada_meaning.specs.declared.state.Mode.TheVariants.{Running}
@@ -11,11 +11,15 @@ use Rattle.ada_meaning.specs.Frame.{Frame}
 use Rattle.ada_meaning.specs.Frame as frame
 use Rattle.ada_meaning.specs.Event.{Quiet}
 use Rattle.ada_meaning.specs.State.{begins}
-use Rattle.ada_meaning.specs.Step.{moves, at, stmt_next}
+use Rattle.ada_meaning.specs.Step.{moves, at, stmt_next, running_next}
 use Rattle.ada_meaning.specs.Named.{State, Next, next, named}
 use Rattle.ada_meaning.specs.Chosen.{begun_with}
+use Rattle.ada_interpreter.specs.declared.frame.Frame.{Frame as HeldFrame}
+use Rattle.ada_interpreter.specs.declared.frame.Frame.TheVariants as held
 use Rattle.ada_interpreter.specs.declared.process.Process.{Process}
-use Rattle.ada_interpreter.specs.Process.{state_of}
+use Rattle.ada_interpreter.specs.declared.turn.NextTurn.{NextTurn}
+use Rattle.ada_interpreter.specs.declared.turn.NextTurn.TheVariants.{Begins, Ends, Unknown}
+use Rattle.ada_interpreter.specs.Process.{frame_of, state_of}
 
 -- What comes is a quiet step, and it is made; or nothing changes; unless memory runs out.
 abbrev pub MayMove : (coming : Next) → (before : Process) → (made : Result Bool AllocError) → (after : Process) → Type 0
@@ -50,6 +54,11 @@ MayGoOn program coming before (Ok true) after = GoesOn program coming (state_of 
 MayGoOn program coming before (Ok false) after = after ≡ before
 MayGoOn program coming before (Err e) after = Unit {0}
 
+-- What is first of what is left to do begins no statement, and its step comes, with steps behind it.
+abbrev pub ComesTo : (program : Program) → (first last : State) → Type 0
+ComesTo program first last =
+    (begins first ≡ false) × GoesOn program (running_next named program.types.items (body_forms program) first.control first) last
+
 -- A statement is done, with all of its steps, whatever comes behind it; or nothing changes.
 abbrev pub IsDone : StmtForm → (before : Process) → (done : Bool) → (after : Process) → Type 0
 IsDone f before true after =
@@ -57,8 +66,30 @@ IsDone f before true after =
     GoesOn program (stmt_next named (body_forms program) f (at (frame.Does fs ∷ k) (state_of before))) (at (frame.Does fs ∷ k) (state_of after))
 IsDone f before false after = after ≡ before
 
--- Statements begin, and quiet steps follow, so that fewer may begin; or nothing changes; unless memory runs out.
-abbrev pub MayBegin : (program : Program) → (limit : ℕ) → (before : Process) → (made : Result (Option ℕ) AllocError) → (after : Process) → Type 0
-MayBegin program limit before (Ok (Some left)) after = (left < limit) × GoesQuietly program (state_of before) (limit - left) (state_of after)
+-- Where a branch is done, what is behind its `if` is first of what is left to do; where it isn't, what is left of it is there already.
+abbrev pub before_rest : (done : Bool) → (behind : StmtsForm) → State → State
+before_rest true fs s = at (frame.Does fs ∷ s.control) s
+before_rest false fs s = s
+
+-- A `for` loop that begins a turn with this value of its parameter (5.5); any other frame as it is.
+abbrev pub counted_to : ℤ → HeldFrame → HeldFrame
+counted_to value (held.Counts parameter old last statements) = held.Counts parameter value last statements
+counted_to value f = f
+
+-- What is left to do, once the first of it is so.
+abbrev pub newest_counted_to : ℤ → List HeldFrame → List HeldFrame
+newest_counted_to value [] = []
+newest_counted_to value (f ∷ fs) = counted_to value f ∷ fs
+
+-- Statements begin, and quiet steps follow, so that fewer may begin; or the state stays as it is; unless memory runs out.
+abbrev pub MayBegin : (program : Program) → (limit : ℕ) → (before : State) → (made : Result (Option ℕ) AllocError) → (after : State) → Type 0
+MayBegin program limit before (Ok (Some left)) after = (left < limit) × GoesQuietly program before (limit - left) after
 MayBegin program limit before (Ok None) after = after ≡ before
 MayBegin program limit before (Err e) after = Unit {0}
+
+-- A loop comes to its next turn (5.5), and begins it, or is done, with steps behind it; or nothing changes.
+abbrev pub ComesToTurn : (program : Program) → (before : Process) → NextTurn → (after : Process) → Type 0
+ComesToTurn program before (Begins statements) after =
+    (0 < length statements.now) × ComesTo program (state_of before) (at (frame.Does (stmts_form statements.now) ∷ map frame_of after.frames) (state_of after))
+ComesToTurn program before Ends after = ComesTo program (state_of before) (state_of after)
+ComesToTurn program before Unknown after = after ≡ before

@@ -17,11 +17,11 @@ first_or d (x ∷ xs) = x
 
 -- Whether a request is answered, and not only told.
 abbrev pub is_asked : Request → Bool
-is_asked (request.Allocate pool owner words) = true
+is_asked (request.Allocate pool owner words object) = true
 is_asked (request.Open pool owner) = true
 is_asked (request.Back object) = false
 is_asked (request.Close pool owner) = false
-is_asked (request.New pool spot) = false
+is_asked (request.New pool declaration) = false
 is_asked (request.Gone pool) = false
 
 -- What is asked takes the first answer; what is told takes none.

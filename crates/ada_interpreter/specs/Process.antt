@@ -14,7 +14,7 @@ use Rattle.ada_meaning.specs.declared.event.Cause.TheVariants.{Leaving as leavin
 use Rattle.ada_meaning.specs.Frame.{Frame, Landing, passes_on, goes_behind, goes_in}
 use Rattle.ada_meaning.specs.Frame as frame
 use Rattle.ada_meaning.specs.Event.{Quiet, Followed, Allocate, event_of, request_of}
-use Rattle.ada_meaning.specs.State.{pool_of}
+use Rattle.ada_meaning.specs.State.{home_of, pool_freed_to}
 use Rattle.ada_meaning.specs.Step.{halts, moves, tells, asks, picks, at, older, computed, raised, numbered, answered, taken}
 use Rattle.ada_meaning.specs.Named.{State, Next, named, members, on_object, parted}
 use Rattle.ada_interpreter.specs.declared.frame.Frame.{Frame as HeldFrame}
@@ -26,6 +26,7 @@ use Rattle.ada_interpreter.specs.declared.expressions.Outcome.TheVariants.{Value
 use Rattle.ada_interpreter.specs.declared.turn.Turn.{Turn}
 use Rattle.ada_interpreter.specs.declared.turn.Turn.TheVariants.{Halts, Moves, Tells, Asks, Picks}
 use Rattle.ada_interpreter.specs.declared.process.Process.{Process}
+use Rattle.ada_interpreter.specs.Masters.{destination_of}
 
 -- One thing that is left to do. Behind a turn of a `for` loop, the next one comes with the next value.
 abbrev pub frame_of : HeldFrame → Frame ValueOf
@@ -100,7 +101,7 @@ abbrev pub shown : Turn → State → Next
 shown (Halts halt) s = halts halt
 shown (Moves e) s = moves (event_of e) s
 shown (Tells request e) s = tells (request_of request) (event_of e) s
-shown (Asks a) s = asks (Allocate (pool_of a.access.0) 0 a.words) (answered named a.access.0 a.count a.item a.words s)
+shown (Asks a) s = asks (Allocate a.home.pool 0 a.words (Names a.object)) (answered named a.access.0 a.count a.words (destination_of a.home) s)
 shown (Picks l) s = picks l.count (taken named (leaving l.master l.item) l.pool (members s.heap l.item) s)
 
 -- A halt leaves the state as it was.
@@ -156,6 +157,6 @@ ending v cause pool s = record s {
   control = frame.Ends v ∷ frame.GivesBack v cause pool ∷ s.control;
 }
 
--- An object begins to end by a Free: a number is used up for it (13.11.2).
-abbrev pub releasing : ValueOf → State → State
-releasing v s = numbered (ending v (freeing s.next) (Some 0) s)
+-- An object begins to end by a Free: a number is used up for it, and its words are to go back to the pool of the access type (13.11.2).
+abbrev pub releasing : (access : ℕ) → ValueOf → State → State
+releasing access v s = numbered (ending v (freeing s.next) (Some (pool_freed_to (home_of access s.masters))) s)

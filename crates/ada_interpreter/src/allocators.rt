@@ -7,6 +7,7 @@ ghost use Rattle.ada_program.specs.Typed.{words_of};
 ghost use Rattle.ada_meaning.specs.Step as step;
 ghost use Rattle.ada_meaning.specs.State.{counted, home_of};
 ghost use Rattle.ada_meaning.specs.Named.{named};
+ghost use Rattle.ada_interpreter.specs.Masters.{destination_of};
 ghost use Rattle.ada_interpreter.specs.Process.{frame_of, state_of, passed, replaced, Turns, IsTurn};
 
 use crate::frame::Frame;
@@ -102,8 +103,8 @@ impl<'a> Process<'a> {
         Ok(())
     }
 
-    /// A pool is asked for the object of an allocator, whose items are evaluated (4.8). Where its type has no open
-    /// collection, Storage_Error is raised.
+    /// The pool of an access type is asked for the object of an allocator, whose items are evaluated (4.8, 13.11). Where
+    /// the type has no open collection, or that has no pool, Storage_Error is raised.
     pub(crate) fn ask(&mut self, program: &Program, access: TypeNo, count: usize) -> Turn
         ensures { let s = state_of self.old in
             let types = program.now.types.items in
@@ -117,11 +118,12 @@ impl<'a> Process<'a> {
                 self.raise(Exception::StorageError);
                 QUIET
             }
-            Some(item) => Turn::Asks(Allocation {
+            Some(home) => Turn::Asks(Allocation {
                 access,
                 count,
-                item,
+                home,
                 words: program.words(access),
+                object: self.objects.next_name(),
             }),
         }
     }
@@ -133,7 +135,8 @@ impl<'a> Process<'a> {
         granted: bool,
     ) -> Result<(), AllocError>
         ensures { let a = allocation.now in
-            OnOk result (state_of self.new ≡ step.answered named a.access.0 a.count a.item a.words (state_of self.old) granted) }
+            let home = destination_of a.home in
+            OnOk result (state_of self.new ≡ step.answered named a.access.0 a.count a.words home (state_of self.old) granted) }
     {
         if granted {
             self.allocate(allocation)
@@ -146,7 +149,8 @@ impl<'a> Process<'a> {
     /// The new object exists (4.8), and the value that names it is the newest operand.
     fn allocate(&mut self, allocation: &Allocation) -> Result<(), AllocError>
         ensures { let a = allocation.now in
-            OnOk result (state_of self.new ≡ step.granted named a.access.0 a.count a.item a.words (state_of self.old)) }
+            let home = destination_of a.home in
+            OnOk result (state_of self.new ≡ step.granted named a.access.0 a.count a.words home (state_of self.old)) }
     {
         let number = counted(self.allocated);
         let values = self.activations.take(allocation.count)?;
@@ -154,8 +158,8 @@ impl<'a> Process<'a> {
             access: allocation.access,
             number,
             home: Home {
-                item: allocation.item,
-                pool: Some(0),
+                item: allocation.home.item,
+                pool: Some(allocation.home.pool),
                 subpool: None,
             },
             values,

@@ -56,88 +56,31 @@ impl<'a> Process<'a> {
             (GoesOn program (step.branches_next named (branches_form branches.now (stmts_form otherwise.now)) s)
             (state_of self.new)) }
     {
-        let mut left = branches;
-        'branches: while let Some((first, rest)) = left.split_first() {
-            match self.truth_at_once(&first.condition) {
-                Some(true) => return self.push(Frame::Does(first.statements.as_slice())),
-                Some(false) => left = rest,
-                None => return self.choose(left, otherwise),
-            }
+        match self.chosen_at_once(branches, otherwise) {
+            Some(statements) => self.push(Frame::Does(statements)),
+            None => self.choose(branches, otherwise),
         }
-        self.choose(left, otherwise)
     }
 
-    /// A `while` loop comes to its next turn (5.5): if its condition is known at once, the turn begins, or the loop is done.
-    pub(crate) fn repeat_at_once(
+    /// A loop comes to its next turn (5.5), and its condition is evaluated.
+    pub(crate) fn repeat_next(
         &mut self,
         condition: &'a Expression,
         statements: &'a [Stmt],
     ) -> Result<bool, AllocError>
-        requires { let s = state_of self.old in
-            s.control ≡ frame.Repeats (Some (expression_form condition.now)) (stmts_form statements.now) ∷ step.older s.control }
-        ensures { let s = passed (state_of self.old) in (program : Program) → s.mode ≡ Mode.Running →
-            MayGoOn program
+        ensures { let s = passed (state_of self.old) in
+            MayMove
             (step.repeats_next named (Some (expression_form condition.now)) (stmts_form statements.now) s)
             self.old result self.new }
     {
-        match self.truth_at_once(condition) {
-            Some(false) => {
-                self.pass();
-                Ok(true)
-            }
-            Some(true) if !statements.is_empty() => {
-                self.push(Frame::Does(statements))?;
-                Ok(true)
-            }
-            _ => {
-                self.replace_by_two(
-                    Frame::Computes(condition),
-                    Frame::Turns {
-                        condition,
-                        statements,
-                    },
-                )?;
-                Ok(true)
-            }
-        }
-    }
-
-    /// A loop comes to its next turn (5.5).
-    pub(crate) fn repeat_next(
-        &mut self,
-        condition: Option<&'a Expression>,
-        statements: &'a [Stmt],
-    ) -> Result<bool, AllocError>
-        ensures { let s = passed (state_of self.old) in
-            MayMove
-            (step.repeats_next named (condition_form (option_copied condition.entry)) (stmts_form statements.now) s)
-            self.old result self.new }
-    {
-        match condition {
-            None => match statements.first() {
-                None => Ok(false),
-                Some(_) => {
-                    self.replace_by_two(
-                        Frame::Does(statements),
-                        Frame::Repeats {
-                            condition: None,
-                            statements,
-                        },
-                    )?;
-                    Ok(true)
-                }
+        self.replace_by_two(
+            Frame::Computes(condition),
+            Frame::Turns {
+                condition,
+                statements,
             },
-            Some(condition) => {
-                self.replace_by_two(
-                    Frame::Computes(condition),
-                    Frame::Turns {
-                        condition,
-                        statements,
-                    },
-                )?;
-                Ok(true)
-            }
-        }
+        )?;
+        Ok(true)
     }
 
     /// The condition of a loop is known (5.5).
@@ -170,40 +113,6 @@ impl<'a> Process<'a> {
             Some(false) => {
                 self.pass();
                 self.pop();
-                Ok(true)
-            }
-        }
-    }
-
-    /// A `for` loop comes to its next turn (5.5).
-    pub(crate) fn count_next(
-        &mut self,
-        parameter: VariableNo,
-        value: i32,
-        last: i32,
-        statements: &'a [Stmt],
-    ) -> Result<bool, AllocError>
-        ensures { let s = passed (state_of self.old) in
-            MayMove (step.counts_next named parameter.0 (value +ℤ pos 1) last (stmts_form statements.now) s)
-            self.old result self.new }
-    {
-        if value >= last {
-            self.pass();
-            return Ok(true);
-        }
-        match statements.first() {
-            None => Ok(false),
-            Some(_) => {
-                self.replace_by_two(
-                    Frame::Does(statements),
-                    Frame::Counts {
-                        parameter,
-                        value: value + 1,
-                        last,
-                        statements,
-                    },
-                )?;
-                self.put(parameter, Value::Scalar(Scalar::Integer(value + 1)));
                 Ok(true)
             }
         }

@@ -1,7 +1,7 @@
 //! The steps that most of a run consists of: statements, loops and expressions that go on without anybody being told or
 //! asked. Each is made with small answers, and copies no frame.
 
-ghost use Rattle.std.specs.Prelude.{◌≡◌, ◌<◌, ◌≤◌, ◌-◌, List, [], ◌∷◌, IfOk, OnOk};
+ghost use Rattle.std.specs.Prelude.{◌≡◌, ◌<◌, ◌≤◌, ◌-◌, List, [], ◌∷◌, length, IfOk, OnOk};
 ghost use Rattle.ada_program.specs.declared.program.TypeDefinition.{TypeDefinition};
 ghost use Rattle.ada_program.specs.ProgramForm.{BodyForm, body_forms};
 ghost use Rattle.ada_program.specs.Form.{right_form, stmt_form, stmts_form};
@@ -13,6 +13,7 @@ ghost use Rattle.ada_interpreter.specs.Process.{state_of, passed, replaced};
 
 use crate::frame::Frame;
 use crate::process::Process;
+use crate::turn::NextTurn;
 use ada_meaning::Mode;
 use ada_meaning::laws::steps_make_lighter;
 use ada_program::program::Right;
@@ -65,7 +66,7 @@ impl<'a> Process<'a> {
     /// Returns how many may still begin; none where nothing changes.
     fn begin_common_statements(&mut self, limit: u32) -> Result<Option<u32>, AllocError>
         requires some { 0 < limit }
-        ensures { (program : Program) → MayBegin program limit self.old result self.new }
+        ensures { (program : Program) → MayBegin program limit (state_of self.old) result (state_of self.new) }
     {
         match self.mode {
             Mode::Running => self.begin_commonly(limit),
@@ -77,11 +78,14 @@ impl<'a> Process<'a> {
     fn begin_commonly(&mut self, limit: u32) -> Result<Option<u32>, AllocError>
         requires some { 0 < limit }
         ensures { (program : Program) → (state_of self.old).mode ≡ Mode.Running →
-            MayBegin program limit self.old result self.new }
+            MayBegin program limit (state_of self.old) result (state_of self.new) }
     {
         match self.frames.top() {
             Some(Frame::Does(statements)) => {
                 let statements = *statements;
+                if statements.is_empty() {
+                    return Ok(None);
+                }
                 self.do_next(statements, limit)
             }
             _ => Ok(None),
@@ -94,17 +98,23 @@ impl<'a> Process<'a> {
             MayGoOn program (step.running_next named program.types.items (body_forms program) s.control s)
             self.old result self.new }
     {
-        match self.frames.top() {
-            Some(
-                Frame::Repeats {
-                    condition: Some(condition),
-                    statements,
-                },
-            ) => {
-                let condition = *condition;
-                let statements = *statements;
-                self.repeat_at_once(condition, statements)
+        match self.turn_at_once() {
+            NextTurn::Begins(statements) => {
+                self.push(Frame::Does(statements))?;
+                Ok(true)
             }
+            NextTurn::Ends => Ok(true),
+            NextTurn::Unknown => self.decide_or_go_on(),
+        }
+    }
+
+    /// Makes the step of the first of what is left to do, where that is no turn of a loop that is known at once.
+    fn decide_or_go_on(&mut self) -> Result<bool, AllocError>
+        ensures { let s = state_of self.old in (program : Program) → s.mode ≡ Mode.Running →
+            MayGoOn program (step.running_next named program.types.items (body_forms program) s.control s)
+            self.old result self.new }
+    {
+        match self.frames.top() {
             Some(
                 Frame::Decides {
                     statements,
@@ -160,7 +170,7 @@ impl<'a> Process<'a> {
                     Ok(true)
                 }
                 Frame::Repeats {
-                    condition,
+                    condition: Some(condition),
                     statements,
                 } => {
                     let condition = *condition;
@@ -174,18 +184,6 @@ impl<'a> Process<'a> {
                     let condition = *condition;
                     let statements = *statements;
                     self.turn_next(condition, statements)
-                }
-                Frame::Counts {
-                    parameter,
-                    value,
-                    last,
-                    statements,
-                } => {
-                    let parameter = *parameter;
-                    let value = *value;
-                    let last = *last;
-                    let statements = *statements;
-                    self.count_next(parameter, value, last, statements)
                 }
                 _ => Ok(false),
             },
@@ -209,21 +207,21 @@ impl<'a> Process<'a> {
     /// The statements that are left (5.1): those that are done at once, or else the first of them.
     fn do_next(&mut self, statements: &'a [Stmt], limit: u32) -> Result<Option<u32>, AllocError>
         requires some { 0 < limit }
+        requires statements { 0 < length statements.now }
         requires top { let s = state_of self.old in
             s.control ≡ frame.Does (stmts_form statements.now) ∷ step.older s.control }
         ensures { (program : Program) → (state_of self.old).mode ≡ Mode.Running →
-            MayBegin program limit self.old result self.new }
+            MayBegin program limit (state_of self.old) result (state_of self.new) }
     {
-        let (rest, left) = self.run_at_once(statements, limit);
-        if left == limit {
-            return self.begin_first(statements, limit);
+        self.pass();
+        let run = self.run_through(statements, limit)?;
+        if run.is_done {
+            return Ok(Some(self.make_turns(run.left)?));
         }
-        self.go_behind_statement(rest)?;
-        if rest.is_empty() {
-            Ok(Some(self.make_turns(left)?))
-        } else {
-            Ok(Some(left))
+        if run.left < limit {
+            return Ok(Some(run.left));
         }
+        self.begin_first(statements, limit)
     }
 
     /// The first of the statements that are left (5.1).
@@ -232,7 +230,7 @@ impl<'a> Process<'a> {
         requires top { let s = state_of self.old in
             s.control ≡ frame.Does (stmts_form statements.now) ∷ step.older s.control }
         ensures { (program : Program) → (state_of self.old).mode ≡ Mode.Running →
-            MayBegin program limit self.old result self.new }
+            MayBegin program limit (state_of self.old) result (state_of self.new) }
     {
         match statements.split_first() {
             None => Ok(None),
@@ -263,7 +261,21 @@ impl<'a> Process<'a> {
                 otherwise,
             } => {
                 self.replace(Frame::Does(rest))?;
-                self.choose_next(branches.as_slice(), otherwise.as_slice())?;
+                self.choose(branches.as_slice(), otherwise.as_slice())?;
+                Ok(true)
+            }
+            Stmt::Loop {
+                condition,
+                statements,
+                end: _,
+            } => {
+                self.replace_by_two(
+                    Frame::Repeats {
+                        condition: condition.as_ref(),
+                        statements: statements.as_slice(),
+                    },
+                    Frame::Does(rest),
+                )?;
                 Ok(true)
             }
             Stmt::Exit { condition, spot: _ } => self.exit_at_once(condition.as_ref(), rest),

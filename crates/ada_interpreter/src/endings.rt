@@ -1,7 +1,7 @@
 //! The ends of objects, and the leaving of masters.
 
 ghost use Rattle.std.specs.Prelude.{◌≡◌, OnOk};
-ghost use Rattle.ada_meaning.specs.Event.{Quiet};
+ghost use Rattle.ada_meaning.specs.Event.{Quiet, Gone};
 ghost use Rattle.ada_meaning.specs.Frame as frame;
 ghost use Rattle.ada_meaning.specs.Step as step;
 ghost use Rattle.ada_meaning.specs.Named.{named, look, lent, members};
@@ -119,6 +119,7 @@ impl<'a> Process<'a> {
                 Ok(Turn::Moves(Event::Left { master }))
             }
             Remains::Variable => self.leave_item(mode),
+            Remains::Pool { number } => self.leave_pool(mode, number),
             Remains::Home { master, item, pool } => {
                 let count = self.objects.count(item);
                 if count == 0 {
@@ -134,6 +135,17 @@ impl<'a> Process<'a> {
                 }
             }
         }
+    }
+
+    /// The newest item of the innermost master is left, a declared pool, and that is told (13.11).
+    fn leave_pool(&mut self, mode: Mode, number: usize) -> Result<Turn, AllocError>
+        ensures { let s = replaced (frame.Leaves mode) (state_of self.old) in
+            Turns (step.tells (Gone number) Quiet (record s { masters = step.shorter s.masters }))
+            (state_of self.old) result (state_of self.new) }
+    {
+        self.replace(Frame::Leaves(mode))?;
+        self.masters.shorten();
+        Ok(Turn::Tells(Request::Gone { pool: number }, Event::Quiet))
     }
 
     /// The newest item of the innermost master is left.

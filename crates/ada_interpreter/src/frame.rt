@@ -4,6 +4,7 @@ ghost use Rattle.std.specs.Prelude.{◌≡◌};
 ghost use Rattle.ada_program.specs.Form.{actual_form};
 ghost use Rattle.ada_meaning.specs.Frame as frame;
 ghost use Rattle.ada_meaning.specs.Frame.{is_master, is_return, exit_landing, return_landing, exception_landing, landing, begins_by};
+ghost use Rattle.ada_interpreter.specs.CommonSteps.{counted_to};
 ghost use Rattle.ada_interpreter.specs.Process.{frame_of, landing_of};
 
 use crate::handling::{Landing, landing_among};
@@ -194,6 +195,21 @@ impl<'a> Frame<'a> {
             Actual::InAccess(path) | Actual::InOutAccess(path) => Frame::Names(path),
             Actual::InOutComponent(path) => Frame::Opens(path),
             Actual::InRecord(path) | Actual::InOutRecord(path) => Frame::Refers(path),
+        }
+    }
+
+    /// A `for` loop begins a turn with this value of its parameter (5.5). Any other frame stays as it is.
+    pub(crate) fn set_count(&mut self, count: i32)
+        ensures { self.new ≡ counted_to count self.old }
+    {
+        match self {
+            Frame::Counts {
+                parameter: _,
+                value,
+                last: _,
+                statements: _,
+            } => *value = count,
+            _ => {}
         }
     }
 

@@ -64,20 +64,21 @@ impl<'a> Process<'a> {
                 object: _,
                 first: _,
             } => { Ok(Turn::Halts(Halt::Stuck)) }
-            Value::Names(object) => self.free_object(object, variable, rest),
+            Value::Names(object) => self.free_object(access, object, variable, rest),
         }
     }
 
     /// The object that a variable names is to end, and the variable is to become null; twice is erroneous.
     fn free_object(
         &mut self,
+        access: TypeNo,
         object: Id,
         variable: VariableNo,
         rest: Frame<'a>,
     ) -> Result<Turn, AllocError>
         ensures { let s = replaced (frame_of rest.entry) (state_of self.old) in
             let v = Value.Names object in
-            (access : ℕ) → Turns (step.free_next named access variable.0 v (look s.heap v) s)
+            Turns (step.free_next named access.0 variable.0 v (look s.heap v) s)
             (state_of self.old) result (state_of self.new) }
     {
         match self.objects.existing(object) {
@@ -85,7 +86,7 @@ impl<'a> Process<'a> {
             Some(_) => {
                 self.replace(rest)?;
                 self.push(Frame::Clears(variable))?;
-                self.release(Value::Names(object))?;
+                self.release(access, Value::Names(object))?;
                 Ok(QUIET)
             }
         }
@@ -113,15 +114,20 @@ impl<'a> Process<'a> {
                 object: _,
                 first: _,
             } => { Ok(Turn::Halts(Halt::Stuck)) }
-            Value::Names(holder) => self.free_in_object(holder, component),
+            Value::Names(holder) => self.free_in_object(access, holder, component),
         }
     }
 
     /// A component of the object of a name is freed: to follow one that is gone is erroneous.
-    fn free_in_object(&mut self, holder: Id, component: ComponentNo) -> Result<Turn, AllocError>
+    fn free_in_object(
+        &mut self,
+        access: TypeNo,
+        holder: Id,
+        component: ComponentNo,
+    ) -> Result<Turn, AllocError>
         ensures { let s = step.popped (passed (state_of self.old)) in
             let v = Value.Names holder in
-            (access : ℕ) → Turns (step.free_in_next named access v component.0 (look s.heap v) s)
+            Turns (step.free_in_next named access.0 v component.0 (look s.heap v) s)
             (state_of self.old) result (state_of self.new) }
     {
         let Some(cell) = self.objects.existing(holder) else {
@@ -131,7 +137,7 @@ impl<'a> Process<'a> {
             None => Ok(Turn::Halts(Halt::Stuck)),
             Some(value) => {
                 let value = *value;
-                self.free_component(holder, component, value)
+                self.free_component(access, holder, component, value)
             }
         }
     }
@@ -139,6 +145,7 @@ impl<'a> Process<'a> {
     /// What a component holds is freed: null has no effect.
     fn free_component(
         &mut self,
+        access: TypeNo,
         holder: Id,
         component: ComponentNo,
         value: Value,
@@ -146,7 +153,7 @@ impl<'a> Process<'a> {
         ensures { let s = step.popped (passed (state_of self.old)) in
             let o = Value.Names holder in
             let found = look s.heap value in
-            (access : ℕ) → Turns (step.freed_next named access o component.0 value found s)
+            Turns (step.freed_next named access.0 o component.0 value found s)
             (state_of self.old) result (state_of self.new) }
     {
         match value {
@@ -160,13 +167,14 @@ impl<'a> Process<'a> {
                 object: _,
                 first: _,
             } => { Ok(Turn::Halts(Halt::Stuck)) }
-            Value::Names(object) => self.free_component_object(holder, component, object),
+            Value::Names(object) => self.free_component_object(access, holder, component, object),
         }
     }
 
     /// The object that a component names is to end, and the component is to become null; twice is erroneous.
     fn free_component_object(
         &mut self,
+        access: TypeNo,
         holder: Id,
         component: ComponentNo,
         object: Id,
@@ -174,7 +182,7 @@ impl<'a> Process<'a> {
         ensures { let s = step.popped (passed (state_of self.old)) in
             let o = Value.Names holder in
             let v = Value.Names object in
-            (access : ℕ) → Turns (step.freed_next named access o component.0 v (look s.heap v) s)
+            Turns (step.freed_next named access.0 o component.0 v (look s.heap v) s)
             (state_of self.old) result (state_of self.new) }
     {
         let Some(_) = self.objects.existing(object) else {
@@ -186,19 +194,20 @@ impl<'a> Process<'a> {
         };
         self.pop();
         self.replace(clears)?;
-        self.release(Value::Names(object))?;
+        self.release(access, Value::Names(object))?;
         Ok(Turn::Moves(Event::Followed { object: holder }))
     }
 
-    /// An object is to end by a Free.
-    fn release(&mut self, value: Value) -> Result<(), AllocError>
-        ensures { OnOk result (state_of self.new ≡ releasing value (state_of self.old)) }
+    /// An object is to end by a Free, and its words are to go back to the pool of the access type (13.11.2).
+    fn release(&mut self, access: TypeNo, value: Value) -> Result<(), AllocError>
+        ensures { OnOk result (state_of self.new ≡ releasing access.0 value (state_of self.old)) }
     {
         let number = self.next;
         let Some(next) = number.checked_add(1) else {
             return Err(AllocError);
         };
-        self.dispose(value, Cause::Freeing { number }, Some(0))?;
+        let pool = self.masters.pool_freed_to(access);
+        self.dispose(value, Cause::Freeing { number }, Some(pool))?;
         self.next = next;
         Ok(())
     }

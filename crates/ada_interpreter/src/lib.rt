@@ -4,8 +4,9 @@
 //! answers: whether a request for storage is granted, and which member of a collection is taken. [`RefuseOne`] refuses
 //! one request at most, and takes the newest member; [`Listed`] follows a list of answers.
 //!
-//! A step costs constant time, whatever the program has allocated and entered: a collection knows its members, an object
-//! its collection, and an access type its newest open collection. An exception looks at the handlers that it comes to,
+//! A step costs constant time, whatever the program has allocated and entered: a collection knows its members and its
+//! pool, an object its collection, an access type its newest open collection, and a declaration of a pool the newest pool
+//! of it. An exception looks at the handlers that it comes to,
 //! the step that copies or fills a record costs as much as the record is long, the steps in which a call begins cost
 //! as much as it has actual parameters and its procedure has variables, and the step in which it ends costs as much as
 //! it has actual parameters. Once the machine's stacks have grown, a call takes no memory.
@@ -33,9 +34,11 @@ mod input;
 mod listed;
 mod machine;
 mod masters;
+mod newest;
 mod objects;
 mod operators;
 mod parameters;
+mod pools;
 mod process;
 mod records;
 mod shelves;

@@ -69,11 +69,15 @@ pub(crate) fn is_asked(request: &Request) -> bool
             pool: _,
             owner: _,
             words: _,
+            object: _,
         } => true,
         Request::Open { pool: _, owner: _ } => true,
         Request::Back { object: _ } => false,
         Request::Close { pool: _, owner: _ } => false,
-        Request::New { pool: _, spot: _ } => false,
+        Request::New {
+            pool: _,
+            declaration: _,
+        } => false,
         Request::Gone { pool: _ } => false,
     }
 }

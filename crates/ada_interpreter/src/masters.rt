@@ -1,13 +1,13 @@
 //! The masters that are entered, with their items on one stack.
 
-ghost use Rattle.std.specs.Prelude.{◌≡◌, ℕ, ◌<◌, [], ◌∷◌, vec_len, IfOk, OnOk};
-ghost use Rattle.std.specs.List.{slice_index_or};
-ghost use Rattle.ada_meaning.specs.State.{height, home_of};
+ghost use Rattle.std.specs.Prelude.{◌≡◌, [], ◌∷◌, Some, None, IfOk, OnOk, MatchOption};
+ghost use Rattle.ada_meaning.specs.State.{height, home_of, pool_of, pools_in, pool_freed_to};
 ghost use Rattle.ada_meaning.specs.Step.{owning, shorter, older};
-ghost use Rattle.ada_interpreter.specs.Masters.{owned_of, remains_of, HasNoItem, newest_like, HasRoom, with_newest};
+ghost use Rattle.ada_interpreter.specs.Masters.{owned_of, access_key, pool_key, pool_known, counted_by, uncounted_by, destination_of, remains_of, HasNoItem, previous_of};
 
+use crate::newest::{Destination, Newest, home_by, make_room, newest_at, pool_by, set_newest};
 use crate::stack::Stack;
-use ada_program::{TypeNo, VariableNo};
+use ada_program::{PoolNo, TypeNo, VariableNo};
 use std::alloc::{AllocError, Global};
 use std::marker::Model;
 
@@ -15,17 +15,28 @@ use std::marker::Model;
 #[derive(Clone, Copy)]
 pub(crate) enum Owned {
     Declared(VariableNo),
-    Collection(TypeNo),
+    /// The collection of an access type.
+    Collection {
+        access: TypeNo,
+        /// The pool of its objects (13.11): none, where that didn't exist as the collection was created.
+        pool: Option<usize>,
+    },
     /// A record object, by the type that it is known by.
     Record(TypeNo),
+    /// A declared pool (13.11), with the number that it has in the run.
+    Pool {
+        declaration: PoolNo,
+        number: usize,
+    },
 }
 
 /// An item of a master. Its number is how many items are below it.
 #[derive(Clone, Copy)]
 struct Item {
     owned: Owned,
-    /// For a collection: the next newest one of its access type that is open, by its item's number.
-    previous: Option<usize>,
+    /// For a collection: the next newest one of its access type that is open. For a pool: that of its declaration that
+    /// exists.
+    previous: Option<Newest>,
 }
 
 /// A master that is entered.
@@ -43,8 +54,12 @@ pub(crate) struct Masters {
     entered: Stack<Master>,
     /// The items of all of them.
     items: Stack<Item>,
-    /// By access type: its newest collection that is open, by its item's number.
-    newest: Vec<Option<usize>>,
+    /// By access type: its newest collection that is open.
+    collections: Vec<Option<Newest>>,
+    /// By declaration: its newest pool that exists.
+    pools: Vec<Option<Newest>>,
+    /// How many declared pools exist.
+    pool_count: usize,
 }
 
 impl Model for Masters {
@@ -57,7 +72,7 @@ impl Model for Masters {
 
     ghost view = { λ s. masters_of s.entered s.items };
 
-    ghost invariant = { λ s. AreKept s.newest.items s.entered s.items };
+    ghost invariant = { λ s. AreKept s.collections.items s.pools.items s.pool_count s.entered s.items };
 }
 
 /// What the leaving of the innermost master comes upon (7.6.1).
@@ -74,6 +89,69 @@ pub(crate) enum Remains {
         item: usize,
         pool: Option<usize>,
     },
+    /// A declared pool, by its number in the run (13.11).
+    Pool {
+        number: usize,
+    },
+}
+
+impl Owned {
+    /// The number of the access type whose collection it is, if it is one.
+    fn access(self) -> Option<usize>
+        ensures { result ≡ access_key self }
+    {
+        match self {
+            Owned::Collection { access, pool: _ } => Some(access.0),
+            Owned::Declared(_) | Owned::Record(_) | Owned::Pool { .. } => None,
+        }
+    }
+
+    /// The number of the declaration whose pool it is, if it is one.
+    fn declaration(self) -> Option<usize>
+        ensures { result ≡ pool_key self }
+    {
+        match self {
+            Owned::Pool {
+                declaration,
+                number: _,
+            } => Some(declaration.0),
+            Owned::Declared(_) | Owned::Record(_) | Owned::Collection { .. } => None,
+        }
+    }
+
+    /// The pool of a collection's objects, or the pool that it is.
+    fn pool(self) -> Option<usize>
+        ensures { result ≡ pool_known self }
+    {
+        match self {
+            Owned::Collection { access: _, pool } => pool,
+            Owned::Pool {
+                declaration: _,
+                number,
+            } => Some(number),
+            Owned::Declared(_) | Owned::Record(_) => None,
+        }
+    }
+
+    /// How many pools exist with it, where so many exist without it.
+    fn counted(self, pools: usize) -> Result<usize, AllocError>
+        ensures { IfOk result (λ count. count ≡ counted_by self pools) }
+    {
+        match self {
+            Owned::Pool { .. } => pools.checked_add(1).ok_or(AllocError),
+            Owned::Declared(_) | Owned::Record(_) | Owned::Collection { .. } => Ok(pools),
+        }
+    }
+
+    /// How many pools exist without it, where so many exist with it.
+    fn uncounted(self, pools: usize) -> usize
+        ensures { result ≡ uncounted_by self pools }
+    {
+        match self {
+            Owned::Pool { .. } => pools.saturating_sub(1),
+            Owned::Declared(_) | Owned::Record(_) | Owned::Collection { .. } => pools,
+        }
+    }
 }
 
 impl Masters {
@@ -89,7 +167,9 @@ impl Masters {
         Ok(Masters {
             entered,
             items: Stack::new(alloc),
-            newest: Vec::new(alloc),
+            collections: Vec::new(alloc),
+            pools: Vec::new(alloc),
+            pool_count: 0,
         })
     }
 
@@ -112,11 +192,20 @@ impl Masters {
         let Some(count) = master.count.checked_add(1) else {
             return Err(AllocError);
         };
-        let number = self.items.len();
-        make_room(&mut self.newest, owned)?;
-        let previous = newest_like(self.newest.as_slice(), owned);
+        let pool_count = owned.counted(self.pool_count)?;
+        let newest = Newest {
+            item: self.items.len(),
+            pool: owned.pool(),
+        };
+        let access = owned.access();
+        let declaration = owned.declaration();
+        make_room(&mut self.collections, access)?;
+        make_room(&mut self.pools, declaration)?;
+        let previous = previous_of(self.collections.as_slice(), self.pools.as_slice(), owned);
         self.items.push(Item { owned, previous })?;
-        set_newest(&mut self.newest, owned, Some(number));
+        set_newest(&mut self.collections, access, Some(newest));
+        set_newest(&mut self.pools, declaration, Some(newest));
+        self.pool_count = pool_count;
         self.entered.set_top(Master {
             number: master.number,
             count,
@@ -137,7 +226,9 @@ impl Masters {
         let Some(item) = self.items.at(0) else {
             return;
         };
-        set_newest(&mut self.newest, item.owned, item.previous);
+        set_newest(&mut self.collections, item.owned.access(), item.previous);
+        set_newest(&mut self.pools, item.owned.declaration(), item.previous);
+        self.pool_count = item.owned.uncounted(self.pool_count);
         self.items.shorten();
         self.entered.set_top(Master {
             number: master.number,
@@ -160,11 +251,38 @@ impl Masters {
         self.items.len()
     }
 
-    /// The newest open collection of an access type, by its item's number.
-    pub(crate) fn home(&self, access: TypeNo) -> Option<usize>
-        ensures { result ≡ home_of access.0 self.now }
+    /// The newest open collection of an access type, with the pool of its objects; none, where that pool didn't exist as
+    /// the collection was created.
+    pub(crate) fn home(&self, access: TypeNo) -> Option<Destination>
+        ensures { let home = home_of access.0 self.now in
+            MatchOption result (home ≡ None) (λ it. home ≡ Some (destination_of it)) }
     {
-        newest_at(self.newest.as_slice(), access.0)
+        home_by(newest_at(self.collections.as_slice(), access.0))
+    }
+
+    /// The pool to which a Free by an access type gives words back (13.11.2): that of its newest open collection; the
+    /// standard pool, where none is open.
+    pub(crate) fn pool_freed_to(&self, access: TypeNo) -> usize
+        ensures { result ≡ pool_freed_to (home_of access.0 self.now) }
+    {
+        match self.home(access) {
+            None => 0,
+            Some(home) => home.pool,
+        }
+    }
+
+    /// The newest pool of a declaration that exists, by its number in the run (13.11).
+    pub(crate) fn pool(&self, declaration: PoolNo) -> Option<usize>
+        ensures { result ≡ pool_of declaration.0 self.now }
+    {
+        pool_by(newest_at(self.pools.as_slice(), declaration.0))
+    }
+
+    /// How many declared pools exist.
+    pub(crate) fn pool_count(&self) -> usize
+        ensures { result ≡ pools_in self.now }
+    {
+        self.pool_count
     }
 
     /// What the leaving of the innermost master comes upon.
@@ -183,73 +301,39 @@ impl Masters {
             None => Remains::Variable,
             Some(item) => match item.owned {
                 Owned::Declared(_) => Remains::Variable,
-                Owned::Collection(_) => Remains::Home {
+                Owned::Collection { access: _, pool } => Remains::Home {
                     master: master.number,
                     item: self.items.len() - 1,
-                    pool: Some(0),
+                    pool,
                 },
                 Owned::Record(_) => Remains::Home {
                     master: master.number,
                     item: self.items.len() - 1,
                     pool: None,
                 },
+                Owned::Pool {
+                    declaration: _,
+                    number,
+                } => Remains::Pool { number },
             },
         }
     }
 }
 
-/// The newest collection of an access type.
-fn newest_at(newest: &[Option<usize>], access: usize) -> Option<usize>
-    ensures { result ≡ slice_index_or newest.now access None }
-{
-    if access < newest.len() {
-        newest[access]
-    } else {
-        None
-    }
-}
-
-/// The newest collection of the same access type.
-fn newest_like(newest: &[Option<usize>], owned: Owned) -> Option<usize>
-    ensures { result ≡ newest_like newest.now owned }
+/// The newest collection of the same access type, or the newest pool of the same declaration.
+fn previous_of(
+    collections: &[Option<Newest>],
+    pools: &[Option<Newest>],
+    owned: Owned,
+) -> Option<Newest>
+    ensures { result ≡ previous_of collections.now pools.now owned }
 {
     match owned {
         Owned::Declared(_) | Owned::Record(_) => None,
-        Owned::Collection(access) => newest_at(newest, access.0),
-    }
-}
-
-/// Makes room for the newest collection of the same access type.
-fn make_room(newest: &mut Vec<Option<usize>>, owned: Owned) -> Result<(), AllocError>
-    ensures same { (access : ℕ) →
-        slice_index_or newest.new.items access None ≡ slice_index_or newest.old.items access None }
-    ensures room { OnOk result (HasRoom newest.new.items owned) }
-{
-    match owned {
-        Owned::Declared(_) | Owned::Record(_) => Ok(()),
-        Owned::Collection(access) => make_room_at(newest, access.0),
-    }
-}
-
-/// Makes room for the newest collection of an access type.
-fn make_room_at(newest: &mut Vec<Option<usize>>, access: usize) -> Result<(), AllocError>
-    ensures same { (access : ℕ) →
-        slice_index_or newest.new.items access None ≡ slice_index_or newest.old.items access None }
-    ensures room { OnOk result (access < vec_len newest.new) }
-{
-    'types: while newest.len() <= access {
-        newest.push(None)?;
-    }
-    Ok(())
-}
-
-/// The newest collection of the same access type becomes another.
-fn set_newest(newest: &mut Vec<Option<usize>>, owned: Owned, number: Option<usize>)
-    ensures { newest.new.items ≡ with_newest newest.old.items owned number }
-{
-    if let Owned::Collection(access) = owned
-        && access.0 < newest.len()
-    {
-        newest[access.0] = number;
+        Owned::Collection { access, pool: _ } => newest_at(collections, access.0),
+        Owned::Pool {
+            declaration,
+            number: _,
+        } => newest_at(pools, declaration.0),
     }
 }

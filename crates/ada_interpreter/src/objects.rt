@@ -103,6 +103,13 @@ impl Objects {
         if object.out { Some(&object.cell) } else { None }
     }
 
+    /// The name that the next object has: no other ever had it.
+    pub(crate) fn next_name(&self) -> Id
+        ensures { result ≡ record { 0 = length self.now } }
+    {
+        Id(self.objects.len())
+    }
+
     /// A new object, in the collection of its home; it has the next name.
     pub(crate) fn create(&mut self, cell: Cell) -> Result<Id, AllocError>
         ensures name { IfOk result (λ o. o ≡ record { 0 = length self.old }) }

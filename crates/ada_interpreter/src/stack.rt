@@ -3,7 +3,9 @@
 ghost use Rattle.std.specs.Prelude.{◌≡◌, [], ◌∷◌, drop, take, reverse, length, IfOk, OnOk, OnErr, MatchOption};
 ghost use Rattle.std.specs.List.{slice_get, slice_set};
 ghost use Rattle.ada_meaning.specs.Step.{older};
+ghost use Rattle.ada_interpreter.specs.CommonSteps.{newest_counted_to};
 
+use crate::frame::Frame;
 use std::alloc::{AllocError, Global};
 use std::marker::Model;
 
@@ -147,6 +149,19 @@ impl<T: Copy + Drop> Stack<T> {
             Some(self.items[n - 1 - i])
         } else {
             None
+        }
+    }
+}
+
+impl<'a> Stack<Frame<'a>> {
+    /// Where the newest frame is a `for` loop, it begins a turn with this value of its parameter (5.5).
+    #[tactic(auto, using(crate::proofs::StackLemmas::newest_first))]
+    pub(crate) fn set_count(&mut self, count: i32)
+        ensures { self.new ≡ newest_counted_to count self.old }
+    {
+        let n = self.items.len();
+        if n > 0 {
+            self.items[n - 1].set_count(count);
         }
     }
 }

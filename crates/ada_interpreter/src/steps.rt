@@ -56,8 +56,8 @@ impl<'a> Process<'a> {
         }
     }
 
-    /// A declaration (3.11): a collection is created; a variable is created once its initial value is known; a record
-    /// object is created, once the items of its initial value are known where they are written.
+    /// A declaration (3.11): a pool, or a collection, is created; a variable is created once its initial value is known; a
+    /// record object is created, once the items of its initial value are known where they are written.
     fn declare(
         &mut self,
         program: &Program,
@@ -70,11 +70,8 @@ impl<'a> Process<'a> {
             s result (state_of self.new) }
     {
         match declaration {
-            Declaration::Collection(access) => {
-                self.replace(rest)?;
-                self.masters.own(Owned::Collection(*access))?;
-                Ok(QUIET)
-            }
+            Declaration::Pool(declaration) => self.begin_pool(*declaration, rest),
+            Declaration::Collection(access) => self.collect(program, *access, rest),
             Declaration::Variable { variable, initial } => {
                 self.replace_by_three(
                     Frame::Evaluates(initial.as_ref()),

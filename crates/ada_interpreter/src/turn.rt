@@ -3,8 +3,9 @@
 ghost use Rattle.std.specs.Prelude.{◌≡◌, ◌<◌};
 ghost use Rattle.ada_meaning.specs.declared.request.Request.TheVariants.{Allocate};
 
-use ada_meaning::{Event, Halt, Request};
-use ada_program::TypeNo;
+use crate::newest::Destination;
+use ada_meaning::{Event, Halt, Id, Request};
+use ada_program::{Stmt, TypeNo};
 
 /// The answer of one turn.
 #[derive(Clone, Copy)]
@@ -29,20 +30,23 @@ pub(crate) const QUIET: Turn = Turn::Moves(Event::Quiet);
 pub(crate) struct Allocation {
     pub(crate) access: TypeNo,
     pub(crate) count: usize,
-    /// The number of the collection's item.
-    pub(crate) item: usize,
+    /// Where the object goes, if the pool grants its words.
+    pub(crate) home: Destination,
     pub(crate) words: usize,
+    /// The name that the object has then.
+    pub(crate) object: Id,
 }
 
 impl Allocation {
     /// What a pool is asked for it.
     pub(crate) fn request(&self) -> Request
-        ensures { result ≡ Allocate 0 0 self.now.words }
+        ensures { let a = self.now in result ≡ Allocate a.home.pool 0 a.words a.object }
     {
         Request::Allocate {
-            pool: 0,
+            pool: self.home.pool,
             owner: 0,
             words: self.words,
+            object: self.object,
         }
     }
 }
@@ -58,4 +62,24 @@ pub(crate) struct Leaving {
     /// How many objects it has.
     pub(crate) count: usize,
     ghost some: { 0 < count },
+}
+
+/// How far statements were run at once.
+#[derive(Clone, Copy)]
+pub(crate) struct Run {
+    /// Are all of them done?
+    pub(crate) is_done: bool,
+    /// How many statements may still begin.
+    pub(crate) left: u32,
+}
+
+/// What is known at once of the next turn of a loop.
+#[derive(Clone, Copy)]
+pub(crate) enum NextTurn<'a> {
+    /// It begins: these statements come in front of what is left to do.
+    Begins(&'a [Stmt]),
+    /// There is none, and the loop is done.
+    Ends,
+    /// Nothing is known.
+    Unknown,
 }

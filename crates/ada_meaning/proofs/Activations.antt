@@ -14,7 +14,7 @@ use Rattle.ada_meaning.specs.declared.event.Why.TheVariants.{GivesElsewhere}
 use Rattle.ada_meaning.specs.Event.{Back}
 use Rattle.ada_meaning.specs.Frame.{Frame, is_master, Landing, passes_on, goes_behind, goes_in, landing}
 use Rattle.ada_meaning.specs.Frame as frame
-use Rattle.ada_meaning.specs.State.{Activation}
+use Rattle.ada_meaning.specs.State.{Activation, Destination}
 use Rattle.ada_meaning.specs.Heap.{Cell, Found, on_null, on_gone, on_other, finds}
 use Rattle.ada_meaning.specs.Step.{same_pool, told_back, record_in, copied_next, copies_next, halts, moves, tells, asks, picks, at, older, places_of, operands, with_places, with_operands, set_operands, popped, put, held, newest, reading, component_next, follow_next, path_next, selected, named_next, holder_next, first_in, record_holder_next, before_last, last_of, expression_next, null_test_next, is_decided, link_next, links_next, outcome_next, item_next, items_next, answered, new_next, right_next, free_next, end_next, given_back, back_next}
 use Rattle.ada_meaning.specs.Named.{State, Next, named, whole, inside, look, reads_boolean, on_object, returned}
@@ -160,15 +160,15 @@ copies_keep o first count on_other s h = tt
 copies_keep o first count (finds cell) s h = copied_keeps o (record_in cell.values first count) s h
 
 pub answered_keeps :
-    {w : Shape} (access count item words : ℕ) (s : State) → shape s.activations ≡ w → (granted : Bool)
-    → shape (answered named access count item words s granted).activations ≡ w
-answered_keeps access count item words s h true = operands_kept _ s h
-answered_keeps access count item words s h false = operands_kept _ s h
+    {w : Shape} (access count words : ℕ) (home : Destination) (s : State) → shape s.activations ≡ w → (granted : Bool)
+    → shape (answered named access count words home s granted).activations ≡ w
+answered_keeps access count words home s h true = operands_kept _ s h
+answered_keeps access count words home s h false = operands_kept _ s h
 
 pub new_keeps :
-    {w : Shape} (access count words : ℕ) (home : Option ℕ) (s : State) → shape s.activations ≡ w → Keeps w (new_next named access count words home s)
+    {w : Shape} (access count words : ℕ) (home : Option Destination) (s : State) → shape s.activations ≡ w → Keeps w (new_next named access count words home s)
 new_keeps access count words None s h = operands_kept _ s h
-new_keeps access count words (Some item) s h = answered_keeps access count item words s h
+new_keeps access count words (Some home) s h = answered_keeps access count words home s h
 
 pub right_keeps : {w : Shape} (types : List TypeDefinition) (right : RightForm) (s : State) → shape s.activations ≡ w → Keeps w (right_next named types right s)
 right_keeps types nothing s h = operands_kept _ s h

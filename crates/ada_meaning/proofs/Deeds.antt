@@ -4,7 +4,7 @@ use Rattle.std.proofs.Common.{◌≡◌, ℕ, ℤ, int_le, Bool, true, false, if
 use Rattle.std.specs.List.{slice_get, slice_set, slice_index_or}
 use Rattle.ada_program.specs.declared.program.Program.{Program}
 use Rattle.ada_program.specs.declared.program.TypeDefinition.{TypeDefinition}
-use Rattle.ada_program.specs.Form.{RecordPathForm, ActualForm, ExpressionForm, integer, boolean, reads, is_null, applied_to, chained, LinksForm, no_more_links, a_link, ItemForm, null_item, item_of_path, item_of_value, item_of_record, RightForm, nothing, value_of, allocates, allocates_default, computes, StmtForm, skips, assigns, assigns_record, frees, gets, writes, writes_text, chooses, repeats, counts, exits, calls, raises, encloses, StmtsForm, no_stmts, a_stmt, BranchesForm, otherwise, a_branch, HandlersForm, DeclarationForm, collects, declares, declares_record}
+use Rattle.ada_program.specs.Form.{RecordPathForm, ActualForm, ExpressionForm, integer, boolean, reads, is_null, applied_to, chained, LinksForm, no_more_links, a_link, ItemForm, null_item, item_of_path, item_of_value, item_of_record, RightForm, nothing, value_of, allocates, allocates_default, computes, StmtForm, skips, assigns, assigns_record, frees, gets, writes, writes_text, chooses, repeats, counts, exits, calls, raises, encloses, StmtsForm, no_stmts, a_stmt, BranchesForm, otherwise, a_branch, HandlersForm, DeclarationForm, creates_pool, collects, declares, declares_record}
 use Rattle.ada_program.specs.Form as form
 use Rattle.ada_program.specs.ProgramForm.{BodyForm, body_forms}
 use Rattle.ada_program.specs.Typed.{reached_of, words_of, width_of}
@@ -23,7 +23,7 @@ use Rattle.ada_meaning.specs.declared.event.Why.TheVariants.{GivesElsewhere}
 use Rattle.ada_meaning.specs.Event.{Back, Quiet}
 use Rattle.ada_meaning.specs.Frame.{Frame, is_master, Landing, passes_on, goes_behind, goes_in, landing}
 use Rattle.ada_meaning.specs.Frame as frame
-use Rattle.ada_meaning.specs.State.{Owned, declared, collection, record_object, Item, Master, height, home_of, pool_of}
+use Rattle.ada_meaning.specs.State.{Owned, declared, collection, record_object, storage_pool, Item, Master, Destination, height, home_of}
 use Rattle.ada_meaning.specs.Heap.{Cell, Found, on_null, on_gone, on_other, finds}
 use Rattle.ada_meaning.specs.Step.{same_pool, told_back, record_cell, record_in, stored_from, newest_ones, without_newest, initial_values, copied_next, copies_next, record_target_next, record_stored_next, store_record_next, record_next, halts, moves, tells, asks, picks, at, popped, held, newest, reading, component_next, follow_next, path_next, selected, named_next, holder_next, first_in, record_holder_next, referred_next, refers_next, open_next, opened_next, opens_next, expression_next, null_test_next, is_decided, link_next, links_next, outcome_next, item_next, items_next, answered, new_next, new_cell, right_next, free_next, end_next, given_back, back_next, before_last, last_of, assign_next, target_next, stored_next, store_next, received_next, receive_next, frees_next, freed_next, free_component_next, free_in_next, branches_next, decided_next, turn_next, repeats_next, turned_next, count_turn_next, counts_next, ranges_next, gets_next, exit_next, exited_next, call_next, stmt_next, stmts_next, line_next, declaration_next, declarations_next, members_next, item_leave_next, master_leave_next, leave_next, frame_next, landed, pass_next, running_next, jump_next, mode_next}
 use Rattle.ada_meaning.specs.Named.{Object, State, Next, next, named, whole, inside, look, lent, lent_by, reads_boolean, reads_null, reads_integer, unary_given, binary_given, members, object_at, changed, on_object, new_object, parted, finished, returned, an_integer}
@@ -134,13 +134,13 @@ copies_do o first count on_gone s = tt
 copies_do o first count on_other s = tt
 copies_do o first count (finds cell) s = copied_does o (record_in cell.values first count) s
 
-answered_does : (access count item words : ℕ) (s : State) (granted : Bool) → Deed s.heap Quiet (answered named access count item words s granted).heap
-answered_does access count item words s true = adds (new_object (new_cell named access count item s)) refl refl
-answered_does access count item words s false = same refl refl
+answered_does : (access count words : ℕ) (home : Destination) (s : State) (granted : Bool) → Deed s.heap Quiet (answered named access count words home s granted).heap
+answered_does access count words home s true = adds (new_object (new_cell named access count home s)) refl refl
+answered_does access count words home s false = same refl refl
 
-new_does : (access count words : ℕ) (home : Option ℕ) (s : State) → Does s.heap (new_next named access count words home s)
+new_does : (access count words : ℕ) (home : Option Destination) (s : State) → Does s.heap (new_next named access count words home s)
 new_does access count words None s = same refl refl
-new_does access count words (Some item) s = answered_does access count item words s
+new_does access count words (Some home) s = answered_does access count words home s
 
 right_does : (types : List TypeDefinition) (right : RightForm) (s : State) → Does s.heap (right_next named types right s)
 right_does types nothing s = same refl refl
@@ -366,6 +366,7 @@ record_does types x t None s = adds (new_object (record_cell named t (height s.m
 record_does types x t (Some items) s = same refl refl
 
 declaration_does : (types : List TypeDefinition) (d : DeclarationForm) (s : State) → Does s.heap (declaration_next named types d s)
+declaration_does types (creates_pool pool) s = same refl refl
 declaration_does types (collects access) s = same refl refl
 declaration_does types (declares x right) s = same refl refl
 declaration_does types (declares_record x t initial) s = record_does types x t initial s
@@ -381,8 +382,9 @@ members_do cause pool (v ∷ vs) s = λ i. parts (slice_index_or (v ∷ vs) i Nu
 
 item_leave_does : (m : ℕ) (item : Item) (owned : Owned) (s : State) → Does s.heap (item_leave_next named m item owned s)
 item_leave_does m item (declared x) s = same refl refl
-item_leave_does m item (collection access) s = members_do (Leaving m item.number) (Some (pool_of access)) (members s.heap item.number) s
+item_leave_does m item (collection access pool) s = members_do (Leaving m item.number) pool (members s.heap item.number) s
 item_leave_does m item (record_object t) s = members_do (Leaving m item.number) None (members s.heap item.number) s
+item_leave_does m item (storage_pool declaration number) s = same refl refl
 
 master_leave_does : (mode : Mode) (m : ℕ) (items : List Item) (s : State) → Does s.heap (master_leave_next named mode m items s)
 master_leave_does mode m [] s = same refl refl

@@ -15,7 +15,7 @@ use Rattle.ada_meaning.specs.declared.state.Value.{Value}
 use Rattle.ada_meaning.specs.declared.state.Mode.TheVariants.{Running}
 use Rattle.ada_meaning.specs.Event.{Quiet}
 use Rattle.ada_meaning.specs.Frame.{Frame, Elaborates, Evaluates, Creates}
-use Rattle.ada_meaning.specs.State.{Activation, home_of, height}
+use Rattle.ada_meaning.specs.State.{Activation, Destination, home_of, height}
 use Rattle.ada_meaning.specs.Step.{at, moves, new_next, new_cell, in_front, initial_value, initial_values, made, record_cell}
 use Rattle.ada_meaning.specs.Run.{Event, grants, Leads}
 use Rattle.ada_meaning.specs.Named.{Object, new_object, State, named, next}
@@ -67,10 +67,10 @@ module _ (types : List TypeDefinition) (bodies : List BodyForm) (access : ℕ) (
   unfolding next
   first_step kinds s reached runs is active = rw (runs, is, active, reached) refl
 
-  granted_makes : (kinds : List ComponentKind) (s after : State) (home : Option ℕ) (e : Event) → Leads (new_next named access (length kinds) (length kinds) home (at behind (ready_to_create kinds s))) (grants true) e after → (object : Object) × (after.heap ≡ s.heap ++ object ∷ []) × (object.cell.access ≡ access) × HoldAtFirst kinds object.cell.values
+  granted_makes : (kinds : List ComponentKind) (s after : State) (home : Option Destination) (e : Event) → Leads (new_next named access (length kinds) (length kinds) home (at behind (ready_to_create kinds s))) (grants true) e after → (object : Object) × (after.heap ≡ s.heap ++ object ∷ []) × (object.cell.access ≡ access) × HoldAtFirst kinds object.cell.values
   granted_makes kinds s after None e leads = absurd leads
-  granted_makes kinds s after (Some item) e leads =
-      let cell = new_cell named access (length kinds) item (at behind (ready_to_create kinds s)) in
+  granted_makes kinds s after (Some home) e leads =
+      let cell = new_cell named access (length kinds) home (at behind (ready_to_create kinds s)) in
       (new_object cell, ap (λ (t : State). t.heap) leads.1, refl, filled kinds running.operands)
 
   second_step :

@@ -3,7 +3,7 @@
 use Rattle.std.proofs.Common.{◌≡◌, ℕ, ℤ, int_le, Bool, true, false, if◌then◌else◌, List, [], ◌∷◌, Option, Some, None}
 use Rattle.std.specs.List.{slice_get}
 use Rattle.ada_program.specs.declared.program.TypeDefinition.{TypeDefinition}
-use Rattle.ada_program.specs.Form.{ActualForm, ExpressionForm, integer, boolean, reads, is_null, applied_to, chained, LinksForm, no_more_links, a_link, ItemForm, null_item, item_of_path, item_of_value, item_of_record, RightForm, nothing, value_of, allocates, allocates_default, computes, StmtForm, skips, assigns, assigns_record, frees, gets, writes, writes_text, chooses, repeats, counts, exits, calls, raises, encloses, StmtsForm, no_stmts, a_stmt, BranchesForm, otherwise, a_branch, HandlersForm, DeclarationForm, collects, declares, declares_record}
+use Rattle.ada_program.specs.Form.{ActualForm, ExpressionForm, integer, boolean, reads, is_null, applied_to, chained, LinksForm, no_more_links, a_link, ItemForm, null_item, item_of_path, item_of_value, item_of_record, RightForm, nothing, value_of, allocates, allocates_default, computes, StmtForm, skips, assigns, assigns_record, frees, gets, writes, writes_text, chooses, repeats, counts, exits, calls, raises, encloses, StmtsForm, no_stmts, a_stmt, BranchesForm, otherwise, a_branch, HandlersForm, DeclarationForm, creates_pool, collects, declares, declares_record}
 use Rattle.ada_program.specs.Form as form
 use Rattle.ada_program.specs.ProgramForm.{BodyForm}
 use Rattle.ada_program.specs.Typed.{words_of, width_of}
@@ -15,7 +15,7 @@ use Rattle.ada_meaning.specs.declared.event.Cause.TheVariants.{Leaving}
 use Rattle.ada_meaning.specs.Event.{Quiet}
 use Rattle.ada_meaning.specs.Frame.{Frame, is_master, Landing, passes_on, goes_behind, goes_in, landing}
 use Rattle.ada_meaning.specs.Frame as frame
-use Rattle.ada_meaning.specs.State.{Owned, declared, collection, record_object, Item, Master, home_of, pool_of}
+use Rattle.ada_meaning.specs.State.{Owned, declared, collection, record_object, storage_pool, Item, Master, home_of}
 use Rattle.ada_meaning.specs.Heap.{Cell, Found, on_null, on_gone, on_other, finds}
 use Rattle.ada_meaning.specs.Step.{referred_next, refers_next, open_next, opened_next, opens_next, record_in, newest_ones, without_newest, record_target_next, record_stored_next, store_record_next, record_next, moves, at, computed, popped, held, newest, assign_next, target_next, stored_next, store_next, received_next, receive_next, frees_next, freed_next, free_component_next, free_in_next, branches_next, decided_next, turn_next, repeats_next, turned_next, count_turn_next, counts_next, ranges_next, gets_next, exit_next, exited_next, call_next, stmt_next, stmts_next, line_next, declaration_next, declarations_next, members_next, item_leave_next, master_leave_next, leave_next, frame_next}
 use Rattle.ada_meaning.specs.Named.{State, named, refer, look, lent, reads_boolean, reads_null, reads_integer, unary_given, binary_given, members}
@@ -237,6 +237,7 @@ record_keeps types x t (Some items) s h = h
 
 declaration_keeps :
     {w : Shape} (types : List TypeDefinition) (d : DeclarationForm) (s : State) → shape s.activations ≡ w → Keeps w (declaration_next named types d s)
+declaration_keeps types (creates_pool pool) s h = h
 declaration_keeps types (collects access) s h = h
 declaration_keeps types (declares x right) s h = h
 declaration_keeps types (declares_record x t initial) s h = record_keeps types x t initial s h
@@ -255,8 +256,9 @@ members_keep cause pool (v ∷ vs) s h = λ i. h
 
 item_leave_keeps : {w : Shape} (m : ℕ) (item : Item) (owned : Owned) (s : State) → shape s.activations ≡ w → Keeps w (item_leave_next named m item owned s)
 item_leave_keeps m item (declared x) s h = h
-item_leave_keeps m item (collection access) s h = members_keep (Leaving m item.number) (Some (pool_of access)) (members s.heap item.number) s h
+item_leave_keeps m item (collection access pool) s h = members_keep (Leaving m item.number) pool (members s.heap item.number) s h
 item_leave_keeps m item (record_object t) s h = members_keep (Leaving m item.number) None (members s.heap item.number) s h
+item_leave_keeps m item (storage_pool declaration number) s h = h
 
 master_leave_keeps :
     {w : Shape} (mode : Mode) (m : ℕ) (items : List Item) (s : State) → shape s.activations ≡ w → Keeps w (master_leave_next named mode m items s)

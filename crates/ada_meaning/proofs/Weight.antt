@@ -4,10 +4,10 @@ use Rattle.std.proofs.Common.{◌≡◌, ◌≢◌, ℕ, suc, ℤ, ◌+◌, ◌<
 use Rattle.std.specs.List.{slice_get, slice_index_or}
 use Rattle.ada_program.specs.declared.program.Program.{Program}
 use Rattle.ada_program.specs.declared.program.TypeDefinition.{TypeDefinition}
-use Rattle.ada_program.specs.Form.{RecordPathForm, ActualForm, in_value, in_null, in_access, in_record, in_out_path, in_out_access, in_out_component, in_out_record, ExpressionForm, integer, boolean, reads, is_null, applied_to, chained, LinksForm, no_more_links, a_link, ItemForm, null_item, item_of_path, item_of_value, item_of_record, RightForm, nothing, value_of, allocates, allocates_default, computes, StmtForm, skips, assigns, assigns_record, frees, gets, writes, writes_text, chooses, repeats, counts, exits, calls, returns, raises, encloses, StmtsForm, no_stmts, a_stmt, BranchesForm, otherwise, a_branch, HandlersForm, DeclarationForm, collects, declares, declares_record}
+use Rattle.ada_program.specs.Form.{RecordPathForm, ActualForm, in_value, in_null, in_access, in_record, in_out_path, in_out_access, in_out_component, in_out_record, ExpressionForm, integer, boolean, reads, is_null, applied_to, chained, LinksForm, no_more_links, a_link, ItemForm, null_item, item_of_path, item_of_value, item_of_record, RightForm, nothing, value_of, allocates, allocates_default, computes, StmtForm, skips, assigns, assigns_record, frees, gets, writes, writes_text, chooses, repeats, counts, exits, calls, returns, raises, encloses, StmtsForm, no_stmts, a_stmt, BranchesForm, otherwise, a_branch, HandlersForm, DeclarationForm, creates_pool, collects, declares, declares_record}
 use Rattle.ada_program.specs.Handling.{handler_of}
 use Rattle.ada_program.specs.ProgramForm.{BodyForm, body_forms}
-use Rattle.ada_program.specs.Typed.{reached_of, words_of, width_of}
+use Rattle.ada_program.specs.Typed.{reached_of, words_of, width_of, pool_named}
 use Rattle.ada_values.specs.declared.operator.BinaryOperator.{BinaryOperator}
 use Rattle.ada_values.specs.declared.fault.OperatorFault.{OperatorFault}
 use Rattle.ada_values.specs.declared.fault.OperatorFault.TheVariants.{Overflow, DivisionByZero, WrongType}
@@ -22,7 +22,7 @@ use Rattle.ada_meaning.specs.declared.event.Halt.TheVariants.{Erroneous, Memory}
 use Rattle.ada_meaning.specs.declared.event.Why.TheVariants.{GivesElsewhere}
 use Rattle.ada_meaning.specs.Frame.{Frame, is_master, is_loop, is_return, Landing, passes_on, goes_behind, goes_in, handler_landing, exception_landing, begins_by}
 use Rattle.ada_meaning.specs.Frame as frame
-use Rattle.ada_meaning.specs.State.{Owned, declared, collection, record_object, Item, Master, height, home_of, pool_of, begins, begins_in, begins_among}
+use Rattle.ada_meaning.specs.State.{Owned, declared, collection, record_object, storage_pool, Item, Master, Destination, height, home_of, pools_in, pool_for, begins, begins_in, begins_among}
 use Rattle.ada_meaning.specs.Event.{Back, Quiet}
 use Rattle.ada_meaning.specs.Heap.{Cell, Found, on_null, on_gone, on_other, finds}
 use Rattle.ada_meaning.specs.Step.{same_pool, told_back, record_cell, record_in, newest_ones, without_newest, initial_values, copied_next, copies_next, record_target_next, record_stored_next, store_record_next, record_next, halts, moves, tells, asks, picks, at, older, owning, shorter, popped, held, newest, reading, component_next, follow_next, path_next, selected, named_next, holder_next, first_in, record_holder_next, referred_next, refers_next, open_next, opened_next, opens_next, references_in, operand_count, storing, unwound, expression_next, null_test_next, is_decided, link_next, links_next, outcome_next, item_next, items_next, answered, new_next, new_cell, right_next, free_next, end_next, given_back, back_next, assign_next, frees_next, freed_next, free_component_next, free_in_next, branches_next, decided_next, turn_next, repeats_next, turned_next, count_turn_next, counts_next, ranges_next, gets_next, exit_next, exited_next, call_next, stmt_next, line_next, before_last, last_of, target_next, stored_next, store_next, received_next, receive_next, declaration_next, declarations_next, members_next, item_leave_next, master_leave_next, leave_next, frame_next, pass_next, running_next, mode_next}
@@ -268,13 +268,13 @@ copies_lighten o first count on_gone s w h = λ memory. cc
 copies_lighten o first count on_other s w h = λ memory. cc
 copies_lighten o first count (finds cell) s w h = copied_lightens o (record_in cell.values first count) s w h
 
-answered_lightens : (access count item words : ℕ) (s : State) (w : ℕ) → load (running s) + 4 ≤ w → (granted : Bool) → load (answered named access count item words (running s) granted) < w
-answered_lightens access count item words s w h true = omega (arith, h, heap_append s.heap (new_object (new_cell named access count item s) ∷ []))
-answered_lightens access count item words s w h false = omega (arith, h, passed_run s.control)
+answered_lightens : (access count words : ℕ) (home : Destination) (s : State) (w : ℕ) → load (running s) + 4 ≤ w → (granted : Bool) → load (answered named access count words home (running s) granted) < w
+answered_lightens access count words home s w h true = omega (arith, h, heap_append s.heap (new_object (new_cell named access count home s) ∷ []))
+answered_lightens access count words home s w h false = omega (arith, h, passed_run s.control)
 
-new_lightens : (access count words : ℕ) (home : Option ℕ) (s : State) (w : ℕ) → load (running s) + 4 ≤ w → Lightens (new_next named access count words home (running s)) w
+new_lightens : (access count words : ℕ) (home : Option Destination) (s : State) (w : ℕ) → load (running s) + 4 ≤ w → Lightens (new_next named access count words home (running s)) w
 new_lightens access count words None s w h = omega (arith, h, passed_run s.control)
-new_lightens access count words (Some item) s w h = answered_lightens access count item words s w h
+new_lightens access count words (Some home) s w h = answered_lightens access count words home s w h
 
 right_lightens : (types : List TypeDefinition) (right : RightForm) (s : State) (w : ℕ) → load (running s) + right_weight right ≤ w → Lightens (right_next named types right (running s)) w
 right_lightens types nothing s w h = omega (arith, h)
@@ -484,7 +484,10 @@ record_lightens types x t None s w h =
 record_lightens types x t (Some items) s w h = omega (arith, h)
 
 declaration_lightens : (types : List TypeDefinition) (d : DeclarationForm) (s : State) (w : ℕ) → load (running s) + declaration_weight d ≤ w → Lightens (declaration_next named types d (running s)) w
-declaration_lightens types (collects access) s w h = omega (arith, h, masters_owning (record { number = height s.masters; owned = collection access }) s.masters)
+declaration_lightens types (creates_pool pool) s w h =
+    omega (arith, h, masters_owning (record { number = height s.masters; owned = storage_pool pool (pools_in s.masters + 1) }) s.masters)
+declaration_lightens types (collects access) s w h =
+    omega (arith, h, masters_owning (record { number = height s.masters; owned = collection access (pool_for (pool_named types access) s.masters) }) s.masters)
 declaration_lightens types (declares x right) s w h = omega (arith, h)
 declaration_lightens types (declares_record x t initial) s w h = record_lightens types x t initial s w (omega (arith, h))
 
@@ -500,8 +503,9 @@ members_lighten cause pool item (v ∷ vs) s w are fewer h =
 
 item_leaves_lighter : (m : ℕ) (item : Item) (owned : Owned) (s : State) (w : ℕ) → masters_weight (shorter s.masters) + 1 ≡ masters_weight s.masters → load (running s) ≤ w → Lightens (item_leave_next named m item owned (running s)) w
 item_leaves_lighter m item (declared x) s w fewer h = omega (arith, h, fewer)
-item_leaves_lighter m item (collection access) s w fewer h = members_lighten (Leaving m item.number) (Some (pool_of access)) item.number (members s.heap item.number) s w refl fewer h
+item_leaves_lighter m item (collection access pool) s w fewer h = members_lighten (Leaving m item.number) pool item.number (members s.heap item.number) s w refl fewer h
 item_leaves_lighter m item (record_object t) s w fewer h = members_lighten (Leaving m item.number) None item.number (members s.heap item.number) s w refl fewer h
+item_leaves_lighter m item (storage_pool declaration number) s w fewer h = omega (arith, h, fewer)
 
 master_leaves_lighter : (mode : Mode) (m : Master) (ms : List Master) (items : List Item) (s : State) (w : ℕ) → s.masters ≡ m ∷ ms → m.items ≡ items → load (in_mode mode s) + 1 ≤ w → Lightens (master_leave_next named mode m.number items (running s)) w
 master_leaves_lighter mode m ms [] s w top none h =

@@ -10,7 +10,6 @@ use Rattle.ada_meaning.specs.declared.event.Event.TheVariants as shown
 use Rattle.ada_meaning.specs.declared.event.Line.{Line as LineOf}
 use Rattle.ada_meaning.specs.declared.request.Request.{Request as Asked}
 use Rattle.ada_meaning.specs.declared.request.Request.TheVariants as asked
-use Rattle.ada_text.specs.declared.spot.Spot.{Spot}
 
 -- An event. An object is shown by a value that names it; a controlled value by its object, its part, and how often the part had a value before.
 pub data Event (V : Type 0) : Type 0 where
@@ -24,11 +23,11 @@ pub data Event (V : Type 0) : Type 0 where
 
 -- What is asked of the pools, or told to them.
 pub data Request (V : Type 0) : Type 0 where
-  Allocate : (pool owner words : ℕ) → Request V
+  Allocate : (pool owner words : ℕ) → (object : V) → Request V
   Open : (pool owner : ℕ) → Request V
   GiveBack : (object : V) → Request V
   Close : (pool owner : ℕ) → Request V
-  New : (pool : ℕ) → Spot → Request V
+  New : (pool declaration : ℕ) → Request V
   Gone : (pool : ℕ) → Request V
 
 -- The event that the machine shows, over names.
@@ -43,9 +42,9 @@ event_of shown.Quiet = Quiet
 
 -- The request that the machine makes, over names.
 abbrev pub request_of : Asked → Request Value
-request_of (asked.Allocate pool owner words) = Allocate pool owner words
+request_of (asked.Allocate pool owner words object) = Allocate pool owner words (Names object)
 request_of (asked.Open pool owner) = Open pool owner
 request_of (asked.Back o) = GiveBack (Names o)
 request_of (asked.Close pool owner) = Close pool owner
-request_of (asked.New pool spot) = New pool spot
+request_of (asked.New pool declaration) = New pool declaration.0
 request_of (asked.Gone pool) = Gone pool

@@ -11,7 +11,7 @@ use Rattle.ada_meaning.specs.declared.event.Halt.{Halt}
 use Rattle.ada_meaning.specs.declared.event.Halt.TheVariants.{Finished, Unhandled, Erroneous, Stuck, Memory}
 use Rattle.ada_meaning.specs.declared.event.Why.{Why}
 use Rattle.ada_meaning.specs.Event.{Finalized, Back, Followed, Left}
-use Rattle.ada_meaning.specs.State.{Item, Master}
+use Rattle.ada_meaning.specs.State.{Owned, declared, collection, record_object, storage_pool, pool_housed, Item, Master}
 use Rattle.ada_meaning.specs.Heap.{Home}
 use Rattle.ada_meaning.specs.Named.{Object, State, object_at}
 use Rattle.ada_meaning.specs.Run.{Event, Choice, Step, Run, Halts, first_state}
@@ -156,9 +156,33 @@ Falls i j = j.number < i.number
 abbrev pub MastersFall : Master → Master → Type 0
 MastersFall m n = n.number < m.number
 
--- The home of an object is an item that is still there.
+-- The home of an object is an item that is still there, and the object is from the pool of that item (13.11).
 abbrev pub IsHoused : List Master → Object → Type 0
-IsHoused masters object = (i : Item) × Contains (items_of masters) i × (i.number ≡ object.cell.home.item)
+IsHoused masters object =
+    (i : Item) × Contains (items_of masters) i × (i.number ≡ object.cell.home.item) × (pool_housed i.owned ≡ object.cell.home.pool)
+
+-- A pool is the standard one, or a declared one that exists (13.11).
+abbrev pub Exists : List Item → (pool : ℕ) → Type 0
+Exists items pool = (pool ≡ 0) ⊎ ((i : Item) × (declaration : ℕ) × Contains items i × (i.owned ≡ storage_pool declaration pool))
+
+-- The pool of an object exists, where it is from one.
+abbrev pub HasPool : List Master → Object → Type 0
+HasPool masters object = IfSome object.cell.home.pool (Exists (items_of masters))
+
+-- The number of the declared pool that is owned, where one is.
+abbrev pub pool_owned : Owned → Option ℕ
+pool_owned (declared x) = None
+pool_owned (collection access pool) = None
+pool_owned (record_object t) = None
+pool_owned (storage_pool declaration number) = Some number
+
+-- Two items are not pools of one number.
+abbrev pub OwnTwoPools : Item → Item → Type 0
+OwnTwoPools i j = Differ (pool_owned i.owned) (pool_owned j.owned)
+
+-- No declared pool has the number of the standard one.
+abbrev pub IsDeclaredPool : Item → Type 0
+IsDeclaredPool i = IfSome (pool_owned i.owned) (λ pool. 0 < pool)
 
 -- The words of an object are back.
 abbrev pub IsBack : Object → Type 0
@@ -181,8 +205,13 @@ pub record Law (events : List Event) (last : State) : Type 0 where
   -- numbers fall along the masters that are entered, and along their items: what was created later has a greater one (7.6.1)
   pub items_fall : AllPairs Falls (items_of last.masters)
   pub masters_fall : AllPairs MastersFall last.masters
-  -- as long as the words of an object are out, its home is an item of a master that is entered: so they are back once that one was left (7.6.1)
+  -- as long as the words of an object are out, its home is an item of a master that is entered, of the object's pool: so they are back once that one was
+  -- left (7.6.1, 13.11)
   pub housed : (o : Id) (object : Object) → object_at last.heap o ≡ Some object → object.out ≡ true → IsHoused last.masters object
+  -- and its pool exists: so a pool is gone only when the words of all its objects are back (13.11)
+  pub pooled : (o : Id) (object : Object) → object_at last.heap o ≡ Some object → object.out ≡ true → HasPool last.masters object
+  -- no two pools that exist have one number
+  pub pools_differ : AllPairs OwnTwoPools (items_of last.masters) × All IsDeclaredPool (items_of last.masters)
 
 -- A master is the innermost one.
 abbrev pub IsInnermost : ℕ → List Master → Type 0

@@ -11,9 +11,9 @@ use Rattle.ada_program.specs.declared.program.ComponentKind.TheVariants as compo
 use Rattle.ada_program.specs.declared.program.TypeDefinition.{TypeDefinition}
 use Rattle.ada_program.specs.declared.program.VariableKind.{VariableKind}
 use Rattle.ada_program.specs.declared.program.VariableKind.TheVariants as variable
-use Rattle.ada_program.specs.Form.{RecordPathForm, ActualForm, in_value, in_null, in_access, in_record, in_out_path, in_out_access, in_out_component, in_out_record, ExpressionForm, integer, boolean, reads, is_null, applied_to, chained, LinksForm, no_more_links, a_link, ItemForm, null_item, item_of_path, item_of_value, item_of_record, RightForm, nothing, value_of, allocates, allocates_default, computes, StmtForm, skips, assigns, assigns_record, frees, gets, writes, writes_text, chooses, repeats, counts, exits, calls, returns, raises, encloses, StmtsForm, no_stmts, a_stmt, BranchesForm, otherwise, a_branch, HandlersForm, DeclarationForm, collects, declares, declares_record}
+use Rattle.ada_program.specs.Form.{RecordPathForm, ActualForm, in_value, in_null, in_access, in_record, in_out_path, in_out_access, in_out_component, in_out_record, ExpressionForm, integer, boolean, reads, is_null, applied_to, chained, LinksForm, no_more_links, a_link, ItemForm, null_item, item_of_path, item_of_value, item_of_record, RightForm, nothing, value_of, allocates, allocates_default, computes, StmtForm, skips, assigns, assigns_record, frees, gets, writes, writes_text, chooses, repeats, counts, exits, calls, returns, raises, encloses, StmtsForm, no_stmts, a_stmt, BranchesForm, otherwise, a_branch, HandlersForm, DeclarationForm, creates_pool, collects, declares, declares_record}
 use Rattle.ada_program.specs.ProgramForm.{VariableForm, BodyForm}
-use Rattle.ada_program.specs.Typed.{reached_of, words_of, width_of}
+use Rattle.ada_program.specs.Typed.{reached_of, words_of, width_of, pool_named}
 use Rattle.ada_meaning.specs.declared.state.Mode.{Mode}
 use Rattle.ada_meaning.specs.declared.state.Mode.TheVariants.{Running, Raising, Exiting, Returning}
 use Rattle.ada_meaning.specs.declared.event.Cause.{Cause}
@@ -24,10 +24,10 @@ use Rattle.ada_meaning.specs.declared.event.Halt.{Halt}
 use Rattle.ada_meaning.specs.declared.event.Halt.TheVariants.{Finished, Unhandled, Erroneous, Stuck}
 use Rattle.ada_meaning.specs.declared.event.Line.TheVariants.{Image, Literal}
 use Rattle.ada_meaning.specs.declared.event.Why.TheVariants.{FollowsGone, EndsTwice, GivesElsewhere}
-use Rattle.ada_meaning.specs.Event.{Event, Back, Followed, Left, Line, Quiet, Request, Allocate, GiveBack}
+use Rattle.ada_meaning.specs.Event.{Event, Back, Followed, Left, Line, Quiet, Request, Allocate, GiveBack, New, Gone}
 use Rattle.ada_meaning.specs.Frame.{Frame, evaluating, is_master, Landing, passes_on, goes_behind, goes_in, landing}
 use Rattle.ada_meaning.specs.Frame as frame
-use Rattle.ada_meaning.specs.State.{Activation, Owned, declared, collection, record_object, Item, Master, State, height, home_of, pool_of, counted}
+use Rattle.ada_meaning.specs.State.{Activation, Owned, declared, collection, record_object, storage_pool, Item, Master, State, Destination, height, home_of, pools_in, pool_for, pool_freed_to, counted}
 use Rattle.ada_meaning.specs.Heap.{Cell, Found, on_null, on_gone, on_other, finds, Ops}
 
 -- What a state does next: it halts; or one event comes, perhaps with something told to the pools; or a request to a pool is open; or one of
@@ -389,29 +389,29 @@ module _ {V H : Type 0} (ops : Ops V H) where
   without_newest count s = set_operands (drop count (operands s)) s
 
   -- The new object: its components are the newest operands, in the order in which they were computed.
-  abbrev pub new_cell : (access count item : ℕ) → State V H → Cell V
-  new_cell access count item s = record {
+  abbrev pub new_cell : (access count : ℕ) → Destination → State V H → Cell V
+  new_cell access count home s = record {
     access = access;
     number = counted s.allocated;
-    home = record { item = item; pool = Some (pool_of access); subpool = None };
+    home = record { item = home.item; pool = Some home.pool; subpool = None };
     values = newest_ones count s;
   }
 
   -- A granted allocator: the object exists, and the value that names it is the newest operand. A refused one raises Storage_Error (11.1).
-  abbrev pub granted : (access count item words : ℕ) → State V H → State V H
-  granted access count item words s = record (set_operands (ops.created s.heap words ∷ drop count (operands s)) s) {
+  abbrev pub granted : (access count words : ℕ) → Destination → State V H → State V H
+  granted access count words home s = record (set_operands (ops.created s.heap words ∷ drop count (operands s)) s) {
     allocated = counted s.allocated;
-    heap = ops.create s.heap words (new_cell access count item s);
+    heap = ops.create s.heap words (new_cell access count home s);
   }
 
-  abbrev pub answered : (access count item words : ℕ) → State V H → Bool → State V H
-  answered access count item words s true = granted access count item words s
-  answered access count item words s false = raised StorageError s
+  abbrev pub answered : (access count words : ℕ) → Destination → State V H → Bool → State V H
+  answered access count words home s true = granted access count words home s
+  answered access count words home s false = raised StorageError s
 
-  -- A pool is asked for the words of an object whose type has an open collection; where there is none, Storage_Error is raised.
-  abbrev pub new_next : (access count words : ℕ) → Option ℕ → State V H → Next V H
+  -- A pool is asked for the words of an object whose type has an open collection, the pool of that; where there is none, Storage_Error is raised.
+  abbrev pub new_next : (access count words : ℕ) → Option Destination → State V H → Next V H
   new_next access count words None s = moves Quiet (raised StorageError s)
-  new_next access count words (Some item) s = asks (Allocate (pool_of access) 0 words) (answered access count item words s)
+  new_next access count words (Some home) s = asks (Allocate home.pool 0 words (ops.created s.heap words)) (answered access count words home s)
 
   -- What a component holds at first where no value is given (3.3.1, 3.8): null, if it holds access values.
   abbrev pub initial_value : ComponentKind → V
@@ -442,7 +442,7 @@ module _ {V H : Type 0} (ops : Ops V H) where
   abbrev pub freeing : (access : ℕ) → V → (clears : Frame V) → State V H → State V H
   freeing access v clears s = numbered (record s {
     heap = ops.part s.heap v;
-    control = frame.Ends v ∷ frame.GivesBack v (Freeing s.next) (Some (pool_of access)) ∷ clears ∷ s.control;
+    control = frame.Ends v ∷ frame.GivesBack v (Freeing s.next) (Some (pool_freed_to (home_of access s.masters))) ∷ clears ∷ s.control;
   })
 
   -- Free (X) (13.11.2): null has no effect.
@@ -746,10 +746,15 @@ module _ {V H : Type 0} (ops : Ops V H) where
   record_next types x t None s = moves Quiet (made types x t (initial_values (reached_of types t)) s)
   record_next types x t (Some items) s = moves Quiet (at (frame.Fills items ∷ frame.DeclaresRecord x t ∷ s.control) s)
 
-  -- Declarations (3.11): a collection is created; a variable is created once its initial value is known; a record object is created. Then the
-  -- statements come, and their handlers with them: these don't cover the declarations (11.4).
+  -- A pool begins under a number (13.11).
+  abbrev pub pool_next : (declaration number : ℕ) → State V H → Next V H
+  pool_next p number s = tells (New number p) Quiet (owned (storage_pool p number) s)
+
+  -- Declarations (3.11): a pool is created, and told (13.11); a collection is created, with the pool of its access type; a variable is created once its
+  -- initial value is known; a record object is created. Then the statements come, and their handlers with them: these don't cover the declarations (11.4).
   abbrev pub declaration_next : List TypeDefinition → DeclarationForm → State V H → Next V H
-  declaration_next types (collects access) s = moves Quiet (owned (collection access) s)
+  declaration_next types (creates_pool p) s = pool_next p (pools_in s.masters + 1) s
+  declaration_next types (collects access) s = moves Quiet (owned (collection access (pool_for (pool_named types access) s.masters)) s)
   declaration_next types (declares x right) s = moves Quiet (at (frame.Evaluates right ∷ frame.Declares x ∷ s.control) s)
   declaration_next types (declares_record x t initial) s = record_next types x t initial s
 
@@ -758,7 +763,8 @@ module _ {V H : Type 0} (ops : Ops V H) where
   declarations_next types (d ∷ ds) fs hs s = declaration_next types d (at (frame.Elaborates ds fs hs ∷ s.control) s)
 
   -- The leaving of a master (7.6.1), newest item first: the objects of a collection go in an arbitrary order, and the collection after them, and
-  -- so does a record object; when no item is left, the master is left. The object that is taken leaves its collection at once.
+  -- so does a record object; a pool goes, and that is told (13.11); when no item is left, the master is left. The object that is taken leaves its
+  -- collection at once.
   abbrev pub taken : Cause → (pool : Option ℕ) → List V → State V H → ℕ → State V H
   taken cause pool vs s i = record s {
     heap = ops.part s.heap (slice_index_or vs i ops.null);
@@ -771,8 +777,9 @@ module _ {V H : Type 0} (ops : Ops V H) where
 
   abbrev pub item_leave_next : ℕ → Item → Owned → State V H → Next V H
   item_leave_next m item (declared x) s = moves Quiet (record s { masters = shorter s.masters })
-  item_leave_next m item (collection access) s = members_next (Leaving m item.number) (Some (pool_of access)) (ops.members s.heap item.number) s
+  item_leave_next m item (collection access pool) s = members_next (Leaving m item.number) pool (ops.members s.heap item.number) s
   item_leave_next m item (record_object t) s = members_next (Leaving m item.number) None (ops.members s.heap item.number) s
+  item_leave_next m item (storage_pool declaration number) s = tells (Gone number) Quiet (record s { masters = shorter s.masters })
 
   abbrev pub master_leave_next : Mode → ℕ → List Item → State V H → Next V H
   master_leave_next mode m [] s = moves (Left m) (record s { masters = older s.masters; mode = mode })

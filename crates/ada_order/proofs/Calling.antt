@@ -66,6 +66,7 @@ caller =
 abbrev pub program : Program
 program = record {
   types = vec types (omega arith);
+  pools = vec [] (omega arith);
   procedures = vec (procedure ∷ []) (omega arith);
   variables = vec (of_type 1 ∷ []) (omega arith);
   texts = vec [] (omega arith);

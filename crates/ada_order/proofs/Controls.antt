@@ -2,18 +2,20 @@
 
 use Rattle.std.proofs.Common.{◌≡◌, ℕ, ◌+◌, Bool, List, [], ◌∷◌, refl}
 use Rattle.std.specs.Prelude.{Option, Some, None}
+use Rattle.ada_program.specs.declared.program.TypeDefinition.{TypeDefinition}
 use Rattle.ada_meaning.specs.declared.state.Value.{Value}
 use Rattle.ada_meaning.specs.declared.state.Mode.{Mode}
 use Rattle.ada_meaning.specs.declared.state.Mode.TheVariants.{Running}
 use Rattle.ada_meaning.specs.declared.event.Cause.TheVariants.{Leaving}
 use Rattle.ada_meaning.specs.Frame.{Frame, Leaves, Ends, GivesBack}
-use Rattle.ada_meaning.specs.Event.{Born, Finalized, Back, Followed, Left, Line, Quiet}
+use Rattle.ada_meaning.specs.Event.{Born, Finalized, Back, Followed, Left, Line, Quiet, Request}
 use Rattle.ada_meaning.specs.State.{Owned, Master, height}
 use Rattle.ada_meaning.specs.Step.{halts, moves, tells, asks, picks, owning, shorter}
 use Rattle.ada_meaning.specs.Named.{State, Next}
 use Rattle.ada_meaning.specs.Run.{Event, Choice, settled, grants, takes, Leads}
 use Rattle.ada_meaning.specs.Law.{AtItem, leaving_of, left_by, master_in}
 use Rattle.ada_order.proofs.Numbers.{Newest}
+use Rattle.ada_order.proofs.Pools.{IsDue, NoPoolTold, IsBegun, NewestIsGone}
 
 abbrev pub Control : Type 0
 Control = List (Frame Value)
@@ -44,55 +46,55 @@ LeavesFirst k = ⊥
 abbrev pub IsLeaving : Mode → Control → Type 0
 IsLeaving mode k = (mode ≡ Running) × LeavesFirst k
 
--- A step that leaves no master: all masters stay, perhaps with a number used up; or the innermost one owns one item more; or one is entered.
-pub data Work (ms : List Master) (n : ℕ) (e : Event) (after : State) : Type 0 where
-  stays : left_by e ≡ None → Plain after.control → after.masters ≡ ms → after.next ≡ n → Work ms n e after
-  numbers : left_by e ≡ None → Plain after.control → after.masters ≡ ms → after.next ≡ n + 1 → Work ms n e after
-  owns : (what : Owned) → left_by e ≡ None → Plain after.control → after.masters ≡ owning (record { number = height ms; owned = what }) ms → after.next ≡ n → Work ms n e after
-  enters : left_by e ≡ None → Plain after.control → after.masters ≡ record { number = n; items = [] } ∷ ms → after.next ≡ n + 1 → Work ms n e after
+-- A step that leaves no master, and what it tells: all masters stay, perhaps with a number used up; or the innermost one owns one item more, which is due; or one is entered.
+pub data Work (types : List TypeDefinition) (ms : List Master) (n : ℕ) (told : Option (Request Value)) (e : Event) (after : State) : Type 0 where
+  stays : NoPoolTold told → left_by e ≡ None → Plain after.control → after.masters ≡ ms → after.next ≡ n → Work types ms n told e after
+  numbers : NoPoolTold told → left_by e ≡ None → Plain after.control → after.masters ≡ ms → after.next ≡ n + 1 → Work types ms n told e after
+  owns : (what : Owned) → IsDue types ms what → IsBegun what told → left_by e ≡ None → Plain after.control → after.masters ≡ owning (record { number = height ms; owned = what }) ms → after.next ≡ n → Work types ms n told e after
+  enters : NoPoolTold told → left_by e ≡ None → Plain after.control → after.masters ≡ record { number = n; items = [] } ∷ ms → after.next ≡ n + 1 → Work types ms n told e after
 
 -- A step at the leaving of the innermost master: its items stay, or it loses the newest one, or an object of that one is given back; or the
 -- master, which has no item, has been left.
-pub data Leave (ms : List Master) (n : ℕ) (e : Event) (after : State) : Type 0 where
-  waits : left_by e ≡ None → IsLeaving after.mode after.control → Stands after.masters after.mode after.control → after.masters ≡ ms → after.next ≡ n → Leave ms n e after
-  shortens : left_by e ≡ None → IsLeaving after.mode after.control → Plain after.control → after.masters ≡ shorter ms → after.next ≡ n → Leave ms n e after
-  gives : (m i : ℕ) → leaving_of e ≡ Some (record { master = m; item = i }) → left_by e ≡ Some m → Newest m i ms → IsLeaving after.mode after.control → Plain after.control → after.masters ≡ ms → after.next ≡ n → Leave ms n e after
-  left : (m : ℕ) (rest : List Master) → e ≡ Left m → ms ≡ record { number = m; items = [] } ∷ rest → Plain after.control → after.masters ≡ rest → after.next ≡ n → Leave ms n e after
+pub data Leave (ms : List Master) (n : ℕ) (told : Option (Request Value)) (e : Event) (after : State) : Type 0 where
+  waits : NoPoolTold told → left_by e ≡ None → IsLeaving after.mode after.control → Stands after.masters after.mode after.control → after.masters ≡ ms → after.next ≡ n → Leave ms n told e after
+  shortens : NewestIsGone ms told → left_by e ≡ None → IsLeaving after.mode after.control → Plain after.control → after.masters ≡ shorter ms → after.next ≡ n → Leave ms n told e after
+  gives : (m i : ℕ) → NoPoolTold told → leaving_of e ≡ Some (record { master = m; item = i }) → left_by e ≡ Some m → Newest m i ms → IsLeaving after.mode after.control → Plain after.control → after.masters ≡ ms → after.next ≡ n → Leave ms n told e after
+  left : (m : ℕ) (rest : List Master) → NoPoolTold told → e ≡ Left m → ms ≡ record { number = m; items = [] } ∷ rest → Plain after.control → after.masters ≡ rest → after.next ≡ n → Leave ms n told e after
 
 -- Either, by whether a master is being left before.
-pub data Deed (s : State) (e : Event) (after : State) : Type 0 where
-  works : (IsLeaving s.mode s.control → ⊥) → Work s.masters s.next e after → Deed s e after
-  leaves : Leave s.masters s.next e after → Deed s e after
+pub data Deed (types : List TypeDefinition) (s : State) (told : Option (Request Value)) (e : Event) (after : State) : Type 0 where
+  works : (IsLeaving s.mode s.control → ⊥) → Work types s.masters s.next told e after → Deed types s told e after
+  leaves : Leave s.masters s.next told e after → Deed types s told e after
 
 -- What comes next does so, whatever is answered.
-abbrev pub Does : (Event → State → Type 0) → Next → Type 0
+abbrev pub Does : (Option (Request Value) → Event → State → Type 0) → Next → Type 0
 Does D (halts halt) = Unit {0}
-Does D (moves e s) = D e s
-Does D (tells request e s) = D e s
-Does D (asks request answers) = (granted : Bool) → D Quiet (answers granted)
-Does D (picks n taking) = (i : ℕ) → D Quiet (taking i)
+Does D (moves e s) = D None e s
+Does D (tells request e s) = D (Some request) e s
+Does D (asks request answers) = (granted : Bool) → D None Quiet (answers granted)
+Does D (picks n taking) = (i : ℕ) → D None Quiet (taking i)
 
-pub does_map : (D E : Event → State → Type 0) → ((e : Event) (s : State) → D e s → E e s) → (coming : Next) → Does D coming → Does E coming
+pub does_map : (D E : Option (Request Value) → Event → State → Type 0) → ((told : Option (Request Value)) (e : Event) (s : State) → D told e s → E told e s) → (coming : Next) → Does D coming → Does E coming
 does_map D E f (halts halt) d = tt
-does_map D E f (moves e s) d = f e s d
-does_map D E f (tells request e s) d = f e s d
-does_map D E f (asks request answers) d = λ granted. f Quiet (answers granted) (d granted)
-does_map D E f (picks n taking) d = λ i. f Quiet (taking i) (d i)
+does_map D E f (moves e s) d = f None e s d
+does_map D E f (tells request e s) d = f (Some request) e s d
+does_map D E f (asks request answers) d = λ granted. f None Quiet (answers granted) (d granted)
+does_map D E f (picks n taking) d = λ i. f None Quiet (taking i) (d i)
 
-pub led : (D : Event → State → Type 0) (coming : Next) (choice : Choice) (e : Event) (after : State) → Does D coming → Leads coming choice e after → D e after
+pub led : (D : Option (Request Value) → Event → State → Type 0) (coming : Next) (choice : Choice) (e : Event) (after : State) → Does D coming → Leads coming choice e after → (told : Option (Request Value)) × D told e after
 led D (halts halt) choice e after d l = absurd l
-led D (moves shown s) settled e after d l = rw (l.0, l.1) d
+led D (moves shown s) settled e after d l = (None, rw (l.0, l.1) d)
 led D (moves shown s) (grants granted) e after d l = absurd l
 led D (moves shown s) (takes i) e after d l = absurd l
-led D (tells request shown s) settled e after d l = rw (l.0, l.1) d
+led D (tells request shown s) settled e after d l = (Some request, rw (l.0, l.1) d)
 led D (tells request shown s) (grants granted) e after d l = absurd l
 led D (tells request shown s) (takes i) e after d l = absurd l
 led D (asks request answers) settled e after d l = absurd l
-led D (asks request answers) (grants granted) e after d l = rw (l.0, l.1) (d granted)
+led D (asks request answers) (grants granted) e after d l = (None, rw (l.0, l.1) (d granted))
 led D (asks request answers) (takes i) e after d l = absurd l
 led D (picks n taking) settled e after d l = absurd l
 led D (picks n taking) (grants granted) e after d l = absurd l
-led D (picks n taking) (takes i) e after d l = rw (l.1, l.2) (d i)
+led D (picks n taking) (takes i) e after d l = (None, rw (l.1, l.2) (d i))
 
 -- What tells of no master tells of no leaving.
 no_leaving : (l : Option AtItem) → master_in l ≡ None → l ≡ None

@@ -49,7 +49,7 @@ spot = record { line = 1; column = 1 }
 
 -- type Cell is record Value : Integer; end record; type A is access Cell; and the same of B and C
 abbrev pub access_type : TypeDefinition
-access_type = definition.Access no_name (record { 0 = 0 })
+access_type = definition.Access no_name (record { 0 = 0 }) None
 
 abbrev pub value : List Part
 value = record { name = no_name; kind = part.Elementary (component.Integer (pos 0)); first = record { 0 = 0 } } ∷ []
@@ -88,6 +88,7 @@ first_block = stmt.Block (vec [] (omega arith)) (vec (stmt.Null ∷ []) (omega a
 abbrev pub program : Program
 program = record {
   types = vec types (omega arith);
+  pools = vec [] (omega arith);
   procedures = vec [] (omega arith);
   variables = vec (of_type 1 ∷ of_type 2 ∷ of_type 3 ∷ []) (omega arith);
   texts = vec [] (omega arith);

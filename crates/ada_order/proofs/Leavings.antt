@@ -10,14 +10,16 @@ use Rattle.ada_meaning.specs.declared.state.Mode.TheVariants.{Running, Raising, 
 use Rattle.ada_meaning.specs.declared.event.Cause.TheVariants.{Leaving, Freeing, Assigning, Undoing}
 use Rattle.ada_meaning.specs.declared.event.Halt.TheVariants.{Erroneous}
 use Rattle.ada_meaning.specs.declared.event.Why.TheVariants.{GivesElsewhere}
+use Rattle.ada_meaning.specs.Event.{Request}
 use Rattle.ada_meaning.specs.Frame.{Frame, Leaves, Ends, GivesBack}
 use Rattle.ada_meaning.specs.Heap.{Cell, Found, on_null, on_gone, on_other, finds}
-use Rattle.ada_meaning.specs.State.{Owned, declared, collection, record_object, Item, Master, pool_of}
+use Rattle.ada_meaning.specs.State.{Owned, declared, collection, record_object, storage_pool, Item, Master}
 use Rattle.ada_meaning.specs.Step.{halts, end_next, same_pool, told_back, given_back, back_next, members_next, item_leave_next, master_leave_next, leave_next, running_next, mode_next}
 use Rattle.ada_meaning.specs.Named.{Object, State, Next, look, lent, members, named, next}
 use Rattle.ada_meaning.specs.Run.{Event, Choice, Step}
 use Rattle.ada_meaning.specs.Law.{leaving_of, left_by}
 use Rattle.ada_order.proofs.Numbers.{Newest}
+use Rattle.ada_order.proofs.Pools.{IsGone}
 use Rattle.ada_order.proofs.Controls.{Control, IsPlain, Plain, Stands, plainly, ending, backing, LeavesFirst, IsLeaving, Work, Leave, waits, shortens, gives, left, Deed, works, leaves, Does, does_map, led}
 use Rattle.ada_order.proofs.Works.{IsWork, frame_works, jump_works}
 
@@ -35,21 +37,22 @@ module _ (mode : Mode) (k : Control) (p : Plain k) (s : State) (m : ℕ) (ms : L
   left_with : List Item → Control → State
   left_with items control = record s { masters = record { number = m; items = items } ∷ ms; control = control; mode = Running }
 
-  members_leave : (item : Item) (items : List Item) (pool : Option ℕ) (vs : List Value) → LeavesBy (left_with (item ∷ items) k) (members_next named (Leaving m item.number) pool vs (left_with (item ∷ items) (Leaves mode ∷ k)))
+  members_leave : (item : Item) (items : List Item) (pool : Option ℕ) (vs : List Value) → IsGone item.owned None → LeavesBy (left_with (item ∷ items) k) (members_next named (Leaving m item.number) pool vs (left_with (item ∷ items) (Leaves mode ∷ k)))
   unfolding left_with
-  members_leave item items pool [] = shortens refl (refl, tt) (tt, p) refl refl
-  members_leave item items pool (v ∷ vs) = λ i. waits refl (refl, tt) (ending _ m item.number _ mode k (refl, refl) p) refl refl
+  members_leave item items pool [] gone = shortens gone refl (refl, tt) (tt, p) refl refl
+  members_leave item items pool (v ∷ vs) gone = λ i. waits tt refl (refl, tt) (ending _ m item.number _ mode k (refl, refl) p) refl refl
 
-  item_leaves : (item : Item) (items : List Item) (what : Owned) → LeavesBy (left_with (item ∷ items) k) (item_leave_next named m item what (left_with (item ∷ items) (Leaves mode ∷ k)))
+  item_leaves : (item : Item) (items : List Item) (what : Owned) → item.owned ≡ what → LeavesBy (left_with (item ∷ items) k) (item_leave_next named m item what (left_with (item ∷ items) (Leaves mode ∷ k)))
   unfolding left_with
-  item_leaves item items (declared x) = shortens refl (refl, tt) (tt, p) refl refl
-  item_leaves item items (collection access) = members_leave item items (Some (pool_of access)) (members s.heap item.number)
-  item_leaves item items (record_object t) = members_leave item items None (members s.heap item.number)
+  item_leaves item items (declared x) is = shortens (rw is tt) refl (refl, tt) (tt, p) refl refl
+  item_leaves item items (collection access pool) is = members_leave item items pool (members s.heap item.number) (rw is tt)
+  item_leaves item items (record_object t) is = members_leave item items None (members s.heap item.number) (rw is tt)
+  item_leaves item items (storage_pool declaration number) is = shortens (rw is refl) refl (refl, tt) (tt, p) refl refl
 
   master_leaves : (items : List Item) → LeavesBy (left_with items k) (master_leave_next named mode m items (left_with items k))
   unfolding left_with
-  master_leaves [] = left m ms refl refl p refl refl
-  master_leaves (item ∷ items) = item_leaves item items item.owned
+  master_leaves [] = left m ms tt refl refl p refl refl
+  master_leaves (item ∷ items) = item_leaves item items item.owned refl
 
 leave_leaves : (mode : Mode) (k : Control) (ms : List Master) (s : State) → Plain k → LeavesBy (record s { masters = ms }) (leave_next named mode ms (running k (record s { masters = ms })))
 unfolding left_with
@@ -62,11 +65,11 @@ module _ (v : Value) (m i : ℕ) (pool : Option ℕ) (mode : Mode) (k : Control)
   end_leaves on_null = tt
   end_leaves on_gone = tt
   end_leaves on_other = tt
-  end_leaves (finds cell) = waits refl (refl, tt) (backing v m i pool mode k newest p) refl refl
+  end_leaves (finds cell) = waits tt refl (refl, tt) (backing v m i pool mode k newest p) refl refl
 
   told_leaves : (own : Option ℕ) (e : Event) (h : List Object) → leaving_of e ≡ Some (record { master = m; item = i }) → left_by e ≡ Some m → LeavesBy s (told_back named own v e (running (Leaves mode ∷ k) (record s { heap = h })))
-  told_leaves None e h at_item tells = gives m i at_item tells newest (refl, tt) (tt, p) refl refl
-  told_leaves (Some own) e h at_item tells = gives m i at_item tells newest (refl, tt) (tt, p) refl refl
+  told_leaves None e h at_item tells = gives m i tt at_item tells newest (refl, tt) (tt, p) refl refl
+  told_leaves (Some own) e h at_item tells = gives m i tt at_item tells newest (refl, tt) (tt, p) refl refl
 
   given_leaves : (fits : Bool) (cell : Cell Value) → LeavesBy s (if fits then given_back named v (Leaving m i) cell (running (Leaves mode ∷ k) s) else halts (Erroneous GivesElsewhere))
   given_leaves true cell = told_leaves cell.home.pool _ _ refl refl
@@ -105,38 +108,38 @@ not_leaving (GivesBack v (Undoing number) pool) k is p on = on
 not_leaving f k is p on = on
 
 -- Either kind of step, from a state that is known.
-abbrev DoesDeed : State → Next → Type 0
-DoesDeed s coming = Does (Deed s) coming
+abbrev pub DoesDeed : List TypeDefinition → State → Next → Type 0
+DoesDeed types s coming = Does (Deed types s) coming
 
-leaving_deed : (s : State) (coming : Next) → LeavesBy s coming → DoesDeed s coming
-leaving_deed s coming d = does_map (Leave s.masters s.next) (Deed s) (λ e after l. leaves l) coming d
+leaving_deed : (types : List TypeDefinition) (s : State) (coming : Next) → LeavesBy s coming → DoesDeed types s coming
+leaving_deed types s coming d = does_map (Leave s.masters s.next) (Deed types s) (λ told e after l. leaves l) coming d
 
-working_deed : (s : State) (coming : Next) → (IsLeaving s.mode s.control → ⊥) → Does (Work s.masters s.next) coming → DoesDeed s coming
-working_deed s coming off d = does_map (Work s.masters s.next) (Deed s) (λ e after w. works off w) coming d
+working_deed : (types : List TypeDefinition) (s : State) (coming : Next) → (IsLeaving s.mode s.control → ⊥) → Does (Work types s.masters s.next) coming → DoesDeed types s coming
+working_deed types s coming off d = does_map (Work types s.masters s.next) (Deed types s) (λ told e after w. works off w) coming d
 
-plain_deed : (types : List TypeDefinition) (bodies : List BodyForm) (f : Frame Value) (k : Control) (s : State) → IsPlain f → Plain k → DoesDeed (running (f ∷ k) s) (running_next named types bodies (f ∷ k) (running (f ∷ k) s))
+plain_deed : (types : List TypeDefinition) (bodies : List BodyForm) (f : Frame Value) (k : Control) (s : State) → IsPlain f → Plain k → DoesDeed types (running (f ∷ k) s) (running_next named types bodies (f ∷ k) (running (f ∷ k) s))
 plain_deed types bodies f k s is p = go (leaves_or_works f is)
   where
-    go : ((mode : Mode) × (f ≡ Leaves mode)) ⊎ IsWork f → DoesDeed (running (f ∷ k) s) (running_next named types bodies (f ∷ k) (running (f ∷ k) s))
-    go (inl h) = rw h.1 (leaving_deed (running (Leaves h.0 ∷ k) s) _ (leave_leaves h.0 k s.masters s p))
-    go (inr w) = working_deed (running (f ∷ k) s) _ (λ on. not_leaving f k w p on.1) (frame_works types bodies f (running k s) w p)
+    go : ((mode : Mode) × (f ≡ Leaves mode)) ⊎ IsWork f → DoesDeed types (running (f ∷ k) s) (running_next named types bodies (f ∷ k) (running (f ∷ k) s))
+    go (inl h) = rw h.1 (leaving_deed types (running (Leaves h.0 ∷ k) s) _ (leave_leaves h.0 k s.masters s p))
+    go (inr w) = working_deed types (running (f ∷ k) s) _ (λ on. not_leaving f k w p on.1) (frame_works types bodies f (running k s) w p)
 
-running_deed : (types : List TypeDefinition) (bodies : List BodyForm) (k : Control) (s : State) → Plain k → DoesDeed (running k s) (running_next named types bodies k (running k s))
+running_deed : (types : List TypeDefinition) (bodies : List BodyForm) (k : Control) (s : State) → Plain k → DoesDeed types (running k s) (running_next named types bodies k (running k s))
 running_deed types bodies [] s p = tt
 running_deed types bodies (f ∷ k) s p = plain_deed types bodies f k s p.0 p.1
 
-mode_deed : (types : List TypeDefinition) (bodies : List BodyForm) (mode : Mode) (k : Control) (s : State) → Stands s.masters mode k → DoesDeed (record s { control = k; mode = mode }) (mode_next named types bodies mode (record s { control = k; mode = mode }))
+mode_deed : (types : List TypeDefinition) (bodies : List BodyForm) (mode : Mode) (k : Control) (s : State) → Stands s.masters mode k → DoesDeed types (record s { control = k; mode = mode }) (mode_next named types bodies mode (record s { control = k; mode = mode }))
 mode_deed types bodies Running k s (plainly p) = running_deed types bodies k s p
-mode_deed types bodies (Raising x) k s (plainly p) = working_deed (record s { control = k; mode = Raising x }) _ (λ on. cc (on.0)) (jump_works (Raising x) k (record s { control = k; mode = Raising x }) p)
-mode_deed types bodies Exiting k s (plainly p) = working_deed (record s { control = k; mode = Exiting }) _ (λ on. cc (on.0)) (jump_works Exiting k (record s { control = k; mode = Exiting }) p)
-mode_deed types bodies Returning k s (plainly p) = working_deed (record s { control = k; mode = Returning }) _ (λ on. cc (on.0)) (jump_works Returning k (record s { control = k; mode = Returning }) p)
-mode_deed types bodies Running _ s (ending v m i pool mode k newest p) = leaving_deed (running (Ends v ∷ GivesBack v (Leaving m i) pool ∷ Leaves mode ∷ k) s) _ (end_leaves v m i pool mode k s newest p (look s.heap v))
-mode_deed types bodies Running _ s (backing v m i pool mode k newest p) = leaving_deed (running (GivesBack v (Leaving m i) pool ∷ Leaves mode ∷ k) s) _ (back_leaves v m i pool mode k s newest p (lent s.heap v))
+mode_deed types bodies (Raising x) k s (plainly p) = working_deed types (record s { control = k; mode = Raising x }) _ (λ on. cc (on.0)) (jump_works types (Raising x) k (record s { control = k; mode = Raising x }) p)
+mode_deed types bodies Exiting k s (plainly p) = working_deed types (record s { control = k; mode = Exiting }) _ (λ on. cc (on.0)) (jump_works types Exiting k (record s { control = k; mode = Exiting }) p)
+mode_deed types bodies Returning k s (plainly p) = working_deed types (record s { control = k; mode = Returning }) _ (λ on. cc (on.0)) (jump_works types Returning k (record s { control = k; mode = Returning }) p)
+mode_deed types bodies Running _ s (ending v m i pool mode k newest p) = leaving_deed types (running (Ends v ∷ GivesBack v (Leaving m i) pool ∷ Leaves mode ∷ k) s) _ (end_leaves v m i pool mode k s newest p (look s.heap v))
+mode_deed types bodies Running _ s (backing v m i pool mode k newest p) = leaving_deed types (running (GivesBack v (Leaving m i) pool ∷ Leaves mode ∷ k) s) _ (back_leaves v m i pool mode k s newest p (lent s.heap v))
 
-next_deed : (types : List TypeDefinition) (bodies : List BodyForm) (s : State) → Stands s.masters s.mode s.control → DoesDeed s (next types bodies s)
+pub next_deed : (types : List TypeDefinition) (bodies : List BodyForm) (s : State) → Stands s.masters s.mode s.control → DoesDeed types s (next types bodies s)
 unfolding next
 next_deed types bodies s stands = mode_deed types bodies s.mode s.control s stands
 
 -- What each step does.
-pub step_deed : (program : Program) (s : State) (choice : Choice) (e : Event) (after : State) → Stands s.masters s.mode s.control → Step program s choice e after → Deed s e after
-step_deed program s choice e after stands step = led (Deed s) (next program.types.items (body_forms program) s) choice e after (next_deed program.types.items (body_forms program) s stands) step
+pub step_deed : (program : Program) (s : State) (choice : Choice) (e : Event) (after : State) → Stands s.masters s.mode s.control → Step program s choice e after → (told : Option (Request Value)) × Deed program.types.items s told e after
+step_deed program s choice e after stands step = led (Deed program.types.items s) (next program.types.items (body_forms program) s) choice e after (next_deed program.types.items (body_forms program) s stands) step

@@ -5,16 +5,17 @@ use Rattle.std.specs.List.{filter}
 use Rattle.ada_program.specs.declared.program.FormalMode.TheVariants.{In}
 use Rattle.ada_program.specs.declared.program.Program.{Program}
 use Rattle.ada_program.specs.declared.program.VariableKind.TheVariants as variable
-use Rattle.ada_program.specs.Form.{PathForm, in_value, integer, reads, item_of_value, nothing, allocates, computes, StmtForm, skips, assigns, writes, calls, returns, encloses, StmtsForm, no_stmts, a_stmt, no_handlers, collects, declares, stmt_forms}
+use Rattle.ada_program.specs.Form.{PathForm, in_value, integer, reads, item_of_value, nothing, allocates, computes, StmtForm, skips, assigns, writes, calls, returns, encloses, StmtsForm, no_stmts, a_stmt, no_handlers, creates_pool, collects, declares, stmt_forms}
 use Rattle.ada_program.specs.ProgramForm.{VariableForm, BodyForm, body_forms}
 use Rattle.ada_meaning.specs.declared.state.Value.TheVariants.{Names}
 use Rattle.ada_meaning.specs.declared.event.Cause.TheVariants.{Leaving}
 use Rattle.ada_meaning.specs.declared.event.Halt.TheVariants.{Finished}
 use Rattle.ada_meaning.specs.declared.event.Line.TheVariants.{Image}
 use Rattle.ada_meaning.specs.Event.{Back, Left, Line, Quiet}
-use Rattle.ada_meaning.specs.State.{Master}
+use Rattle.ada_meaning.specs.State.{Owned, declared, collection, storage_pool, Item, Master}
 use Rattle.ada_meaning.specs.Named.{State}
 use Rattle.ada_meaning.specs.Run.{Event, Choice, Step, Run, Halts, first_state}
+use Rattle.ada_meaning.specs.Law.{items_of}
 
 -- There is a run with such events, to such a state.
 abbrev pub InSomeRun : Program → (List Event → State → Type 0) → Type 0
@@ -151,3 +152,62 @@ abbrev pub BodyIsLeft : Type 0
 BodyIsLeft =
     (program : Program) × (stmt_forms program ≡ calling_stmts) × (body_forms program ≡ returning_body ∷ [])
     × InSomeStep program (λ before event. (event ≡ Left 2) × (map number_of before.masters ≡ 2 ∷ 1 ∷ 0 ∷ []))
+
+-- declare Q : First_Fit_Pool (20); for B'Storage_Pool use Q; Y : B; begin Y := new Cell'(7); return; end;
+abbrev pub inner_pool : StmtForm
+inner_pool =
+    encloses (creates_pool 1 ∷ collects 2 ∷ declares 1 nothing ∷ [])
+    (a_stmt (new_to 1 2)
+    (a_stmt (returns (record { line = 1; column = 1 })) no_stmts))
+    no_handlers
+
+-- declare P : First_Fit_Pool (10); for A'Storage_Pool use P; X : A; Z : C; begin X := new Cell'(7); Z := new Cell'(7); declare .. end; end;
+abbrev pub pool_stmts : StmtsForm
+pool_stmts =
+    a_stmt
+    (encloses (creates_pool 0 ∷ collects 1 ∷ collects 3 ∷ declares 0 nothing ∷ declares 2 nothing ∷ [])
+    (a_stmt (new_to 0 1)
+    (a_stmt (new_to 2 3)
+    (a_stmt inner_pool no_stmts)))
+    no_handlers)
+    no_stmts
+
+-- What an item is.
+abbrev pub owned_by : Item → Owned
+owned_by i = i.owned
+
+-- What both blocks own, newest first: the collections of A and B have the pools 1 and 2, which P and Q are, and that of C has the standard pool.
+abbrev pub items_with_pools : List Owned
+items_with_pools =
+    declared 1
+    ∷ collection 2 (Some 2)
+    ∷ storage_pool 1 2
+    ∷ declared 2
+    ∷ declared 0
+    ∷ collection 3 (Some 0)
+    ∷ collection 1 (Some 1)
+    ∷ storage_pool 0 1
+    ∷ []
+
+-- The return leaves both blocks: each object goes back to the pool of its type.
+abbrev pub pool_events : List Event
+pool_events =
+    Back (Names (record { 0 = 2 })) 2 3 (Some 2) None (Leaving 2 6)
+    ∷ Left 2
+    ∷ Back (Names (record { 0 = 1 })) 3 2 (Some 0) None (Leaving 1 2)
+    ∷ Back (Names (record { 0 = 0 })) 1 1 (Some 1) None (Leaving 1 1)
+    ∷ Left 1
+    ∷ Left 0
+    ∷ []
+
+-- A run of a program with these statements comes to a state with two pools and three collections, one of them of the standard pool.
+abbrev pub PoolsAreOpen : Type 0
+PoolsAreOpen =
+    (program : Program) × (stmt_forms program ≡ pool_stmts)
+    × InSomeRun program (λ events last. map owned_by (items_of last.masters) ≡ items_with_pools)
+
+-- One finishes after these events.
+abbrev pub PoolsAreLeft : Type 0
+PoolsAreLeft =
+    (program : Program) × (stmt_forms program ≡ pool_stmts)
+    × InSomeRun program (λ events last. Halts program last Finished × (filter is_seen events ≡ pool_events))

@@ -2,5 +2,7 @@
 
 -- what holds of masters in every run
 pub mod Masters
+-- each request is for one object
+pub mod Requests
 -- a run that meets the premises
 pub mod Example

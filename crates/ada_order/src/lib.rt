@@ -2,8 +2,8 @@
 //! they follow from what the steps leave to do. Nothing here runs: each function of [`laws`] is a theorem on the
 //! definitions of meaning, and its contract is the statement.
 //!
-//! What a crate above takes from here: `in_reverse`, `inner_first`, `items_fall` and `masters_fall` of `proofs::Orders`,
-//! for the `Law` and the `Safe` of a program.
+//! What a crate above takes from here: `in_reverse`, `inner_first`, `items_fall`, `masters_fall`, `pools_last` and
+//! `pools_differ` of `proofs::Orders`, for the `Law` and the `Safe` of a program.
 #![tactic(auto)]
 
 pub mod laws;

@@ -9,7 +9,7 @@ use Rattle.ada_values.specs.declared.operator.BinaryOperator.{BinaryOperator}
 use Rattle.ada_program.specs.declared.program.Actual.{Actual}
 use Rattle.ada_program.specs.declared.program.Actual.TheVariants as actual
 use Rattle.ada_program.specs.declared.program.Declaration.{Declaration}
-use Rattle.ada_program.specs.declared.program.Declaration.TheVariants.{Collection, Variable, Record}
+use Rattle.ada_program.specs.declared.program.Declaration.TheVariants.{Pool, Collection, Variable, Record}
 use Rattle.ada_program.specs.declared.program.Expression.{Expression, Integer, Boolean, Path as Reads, NullTest, Unary, Chain, Unary', Chain', Row_of-Link, end_of-Link, more_of-Link, items-the_row-Link, items_hidden-the_row-Link-0}
 use Rattle.ada_program.specs.declared.program.Expression.TheBlock.{hidden-the_row-Link-0}
 use Rattle.ada_program.specs.declared.program.Item.{Item}
@@ -93,9 +93,10 @@ pub data RightForm : Type 0 where
   allocates_default : (access : ℕ) → RightForm
   computes : ExpressionForm → RightForm
 
--- A declaration (3.11): its elaboration creates the collection of an access type (7.6.1), a variable with its initial value, or a record object
--- with the items of its initial value; where there are none, its components hold what their declarations say (3.3.1).
+-- A declaration (3.11): its elaboration creates a pool (13.11), the collection of an access type (7.6.1), a variable with its initial value, or a record
+-- object with the items of its initial value; where there are none, its components hold what their declarations say (3.3.1).
 pub data DeclarationForm : Type 0 where
+  creates_pool : (pool : ℕ) → DeclarationForm
   collects : (access : ℕ) → DeclarationForm
   declares : (variable : ℕ) → RightForm → DeclarationForm
   declares_record : (variable object_type : ℕ) → (initial : Option (List ItemForm)) → DeclarationForm
@@ -207,6 +208,7 @@ initial_items (Some items) = Some (map item_form items.items)
 
 -- What a declaration creates.
 abbrev pub declaration_form : Declaration → DeclarationForm
+declaration_form (Pool pool) = creates_pool pool.0
 declaration_form (Collection access) = collects access.0
 declaration_form (Variable variable initial) = declares variable.0 (initial_form initial)
 declaration_form (Record variable object initial) = declares_record variable.0 object.0 (initial_items initial)

@@ -12,6 +12,8 @@ pub mod Typed
 pub mod WellFormed
 -- where collections are created
 pub mod Nested
+-- which access types are freed
+pub mod Freed
 -- what fits, said of the lists that a program keeps
 pub mod Kept
 -- what is seen of the creations of a program

@@ -4,13 +4,14 @@ use Rattle.std.specs.Prelude.{◌≡◌, ℕ, Bool, true, false, ◌&&◌, ◌||
 use Rattle.std.specs.List.{list_all, slice_get}
 use Rattle.ada_program.specs.declared.program.ComponentKind.{ComponentKind}
 use Rattle.ada_program.specs.declared.program.ComponentKind.TheVariants as component
-use Rattle.ada_program.specs.Form.{DeclarationForm, collects, declares, declares_record, StmtForm, skips, assigns, assigns_record, frees, gets, writes, writes_text, chooses, repeats, counts, exits, calls, returns, raises, encloses, StmtsForm, no_stmts, a_stmt, BranchesForm, otherwise, a_branch, HandlersForm, no_handlers, a_handler}
+use Rattle.ada_program.specs.Form.{DeclarationForm, creates_pool, collects, declares, declares_record, StmtForm, skips, assigns, assigns_record, frees, gets, writes, writes_text, chooses, repeats, counts, exits, calls, returns, raises, encloses, StmtsForm, no_stmts, a_stmt, BranchesForm, otherwise, a_branch, HandlersForm, no_handlers, a_handler}
 use Rattle.ada_program.specs.ProgramForm.{TypeForm, BodyForm, ProgramForm}
 use Rattle.ada_program.specs.WellFormed.{reached_components}
 
 -- The access types whose collections declarations create (7.6.1).
 abbrev pub collected : List DeclarationForm → List ℕ
 collected [] = []
+collected (creates_pool pool ∷ ds) = collected ds
 collected (collects access ∷ ds) = access ∷ collected ds
 collected (declares x right ∷ ds) = collected ds
 collected (declares_record x object initial ∷ ds) = collected ds
@@ -18,6 +19,7 @@ collected (declares_record x object initial ∷ ds) = collected ds
 -- The types by which the record objects are known that declarations create.
 abbrev pub record_objects : List DeclarationForm → List ℕ
 record_objects [] = []
+record_objects (creates_pool pool ∷ ds) = record_objects ds
 record_objects (collects access ∷ ds) = record_objects ds
 record_objects (declares x right ∷ ds) = record_objects ds
 record_objects (declares_record x object initial ∷ ds) = object ∷ record_objects ds

@@ -8,6 +8,8 @@ use Rattle.ada_program.specs.declared.program.ComponentKind.{ComponentKind}
 use Rattle.ada_program.specs.declared.program.FormalMode.{FormalMode}
 use Rattle.ada_program.specs.declared.program.Part.{Part}
 use Rattle.ada_program.specs.declared.program.PartKind.{PartKind}
+use Rattle.ada_program.specs.declared.program.Pool.{Pool}
+use Rattle.ada_program.specs.declared.program.PoolNo.{PoolNo}
 use Rattle.ada_program.specs.declared.program.Variable.{Variable}
 use Rattle.ada_program.specs.declared.program.VariableKind.{VariableKind}
 use Rattle.ada_program.specs.declared.program.Procedure.{Procedure}
@@ -22,12 +24,18 @@ pub record PartForm : Type 0 where
   pub kind : PartKind
   pub first : ℕ
 
--- A type (3.2.1): a record type, its components as they are declared and its elementary components at any depth, each in order; an access type
--- and the type that it designates; or what one record object is known by, and its record type.
+-- A type (3.2.1): a record type, its components as they are declared and its elementary components at any depth, each in order; an access type,
+-- the type that it designates, and the declared pool of its objects, where it is not the standard one (13.11); or what one record object is known by,
+-- and its record type.
 pub data TypeForm : Type 0 where
   record_of : List ℕ → (parts : List PartForm) → (components : List ComponentKind) → TypeForm
-  access_to : List ℕ → ℕ → TypeForm
+  access_to : List ℕ → (designated : ℕ) → (pool : Option ℕ) → TypeForm
   object_of : (record_type : ℕ) → TypeForm
+
+-- A storage pool that the program declares (13.11): its name, and its size in words.
+pub record PoolForm : Type 0 where
+  pub name : List ℕ
+  pub words : ℕ
 
 -- A variable: its name, where it is declared, what it holds (3.3.1), and whether it is a borrower: one of an anonymous access type (3.10).
 pub record VariableForm : Type 0 where
@@ -46,11 +54,12 @@ pub record BodyForm : Type 0 where
   pub handlers : HandlersForm
   pub end_spot : Spot
 
--- A program: types, procedures, texts and exceptions by their numbers; and of its main procedure the variables by their numbers, the declarations (3.11),
+-- A program: types, pools, procedures, texts and exceptions by their numbers; and of its main procedure the variables by their numbers, the declarations (3.11),
 -- the statements and their handlers (11.2). The main procedure has no formal parameters, so no rule is told at its end; as the body of another one sees
 -- it, the program has that one's.
 pub record ProgramForm : Type 0 where
   pub types : List TypeForm
+  pub pools : List PoolForm
   -- the bodies of the procedures that it declares
   pub bodies : List BodyForm
   pub formals : List FormalMode
@@ -70,11 +79,20 @@ nowhere = record { line = 0; column = 0 }
 abbrev pub part_form : Part → PartForm
 part_form p = record { name = string_bytes p.name; kind = p.kind; first = p.first.0 }
 
+-- The number of a pool, where there is one.
+abbrev pub pool_number : Option PoolNo → Option ℕ
+pool_number None = None
+pool_number (Some pool) = Some pool.0
+
 -- A type, as the program keeps it.
 abbrev pub type_form : TypeDefinition → TypeForm
 type_form (definition.Record name parts components) = record_of (string_bytes name) (map part_form parts.items) components.items
-type_form (definition.Access name designated) = access_to (string_bytes name) designated.0
+type_form (definition.Access name designated pool) = access_to (string_bytes name) designated.0 (pool_number pool)
 type_form (definition.Object record_type) = object_of record_type.0
+
+-- A pool, as the program keeps it.
+abbrev pub pool_form : Pool → PoolForm
+pool_form p = record { name = string_bytes p.name; words = p.words }
 
 -- A variable, as the program keeps it.
 abbrev pub variable_form : Variable → VariableForm
@@ -99,6 +117,7 @@ body_forms p = map body_form p.procedures.items
 abbrev pub program_form : Program → ProgramForm
 program_form p = record {
   types = map type_form p.types.items;
+  pools = map pool_form p.pools.items;
   bodies = body_forms p;
   formals = [];
   variables = map variable_form p.variables.items;

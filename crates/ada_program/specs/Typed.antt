@@ -5,24 +5,36 @@ use Rattle.std.specs.List.{slice_get}
 use Rattle.ada_program.specs.declared.program.ComponentKind.{ComponentKind}
 use Rattle.ada_program.specs.declared.program.TypeDefinition.{TypeDefinition}
 use Rattle.ada_program.specs.declared.program.TypeDefinition.TheVariants as definition
+use Rattle.ada_program.specs.ProgramForm.{pool_number}
 
 -- The record type of the objects that values of a type name (3.10): those that an access type designates, or the one record object that is known by
 -- the type. None, if it is a record type.
 abbrev pub designated_by : Option TypeDefinition → Option ℕ
 designated_by None = None
 designated_by (Some (definition.Record name parts components)) = None
-designated_by (Some (definition.Access name designated)) = Some designated.0
+designated_by (Some (definition.Access name designated pool)) = Some designated.0
 designated_by (Some (definition.Object record_type)) = Some record_type.0
 
 -- The record type of the objects that values of the type of a number name (3.10).
 abbrev pub designated_of : List TypeDefinition → ℕ → Option ℕ
 designated_of types t = designated_by (slice_get types t)
 
+-- The declared pool of the objects of an access type (13.11): none, where it is the standard pool.
+abbrev pub pool_by : Option TypeDefinition → Option ℕ
+pool_by None = None
+pool_by (Some (definition.Record name parts components)) = None
+pool_by (Some (definition.Access name designated pool)) = pool_number pool
+pool_by (Some (definition.Object record_type)) = None
+
+-- The declared pool of the access type of a number (13.11).
+abbrev pub pool_named : List TypeDefinition → ℕ → Option ℕ
+pool_named types access = pool_by (slice_get types access)
+
 -- The elementary components of a record type, in order (3.8): none, if it is no record type.
 abbrev pub components_by : Option TypeDefinition → Option (List ComponentKind)
 components_by None = None
 components_by (Some (definition.Record name parts components)) = Some components.items
-components_by (Some (definition.Access name designated)) = None
+components_by (Some (definition.Access name designated pool)) = None
 components_by (Some (definition.Object record_type)) = None
 
 -- The components of the record type of a number (3.8).

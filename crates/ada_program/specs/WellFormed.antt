@@ -18,14 +18,14 @@ use Rattle.ada_program.specs.declared.program.VariableKind.{VariableKind}
 use Rattle.ada_program.specs.declared.program.VariableKind.TheVariants as variable
 use Rattle.ada_program.specs.declared.program.ScalarType.{ScalarType}
 use Rattle.ada_program.specs.declared.program.ScalarType.TheVariants.{Integer, Boolean}
-use Rattle.ada_program.specs.Form.{PathForm, ActualForm, in_value, in_null, in_access, in_record, in_out_path, in_out_access, in_out_component, in_out_record, RecordPathForm, ExpressionForm, integer, boolean, reads, is_null, applied_to, chained, LinksForm, no_more_links, a_link, ItemForm, null_item, item_of_path, item_of_value, item_of_record, RightForm, nothing, value_of, allocates, allocates_default, computes, StmtForm, skips, assigns, assigns_record, frees, gets, writes, writes_text, chooses, repeats, counts, exits, calls, returns, raises, encloses, StmtsForm, no_stmts, a_stmt, BranchesForm, otherwise, a_branch, HandlersForm, no_handlers, a_handler, DeclarationForm, collects, declares, declares_record}
+use Rattle.ada_program.specs.Form.{PathForm, ActualForm, in_value, in_null, in_access, in_record, in_out_path, in_out_access, in_out_component, in_out_record, RecordPathForm, ExpressionForm, integer, boolean, reads, is_null, applied_to, chained, LinksForm, no_more_links, a_link, ItemForm, null_item, item_of_path, item_of_value, item_of_record, RightForm, nothing, value_of, allocates, allocates_default, computes, StmtForm, skips, assigns, assigns_record, frees, gets, writes, writes_text, chooses, repeats, counts, exits, calls, returns, raises, encloses, StmtsForm, no_stmts, a_stmt, BranchesForm, otherwise, a_branch, HandlersForm, no_handlers, a_handler, DeclarationForm, creates_pool, collects, declares, declares_record}
 use Rattle.ada_program.specs.ProgramForm.{TypeForm, record_of, access_to, object_of, VariableForm, BodyForm, ProgramForm, main_body}
 
 -- The type that an access type designates (3.10): none, if it is no access type.
 abbrev pub designated_in : Option TypeForm → Option ℕ
 designated_in None = None
 designated_in (Some (record_of name parts components)) = None
-designated_in (Some (access_to name designated)) = Some designated
+designated_in (Some (access_to name designated pool)) = Some designated
 designated_in (Some (object_of record_type)) = None
 
 -- The type that the access type of a number designates (3.10).
@@ -36,7 +36,7 @@ designated_type types t = designated_in (slice_get types t)
 abbrev pub components_in : Option TypeForm → Option (List ComponentKind)
 components_in None = None
 components_in (Some (record_of name parts components)) = Some components
-components_in (Some (access_to name designated)) = None
+components_in (Some (access_to name designated pool)) = None
 components_in (Some (object_of record_type)) = None
 
 -- The components of the record type of a number (3.8).
@@ -47,14 +47,14 @@ record_components types t = components_in (slice_get types t)
 abbrev pub object_in : Option TypeForm → Option ℕ
 object_in None = None
 object_in (Some (record_of name parts components)) = None
-object_in (Some (access_to name designated)) = None
+object_in (Some (access_to name designated pool)) = None
 object_in (Some (object_of record_type)) = Some record_type
 
 -- The record type of the objects that values of a type name: those that an access type designates (3.10), or one record object.
 abbrev pub named_in : Option TypeForm → Option ℕ
 named_in None = None
 named_in (Some (record_of name parts components)) = None
-named_in (Some (access_to name designated)) = Some designated
+named_in (Some (access_to name designated pool)) = Some designated
 named_in (Some (object_of record_type)) = Some record_type
 
 -- The components of objects of a record type, where there is one.
@@ -87,7 +87,7 @@ kind_fits types (component.Access access) = is_access types access.0
 -- A type has such components, or designates a record type (3.10), or one record object is known by it.
 abbrev pub type_fits : List TypeForm → TypeForm → Bool
 type_fits types (record_of name parts components) = list_all (kind_fits types) components
-type_fits types (access_to name designated) = is_record types designated
+type_fits types (access_to name designated pool) = is_record types designated
 type_fits types (object_of record_type) = is_record types record_type
 
 -- A variable is an Integer or a Boolean, or of an access type, or a record object (3.3.1).
@@ -108,13 +108,15 @@ is_access_kind (variable.Record object) = false
 abbrev pub variable_fits : List TypeForm → VariableForm → Bool
 variable_fits types x = variable_kind_fits types x.kind && (not x.borrows || is_access_kind x.kind)
 
--- What is created where a program runs (3.11, 7.6.1): the collection of an access type, or a variable; a loop parameter is one (5.5).
+-- What is created where a program runs (3.11, 7.6.1, 13.11): a pool, the collection of an access type, or a variable; a loop parameter is one (5.5).
 pub data Creation : Type 0 where
+  of_pool : (pool : ℕ) → Creation
   of_collection : (access : ℕ) → Creation
   of_variable : (variable : ℕ) → Creation
 
 -- What a declaration creates.
 abbrev pub creation : DeclarationForm → Creation
+creation (creates_pool pool) = of_pool pool
 creation (collects access) = of_collection access
 creation (declares x right) = of_variable x
 creation (declares_record x object initial) = of_variable x
@@ -173,30 +175,35 @@ all_creations p = created_in_all p.bodies ++ creations p
 -- The variables are created in order from one on, each once, up to their count (3.11).
 abbrev pub creates_from : ℕ → ℕ → List Creation → Bool
 creates_from count k [] = k == count
+creates_from count k (of_pool pool ∷ cs) = creates_from count k cs
 creates_from count k (of_collection access ∷ cs) = creates_from count k cs
 creates_from count k (of_variable x ∷ cs) = (x == k) && creates_from count (k + 1) cs
 
 -- A declaration creates a variable.
 abbrev pub is_object : DeclarationForm → Bool
+is_object (creates_pool pool) = false
 is_object (collects access) = false
 is_object (declares x right) = true
 is_object (declares_record x object initial) = true
 
--- In each part collections are created before the first variable (3.11).
+-- In each part pools and collections are created before the first variable (3.11).
 abbrev pub collections_first : List DeclarationForm → Bool
 collections_first [] = true
+collections_first (creates_pool pool ∷ ds) = collections_first ds
 collections_first (collects access ∷ ds) = collections_first ds
 collections_first (declares x right ∷ ds) = list_all is_object ds
 collections_first (declares_record x object initial ∷ ds) = list_all is_object ds
 
 -- A collection is that of an access type (7.6.1).
 abbrev pub collection_fits : List TypeForm → DeclarationForm → Bool
+collection_fits types (creates_pool pool) = true
 collection_fits types (collects access) = is_access types access
 collection_fits types (declares x right) = true
 collection_fits types (declares_record x object initial) = true
 
 -- Whether the collection of this access type is created.
 abbrev pub is_collection : ℕ → Creation → Bool
+is_collection access (of_pool pool) = false
 is_collection access (of_collection t) = t == access
 is_collection access (of_variable x) = false
 
@@ -204,8 +211,29 @@ is_collection access (of_variable x) = false
 abbrev pub has_collections : List Creation → ℕ → List TypeForm → Bool
 has_collections cs t [] = true
 has_collections cs t (record_of name parts components ∷ types) = has_collections cs (t + 1) types
-has_collections cs t (access_to name designated ∷ types) = (count_by (is_collection t) cs == 1) && has_collections cs (t + 1) types
+has_collections cs t (access_to name designated pool ∷ types) = (count_by (is_collection t) cs == 1) && has_collections cs (t + 1) types
 has_collections cs t (object_of record_type ∷ types) = has_collections cs (t + 1) types
+
+-- A pool that is created is one of so many (13.11).
+abbrev pub creates_known_pool : (count : ℕ) → Creation → Bool
+creates_known_pool count (of_pool pool) = nat_lt pool count
+creates_known_pool count (of_collection access) = true
+creates_known_pool count (of_variable x) = true
+
+-- The pool of a number, where there is one, is one of so many (13.11).
+abbrev pub is_known_pool : (count : ℕ) → Option ℕ → Bool
+is_known_pool count None = true
+is_known_pool count (Some pool) = nat_lt pool count
+
+-- The declared pool of an access type is one of so many (13.11).
+abbrev pub has_known_pool : (count : ℕ) → TypeForm → Bool
+has_known_pool count (record_of name parts components) = true
+has_known_pool count (access_to name designated pool) = is_known_pool count pool
+has_known_pool count (object_of record_type) = true
+
+-- The pools that access types have, and those that a program creates, are its own (13.11).
+abbrev pub pools_fit : ProgramForm → Bool
+pools_fit p = list_all (has_known_pool (length p.pools)) p.types && list_all (creates_known_pool (length p.pools)) (all_creations p)
 
 -- What a variable holds (3.3.1).
 abbrev pub kind_in : Option VariableForm → Option VariableKind
@@ -573,6 +601,7 @@ record_initial_fits types variables x components (Some items) =
 
 -- An initial value names what is declared before, and is one that could be assigned (3.3.1); a record object is known by its own type.
 abbrev pub initial_fits : List TypeForm → List VariableForm → DeclarationForm → Bool
+initial_fits types variables (creates_pool pool) = true
 initial_fits types variables (collects access) = true
 initial_fits types variables (declares x right) =
     names_before x right && right_fits types variables (variable_kind variables x) right && lends_to variables (is_borrower variables x) right
@@ -796,10 +825,16 @@ bodies_fit types texts exceptions callable [] = true
 bodies_fit types texts exceptions callable (b ∷ bs) =
     body_fits types texts exceptions callable b && bodies_fit types texts exceptions (callable ++ profile_of b ∷ []) bs
 
+-- The types of a program fit, with their pools and their collections (3.8, 3.10, 13.11, 7.6.1).
+abbrev pub tables_fit : ProgramForm → Bool
+tables_fit p = list_all (type_fits p.types) p.types && pools_fit p && has_collections (all_creations p) 0 p.types
+
 -- A well-formed program.
 pub record IsWellFormed (p : ProgramForm) : Type 0 where
   -- components and designated types are types of the program of the right kind (3.8, 3.10)
   pub types_fit : list_all (type_fits p.types) p.types ≡ true
+  -- the declared pools of access types, and those that are created, are pools of the program (13.11)
+  pub pools_fit : pools_fit p ≡ true
   -- variables are Integers or Booleans, of access types, or record objects (3.3.1), and only those of access types are borrowers
   pub variables_fit : list_all (variable_fits p.types) p.variables ≡ true
   -- each variable is created once, in the order of the text (3.11)

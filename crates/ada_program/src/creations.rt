@@ -4,11 +4,12 @@
 ghost use Rattle.std.specs.Prelude.{◌≡◌, ◌==◌, ◌++◌, Some, map, length, count_by};
 ghost use Rattle.ada_program.specs.Created.{seen_next, seen_after, is_complete};
 ghost use Rattle.ada_program.specs.Form.{StmtsForm, stmt_form, stmts_form, branches_form, handlers_form};
-ghost use Rattle.ada_program.specs.ProgramForm.{body_form};
+ghost use Rattle.ada_program.specs.ProgramForm.{body_form, program_form};
 ghost use Rattle.ada_program.specs.Kept as kept;
 ghost use Rattle.ada_program.specs.WellFormed as fits;
-ghost use Rattle.ada_program.specs.WellFormed.{of_collection, of_variable};
+ghost use Rattle.ada_program.specs.WellFormed.{of_pool, of_collection, of_variable};
 
+use crate::kinds::have_known_pools;
 use crate::program::{
     Branch, Declaration, Handler, Procedure, Program, Stmt, TypeDefinition, Variable,
 };
@@ -20,6 +21,8 @@ pub(crate) enum Seen {
     Variables { next: usize, count: usize },
     /// The collection of this access type at most once.
     Collection { access: usize, created: bool },
+    /// Pools of the program alone, of which there are so many.
+    Pools { count: usize },
 }
 
 impl Seen {
@@ -28,7 +31,7 @@ impl Seen {
         ensures { result ≡ seen_next self (of_collection collection) }
     {
         match self {
-            Seen::Variables { .. } => Some(self),
+            Seen::Variables { .. } | Seen::Pools { .. } => Some(self),
             Seen::Collection { access, created } => {
                 if collection != access {
                     Some(self)
@@ -59,7 +62,17 @@ impl Seen {
                     None
                 }
             }
-            Seen::Collection { .. } => Some(self),
+            Seen::Collection { .. } | Seen::Pools { .. } => Some(self),
+        }
+    }
+
+    /// What is seen after one more pool: none, if the program has no such pool.
+    fn after_pool(self, pool: usize) -> Option<Seen>
+        ensures { result ≡ seen_next self (of_pool pool) }
+    {
+        match self {
+            Seen::Variables { .. } | Seen::Collection { .. } => Some(self),
+            Seen::Pools { count } => { if pool < count { Some(self) } else { None } }
         }
     }
 
@@ -68,6 +81,7 @@ impl Seen {
         ensures { result ≡ seen_next self (kept.creation declaration.now) }
     {
         match declaration {
+            Declaration::Pool(pool) => self.after_pool(pool.0),
             Declaration::Collection(access) => self.after_collection(access.0),
             Declaration::Variable {
                 variable,
@@ -81,13 +95,14 @@ impl Seen {
         }
     }
 
-    /// Whether each variable, or the collection, has been created.
+    /// Whether each variable, or the collection, has been created, and no other pool.
     fn is_complete(self) -> bool
         ensures { result ≡ is_complete (Some self) }
     {
         match self {
             Seen::Variables { next, count } => next == count,
             Seen::Collection { access: _, created } => created,
+            Seen::Pools { count: _ } => true,
         }
     }
 }
@@ -158,6 +173,16 @@ pub(crate) fn has_collections(program: &Program) -> bool
         }
     }
     true
+}
+
+/// Whether the pools that access types have, and those that are created, are the program's (13.11).
+#[tactic(auto, using(std::proofs::lemmas::Grind::common_steps, crate::proofs::InOrder::tells, crate::proofs::Viewed::views, crate::proofs::Viewed::length_viewed))]
+pub(crate) fn pools_fit(program: &Program) -> bool
+    ensures { result ≡ fits.pools_fit (program_form program.now) }
+{
+    let count = program.pools.len();
+    let seen = Seen::Pools { count };
+    have_known_pools(count, &program.types) && is_all_seen(after_program(seen, program))
 }
 
 /// Whether the program creates one collection for this access type.

@@ -11,7 +11,8 @@ use crate::program::{Declaration, TypeDefinition, TypeNo, Variable, VariableKind
 use crate::records::record_fits;
 use crate::values::{items_before, names_before, right_fits};
 
-/// Whether a part creates its collections first, each of an access type, and its variables with values that fit (3.11).
+/// Whether a part creates its pools and collections first, each of an access type, and its variables with values that fit
+/// (3.11).
 #[tactic(auto, using(std::proofs::lemmas::Grind::common_steps, crate::proofs::Viewed::views))]
 pub(crate) fn declarations_fit(
     types: &[TypeDefinition],
@@ -25,14 +26,14 @@ pub(crate) fn declarations_fit(
         && initials_fit(types, variables, declarations)
 }
 
-/// Whether collections are created before the first variable (3.11).
+/// Whether pools and collections are created before the first variable (3.11).
 fn collections_first(declarations: &[Declaration]) -> bool
     ensures { result ≡ kept.collections_first declarations.now }
 {
     let mut in_front = true;
     for declaration in declarations {
         match declaration {
-            Declaration::Collection(_) => {
+            Declaration::Pool(_) | Declaration::Collection(_) => {
                 if !in_front {
                     return false;
                 }
@@ -58,7 +59,7 @@ fn collection_fits(types: &[TypeDefinition], declaration: &Declaration) -> bool
 {
     match declaration {
         Declaration::Collection(access) => is_access(types, access.0),
-        Declaration::Variable { .. } | Declaration::Record { .. } => true,
+        Declaration::Pool(_) | Declaration::Variable { .. } | Declaration::Record { .. } => true,
     }
 }
 
@@ -81,7 +82,7 @@ fn initial_fits(types: &[TypeDefinition], variables: &[Variable], declaration: &
     ensures { result ≡ kept.initial_fits types.now variables.now declaration.now }
 {
     match declaration {
-        Declaration::Collection(_) => true,
+        Declaration::Pool(_) | Declaration::Collection(_) => true,
         Declaration::Variable {
             variable,
             initial: None,

@@ -16,6 +16,31 @@ pub(crate) fn types_fit(types: &[TypeDefinition]) -> bool
     types.iter().all(|definition| type_fits(types, definition))
 }
 
+/// Whether the declared pool of each access type is one of so many (13.11).
+pub(crate) fn have_known_pools(count: usize, types: &[TypeDefinition]) -> bool
+    ensures { result ≡ list_all (λ d. fits.has_known_pool count (type_form d)) types.now }
+{
+    types
+        .iter()
+        .all(|definition| has_known_pool(count, definition))
+}
+
+/// Whether the declared pool of a type, if it is an access type that has one, is one of so many.
+fn has_known_pool(count: usize, definition: &TypeDefinition) -> bool
+    ensures { result ≡ fits.has_known_pool count (type_form definition.now) }
+{
+    match definition {
+        TypeDefinition::Access {
+            name: _,
+            designated: _,
+            pool: Some(pool),
+        } => pool.0 < count,
+        TypeDefinition::Record { .. }
+        | TypeDefinition::Access { .. }
+        | TypeDefinition::Object { .. } => true,
+    }
+}
+
 /// Whether a type is made of types of the right kind.
 #[tactic(auto, using(std::proofs::lemmas::Grind::common_steps, crate::proofs::Viewed::views))]
 fn type_fits(types: &[TypeDefinition], definition: &TypeDefinition) -> bool
@@ -30,6 +55,7 @@ fn type_fits(types: &[TypeDefinition], definition: &TypeDefinition) -> bool
         TypeDefinition::Access {
             name: _,
             designated,
+            pool: _,
         } => is_record(types, designated.0),
         TypeDefinition::Object { record } => is_record(types, record.0),
     }

@@ -20,5 +20,5 @@ mod typing;
 mod values;
 mod well_formed;
 
-pub use crate::program::{Path, ProcedureNo, Program, Stmt, TypeNo, VariableNo};
+pub use crate::program::{Path, PoolNo, ProcedureNo, Program, Stmt, TypeNo, VariableNo};
 pub use ada_text::Spot;

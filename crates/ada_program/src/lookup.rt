@@ -18,6 +18,7 @@ pub(crate) fn designated_type(types: &[TypeDefinition], number: usize) -> Option
             TypeDefinition::Access {
                 name: _,
                 designated,
+                pool: _,
             },
         ) => Some(designated.0),
         Some(TypeDefinition::Record { .. } | TypeDefinition::Object { .. }) | None => None,
@@ -50,6 +51,7 @@ fn named_type(types: &[TypeDefinition], number: usize) -> Option<usize>
             TypeDefinition::Access {
                 name: _,
                 designated,
+                pool: _,
             },
         ) => Some(designated.0),
         Some(TypeDefinition::Object { record }) => Some(record.0),

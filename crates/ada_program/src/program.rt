@@ -23,14 +23,20 @@ pub struct ExceptionNo(pub usize);
 #[derive(Clone, Copy, Debug, PartialEq, Eq)]
 pub struct ProcedureNo(pub usize);
 
+/// The number of a pool in `Program::pools`.
+#[derive(Clone, Copy, Debug, PartialEq, Eq)]
+pub struct PoolNo(pub usize);
+
 /// The number of an elementary component in its record type, from 0: components that are records count by their own.
 #[derive(Clone, Copy, Debug, PartialEq, Eq)]
 pub struct ComponentNo(pub usize);
 
-/// A whole program: its types, its procedures, the variables of its main procedure, and what that does.
+/// A whole program: its types, its pools, its procedures, the variables of its main procedure, and what that does.
 #[derive(Drop)]
 pub struct Program {
     pub types: Vec<TypeDefinition>,
+    /// The storage pools that it declares, in the order of the text (13.11).
+    pub pools: Vec<Pool>,
     /// The procedures that it declares, in the order in which their bodies end in the text: each stands behind those that
     /// it may call.
     pub procedures: Vec<Procedure>,
@@ -86,12 +92,22 @@ pub enum TypeDefinition {
     Access {
         name: String,
         designated: TypeNo,
+        /// The pool that a storage clause or an aspect names (13.11); the standard pool, where none does.
+        pool: Option<PoolNo>,
     },
     /// What one record object or record parameter is known by (3.3.1, 6.2), and its record type. Its variable alone is of
     /// this type.
     Object {
         record: TypeNo,
     },
+}
+
+/// A storage pool that a declaration creates (13.11): a `First_Fit_Pool`.
+#[derive(Drop)]
+pub struct Pool {
+    pub name: String,
+    /// Its size in words, as its declaration says: at most 65,536.
+    pub words: u32,
 }
 
 /// A component of a record type, as it is declared.
@@ -171,6 +187,8 @@ pub enum Choice {
 /// What one step of the elaboration of the declarations does (3.11).
 #[derive(Drop)]
 pub enum Declaration {
+    /// A pool is created (13.11).
+    Pool(PoolNo),
     /// The collection of an access type is created (7.6.1).
     Collection(TypeNo),
     /// An object is created, and gets its initial value where one is written, else null (3.3.1).

@@ -1,10 +1,11 @@
 //! What a program says of its types, and the names of exceptions.
 
-use crate::program::{ComponentKind, Exception, Program, TypeDefinition, TypeNo};
+use crate::program::{ComponentKind, Exception, PoolNo, Program, TypeDefinition, TypeNo};
 
 impl Program {
     ghost use Rattle.std.specs.Prelude.{◌≡◌, option_copied, option_map};
-    ghost use Rattle.ada_program.specs.Typed.{designated_of, reached_of, width_of, words_of};
+    ghost use Rattle.ada_program.specs.ProgramForm.{pool_number};
+    ghost use Rattle.ada_program.specs.Typed.{designated_of, pool_named, reached_of, width_of, words_of};
 
     /// The elementary components of the objects that the type's values name, in order.
     /// None, if the type is neither an access type to a record type nor that of a record object.
@@ -31,9 +32,25 @@ impl Program {
             TypeDefinition::Access {
                 name: _,
                 designated,
+                pool: _,
             } => Some(*designated),
             TypeDefinition::Object { record } => Some(*record),
             TypeDefinition::Record { .. } => None,
+        }
+    }
+
+    /// The declared pool of the objects of an access type (13.11). None, where it is the standard pool, or the type is no
+    /// access type.
+    pub fn pool(&self, access: TypeNo) -> Option<PoolNo>
+        ensures { pool_number result ≡ pool_named self.now.types.items access.0 }
+    {
+        match self.types.get(access.0)? {
+            TypeDefinition::Access {
+                name: _,
+                designated: _,
+                pool,
+            } => *pool,
+            TypeDefinition::Record { .. } | TypeDefinition::Object { .. } => None,
         }
     }
 

@@ -11,7 +11,7 @@ ghost use Rattle.ada_program.specs.WellFormed as fits;
 use crate::bodies::{bodies_fit, main_fits};
 use crate::borrowers::{lends_to, names_borrower};
 use crate::calls::call_fits;
-use crate::creations::has_collections;
+use crate::creations::{has_collections, pools_fit};
 use crate::declarations::declarations_fit;
 use crate::kinds::types_fit;
 use crate::lookup::{path_access, path_kind, record_components, scalar_of, variable_kind};
@@ -31,11 +31,18 @@ impl Program {
         ensures is { result ≡ true → fits.IsWellFormed (program_form self.now) }
         ensures answers { fits.IsWellFormed (program_form self.now) → result ≡ true }
     {
-        types_fit(&self.types)
-            && has_collections(self)
+        tables_fit(self)
             && main_fits(self)
             && bodies_fit(&self.types, &self.texts, &self.exceptions, &self.procedures)
     }
+}
+
+/// Whether the types of a program fit, with their pools and their collections (3.8, 3.10, 13.11, 7.6.1).
+#[tactic(auto, using(std::proofs::lemmas::Grind::common_steps, crate::proofs::Viewed::views))]
+fn tables_fit(program: &Program) -> bool
+    ensures { result ≡ fits.tables_fit (program_form program.now) }
+{
+    types_fit(&program.types) && pools_fit(program) && has_collections(program)
 }
 
 /// Whether each statement names variables and texts, has the types that it wants, and calls

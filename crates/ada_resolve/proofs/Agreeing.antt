@@ -1,24 +1,26 @@
 -- What is known at a place, and what the place has bound: each name is bound to what it stands for.
 
 use Rattle.std.proofs.Common.{◌≡◌, ◌∙◌, ℕ, ◌+◌, Bool, true, false, cond, List, [], ◌∷◌, ◌++◌, length, length-append, refl, sym, ap, subst}
-use Rattle.std.specs.Prelude.{Option, Some, None, bytes_eq, codes}
+use Rattle.std.specs.Prelude.{Option, Some, None, bytes_eq, codes, is_some}
 use Rattle.std.specs.List.{slice_get}
 use Rattle.ada_tree.specs.Names.{Ident}
 use Rattle.ada_program.specs.declared.program.Exception.TheVariants as exception
 use Rattle.ada_program.specs.declared.program.VariableKind.TheVariants as variable
 use Rattle.ada_program.specs.declared.program.VariableNo.{VariableNo}
-use Rattle.ada_program.specs.ProgramForm.{TypeForm, VariableForm, BodyForm}
+use Rattle.ada_program.specs.ProgramForm.{PoolForm, TypeForm, VariableForm, BodyForm}
 use Rattle.ada_program.specs.declared.program.VariableKind.{VariableKind}
 use Rattle.ada_resolve.specs.declared.fault.NameRule.TheVariants.{DeclaredTwice}
 use Rattle.ada_resolve.specs.declared.library.Withs.{Withs}
 use Rattle.ada_resolve.specs.declared.scope.Entity.{Entity}
 use Rattle.ada_resolve.specs.declared.scope.Entity.TheVariants as entity
+use Rattle.ada_resolve.specs.Clauses.{pool_of}
 use Rattle.ada_resolve.specs.Known.{Known, Named, Part, named, entered, first_named, from_part, named_in, inner_first, outermost, unit_named, visible, parts, with_part, next_variable}
 use Rattle.ada_resolve.specs.Library.{predefined, is_library_root, is_taken}
 use Rattle.ada_resolve.specs.Remark.{wrong_if}
 use Rattle.ada_resolve.specs.Resolution.{with_parameter}
-use Rattle.ada_resolve.specs.Naming.{Context, Place, Binding, Meaning, an_incomplete_type, a_type, a_number, an_exception, an_instance, a_variable, a_parameter, a_procedure, a_procedure_around, an_outer_object, meaning_among, meaning_at, IsBound, truth_name, IsPredefined, the_integers, the_booleans, a_truth_value, the_constraint_error, the_program_error, the_storage_error, under_ada, under_system, the_pools, the_input}
+use Rattle.ada_resolve.specs.Naming.{Context, Place, Binding, Meaning, an_incomplete_type, a_type, a_number, an_exception, a_pool, an_instance, a_variable, a_parameter, a_procedure, a_procedure_around, an_outer_object, meaning_among, meaning_at, is_one_of, IsBound, truth_name, IsPredefined, the_integers, the_booleans, a_truth_value, the_constraint_error, the_program_error, the_storage_error, under_ada, under_system, the_pools, the_input}
 use Rattle.ada_resolve.specs.Reading.{inside, behind, with_new_constant}
+use Rattle.ada_resolve.proofs.WellFormed.Forms.{forms}
 use Rattle.ada_resolve.proofs.WellFormed.Names.{PartsFit, first_of_two, named_entered, text_same, unit_only}
 use Rattle.ada_resolve.proofs.WellFormed.Remarks.{Quiet, quiet_if}
 
@@ -29,6 +31,7 @@ bound_to (entity.Record t size) = Some (a_type t.0)
 bound_to (entity.Access t) = Some (a_type t.0)
 bound_to (entity.Number n) = Some (a_number n)
 bound_to (entity.Exception (exception.Declared n)) = Some (an_exception n.0)
+bound_to (entity.Pool n) = Some (a_pool n.0)
 bound_to (entity.Instance t) = Some (an_instance t.0)
 bound_to (entity.Variable x kind) = Some (a_variable x.0)
 bound_to (entity.Parameter x kind) = Some (a_parameter x.0)
@@ -48,14 +51,18 @@ pub record Agrees (k : Known) (place : Place) : Type 0 where
   pub outer : (text : List ℕ) → Stands (from_part k.here.around (named_in text k.outer)) (meaning_among text place.outer)
   pub first_type : place.first_type ≡ k.here.first_type
   pub types : place.types ≡ length k.types
+  pub pools : place.pools ≡ length k.pools
+  pub placed : (t : ℕ) → is_one_of t place.placed ≡ is_some (pool_of k.types t)
   pub bodies : place.bodies ≡ length k.bodies
   pub variables : place.variables ≡ length k.variables
   pub exceptions : place.exceptions ≡ length k.exceptions
   pub texts : place.texts ≡ length k.texts
 
--- the tables of what is known are beginnings of those of the program
+-- the tables of what is known are beginnings of those of the program, but that types may get pools
 pub record Ahead (k : Known) (p : Context) : Type 0 where
-  pub types : (t : ℕ) (form : TypeForm) → slice_get k.types t ≡ Some form → slice_get p.types t ≡ Some form
+  pub types : (t : ℕ) (form : TypeForm) → slice_get (forms k.types) t ≡ Some form → slice_get (forms p.types) t ≡ Some form
+  pub placed : (t n : ℕ) → pool_of k.types t ≡ Some n → pool_of p.types t ≡ Some n
+  pub pools : (n : ℕ) (pool : PoolForm) → slice_get k.pools n ≡ Some pool → slice_get p.pools n ≡ Some pool
   pub variables : (x : ℕ) (v : VariableForm) → slice_get k.variables x ≡ Some v → slice_get p.variables x ≡ Some v
   pub exceptions : (e : ℕ) (text : List ℕ) → slice_get k.exceptions e ≡ Some text → slice_get p.exceptions e ≡ Some text
   pub texts : (n : ℕ) (text : List ℕ) → slice_get k.texts n ≡ Some text → slice_get p.texts n ≡ Some text
@@ -111,6 +118,7 @@ EntityRead p text entity.LibraryUnit = Unit {0}
 EntityRead p text (entity.Incomplete t) = IsBound p text (an_incomplete_type t.0)
 EntityRead p text (entity.Record t size) = IsBound p text (a_type t.0)
 EntityRead p text (entity.Access t) = IsBound p text (a_type t.0)
+EntityRead p text (entity.Pool n) = IsBound p text (a_pool n.0)
 EntityRead p text (entity.Instance t) = IsBound p text (an_instance t.0)
 EntityRead p text (entity.Variable x kind) = IsBound p text (a_variable x.0)
 EntityRead p text (entity.Parameter x kind) = IsBound p text (a_parameter x.0)
@@ -169,6 +177,7 @@ declared_read p text (entity.Exception exception.ConstraintError) m same is = ab
 declared_read p text (entity.Exception exception.ProgramError) m same is = absurd (cc same)
 declared_read p text (entity.Exception exception.StorageError) m same is = absurd (cc same)
 declared_read p text (entity.Exception exception.EndError) m same is = absurd (cc same)
+declared_read p text (entity.Pool n) m same is = bound_so p text (a_pool n.0) m same is
 declared_read p text (entity.Instance t) m same is = bound_so p text (an_instance t.0) m same is
 declared_read p text (entity.Variable x kind) m same is = bound_so p text (a_variable x.0) m same is
 declared_read p text (entity.Parameter x kind) m same is = bound_so p text (a_parameter x.0) m same is
@@ -209,6 +218,7 @@ parameter_is (entity.Exception exception.ConstraintError) x same = absurd (cc sa
 parameter_is (entity.Exception exception.ProgramError) x same = absurd (cc same)
 parameter_is (entity.Exception exception.StorageError) x same = absurd (cc same)
 parameter_is (entity.Exception exception.EndError) x same = absurd (cc same)
+parameter_is (entity.Pool n) x same = absurd (cc same)
 parameter_is (entity.Instance t) x same = absurd (cc same)
 parameter_is entity.Integer x same = absurd (cc same)
 parameter_is entity.Boolean x same = absurd (cc same)
@@ -242,13 +252,15 @@ outer_same k m place around outer w text =
     (subst (λ (ps : List Part). Stands (from_part k.here.around (named_in text ps)) (meaning_among text place.outer)) (sym outer) (w.outer text))
 
 -- what a part elaborates is no name
-pub agrees_same : (k m : Known) (place : Place) → m.here.names ≡ k.here.names → m.here.first_type ≡ k.here.first_type → m.here.around ≡ k.here.around → m.outer ≡ k.outer → length m.types ≡ length k.types → length m.bodies ≡ length k.bodies → length m.variables ≡ length k.variables → length m.exceptions ≡ length k.exceptions → length m.texts ≡ length k.texts → Agrees k place → Agrees m place
-agrees_same k m place names first around outer types bodies variables exceptions texts w = record {
+pub agrees_same : (k m : Known) (place : Place) → m.here.names ≡ k.here.names → m.here.first_type ≡ k.here.first_type → m.here.around ≡ k.here.around → m.outer ≡ k.outer → length m.types ≡ length k.types → length m.bodies ≡ length k.bodies → length m.variables ≡ length k.variables → length m.exceptions ≡ length k.exceptions → length m.texts ≡ length k.texts → length m.pools ≡ length k.pools → ((t : ℕ) → pool_of m.types t ≡ pool_of k.types t) → Agrees k place → Agrees m place
+agrees_same k m place names first around outer types bodies variables exceptions texts pools placed w = record {
   here = λ text. subst (λ (ns : List Named). Stands (named text ns) (meaning_among text place.here)) (sym names) (w.here text);
   outer = λ text. outer_same k m place around outer w text;
   bodies = w.bodies ∙ sym bodies;
   first_type = w.first_type ∙ sym first;
   types = w.types ∙ sym types;
+  pools = w.pools ∙ sym pools;
+  placed = λ t. w.placed t ∙ ap (λ (o : Option ℕ). is_some o) (sym (placed t));
   variables = w.variables ∙ sym variables;
   exceptions = w.exceptions ∙ sym exceptions;
   texts = w.texts ∙ sym texts;
@@ -261,6 +273,8 @@ agrees_inside k place w = record {
   outer = stands_among k place w;
   first_type = w.types;
   types = w.types;
+  pools = w.pools;
+  placed = w.placed;
   bodies = w.bodies;
   variables = w.variables;
   exceptions = w.exceptions;
@@ -274,6 +288,8 @@ agrees_parameter k place name w = record {
   outer = stands_among k place w;
   first_type = w.types;
   types = w.types;
+  pools = w.pools;
+  placed = w.placed;
   bodies = w.bodies;
   variables = ap (λ (n : ℕ). n + 1) w.variables ∙ sym (length-append k.variables (record { name = name.text; spot = name.spot; kind = variable.Integer; borrows = false } ∷ []));
   exceptions = w.exceptions;
@@ -281,13 +297,15 @@ agrees_parameter k place name w = record {
 }
 
 -- an inner part ends
-pub agrees_behind : (k m z : Known) (place end : Place) → z.here.names ≡ k.here.names → z.here.first_type ≡ k.here.first_type → z.here.around ≡ k.here.around → z.outer ≡ k.outer → length z.types ≡ length m.types → length z.bodies ≡ length m.bodies → length z.variables ≡ length m.variables → length z.exceptions ≡ length m.exceptions → length z.texts ≡ length m.texts → Agrees k place → Agrees m end → Agrees z (behind place end)
-agrees_behind k m z place end names first around outer types bodies variables exceptions texts w v = record {
+pub agrees_behind : (k m z : Known) (place end : Place) → z.here.names ≡ k.here.names → z.here.first_type ≡ k.here.first_type → z.here.around ≡ k.here.around → z.outer ≡ k.outer → length z.types ≡ length m.types → length z.bodies ≡ length m.bodies → length z.variables ≡ length m.variables → length z.exceptions ≡ length m.exceptions → length z.texts ≡ length m.texts → length z.pools ≡ length m.pools → ((t : ℕ) → pool_of z.types t ≡ pool_of m.types t) → Agrees k place → Agrees m end → Agrees z (behind place end)
+agrees_behind k m z place end names first around outer types bodies variables exceptions texts pools placed w v = record {
   here = λ text. subst (λ (ns : List Named). Stands (named text ns) (meaning_among text place.here)) (sym names) (w.here text);
   outer = λ text. outer_same k z place around outer w text;
   bodies = v.bodies ∙ sym bodies;
   first_type = w.first_type ∙ sym first;
   types = v.types ∙ sym types;
+  pools = v.pools ∙ sym pools;
+  placed = λ t. v.placed t ∙ ap (λ (o : Option ℕ). is_some o) (sym (placed t));
   variables = v.variables ∙ sym variables;
   exceptions = v.exceptions ∙ sym exceptions;
   texts = v.texts ∙ sym texts;

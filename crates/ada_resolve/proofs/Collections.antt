@@ -17,7 +17,7 @@ skip_at [] es zero n e = refl
 skip_at [] es (suc i) n e = refl
 skip_at (record_of name ps cs ∷ ts) es zero n e = refl
 skip_at (object_of r ∷ ts) es zero n e = refl
-skip_at (access_to name d ∷ ts) es zero n e = by_test (is_collected n es) e
+skip_at (access_to name d pool ∷ ts) es zero n e = by_test (is_collected n es) e
   where
     by_test : (b : Bool) → (true && not b) ≡ false → cond b (collections_of (n + 1) ts es) (collects n ∷ collections_of (n + 1) ts es) ≡ collections_of (n + 1) ts es
     by_test true e = refl
@@ -30,7 +30,7 @@ unfolding designated_of
 made_at [] es i n e = absurd (cc e)
 made_at (record_of name ps cs ∷ ts) es zero n e = absurd (cc e)
 made_at (object_of r ∷ ts) es zero n e = absurd (cc e)
-made_at (access_to name d ∷ ts) es zero n e = by_test (is_collected n es) e
+made_at (access_to name d pool ∷ ts) es zero n e = by_test (is_collected n es) e
   where
     by_test : (b : Bool) → (true && not b) ≡ true → cond b (collections_of (n + 1) ts es) (collects n ∷ collections_of (n + 1) ts es) ≡ collects n ∷ collections_of (n + 1) ts es
     by_test true e = absurd (cc e)

@@ -1,47 +1,58 @@
 -- A declarative part is read as it is written: its types, its names and its objects.
 
 use Rattle.std.proofs.Common.{◌≡◌, ◌∙◌, ℕ, ◌+◌, ◌≤◌, Bool, true, false, cond, ◌||◌, ◌&&◌, List, [], ◌∷◌, ◌++◌, length, length-append, append_assoc, refl, sym, ap, subst, arith, eqb, eq-eqb}
-use Rattle.std.specs.Prelude.{Option, Some, None, bytes_eq, ◌==◌}
+use Rattle.std.specs.Prelude.{Option, Some, None, bytes_eq, codes, is_some, nat_le, nat_lt, ◌==◌, pos, negsuc}
 use Rattle.std.specs.List.{slice_get, slice_set, list_all}
 use Rattle.std.proofs.lemmas.List.{append-nil, length-set}
-use Rattle.std.proofs.lemmas.Bool.{ne_eqb, both_ways, false_from_ne_true}
+use Rattle.std.proofs.lemmas.Bool.{ne_eqb, both_ways, false_from_ne_true, leb-true, ltb-false}
 use Rattle.ada_text.specs.declared.spot.Spot.{Spot}
 use Rattle.ada_tree.specs.Names.{Ident, NameTree}
 use Rattle.ada_tree.specs.Records.{RecordTree}
-use Rattle.ada_tree.specs.Declarations.{AspectTree, HeadTree}
+use Rattle.ada_tree.specs.Declarations.{AspectTree, HeadTree, SizeTree, number_size, named_size}
 use Rattle.ada_resolve.specs.Procedures.{body_head_remark}
 use Rattle.ada_resolve.specs.Spots.{end_of, first_or}
 use Rattle.ada_tree.specs.Expressions.{RightTree}
-use Rattle.ada_tree.specs.Statements.{DeclarationTree, exception_declaration, constant_declaration, incomplete_type, access_type, record_type, instance, body_declaration, SequenceTree, object_declaration, borrower_declaration, DeclarationsTree, no_declarations, a_declaration}
+use Rattle.ada_tree.specs.Statements.{DeclarationTree, exception_declaration, constant_declaration, pool_declaration, attribute_clause, incomplete_type, access_type, record_type, instance, body_declaration, SequenceTree, object_declaration, borrower_declaration, DeclarationsTree, no_declarations, a_declaration}
 use Rattle.ada_program.specs.declared.program.Exception.TheVariants as exception
+use Rattle.ada_program.specs.declared.program.PoolNo.{PoolNo}
 use Rattle.ada_program.specs.declared.program.TypeNo.{TypeNo}
 use Rattle.ada_program.specs.declared.program.VariableKind.{VariableKind}
 use Rattle.ada_program.specs.declared.program.VariableKind.TheVariants as variable
-use Rattle.ada_program.specs.Form.{value_of, DeclarationForm, collects, declares, declares_record}
-use Rattle.ada_program.specs.ProgramForm.{TypeForm, record_of, access_to, object_of, VariableForm}
+use Rattle.ada_program.specs.Form.{value_of, DeclarationForm, creates_pool, collects, declares, declares_record}
+use Rattle.ada_program.specs.ProgramForm.{PoolForm, TypeForm, record_of, access_to, object_of, pool_number, VariableForm}
 use Rattle.ada_program.specs.WellFormed as well
-use Rattle.ada_resolve.specs.declared.fault.NameRule.TheVariants.{Layout}
+use Rattle.ada_resolve.specs.declared.fault.NameRule.TheVariants.{UnknownName, NotInProfile, Layout, Limit}
+use Rattle.ada_resolve.specs.declared.library.LibraryName.{LibraryName}
+use Rattle.ada_resolve.specs.declared.library.LibraryName.TheVariants.{TextIo, PutLine, UncheckedDeallocation, Finalization, OfFinalization, Pools, FirstFitPool, OfPools, RunInput, Get, EndError, OtherUnit, Unknown}
+use Rattle.ada_resolve.specs.declared.library.Withs.{Withs}
 use Rattle.ada_resolve.specs.Borrowers.{borrower_remark, borrower_known}
 use Rattle.ada_resolve.specs.declared.rights.Held.{Held}
 use Rattle.ada_resolve.specs.declared.rights.Held.TheVariants as held
 use Rattle.ada_resolve.specs.declared.scope.Entity.{Entity}
 use Rattle.ada_resolve.specs.declared.scope.Entity.TheVariants as entity
-use Rattle.ada_resolve.specs.Known.{Known, Named, named, declared, new_name_remark, type_begins, no_variable_yet, no_body_yet, types_go_on, next_variable}
-use Rattle.ada_resolve.specs.Types.{completed_type, defined, number_of, record_found, access_defined, aspect_remark, new_unless}
+use Rattle.ada_resolve.specs.Clauses as clauses
+use Rattle.ada_resolve.specs.Clauses.{pool_by, pool_of, placed_if, clause_pool, clause_known, clause_type_wanted, clause_place_remark, clause_value_remark, clause_remark}
+use Rattle.ada_resolve.specs.Library.{library_name, is_library_root, no_component_rule}
+use Rattle.ada_resolve.specs.Pools.{aspect_found, aspect_remark, first_fit_wanted, is_size, is_storage_pool, label_remark, most_words, next_pool, no_pool_type, pool_found, pool_in, pool_known, pool_name_remark, pool_type_remark, pool_wanted, size_in, size_remark, size_value, size_wanted}
+use Rattle.ada_resolve.specs.Remark.{wrong, ◌also◌}
+use Rattle.ada_resolve.specs.Known.{Known, Named, named, visible, missing, is_with, if_with, library_wrong, library_remark, declared, new_name_remark, type_begins, no_variable_yet, no_body_yet, types_go_on, next_variable, with_elaborated}
+use Rattle.ada_resolve.specs.Types.{completed_type, defined, number_of, record_found, access_defined, new_unless}
 use Rattle.ada_resolve.specs.Exceptions.{next_exception}
 use Rattle.ada_resolve.specs.Statics.{static_value}
 use Rattle.ada_resolve.specs.Records.{components_written, composition_of, record_type_remark, record_type_known}
-use Rattle.ada_resolve.specs.Instances.{freed_found, generic_remark, is_collected, instance_of, with_elaborated}
+use Rattle.ada_resolve.specs.Instances.{access_type_in, freed_found, frozen_by, generic_remark, is_collected, instance_of, with_frozen}
 use Rattle.ada_resolve.specs.Objects.{missing_collections, ends_types, after_types, next_record, object_remark, variable_created, record_created, created_of, object_known, held_of, object_type_found, initial_found, initial_items_in, initial_source, initial_value_in}
 use Rattle.ada_resolve.specs.Resolution.{gives, At, known_at, declaration_remark, declaration_known, single_told, declaration_told, declarations_told}
-use Rattle.ada_resolve.specs.Naming.{Context, Place, Meaning, an_incomplete_type, a_type, a_number, an_exception, an_instance, a_variable, meaning_among, IsTypeRead, IsInstanceRead}
-use Rattle.ada_resolve.specs.Reading.{read_at, IsNew, with_binding, with_incomplete_type, with_new_type, with_new_exception, with_new_variable, with_new_record, AreObjectsRead, is_one_of, AreCompleted, IsTypeDeclared, by_completion, by_new_type, DoTypesEnd, IsPartRead}
-use Rattle.ada_resolve.proofs.WellFormed.Remarks.{Quiet, quiet_unless}
+use Rattle.ada_resolve.specs.Naming.{Context, Place, Meaning, an_incomplete_type, a_type, a_number, an_exception, a_pool, an_instance, a_variable, meaning_among, is_one_of, IsTypeRead, IsInstanceRead, IsNumberNamed, IsPoolNamed, IsSizeRead, IsLabelRead, IsPoolRead, IsAspectRead, IsClauseRead}
+use Rattle.ada_resolve.specs.Reading.{read_at, IsNew, with_binding, with_incomplete_type, with_new_type, with_new_exception, with_new_variable, with_new_record, with_new_pool, with_placed, with_aspect, AreObjectsRead, AreCompleted, IsTypeDeclared, by_completion, by_new_type, DoTypesEnd, IsPartRead}
+use Rattle.ada_resolve.proofs.WellFormed.Forms.{forms, get_form, access_there, object_stays, record_there}
+use Rattle.ada_resolve.proofs.WellFormed.Placed.{none_defined, none_more, placed_forms, placed_length, placed_pool, placed_there, pool_placed, some_defined}
+use Rattle.ada_resolve.proofs.WellFormed.Remarks.{Quiet, quiet_if, quiet_unless}
 use Rattle.ada_resolve.proofs.WellFormed.Borrowers.{lent_of, borrower_is}
-use Rattle.ada_resolve.proofs.WellFormed.Names.{named_entered, same_text}
-use Rattle.ada_resolve.proofs.WellFormed.Tables.{get_last}
-use Rattle.ada_resolve.proofs.Standing.{Sound, Complete, Grows, Keeps, complete_grows, record_settled, longer, ended_sound, declarations_done, single_done, ProcedureDone, procedure_done, told_sound, told_keeps, head_new, body_stays, around_body, around_sound, body_ended_names, body_ended_some, declarations_keep, IsSlot, new_slot, slot_of, old_name, defined_there}
-use Rattle.ada_resolve.proofs.Agreeing.{bound_to, Stands, Agrees, Ahead, Readable, stands_entered, agrees_same, not_predefined}
+use Rattle.ada_resolve.proofs.WellFormed.Names.{EntityFits, named_entered, same_text, text_same, visible_fits}
+use Rattle.ada_resolve.proofs.WellFormed.Tables.{get_last, second_part}
+use Rattle.ada_resolve.proofs.Standing.{Sound, Complete, Grows, Keeps, no_pool, storage_quiet, complete_grows, record_settled, longer, ended_sound, declarations_done, single_done, ProcedureDone, procedure_done, told_sound, told_keeps, head_new, body_stays, around_body, around_sound, body_ended_names, body_ended_some, declarations_keep, IsSlot, new_slot, slot_of, old_name, defined_there}
+use Rattle.ada_resolve.proofs.Agreeing.{bound_to, Stands, Agrees, Ahead, EntityRead, Readable, stands_entered, agrees_same, visible_read, not_predefined}
 use Rattle.ada_resolve.proofs.Keeping.{Lasts, lasts_ahead, lasts_on}
 use Rattle.ada_resolve.proofs.Written.{Legible, static_read, all_read, all_laid, all_apart, FoundRecord, record_read, designated_read, FoundAccess, access_read, generic_read, ObjectRead, RecordRead, TypeRead, object_read, IsObjectType, object_type_is}
 use Rattle.ada_resolve.proofs.Lent.{borrower_read}
@@ -51,6 +62,8 @@ use Rattle.ada_resolve.proofs.Others.{others_of}
 pub ahead_on : (k m : Known) (p : Context) → Grows k m → Ahead m p → Ahead k p
 ahead_on k m p g w = record {
   types = λ t x is. w.types t x (g.types t x is);
+  placed = λ t n is. w.placed t n (g.placed t n is);
+  pools = λ n x is. w.pools n x (g.pools n x is);
   variables = λ t x is. w.variables t x (g.variables t x is);
   exceptions = λ t x is. w.exceptions t x (g.exceptions t x is);
   texts = λ t x is. w.texts t x (g.texts t x is);
@@ -59,7 +72,7 @@ ahead_on k m p g w = record {
 
 -- and at another place
 pub ahead_at : (k : Known) (p : Context) (place : Place) → Ahead k p → Ahead k (read_at place p)
-ahead_at k p place w = record { types = w.types; variables = w.variables; exceptions = w.exceptions; texts = w.texts; bodies = w.bodies }
+ahead_at k p place w = record { types = w.types; placed = w.placed; pools = w.pools; variables = w.variables; exceptions = w.exceptions; texts = w.texts; bodies = w.bodies }
 
 -- where the types end, the tables stay, and so do the names
 pub after_ahead : (k : Known) (p : Context) → Ahead k p → Ahead (after_types k) p
@@ -67,7 +80,7 @@ unfolding after_types
 after_ahead k p w = by_end (types_go_on k)
   where
     by_end : (b : Bool) → Ahead (ends_types b k) p
-    by_end true = record { types = w.types; variables = w.variables; exceptions = w.exceptions; texts = w.texts; bodies = w.bodies }
+    by_end true = record { types = w.types; placed = w.placed; pools = w.pools; variables = w.variables; exceptions = w.exceptions; texts = w.texts; bodies = w.bodies }
     by_end false = w
 
 pub ahead_before : (k : Known) (p : Context) → Ahead (after_types k) p → Ahead k p
@@ -75,7 +88,7 @@ unfolding after_types
 ahead_before k p w = by_end (types_go_on k) w
   where
     by_end : (b : Bool) → Ahead (ends_types b k) p → Ahead k p
-    by_end true w = record { types = w.types; variables = w.variables; exceptions = w.exceptions; texts = w.texts; bodies = w.bodies }
+    by_end true w = record { types = w.types; placed = w.placed; pools = w.pools; variables = w.variables; exceptions = w.exceptions; texts = w.texts; bodies = w.bodies }
     by_end false w = w
 
 pub after_agrees : (k : Known) (place : Place) → Agrees k place → Agrees (after_types k) place
@@ -83,7 +96,7 @@ unfolding after_types
 after_agrees k place w = by_end (types_go_on k)
   where
     by_end : (b : Bool) → Agrees (ends_types b k) place
-    by_end true = agrees_same k (ends_types true k) place refl refl refl refl refl refl refl refl refl w
+    by_end true = agrees_same k (ends_types true k) place refl refl refl refl refl refl refl refl refl refl (λ t. refl) w
     by_end false = w
 
 pub after_full : (k : Known) → types_go_on k ≡ false → after_types k ≡ k
@@ -111,12 +124,14 @@ after_variables k = by_end (types_go_on k)
     by_end false = refl
 
 -- a name is declared, and tables grow
-agrees_declared : (k : Known) (place : Place) (name : Ident) (e : Entity) (meaning : Meaning) (types : List TypeForm) (variables : List VariableForm) (exceptions : List (List ℕ)) (elaborated : List DeclarationForm) (nt nv ne : ℕ) → bound_to e ≡ Some meaning → nt ≡ length types → nv ≡ length variables → ne ≡ length exceptions → Agrees k place → Agrees (declared (record k { types = types; variables = variables; exceptions = exceptions; here = record k.here { elaborated = elaborated } }) name.text e) (record (with_binding name meaning place) { types = nt; variables = nv; exceptions = ne })
-agrees_declared k place name e meaning types variables exceptions elaborated nt nv ne own t v x w = record {
+agrees_declared : (k : Known) (place : Place) (name : Ident) (e : Entity) (meaning : Meaning) (types : List TypeForm) (variables : List VariableForm) (exceptions : List (List ℕ)) (frozen : List ℕ) (elaborated : List DeclarationForm) (nt nv ne : ℕ) (ps : List ℕ) → bound_to e ≡ Some meaning → nt ≡ length types → nv ≡ length variables → ne ≡ length exceptions → ((u : ℕ) → is_one_of u ps ≡ is_some (pool_of types u)) → Agrees k place → Agrees (declared (record k { types = types; variables = variables; exceptions = exceptions; frozen = frozen; here = record k.here { elaborated = elaborated } }) name.text e) (record (with_binding name meaning place) { types = nt; variables = nv; exceptions = ne; placed = ps })
+agrees_declared k place name e meaning types variables exceptions frozen elaborated nt nv ne ps own t v x h w = record {
   here = stands_entered k.here.names place.here name e meaning own w.here;
   outer = w.outer;
   first_type = w.first_type;
   types = t;
+  pools = w.pools;
+  placed = h;
   bodies = w.bodies;
   variables = v;
   exceptions = x;
@@ -140,6 +155,7 @@ completed_place k place w c text t is = by_name (named text k.here.names) refl (
     by_entity (entity.Exception exception.ProgramError) there so = cc so
     by_entity (entity.Exception exception.StorageError) there so = cc so
     by_entity (entity.Exception exception.EndError) there so = cc so
+    by_entity (entity.Pool n) there so = cc so
     by_entity (entity.Instance u) there so = cc so
     by_entity (entity.Variable x kind) there so = cc so
     by_entity (entity.Parameter x kind) there so = cc so
@@ -241,8 +257,8 @@ variable_there k m p name types v form is ahead =
 variable_agrees : (k m : Known) (at : Place) (name : Ident) (v : VariableForm) (form : DeclarationForm) → m ≡ with_made k name k.types v form → Agrees k at → Agrees m (with_new_variable name at)
 variable_agrees k m at name v form is w =
     subst (λ u. Agrees u (with_new_variable name at)) (sym is)
-    (agrees_declared k at name (entity.Variable (next_variable k) v.kind) (a_variable at.variables) k.types (k.variables ++ v ∷ []) k.exceptions (k.here.elaborated ++ form ∷ [])
-    at.types (at.variables + 1) at.exceptions (ap (λ (n : ℕ). Some (a_variable n)) (sym w.variables)) w.types (one_longer k.variables v at.variables w.variables) w.exceptions w)
+    (agrees_declared k at name (entity.Variable (next_variable k) v.kind) (a_variable at.variables) k.types (k.variables ++ v ∷ []) k.exceptions k.frozen (k.here.elaborated ++ form ∷ [])
+    at.types (at.variables + 1) at.exceptions at.placed (ap (λ (n : ℕ). Some (a_variable n)) (sym w.variables)) w.types (one_longer k.variables v at.variables w.variables) w.exceptions w.placed w)
 
 -- `X : T := ..;`
 value_made : (name : Ident) (type_name : NameTree) (initial : Option RightTree) (kind : Held) (of : VariableKind) (k m : Known) → Quiet (new_name_remark k name name.spot) → ((p : Context) → Readable k p → ObjectRead k p type_name initial kind of) → m ≡ variable_created k name false of (initial_source (initial_value_in (initial_found k (Some kind) initial))) → Made (object_declaration name type_name initial) name k m
@@ -280,9 +296,9 @@ record_made name type_name initial t k m new said is =
       is = is;
       new = new;
       agrees = λ at w. subst (λ u. Agrees u (with_new_record name at)) (sym is)
-          (agrees_declared k at name (entity.Variable (next_variable k) (next_record k)) (a_variable at.variables) types (k.variables ++ v ∷ []) k.exceptions (k.here.elaborated ++ form ∷ [])
-          (at.types + 1) (at.variables + 1) at.exceptions (ap (λ (n : ℕ). Some (a_variable n)) (sym w.variables)) (one_longer k.types (object_of t.0) at.types w.types)
-          (one_longer k.variables v at.variables w.variables) w.exceptions w);
+          (agrees_declared k at name (entity.Variable (next_variable k) (next_record k)) (a_variable at.variables) types (k.variables ++ v ∷ []) k.exceptions k.frozen (k.here.elaborated ++ form ∷ [])
+          (at.types + 1) (at.variables + 1) at.exceptions at.placed (ap (λ (n : ℕ). Some (a_variable n)) (sym w.variables)) (one_longer k.types (object_of t.0) at.types w.types)
+          (one_longer k.variables v at.variables w.variables) w.exceptions (λ u. w.placed u ∙ sym (none_more k.types (object_of t.0) u refl)) w);
       read = λ p ds forms end w ahead new rest.
           let r = said p w in
           let known_by : slice_get m.types (length k.types) ≡ Some (object_of t.0) = ap (λ (u : Known). slice_get u.types (length k.types)) is ∙ get_last k.types (object_of t.0) in (
@@ -292,7 +308,7 @@ record_made name type_name initial t k m new said is =
             record {
               there = variable_there k m p name types v form is ahead;
               t = t.0;
-              known_by = ahead.types (length k.types) (object_of t.0) known_by;
+              known_by = object_stays m.types p.types ahead.types (length k.types) t.0 known_by;
               alone = r.alone;
               record_named = r.record_named;
               starts = r.starts;
@@ -430,6 +446,8 @@ complete_back (a_declaration (record_type spot name definition) ds) at after s f
 complete_back (a_declaration (instance spot name generic object access) ds) at after s full e c = absurd (no_types at.0 spot full (next_of (instance spot name generic object access) ds at after tt s e).quiet.0)
 complete_back (a_declaration (constant_declaration name value) ds) at after s full e c = absurd (no_types at.0 name.spot full (next_of (constant_declaration name value) ds at after tt s e).quiet.0)
 complete_back (a_declaration (exception_declaration name) ds) at after s full e c = absurd (no_types at.0 name.spot full (next_of (exception_declaration name) ds at after tt s e).quiet.0)
+complete_back (a_declaration (pool_declaration name type_name label size) ds) at after s full e c = absurd (no_types at.0 name.spot full (next_of (pool_declaration name type_name label size) ds at after tt s e).quiet.0)
+complete_back (a_declaration (attribute_clause spot name attribute value) ds) at after s full e c = absurd (no_types at.0 spot full (next_of (attribute_clause spot name attribute value) ds at after tt s e).quiet.0)
 complete_back (a_declaration (body_declaration head inner body end_name) ds) at after s full e c =
     let d = body_declaration head inner body end_name in
     let done = declarations_done d ds at after e in
@@ -525,6 +543,8 @@ objects_read p (a_declaration (record_type spot name definition) ds) at after s 
 objects_read p (a_declaration (instance spot name generic object access) ds) at after s w full c ahead e = absurd (no_types at.0 spot (some_variable at.0 full) (next_of (instance spot name generic object access) ds at after tt s e).quiet.0)
 objects_read p (a_declaration (constant_declaration name value) ds) at after s w full c ahead e = absurd (no_types at.0 name.spot (some_variable at.0 full) (next_of (constant_declaration name value) ds at after tt s e).quiet.0)
 objects_read p (a_declaration (exception_declaration name) ds) at after s w full c ahead e = absurd (no_types at.0 name.spot (some_variable at.0 full) (next_of (exception_declaration name) ds at after tt s e).quiet.0)
+objects_read p (a_declaration (pool_declaration name type_name label size) ds) at after s w full c ahead e = absurd (no_types at.0 name.spot (some_variable at.0 full) (next_of (pool_declaration name type_name label size) ds at after tt s e).quiet.0)
+objects_read p (a_declaration (attribute_clause spot name attribute value) ds) at after s w full c ahead e = absurd (no_types at.0 spot (some_variable at.0 full) (next_of (attribute_clause spot name attribute value) ds at after tt s e).quiet.0)
 objects_read p (a_declaration (body_declaration head inner body end_name) ds) at after s w full c ahead e =
     let done = declarations_done (body_declaration head inner body end_name) ds at after e in
     absurd (no_body at.0 head (first_or head.overriding head.spot) full (procedure_done head inner body end_name at done.next done.one).quiet)
@@ -599,23 +619,53 @@ plain_first k m z p q d ds same on more = record {
 }
 
 -- the place behind a full type declaration
-abbrev type_place : Option TypeNo → Ident → Place → Place
-type_place (Some t) name place = with_binding name (a_type t.0) place
-type_place None name place = with_new_type name place
+abbrev type_place : Option TypeNo → Ident → DeclarationTree → Place → Place
+type_place (Some t) name d place = with_binding name (a_type t.0) (with_aspect d t.0 place)
+type_place None name d place = with_new_type name (with_aspect d place.types place)
 
 abbrev defining : Known → Ident → Option TypeNo → TypeForm → Entity → Known
 defining k name c form e = declared (record k { types = defined c form k.types }) name.text e
 
-agrees_type : (k : Known) (place : Place) (name : Ident) (c : Option TypeNo) (form : TypeForm) (e : Entity) → bound_to e ≡ Some (a_type (number_of c k.types).0) → Agrees k place → Agrees (defining k name c form e) (type_place c name place)
-agrees_type k place name (Some t) form e own w =
-    agrees_declared k place name e (a_type t.0) (slice_set k.types t.0 form) k.variables k.exceptions k.here.elaborated place.types place.variables place.exceptions
-    own (w.types ∙ sym (length-set k.types t.0 form)) w.variables w.exceptions w
-agrees_type k place name None form e own w =
-    agrees_declared k place name e (a_type place.types) (k.types ++ form ∷ []) k.variables k.exceptions k.here.elaborated (place.types + 1) place.variables place.exceptions
-    (own ∙ ap (λ (n : ℕ). Some (a_type n)) (sym w.types)) (one_longer k.types form place.types w.types) w.variables w.exceptions w
+-- an aspect names the pool of its type
+abbrev aspect_placed : Option AspectTree → ℕ → List ℕ → List ℕ
+aspect_placed None t ps = ps
+aspect_placed (Some aspect) t ps = t ∷ ps
+
+abbrev names_pool : DeclarationTree → ℕ → List ℕ → List ℕ
+names_pool (access_type spot name designated aspect) t ps = aspect_placed aspect t ps
+names_pool d t ps = ps
+
+abbrev IsFullType : DeclarationTree → Type 0
+IsFullType (access_type spot name designated aspect) = Unit {0}
+IsFullType (record_type spot name definition) = Unit {0}
+IsFullType d = ⊥
+
+aspect_place : (d : DeclarationTree) (t : ℕ) (place : Place) → IsFullType d → with_aspect d t place ≡ record place { placed = names_pool d t place.placed }
+aspect_place (access_type spot name designated None) t place full = refl
+aspect_place (access_type spot name designated (Some aspect)) t place full = refl
+aspect_place (record_type spot name definition) t place full = refl
+aspect_place d t place full = absurd full
+
+-- what a declaration completes had no pool
+had_none : (k : Known) (text : List ℕ) (c : Option TypeNo) → Sound k → IsSlot k text c → (u : TypeNo) → c ≡ Some u → (x : TypeForm) × (slice_get k.types u.0 ≡ Some x) × (pool_by (Some x) ≡ None)
+had_none k text None s slot u is = absurd (cc is)
+had_none k text (Some t) s slot u is =
+    let same : t ≡ u = cc is in
+    (record_of text [] [], subst (λ (v : TypeNo). slice_get k.types v.0 ≡ Some (record_of text [] [])) same (s.names.0 text (entity.Incomplete t) slot), refl)
+
+agrees_type : (k : Known) (place : Place) (name : Ident) (c : Option TypeNo) (d : DeclarationTree) (form : TypeForm) (e : Entity) → IsFullType d → bound_to e ≡ Some (a_type (number_of c k.types).0) → ((u : ℕ) → is_one_of u (names_pool d (number_of c k.types).0 place.placed) ≡ is_some (pool_of (defined c form k.types) u)) → Agrees k place → Agrees (defining k name c form e) (type_place c name d place)
+agrees_type k place name (Some t) d form e full own h w =
+    subst (λ (q : Place). Agrees (defining k name (Some t) form e) (with_binding name (a_type t.0) q)) (sym (aspect_place d t.0 place full))
+    (agrees_declared k place name e (a_type t.0) (slice_set k.types t.0 form) k.variables k.exceptions k.frozen k.here.elaborated place.types place.variables place.exceptions
+    (names_pool d t.0 place.placed) own (w.types ∙ sym (length-set k.types t.0 form)) w.variables w.exceptions h w)
+agrees_type k place name None d form e full own h w =
+    subst (λ (q : Place). Agrees (defining k name None form e) (with_new_type name q)) (sym (aspect_place d place.types place full))
+    (agrees_declared k place name e (a_type place.types) (k.types ++ form ∷ []) k.variables k.exceptions k.frozen k.here.elaborated (place.types + 1) place.variables place.exceptions
+    (names_pool d place.types place.placed) (own ∙ ap (λ (n : ℕ). Some (a_type n)) (sym w.types)) (one_longer k.types form place.types w.types) w.variables w.exceptions
+    (λ u. ap (λ (n : ℕ). is_one_of u (names_pool d n place.placed)) w.types ∙ h u) w)
 
 -- a full type declaration completes a type, or declares the next
-type_first : (k : Known) (p : Context) (name : Ident) (c : Option TypeNo) (d : DeclarationTree) (spot : Spot) → Agrees k p.place → IsSlot k name.text c → Quiet (new_unless c (new_name_remark k name spot)) → IsTypeRead p d (number_of c k.types).0 → IsTypeDeclared p d name (type_place c name p.place)
+type_first : (k : Known) (p : Context) (name : Ident) (c : Option TypeNo) (d : DeclarationTree) (spot : Spot) → Agrees k p.place → IsSlot k name.text c → Quiet (new_unless c (new_name_remark k name spot)) → IsTypeRead p d (number_of c k.types).0 → IsTypeDeclared p d name (type_place c name d p.place)
 type_first k p name (Some t) d spot w slot q r = by_completion (bound_here k p.place name.text (entity.Incomplete t) (an_incomplete_type t.0) w slot refl) r
 type_first k p name None d spot w slot q r =
     by_new_type (new_there k p.place name spot w q) (subst (λ (n : ℕ). IsTypeRead p d n) (sym w.types) r)
@@ -624,29 +674,84 @@ type_first k p name None d spot w slot q r =
 legible_at : (k z : Known) (p : Context) → Sound k → Agrees k p.place → Keeps k z → Ahead z p → Legible k p
 legible_at k z p s w f ahead = record { sound = s; agrees = w; lasts = lasts_on k z p s f (lasts_ahead z p ahead) }
 
--- `type A is access T;`
-no_aspect : (aspect : Option AspectTree) → Quiet (aspect_remark aspect) → aspect ≡ None
-no_aspect None q = refl
-no_aspect (Some aspect) q = absurd q
+-- the pool that a name stands for
+record PoolRead (k : Known) (p : Context) (name : Ident) : Type 0 where
+  pool : PoolNo
+  found : pool_found k name ≡ Some pool
+  named_so : IsPoolNamed p name.text pool.0
 
+pool_at : (k : Known) (p : Context) (name : Ident) (o : Option Entity) → visible k name.text ≡ o → ((e : Entity) → o ≡ Some e → EntityRead p name.text e) → Quiet (pool_wanted o name) → (pool : PoolNo) × (o ≡ Some (entity.Pool pool)) × IsPoolNamed p name.text pool.0
+pool_at k p name (Some (entity.Pool n)) is r q = (n, refl, r (entity.Pool n) refl)
+pool_at k p name (Some e) is r q = absurd q
+pool_at k p name None is r q = absurd q
+
+pool_read : (k : Known) (p : Context) (name : Ident) → Agrees k p.place → Quiet (pool_name_remark k name) → PoolRead k p name
+unfolding pool_found pool_name_remark
+pool_read k p name w q =
+    let at = pool_at k p name (visible k name.text) refl (visible_read k p w name.text) q in
+    record { pool = at.0; found = ap (λ (o : Option Entity). pool_in o) at.1; named_so = at.2 }
+
+-- the pool of an aspect
+record AspectDone (k : Known) (p : Context) (aspect : AspectTree) : Type 0 where
+  on : is_storage_pool aspect.name ≡ true
+  read : PoolRead k p aspect.value
+
+aspect_done : (k : Known) (p : Context) (aspect : AspectTree) → Agrees k p.place → Quiet (aspect_remark k (Some aspect)) → AspectDone k p aspect
+aspect_done k p aspect w q = by_name (is_storage_pool aspect.name) refl q
+  where
+    by_name : (b : Bool) → is_storage_pool aspect.name ≡ b → Quiet (cond b (pool_name_remark k aspect.value) (wrong aspect.name.spot NotInProfile)) → AspectDone k p aspect
+    by_name true is q = record { on = is; read = pool_read k p aspect.value w q }
+    by_name false is q = absurd q
+
+aspect_is : (k : Known) (p : Context) (aspect : AspectTree) (d : AspectDone k p aspect) → aspect_found k (Some aspect) ≡ Some d.read.pool
+aspect_is k p aspect d = ap (λ (b : Bool). cond b (pool_found k aspect.value) None) d.on ∙ d.read.found
+
+-- the pool of an aspect is named at the place behind it, and no other one
+aspect_agrees : (k : Known) (p : Context) (name : Ident) (aspect : Option AspectTree) (c : Option TypeNo) (r : TypeNo) → Sound k → IsSlot k name.text c → Agrees k p.place → Quiet (aspect_remark k aspect) → (u : ℕ) → is_one_of u (aspect_placed aspect (number_of c k.types).0 p.place.placed) ≡ is_some (pool_of (defined c (access_to name.text r.0 (pool_number (aspect_found k aspect))) k.types) u)
+aspect_agrees k p name None c r s slot w q u =
+    w.placed u ∙ sym (none_defined k.types c (access_to name.text r.0 None) u (had_none k name.text c s slot) refl)
+aspect_agrees k p name (Some aspect) c r s slot w q u =
+    let n = (number_of c k.types).0 in
+    let d = aspect_done k p aspect w q in
+    let form = access_to name.text r.0 (pool_number (aspect_found k (Some aspect))) in
+    let on : is_some (pool_by (Some form)) ≡ true = ap (λ (o : Option PoolNo). is_some (pool_number o)) (aspect_is k p aspect d) in
+    ap (λ (b : Bool). eqb n u || b) (w.placed u) ∙ sym (some_defined k.types c form u (had_none k name.text c s slot) on)
+
+-- `type A is access T;`
 -- what an access type leaves
-record AccessDone (k m : Known) (p : Context) (name designated : Ident) : Type 0 where
+record AccessDone (k m : Known) (p : Context) (name designated : Ident) (aspect : Option AspectTree) : Type 0 where
   r : TypeNo
-  is : m ≡ defining k name (completed_type k name) (access_to name.text r.0) (entity.Access (number_of (completed_type k name) k.types))
+  is : m ≡ defining k name (completed_type k name) (access_to name.text r.0 (pool_number (aspect_found k aspect))) (entity.Access (number_of (completed_type k name) k.types))
   found : FoundRecord k p designated (Some r)
 
-access_done : (k m : Known) (p : Context) (name designated : Ident) (o : Option TypeNo) → FoundRecord k p designated o → m ≡ access_defined k name (completed_type k name) o → AccessDone k m p name designated
-access_done k m p name designated None found is = absurd found
-access_done k m p name designated (Some r) found is = record { r = r; is = is; found = found }
+access_done : (k m : Known) (p : Context) (name designated : Ident) (aspect : Option AspectTree) (o : Option TypeNo) → FoundRecord k p designated o → m ≡ access_defined k name (completed_type k name) o (aspect_found k aspect) → AccessDone k m p name designated aspect
+access_done k m p name designated aspect None found is = absurd found
+access_done k m p name designated aspect (Some r) found is = record { r = r; is = is; found = found }
 
-access_type_read : (k m : Known) (p : Context) (spot : Spot) (name designated : Ident) (aspect : Option AspectTree) → Legible k p → Lasts m p → IsSlot k name.text (completed_type k name) → list_all (well.type_fits p.types) p.types ≡ true → aspect ≡ None → AccessDone k m p name designated → IsTypeRead p (access_type spot name designated aspect) (number_of (completed_type k name) k.types).0
-access_type_read k m p spot name designated aspect w lasts slot fit none r =
+-- the pool of the type in the end is that of its aspect
+aspect_read : (k m : Known) (p : Context) (aspect : Option AspectTree) (t : ℕ) (name : List ℕ) (d : ℕ) (pool : Option ℕ) → Agrees k p.place → Quiet (aspect_remark k aspect) → Lasts m p → slice_get m.types t ≡ Some (access_to name d (pool_number (aspect_found k aspect))) → slice_get p.types t ≡ Some (access_to name d pool) → IsAspectRead p aspect pool
+unfolding pool_of
+aspect_read k m p None t name d pool w q lasts there last = tt
+aspect_read k m p (Some aspect) t name d pool w q lasts there last =
+    let done = aspect_done k p aspect w q in
+    let had : pool_of m.types t ≡ Some done.read.pool.0 = ap (λ (o : Option TypeForm). pool_by o) there ∙ ap (λ (o : Option PoolNo). pool_number o) (aspect_is k p aspect done) in
+    let has = lasts.placed t done.read.pool.0 had in
+    let own : pool ≡ Some done.read.pool.0 = sym (ap (λ (o : Option TypeForm). pool_by o) last) ∙ has in
+    (done.read.pool.0, own, text_same aspect.name.text (codes "STORAGE_POOL") done.on, done.read.named_so)
+
+access_type_read : (k m : Known) (p : Context) (spot : Spot) (name designated : Ident) (aspect : Option AspectTree) → Legible k p → Lasts m p → IsSlot k name.text (completed_type k name) → list_all (well.type_fits p.types) p.types ≡ true → Quiet (aspect_remark k aspect) → AccessDone k m p name designated aspect → IsTypeRead p (access_type spot name designated aspect) (number_of (completed_type k name) k.types).0
+access_type_read k m p spot name designated aspect w lasts slot fit q r =
     let c = completed_type k name in
     let t = (number_of c k.types).0 in
-    let form = access_to name.text r.r.0 in
+    let form = access_to name.text r.r.0 (pool_number (aspect_found k aspect)) in
     let there : slice_get m.types t ≡ Some form = ap (λ (v : Known). slice_get v.types t) r.is ∙ defined_there k name.text c form w.sound slot in
-    let last = lasts.accesses t name.text r.r.0 there in
-    (none, r.r.0, last, designated_read p name.text designated.text t r.r.0 fit last (w.lasts.type_names r.r.0 designated.text r.found.0) r.found.1)
+    let last = access_there p.types t name.text r.r.0 (lasts.accesses t name.text r.r.0 (get_form m.types t form there)) in (
+      r.r.0,
+      last.0,
+      last.1,
+      designated_read p name.text designated.text t r.r.0 last.0 fit last.1 (w.lasts.type_names r.r.0 designated.text r.found.0) r.found.1,
+      aspect_read k m p aspect t name.text r.r.0 last.0 w.agrees q lasts there last.1,
+    )
 
 -- `type T is record .. end record;`
 record_type_read : (k m : Known) (p : Context) (spot : Spot) (name : Ident) (definition : RecordTree) → Legible k p → Sound m → Lasts m p → IsSlot k name.text (completed_type k name) → m ≡ record_type_known k name definition → Quiet (record_type_remark k spot name definition) → IsTypeRead p (record_type spot name definition) (number_of (completed_type k name) k.types).0
@@ -661,13 +766,13 @@ record_type_read k m p spot name definition w sound lasts slot is q =
     let on : bytes_eq name.text name.text ≡ true = same_text name.text name.text refl in
     let mine : named name.text m.here.names ≡ Some e =
     ap (λ (v : Known). named name.text v.here.names) is ∙ (named_entered k.here.names name.text name.text e ∙ ap (λ (b : Bool). cond b (Some e) (named name.text k.here.names)) on) in
-    let last = lasts.settled n.0 form there (record_settled m name.text n made.size sound mine) in
+    let last = record_there p.types n.0 name.text made.parts made.kinds (lasts.settled n.0 form (get_form m.types n.0 form there) (record_settled m name.text n made.size sound mine)) in
     (made.parts, made.kinds, last, all_read k p cs w q.1.1, all_apart k cs q.1.1, all_laid k p cs w)
 
 -- `procedure Free is new Ada.Unchecked_Deallocation (T, A);`
 record Freed (k m : Known) (p : Context) (name object access : Ident) : Type 0 where
   t : TypeNo
-  is : m ≡ declared (with_elaborated (collects t.0 ∷ []) k) name.text (entity.Instance t)
+  is : m ≡ declared (with_frozen t.0 (with_elaborated (collects t.0 ∷ []) k)) name.text (entity.Instance t)
   found : FoundAccess k p access object (Some t)
 
 freed_at : (k m : Known) (p : Context) (name object access : Ident) (o : Option TypeNo) → FoundAccess k p access object o → m ≡ instance_of k name o → Freed k m p name object access
@@ -682,6 +787,7 @@ collected_more (collects s ∷ es) t u = rw (collected_more es t u) (turn (eqb s
     turn true true c = refl
     turn true false c = refl
     turn false b c = refl
+collected_more (creates_pool n ∷ es) t u = collected_more es t u
 collected_more (declares x value ∷ es) t u = collected_more es t u
 collected_more (declares_record x object initial ∷ es) t u = collected_more es t u
 
@@ -695,9 +801,151 @@ instance_first k m z p spot name generic object access ds r new own on = record 
 }
 
 instance_read : (k : Known) (p : Context) (generic : NameTree) (object access : Ident) (t : TypeNo) → Legible k p → list_all (well.type_fits p.types) p.types ≡ true → Quiet (generic_remark k generic) → FoundAccess k p access object (Some t) → IsInstanceRead p generic object access t.0
-instance_read k p generic object access t w fit q (named_so, d, there, form, typed) =
-    let last = w.lasts.accesses t.0 access.text d there in
-    (generic_read k generic q, (named_so, d, last, designated_read p access.text object.text t.0 d fit last (w.lasts.type_names d object.text form) typed))
+instance_read k p generic object access t w fit q (named_so, d, pool, there, form, typed) =
+    let last = access_there p.types t.0 access.text d (w.lasts.accesses t.0 access.text d (get_form k.types t.0 (access_to access.text d pool) there)) in
+    (generic_read k generic q, (named_so, d, last.0, last.1, designated_read p access.text object.text t.0 d last.0 fit last.1 (w.lasts.type_names d object.text form) typed))
+
+-- `P : Profile_Pools.First_Fit_Pool (64);`
+first_fit_is : (withs : Withs) (n : LibraryName) (spot : Spot) → Quiet (library_wrong withs n spot) → Quiet (first_fit_wanted (if_with (is_with withs n) n) spot) → n ≡ FirstFitPool
+first_fit_is withs FirstFitPool spot q d = refl
+first_fit_is withs TextIo spot q d = absurd (subst (λ (b : Bool). Quiet (first_fit_wanted (if_with b TextIo) spot)) (quiet_unless withs.text_io spot UnknownName q) d)
+first_fit_is withs PutLine spot q d = absurd (subst (λ (b : Bool). Quiet (first_fit_wanted (if_with b PutLine) spot)) (quiet_unless withs.text_io spot UnknownName q) d)
+first_fit_is withs UncheckedDeallocation spot q d = absurd (subst (λ (b : Bool). Quiet (first_fit_wanted (if_with b UncheckedDeallocation) spot)) (quiet_unless withs.deallocation spot UnknownName q) d)
+first_fit_is withs Finalization spot q d = absurd (subst (λ (b : Bool). Quiet (first_fit_wanted (if_with b Finalization) spot)) (quiet_unless withs.finalization spot UnknownName q) d)
+first_fit_is withs OfFinalization spot q d = absurd q
+first_fit_is withs Pools spot q d = absurd (subst (λ (b : Bool). Quiet (first_fit_wanted (if_with b Pools) spot)) (quiet_unless withs.pools spot UnknownName q) d)
+first_fit_is withs OfPools spot q d = absurd q
+first_fit_is withs RunInput spot q d = absurd (subst (λ (b : Bool). Quiet (first_fit_wanted (if_with b RunInput) spot)) (quiet_unless withs.run_input spot UnknownName q) d)
+first_fit_is withs Get spot q d = absurd (subst (λ (b : Bool). Quiet (first_fit_wanted (if_with b Get) spot)) (quiet_unless withs.run_input spot UnknownName q) d)
+first_fit_is withs EndError spot q d = absurd (subst (λ (b : Bool). Quiet (first_fit_wanted (if_with b EndError) spot)) (quiet_unless withs.run_input spot UnknownName q) d)
+first_fit_is withs OtherUnit spot q d = absurd q
+first_fit_is withs Unknown spot q d = absurd q
+
+pool_type_read : (k : Known) (type_name : NameTree) → Quiet (pool_type_remark k type_name) → library_name type_name.first.text type_name.rest ≡ FirstFitPool
+unfolding pool_type_remark
+pool_type_read k type_name q = by_root (is_library_root type_name.first.text) q
+  where
+    by_entity : (o : Option Entity) → Quiet (no_pool_type o type_name.first) → ⊥
+    by_entity (Some e) q = q
+    by_entity None q = q
+
+    by_root : (b : Bool) → Quiet (cond b (library_remark k type_name.first type_name.rest also first_fit_wanted (if_with (is_with k.withs (library_name type_name.first.text type_name.rest)) (library_name type_name.first.text type_name.rest)) type_name.first.spot) (no_pool_type (visible k type_name.first.text) type_name.first)) → library_name type_name.first.text type_name.rest ≡ FirstFitPool
+    by_root true q = first_fit_is k.withs (library_name type_name.first.text type_name.rest) type_name.first.spot q.0 q.1
+    by_root false q = absurd (by_entity (visible k type_name.first.text) q)
+
+label_read : (label : Option Ident) → Quiet (label_remark label) → IsLabelRead label
+label_read None q = tt
+label_read (Some label) q = text_same label.text (codes "POOL_SIZE") (quiet_unless (bytes_eq label.text (codes "POOL_SIZE")) label.spot (no_component_rule label.text) q)
+
+size_named : (p : Context) (name : Ident) (o : Option Entity) → ((e : Entity) → o ≡ Some e → EntityRead p name.text e) → Quiet (size_wanted o name) → IsNumberNamed p name.text (pos (size_in o)) × (size_in o ≤ most_words)
+size_named p name (Some (entity.Number (pos n))) r q =
+    (r (entity.Number (pos n)) refl, leb-true n most_words (second_part (nat_le 0 n) (nat_le n most_words) (quiet_unless (is_size (pos n)) name.spot Limit q)))
+size_named p name (Some (entity.Number (negsuc n))) r q = let no : false ≡ true = quiet_unless (is_size (negsuc n)) name.spot Limit q in absurd (cc no)
+size_named p name (Some e) r q = absurd q
+size_named p name None r q = absurd q
+
+size_read : (k : Known) (p : Context) (size : SizeTree) → Agrees k p.place → Quiet (size_remark k size) → IsSizeRead p size (size_value k size) × (size_value k size ≤ most_words)
+size_read k p (number_size spot n) w q = (refl, leb-true n most_words (quiet_unless (nat_le n most_words) spot Limit q))
+size_read k p (named_size name) w q = size_named p name (visible k name.text) (visible_read k p w name.text) q
+
+pool_agrees : (k : Known) (place : Place) (name : Ident) (size : SizeTree) → Agrees k place → Agrees (pool_known k name size) (with_new_pool name place)
+pool_agrees k place name size w = record {
+  here = stands_entered k.here.names place.here name (entity.Pool (next_pool k)) (a_pool place.pools) (ap (λ (n : ℕ). Some (a_pool n)) (sym w.pools)) w.here;
+  outer = w.outer;
+  first_type = w.first_type;
+  types = w.types;
+  pools = one_longer k.pools (record { name = name.text; words = size_value k size }) place.pools w.pools;
+  placed = w.placed;
+  bodies = w.bodies;
+  variables = w.variables;
+  exceptions = w.exceptions;
+  texts = w.texts;
+}
+
+collected_pool : (es : List DeclarationForm) (n u : ℕ) → is_collected u (es ++ creates_pool n ∷ []) ≡ is_collected u es
+collected_pool [] n u = refl
+collected_pool (creates_pool m ∷ es) n u = collected_pool es n u
+collected_pool (collects s ∷ es) n u = ap (λ (b : Bool). eqb s u || b) (collected_pool es n u)
+collected_pool (declares x value ∷ es) n u = collected_pool es n u
+collected_pool (declares_record x object initial ∷ es) n u = collected_pool es n u
+
+pool_first : (k m z : Known) (p : Context) (name : Ident) (type_name : NameTree) (label : Option Ident) (size : SizeTree) (ds : DeclarationsTree) → Agrees k p.place → m ≡ pool_known k name size → IsNew p.place name → IsPoolRead p name type_name label size → PartRead (read_at (with_new_pool name p.place) p) ds m z → PartRead p (a_declaration (pool_declaration name type_name label size) ds) k z
+pool_first k m z p name type_name label size ds w is new own on =
+    let made_pool : DeclarationForm = creates_pool (length k.pools) in
+    record {
+      forms = made_pool ∷ on.forms;
+      end = on.end;
+      elaborated = behind_one k.here.elaborated (after_types z).here.elaborated on.forms made_pool (on.elaborated ∙ ap (λ (u : Known). u.here.elaborated ++ on.forms) is);
+      read = λ made collected. (
+        on.forms,
+        ap (λ (n : ℕ). creates_pool n ∷ on.forms) (sym w.pools),
+        new,
+        own,
+        on.read made (λ u. collected u ∙ (sym (collected_pool k.here.elaborated (length k.pools) u) ∙ ap (λ (v : Known). is_collected u v.here.elaborated) (sym is))),
+      );
+      agrees = on.agrees;
+    }
+
+-- `for A'Storage_Pool use P;`
+record ClauseDone (k m : Known) (p : Context) (name attribute : Ident) (value : SizeTree) : Type 0 where
+  t : ℕ
+  agrees : Agrees m (with_placed t p.place)
+  elaborated : m.here.elaborated ≡ k.here.elaborated
+  going : types_go_on m ≡ types_go_on k
+  read : Lasts m p → IsClauseRead p name attribute value t
+
+placed_agrees : (k : Known) (place : Place) (t : TypeNo) (pool : PoolNo) → well.is_access k.types t.0 ≡ true → pool_of k.types t.0 ≡ None → Agrees k place → Agrees (clauses.with_placed t pool k) (with_placed t.0 place)
+placed_agrees k place t pool is none w = record {
+  here = w.here;
+  outer = w.outer;
+  first_type = w.first_type;
+  types = w.types ∙ sym (placed_length pool.0 k.types t.0);
+  pools = w.pools;
+  placed = λ u. ap (λ (b : Bool). eqb t.0 u || b) (w.placed u) ∙ sym (pool_placed pool.0 k.types t.0 is none u);
+  bodies = w.bodies;
+  variables = w.variables;
+  exceptions = w.exceptions;
+  texts = w.texts;
+}
+
+clause_named : (k m : Known) (p : Context) (spot : Spot) (name attribute pool_name : Ident) (t : TypeNo) → Sound k → Agrees k p.place → is_storage_pool attribute ≡ true → EntityFits k.types k.variables name.text (entity.Access t) → EntityRead p name.text (entity.Access t) → Quiet (clause_place_remark k (Some t) spot) → PoolRead k p pool_name → m ≡ placed_if (Some t) (pool_found k pool_name) k → ClauseDone k m p name attribute (named_size pool_name)
+clause_named k m p spot name attribute pool_name t s w on f r q pool is =
+    let n = pool.pool in
+    let so : m ≡ clauses.with_placed t n k = is ∙ ap (λ (o : Option PoolNo). placed_if (Some t) o k) pool.found in
+    let there : well.is_access k.types t.0 ≡ true = ap (λ (o : Option TypeForm). is_some (well.designated_in o)) f.2 in
+    let none : pool_of k.types t.0 ≡ None = no_pool (pool_of k.types t.0) (quiet_if (is_some (pool_of k.types t.0)) spot Layout q.1.0) in
+    let same : forms m.types ≡ forms k.types = ap (λ (v : Known). forms v.types) so ∙ placed_forms n.0 k.types t.0 in
+    record {
+      t = t.0;
+      agrees = subst (λ (v : Known). Agrees v (with_placed t.0 p.place)) (sym so) (placed_agrees k p.place t n there none w);
+      elaborated = ap (λ (v : Known). v.here.elaborated) so;
+      going = ap (λ (v : Known). types_go_on v) so;
+      read = λ lasts.
+          let form : slice_get (forms m.types) t.0 ≡ Some (access_to name.text f.0 None) =
+          ap (λ (ts : List TypeForm). slice_get ts t.0) same ∙ get_form k.types t.0 (access_to name.text f.0 f.1) f.2 in
+          let has : pool_of m.types t.0 ≡ Some n.0 = ap (λ (v : Known). pool_of v.types t.0) so ∙ placed_pool n.0 k.types t.0 there in (
+            text_same attribute.text (codes "STORAGE_POOL") on,
+            f.0,
+            n.0,
+            r,
+            placed_there p.types t.0 name.text f.0 n.0 (lasts.accesses t.0 name.text f.0 form) (lasts.placed t.0 n.0 has),
+            pool.named_so,
+            subst (λ (first : ℕ). first ≤ t.0) (sym w.first_type) (ltb-false t.0 k.here.first_type (quiet_if (nat_lt t.0 k.here.first_type) spot Layout q.0)),
+            w.placed t.0 ∙ ap (λ (o : Option ℕ). is_some o) none,
+          );
+    }
+
+clause_at : (k m : Known) (p : Context) (spot : Spot) (name attribute : Ident) (value : SizeTree) (o : Option Entity) → Sound k → Agrees k p.place → is_storage_pool attribute ≡ true → ((e : Entity) → o ≡ Some e → EntityFits k.types k.variables name.text e) → ((e : Entity) → o ≡ Some e → EntityRead p name.text e) → Quiet (missing o name) → Quiet (clause_type_wanted o name.spot) → Quiet (clause_place_remark k (access_type_in o) spot) → Quiet (clause_value_remark k value) → m ≡ placed_if (access_type_in o) (clause_pool k value) k → ClauseDone k m p name attribute value
+clause_at k m p spot name attribute (number_size at n) o s w on f r q a b c is = absurd c
+clause_at k m p spot name attribute (named_size pool) (Some (entity.Access t)) s w on f r q a b c is =
+    clause_named k m p spot name attribute pool t s w on (f (entity.Access t) refl) (r (entity.Access t) refl) b (pool_read k p pool w c) is
+clause_at k m p spot name attribute (named_size pool) (Some e) s w on f r q a b c is = absurd a
+clause_at k m p spot name attribute (named_size pool) None s w on f r q a b c is = absurd q
+
+clause_done : (k m : Known) (p : Context) (spot : Spot) (name attribute : Ident) (value : SizeTree) → Sound k → Agrees k p.place → Quiet (clause_remark k spot name attribute value) → m ≡ clause_known k name value → ClauseDone k m p name attribute value
+clause_done k m p spot name attribute value s w q is =
+    let stored = storage_quiet k spot name attribute value q in
+    clause_at k m p spot name attribute value (visible k name.text) s w stored.0 (visible_fits k s.names name.text) (visible_read k p w name.text) q.1.0 stored.1.0 stored.1.1.0 stored.1.1.1 is
 
 -- how the declarations behind one are read
 abbrev pub ReadsRest : DeclarationsTree → At → Type 0
@@ -713,8 +961,8 @@ part_first p (incomplete_type spot name) ds at after single s w none c ahead fit
     let place = with_incomplete_type name p.place in
     let form = record_of name.text [] [] in
     let agrees : Agrees next.then.0 place = subst (λ u. Agrees u place) (sym next.is)
-    (agrees_declared at.0 p.place name (entity.Incomplete (record { 0 = length at.0.types })) (an_incomplete_type p.place.types) (at.0.types ++ form ∷ []) at.0.variables at.0.exceptions at.0.here.elaborated
-    (p.place.types + 1) p.place.variables p.place.exceptions (ap (λ (n : ℕ). Some (an_incomplete_type n)) (sym w.types)) (one_longer at.0.types form p.place.types w.types) w.variables w.exceptions w) in
+    (agrees_declared at.0 p.place name (entity.Incomplete (record { 0 = length at.0.types })) (an_incomplete_type p.place.types) (at.0.types ++ form ∷ []) at.0.variables at.0.exceptions at.0.frozen at.0.here.elaborated
+    (p.place.types + 1) p.place.variables p.place.exceptions p.place.placed (ap (λ (n : ℕ). Some (an_incomplete_type n)) (sym w.types)) (one_longer at.0.types form p.place.types w.types) w.variables w.exceptions (λ u. w.placed u ∙ sym (none_more at.0.types form u refl)) w) in
     let on = rest (read_at place p) next.then next.sound agrees (ap (λ (v : Known). types_go_on v) next.is ∙ none) (ahead_at after.0 p place ahead) fit next.rest in
     plain_first at.0 next.then.0 after.0 p (read_at place p) (incomplete_type spot name) ds (ap (λ (v : Known). v.here.elaborated) next.is) on (λ made r. (new_there at.0 p.place name spot w next.quiet.1, r))
 part_first p (access_type spot name designated aspect) ds at after single s w none c ahead fit e rest =
@@ -723,15 +971,16 @@ part_first p (access_type spot name designated aspect) ds at after single s w no
     let k = at.0 in
     let q = next.quiet in
     let completes = completed_type k name in
-    let r = access_done k next.then.0 p name designated (record_found k designated) (record_read k p designated s.names w q.1.1.1.0) next.is in
+    let r = access_done k next.then.0 p name designated aspect (record_found k designated) (record_read k p designated s.names w q.1.1.1.0) next.is in
     let slot = slot_of k name spot q.1.1.0 in
-    let place = type_place completes name p.place in
+    let place = type_place completes name d p.place in
     let agrees : Agrees next.then.0 place = subst (λ u. Agrees u place) (sym r.is)
-    (agrees_type k p.place name completes (access_to name.text r.r.0) (entity.Access (number_of completes k.types)) refl w) in
+    (agrees_type k p.place name completes d (access_to name.text r.r.0 (pool_number (aspect_found k aspect))) (entity.Access (number_of completes k.types)) tt refl
+    (aspect_agrees k p name aspect completes r.r s slot w q.1.1.1.1) w) in
     let on = rest (read_at place p) next.then next.sound agrees (ap (λ (v : Known). types_go_on v) r.is ∙ none) (ahead_at after.0 p place ahead) fit next.rest in
     let legible = legible_at k after.0 p s w (declarations_keep (a_declaration d ds) at after s e) ahead in
     let lasts = lasts_on next.then.0 after.0 p next.sound next.to_end (lasts_ahead after.0 p ahead) in
-    let own = access_type_read k next.then.0 p spot name designated aspect legible lasts slot fit (no_aspect aspect q.1.1.1.1) r in
+    let own = access_type_read k next.then.0 p spot name designated aspect legible lasts slot fit q.1.1.1.1 r in
     plain_first k next.then.0 after.0 p (read_at place p) d ds (ap (λ (v : Known). v.here.elaborated) r.is) on
     (λ made m. (place, type_first k p name completes d spot w slot q.1.1.0 own, m))
 part_first p (record_type spot name definition) ds at after single s w none c ahead fit e rest =
@@ -741,9 +990,10 @@ part_first p (record_type spot name definition) ds at after single s w none c ah
     let completes = completed_type k name in
     let made = composition_of k (components_written definition) in
     let slot = slot_of k name spot next.quiet.1.0 in
-    let place = type_place completes name p.place in
+    let place = type_place completes name d p.place in
     let agrees : Agrees next.then.0 place = subst (λ u. Agrees u place) (sym next.is)
-    (agrees_type k p.place name completes (record_of name.text made.parts made.kinds) (entity.Record (number_of completes k.types) made.size) refl w) in
+    (agrees_type k p.place name completes d (record_of name.text made.parts made.kinds) (entity.Record (number_of completes k.types) made.size) tt refl
+    (λ u. w.placed u ∙ sym (none_defined k.types completes (record_of name.text made.parts made.kinds) u (had_none k name.text completes s slot) refl)) w) in
     let on = rest (read_at place p) next.then next.sound agrees (ap (λ (v : Known). types_go_on v) next.is ∙ none) (ahead_at after.0 p place ahead) fit next.rest in
     let legible = legible_at k after.0 p s w (declarations_keep (a_declaration d ds) at after s e) ahead in
     let lasts = lasts_on next.then.0 after.0 p next.sound next.to_end (lasts_ahead after.0 p ahead) in
@@ -755,7 +1005,7 @@ part_first p (constant_declaration name value) ds at after single s w none c ahe
     let n = static_value at.0 value in
     let place = with_binding name (a_number n) p.place in
     let agrees : Agrees next.then.0 place = subst (λ u. Agrees u place) (sym next.is)
-    (agrees_declared at.0 p.place name (entity.Number n) (a_number n) at.0.types at.0.variables at.0.exceptions at.0.here.elaborated p.place.types p.place.variables p.place.exceptions refl w.types w.variables w.exceptions w) in
+    (agrees_declared at.0 p.place name (entity.Number n) (a_number n) at.0.types at.0.variables at.0.exceptions at.0.frozen at.0.here.elaborated p.place.types p.place.variables p.place.exceptions p.place.placed refl w.types w.variables w.exceptions w.placed w) in
     let on = rest (read_at place p) next.then next.sound agrees (ap (λ (v : Known). types_go_on v) next.is ∙ none) (ahead_at after.0 p place ahead) fit next.rest in
     let own = static_read at.0 p value w next.quiet.1.1 in
     plain_first at.0 next.then.0 after.0 p (read_at place p) (constant_declaration name value) ds (ap (λ (v : Known). v.here.elaborated) next.is) on (λ made r. (n, new_there at.0 p.place name name.spot w next.quiet.1.0, own, r))
@@ -764,14 +1014,37 @@ part_first p (exception_declaration name) ds at after single s w none c ahead fi
     let k = at.0 in
     let place = with_new_exception name p.place in
     let agrees : Agrees next.then.0 place = subst (λ u. Agrees u place) (sym next.is)
-    (agrees_declared k p.place name (entity.Exception (exception.Declared (next_exception k))) (an_exception p.place.exceptions) k.types k.variables (k.exceptions ++ name.text ∷ []) k.here.elaborated
-    p.place.types p.place.variables (p.place.exceptions + 1) (ap (λ (n : ℕ). Some (an_exception n)) (sym w.exceptions)) w.types w.variables (one_longer k.exceptions name.text p.place.exceptions w.exceptions) w) in
+    (agrees_declared k p.place name (entity.Exception (exception.Declared (next_exception k))) (an_exception p.place.exceptions) k.types k.variables (k.exceptions ++ name.text ∷ []) k.frozen k.here.elaborated
+    p.place.types p.place.variables (p.place.exceptions + 1) p.place.placed (ap (λ (n : ℕ). Some (an_exception n)) (sym w.exceptions)) w.types w.variables (one_longer k.exceptions name.text p.place.exceptions w.exceptions) w.placed w) in
     let on = rest (read_at place p) next.then next.sound agrees (ap (λ (v : Known). types_go_on v) next.is ∙ none) (ahead_at after.0 p place ahead) fit next.rest in
     let there : slice_get next.then.0.exceptions (length k.exceptions) ≡ Some name.text =
     ap (λ (v : Known). slice_get v.exceptions (length k.exceptions)) next.is ∙ get_last k.exceptions name.text in
     let last = ahead.exceptions (length k.exceptions) name.text (next.to_end.exceptions (length k.exceptions) name.text there) in
     let own : slice_get p.exceptions p.place.exceptions ≡ Some name.text = ap (λ (n : ℕ). slice_get p.exceptions n) w.exceptions ∙ last in
     plain_first k next.then.0 after.0 p (read_at place p) (exception_declaration name) ds (ap (λ (v : Known). v.here.elaborated) next.is) on (λ made r. (new_there k p.place name name.spot w next.quiet.1, own, r))
+part_first p (pool_declaration name type_name label size) ds at after single s w none c ahead fit e rest =
+    let d = pool_declaration name type_name label size in
+    let next = next_of d ds at after tt s e in
+    let k = at.0 in
+    let q = next.quiet in
+    let place = with_new_pool name p.place in
+    let agrees : Agrees next.then.0 place = subst (λ u. Agrees u place) (sym next.is) (pool_agrees k p.place name size w) in
+    let on = rest (read_at place p) next.then next.sound agrees (ap (λ (v : Known). types_go_on v) next.is ∙ none) (ahead_at after.0 p place ahead) fit next.rest in
+    let pool : PoolForm = record { name = name.text; words = size_value k size } in
+    let there : slice_get next.then.0.pools (length k.pools) ≡ Some pool = ap (λ (v : Known). slice_get v.pools (length k.pools)) next.is ∙ get_last k.pools pool in
+    let last = ahead.pools (length k.pools) pool (next.to_end.pools (length k.pools) pool there) in
+    let sized = size_read k p size w q.1.1.1.1 in
+    pool_first k next.then.0 after.0 p name type_name label size ds w next.is (new_there k p.place name name.spot w q.1.0)
+    (size_value k size, ap (λ (n : ℕ). slice_get p.pools n) w.pools ∙ last, pool_type_read k type_name q.1.1.0, label_read label q.1.1.1.0, sized.0, sized.1) on
+part_first p (attribute_clause spot name attribute value) ds at after single s w none c ahead fit e rest =
+    let d = attribute_clause spot name attribute value in
+    let next = next_of d ds at after tt s e in
+    let k = at.0 in
+    let r = clause_done k next.then.0 p spot name attribute value s w next.quiet next.is in
+    let place = with_placed r.t p.place in
+    let on = rest (read_at place p) next.then next.sound r.agrees (r.going ∙ none) (ahead_at after.0 p place ahead) fit next.rest in
+    let lasts = lasts_on next.then.0 after.0 p next.sound next.to_end (lasts_ahead after.0 p ahead) in
+    plain_first k next.then.0 after.0 p (read_at place p) d ds r.elaborated on (λ made m. (r.t, r.read lasts, m))
 part_first p (instance spot name generic object access) ds at after single s w none c ahead fit e rest =
     let d = instance spot name generic object access in
     let next = next_of d ds at after tt s e in
@@ -781,7 +1054,7 @@ part_first p (instance spot name generic object access) ds at after single s w n
     let r = freed_at k next.then.0 p name object access (freed_found k access (record_found k object)) found next.is in
     let place = with_binding name (an_instance r.t.0) p.place in
     let agrees : Agrees next.then.0 place = subst (λ u. Agrees u place) (sym r.is)
-    (agrees_declared k p.place name (entity.Instance r.t) (an_instance r.t.0) k.types k.variables k.exceptions (k.here.elaborated ++ collects r.t.0 ∷ []) p.place.types p.place.variables p.place.exceptions refl w.types w.variables w.exceptions w) in
+    (agrees_declared k p.place name (entity.Instance r.t) (an_instance r.t.0) k.types k.variables k.exceptions (frozen_by k.types r.t.0 k.frozen) (k.here.elaborated ++ collects r.t.0 ∷ []) p.place.types p.place.variables p.place.exceptions p.place.placed refl w.types w.variables w.exceptions w.placed w) in
     let on = rest (read_at place p) next.then next.sound agrees (ap (λ (v : Known). types_go_on v) r.is ∙ none) (ahead_at after.0 p place ahead) fit next.rest in
     let legible = legible_at k after.0 p s w (declarations_keep (a_declaration d ds) at after s e) ahead in
     instance_first k next.then.0 after.0 p spot name generic object access ds r (new_there k p.place name spot w q.1.0) (instance_read k p generic object access r.t legible fit q.1.1.0 r.found) on
@@ -848,4 +1121,6 @@ late_first p (record_type spot name definition) ds at after single s w late c ah
 late_first p (instance spot name generic object access) ds at after single s w late c ahead e = absurd (no_types at.0 spot late (next_of (instance spot name generic object access) ds at after tt s e).quiet.0)
 late_first p (constant_declaration name value) ds at after single s w late c ahead e = absurd (no_types at.0 name.spot late (next_of (constant_declaration name value) ds at after tt s e).quiet.0)
 late_first p (exception_declaration name) ds at after single s w late c ahead e = absurd (no_types at.0 name.spot late (next_of (exception_declaration name) ds at after tt s e).quiet.0)
+late_first p (pool_declaration name type_name label size) ds at after single s w late c ahead e = absurd (no_types at.0 name.spot late (next_of (pool_declaration name type_name label size) ds at after tt s e).quiet.0)
+late_first p (attribute_clause spot name attribute value) ds at after single s w late c ahead e = absurd (no_types at.0 spot late (next_of (attribute_clause spot name attribute value) ds at after tt s e).quiet.0)
 late_first p d ds at after single s w late c ahead e = absurd (next_of d ds at after single s e).quiet

@@ -15,15 +15,18 @@ use Rattle.ada_program.specs.declared.program.VariableKind.{VariableKind}
 use Rattle.ada_program.specs.declared.program.VariableKind.TheVariants as variable
 use Rattle.ada_program.specs.declared.program.VariableNo.{VariableNo}
 use Rattle.ada_program.specs.Form.{StmtsForm, HandlersForm}
-use Rattle.ada_program.specs.ProgramForm.{TypeForm, record_of, access_to, object_of, VariableForm, BodyForm}
+use Rattle.ada_program.specs.ProgramForm.{TypeForm, object_of, VariableForm, BodyForm}
 use Rattle.ada_resolve.specs.declared.fault.NameRule.TheVariants.{DeclaredTwice}
 use Rattle.ada_resolve.specs.declared.scope.Entity.{Entity}
 use Rattle.ada_resolve.specs.declared.scope.Entity.TheVariants as entity
 use Rattle.ada_resolve.specs.Known.{Known, Named, declared, entered, first_named, from_within, named, named_in, next_procedure, parts, visible}
 use Rattle.ada_resolve.specs.Procedures.{Formals, no_formals, formal_type, formal_types, formal_kind, known_by, formal_mode, formal_entity, formal_type_wanted, formal_remark, formals_remark, mode_remark, with_formal, with_formals, overriding_remark, body_head_remark, with_body, behind_head, body_of, body_ended}
 use Rattle.ada_resolve.specs.Spots.{first_or}
-use Rattle.ada_resolve.specs.Naming.{Context, Place, Binding, Meaning, a_parameter, a_variable, a_procedure, a_procedure_around, a_type, meaning_among, IsBound, IsAccessNamed, IsFullRecordNamed}
+use Rattle.ada_resolve.specs.Naming.{Context, Place, Binding, Meaning, a_parameter, a_variable, a_procedure, a_procedure_around, a_type, meaning_among, is_one_of, IsBound, IsAccessNamed, IsFullRecordNamed}
 use Rattle.ada_resolve.specs.Reading.{read_at, with_binding, with_named_formal, with_own_type, with_new_formal, from_body, bound_outside, body_place, behind_body, in_body, in_profile, IsHeadRead, IsModeRead, IsFormalNamed, AreFormalsRead}
+use Rattle.ada_resolve.specs.Clauses.{pool_of}
+use Rattle.ada_resolve.proofs.WellFormed.Forms.{AreIn, forms, forms_in, access_stays, object_stays, record_stays}
+use Rattle.ada_resolve.proofs.WellFormed.Placed.{none_more}
 use Rattle.ada_resolve.proofs.WellFormed.Names.{named_entered, visible_fits}
 use Rattle.ada_resolve.proofs.WellFormed.Remarks.{Quiet, quiet_if}
 use Rattle.ada_resolve.proofs.WellFormed.Tables.{get_more, get_last}
@@ -55,6 +58,7 @@ within_bound variables (entity.Record t size) meaning m own is = (from_body mean
 within_bound variables (entity.Access t) meaning m own is = (from_body meaning, same_meaning own, ap (λ (o : Option Meaning). option_map from_body o) is)
 within_bound variables (entity.Number n) meaning m own is = (from_body meaning, same_meaning own, ap (λ (o : Option Meaning). option_map from_body o) is)
 within_bound variables (entity.Exception (exception.Declared n)) meaning m own is = (from_body meaning, same_meaning own, ap (λ (o : Option Meaning). option_map from_body o) is)
+within_bound variables (entity.Pool n) meaning m own is = (from_body meaning, same_meaning own, ap (λ (o : Option Meaning). option_map from_body o) is)
 within_bound variables (entity.Instance t) meaning m own is = (from_body meaning, same_meaning own, ap (λ (o : Option Meaning). option_map from_body o) is)
 within_bound variables (entity.Callable n) meaning m own is = (from_body meaning, same_meaning own, ap (λ (o : Option Meaning). option_map from_body o) is)
 within_bound variables entity.Procedure meaning m own is = (from_body meaning, same_meaning own, ap (λ (o : Option Meaning). option_map from_body o) is)
@@ -72,6 +76,8 @@ around_agrees k place head w = record {
   outer = w.outer;
   first_type = w.first_type;
   types = w.types;
+  pools = w.pools;
+  placed = w.placed;
   bodies = w.bodies;
   variables = w.variables;
   exceptions = w.exceptions;
@@ -89,6 +95,8 @@ body_agrees k place head w = let none = ap (λ (ts : List TypeForm). length ts) 
       (stands_among (around_body k head) (with_binding head.name a_procedure_around place) (around_agrees k place head w) text));
   first_type = w.types ∙ none;
   types = w.types ∙ none;
+  pools = w.pools;
+  placed = λ t. w.placed t ∙ ap (λ (ts : List TypeForm). is_some (pool_of ts t)) (sym (append-nil k.types));
   bodies = w.bodies;
   variables = refl;
   exceptions = w.exceptions;
@@ -125,6 +133,12 @@ own_types_count own (Some (entity.Access t)) types place same = same ∙ ap (λ 
 own_types_count own (Some e) types place same = same ∙ ap (λ (ts : List TypeForm). length ts) (sym (append-nil types))
 own_types_count own None types place same = same ∙ ap (λ (ts : List TypeForm). length ts) (sym (append-nil types))
 
+-- none of them has a pool
+own_types_pools : (o : Option Entity) (types : List TypeForm) (t : ℕ) → is_some (pool_of (types ++ formal_types o) t) ≡ is_some (pool_of types t)
+own_types_pools (Some (entity.Record u size)) types t = none_more types (object_of u.0) t refl
+own_types_pools (Some e) types t = ap (λ (ts : List TypeForm). is_some (pool_of ts t)) (append-nil types)
+own_types_pools None types t = ap (λ (ts : List TypeForm). is_some (pool_of ts t)) (append-nil types)
+
 own_first_type : (kind : VariableKind) (place : Place) → place.first_type ≡ place.types → (with_own_type kind place).first_type ≡ (with_own_type kind place).types
 own_first_type variable.Integer place same = same
 own_first_type variable.Boolean place same = same
@@ -135,15 +149,17 @@ own_first_type (variable.Record object) place same = refl
 record SamePlace (p q : Place) : Type 0 where
   here : p.here ≡ q.here
   outer : p.outer ≡ q.outer
+  pools : p.pools ≡ q.pools
+  placed : p.placed ≡ q.placed
   bodies : p.bodies ≡ q.bodies
   exceptions : p.exceptions ≡ q.exceptions
   texts : p.texts ≡ q.texts
 
 own_same : (kind : VariableKind) (place : Place) → SamePlace (with_own_type kind place) place
-own_same variable.Integer place = record { here = refl; outer = refl; bodies = refl; exceptions = refl; texts = refl }
-own_same variable.Boolean place = record { here = refl; outer = refl; bodies = refl; exceptions = refl; texts = refl }
-own_same (variable.Access t) place = record { here = refl; outer = refl; bodies = refl; exceptions = refl; texts = refl }
-own_same (variable.Record object) place = record { here = refl; outer = refl; bodies = refl; exceptions = refl; texts = refl }
+own_same variable.Integer place = record { here = refl; outer = refl; pools = refl; placed = refl; bodies = refl; exceptions = refl; texts = refl }
+own_same variable.Boolean place = record { here = refl; outer = refl; pools = refl; placed = refl; bodies = refl; exceptions = refl; texts = refl }
+own_same (variable.Access t) place = record { here = refl; outer = refl; pools = refl; placed = refl; bodies = refl; exceptions = refl; texts = refl }
+own_same (variable.Record object) place = record { here = refl; outer = refl; pools = refl; placed = refl; bodies = refl; exceptions = refl; texts = refl }
 
 -- a formal is the next variable, and, where it is a record, is known by the next type
 formal_agrees : (k m : Known) (place : Place) (f : FormalTree) (before : Formals) → Agrees (with_body before m) place → Agrees (with_body (with_formal k f before) m) (with_new_formal (formal_mode f.input f.output) (formal_kind (known_by k before) (formal_type k before f.type_name)) f.name place)
@@ -165,6 +181,10 @@ formal_agrees k m place f before w =
       outer = subst (λ (bs : List Binding). (text : List ℕ) → Stands (from_within m.variables (named_in text (parts m))) (meaning_among text bs)) (sym same.outer) w.outer;
       first_type = own_first_type kind place (w.first_type ∙ sym w.types) ∙ types;
       types = types;
+      pools = same.pools ∙ w.pools;
+      placed = λ t.
+          ap (λ (ts : List ℕ). is_one_of t ts) same.placed ∙ (w.placed t ∙
+          (sym (own_types_pools o (m.types ++ before.types) t) ∙ ap (λ (ts : List TypeForm). is_some (pool_of ts t)) (append_assoc m.types before.types (formal_types o))));
       bodies = same.bodies ∙ w.bodies;
       variables = ap (λ (n : ℕ). n + 1) w.variables ∙ sym (length-append before.variables (v ∷ []));
       exceptions = same.exceptions ∙ w.exceptions;
@@ -237,17 +257,18 @@ around_named k p around before name e meaning typed bound f v here read is = by_
     by_own None own none is = (is, bound_behind name.text p.place.here (around.here ++ around.outer) meaning none (read (visible_read k (read_at around p) v name.text e is)))
     by_own (Some x) own stands is = absurd (formal_no_type before.variables name.text e (f.names name.text e (own ∙ is)) typed)
 
-access_read : (k : Known) (p : Context) (around : Place) (before : Formals) (name : Ident) (t : TypeNo) → Sound k → FormalsSound before → Agrees k around → ((text : List ℕ) → Stands (named text before.names) (meaning_among text p.place.here)) → ((n : ℕ) (form : TypeForm) → slice_get k.types n ≡ Some form → slice_get p.types n ≡ Some form) → formal_type k before name ≡ Some (entity.Access t) → IsAccessNamed (read_at (in_profile around p.place) p) name.text t.0
+access_read : (k : Known) (p : Context) (around : Place) (before : Formals) (name : Ident) (t : TypeNo) → Sound k → FormalsSound before → Agrees k around → ((text : List ℕ) → Stands (named text before.names) (meaning_among text p.place.here)) → AreIn (forms k.types) (forms p.types) → formal_type k before name ≡ Some (entity.Access t) → IsAccessNamed (read_at (in_profile around p.place) p) name.text t.0
 access_read k p around before name t s f v here types is =
     let there = around_named k p around before name (entity.Access t) (a_type t.0) tt refl f v here (λ r. r) is in
     let found = visible_fits k s.names name.text (entity.Access t) there.0 in
-    (there.1, found.0, types t.0 (access_to name.text found.0) found.1)
+    let last = access_stays k.types p.types types t.0 name.text found.0 found.1 found.2 in
+    (there.1, found.0, last.0, last.1)
 
-record_read : (k : Known) (p : Context) (around : Place) (before : Formals) (name : Ident) (t : TypeNo) (size : ℕ) → Sound k → FormalsSound before → Agrees k around → ((text : List ℕ) → Stands (named text before.names) (meaning_among text p.place.here)) → ((n : ℕ) (form : TypeForm) → slice_get k.types n ≡ Some form → slice_get p.types n ≡ Some form) → formal_type k before name ≡ Some (entity.Record t size) → IsFullRecordNamed (read_at (in_profile around p.place) p) name.text t.0
+record_read : (k : Known) (p : Context) (around : Place) (before : Formals) (name : Ident) (t : TypeNo) (size : ℕ) → Sound k → FormalsSound before → Agrees k around → ((text : List ℕ) → Stands (named text before.names) (meaning_among text p.place.here)) → AreIn (forms k.types) (forms p.types) → formal_type k before name ≡ Some (entity.Record t size) → IsFullRecordNamed (read_at (in_profile around p.place) p) name.text t.0
 record_read k p around before name t size s f v here types is =
     let there = around_named k p around before name (entity.Record t size) (a_type t.0) tt refl f v here (λ r. r) is in
     let found = visible_fits k s.names name.text (entity.Record t size) there.0 in
-    (there.1, found.0, found.1, types t.0 (record_of name.text found.0 found.1) found.2)
+    (there.1, found.0, found.1, record_stays k.types p.types types t.0 name.text found.0 found.1 found.2)
 
 -- no formal has the name of a type
 type_read : (k : Known) (p : Context) (own : Option Entity) (m : Option Meaning) (name : Ident) (e : Entity) → bound_to e ≡ None → Agrees k p.place → Stands own m → first_named own (visible k name.text) ≡ Some e → EntityRead p name.text e
@@ -277,7 +298,7 @@ pub record FormalsRead (p : Context) (around : Place) (fs : List FormalTree) (be
   pub in_all : all ≡ before ++ modes
   pub agrees : Agrees m end
 
-formals_read : (k m : Known) (p : Context) (around : Place) (fs : List FormalTree) (before : Formals) → Sound k → FormalsSound before → Agrees k around → m.types ≡ k.types → Agrees (with_body before m) p.place → ((n : ℕ) (form : TypeForm) → slice_get (k.types ++ (with_formals k fs before).types) n ≡ Some form → slice_get p.types n ≡ Some form) → Quiet (formals_remark k before fs) → ((x : ℕ) (v : VariableForm) → slice_get (with_formals k fs before).variables x ≡ Some v → slice_get p.variables x ≡ Some v) → FormalsRead p around fs before.modes (with_formals k fs before).modes (with_body (with_formals k fs before) m)
+formals_read : (k m : Known) (p : Context) (around : Place) (fs : List FormalTree) (before : Formals) → Sound k → FormalsSound before → Agrees k around → m.types ≡ k.types → Agrees (with_body before m) p.place → AreIn (forms (k.types ++ (with_formals k fs before).types)) (forms p.types) → Quiet (formals_remark k before fs) → ((x : ℕ) (v : VariableForm) → slice_get (with_formals k fs before).variables x ≡ Some v → slice_get p.variables x ≡ Some v) → FormalsRead p around fs before.modes (with_formals k fs before).modes (with_body (with_formals k fs before) m)
 unfolding formal_remark
 formals_read k m p around [] before s g v alike w types q ahead = record { end = p.place; modes = []; read = refl; in_all = sym (append-nil before.modes); agrees = w }
 formals_read k m p around (f ∷ fs) before s g v alike w types q ahead =
@@ -294,7 +315,8 @@ formals_read k m p around (f ∷ fs) before s g v alike w types q ahead =
     let o = read_at around p in
     let own = named f.type_name.text before.names in
     let bound = meaning_among f.type_name.text p.place.here in
-    let old : (n : ℕ) (form : TypeForm) → slice_get k.types n ≡ Some form → slice_get p.types n ≡ Some form = λ n form is. types n form (get_front k.types (with_formals k fs more).types n form is) in
+    let all = k.types ++ (with_formals k fs more).types in
+    let old : AreIn (forms k.types) (forms p.types) = λ n form is. types n form (forms_in k.types all (λ i x there. get_front k.types (with_formals k fs more).types i x there) n form is) in
     let count : p.place.types ≡ length (k.types ++ before.types) = w.types ∙ ap (λ (ts : List TypeForm). length (ts ++ before.types)) alike in
     record {
       end = rest.end;
@@ -310,7 +332,7 @@ formals_read k m p around (f ∷ fs) before s g v alike w types q ahead =
             (λ t is. access_read k p around before f.type_name t s g v w.here old is)
             (λ t size is. (
               ap (λ (n : ℕ). slice_get p.types n) count ∙
-                  types (length (k.types ++ before.types)) (object_of t.0)
+                  object_stays all p.types types (length (k.types ++ before.types)) t.0
                   (all_types_grow k fs more (length (k.types ++ before.types)) (object_of t.0) (own_type_there k f before t size is)),
               record_read k p around before f.type_name t size s g v w.here old is,
             ))
@@ -369,6 +391,8 @@ ended_agrees k z head fs hs last place done f w v =
       outer = w.outer;
       first_type = w.first_type;
       types = v.types;
+      pools = v.pools;
+      placed = v.placed;
       bodies = ap (λ (n : ℕ). n + 1) v.bodies ∙ sym (length-append z.bodies (body_of z fs hs last ∷ []));
       variables = w.variables;
       exceptions = v.exceptions;
@@ -383,6 +407,8 @@ ahead_within k z head fs hs last p f w =
     subst (λ (u : Known). Ahead u p) (ended_is (around_body k head) z head.name fs hs last f) w in
     record {
       types = v.types;
+      placed = v.placed;
+      pools = v.pools;
       variables = λ x u is. is;
       exceptions = v.exceptions;
       texts = v.texts;

@@ -11,9 +11,11 @@ use Rattle.ada_program.specs.ProgramForm.{TypeForm, record_of, access_to, object
 use Rattle.ada_program.specs.WellFormed as fits
 use Rattle.ada_resolve.specs.Objects.{collections_of, missing_collections}
 use Rattle.ada_resolve.specs.Instances.{is_collected}
-use Rattle.ada_resolve.specs.Reading.{is_one_of, is_own_access, Rise, AreOthers}
+use Rattle.ada_resolve.specs.Reading.{is_own_access, Rise, AreOthers}
 use Rattle.ada_resolve.specs.Known.{Known}
-use Rattle.ada_resolve.specs.Naming.{Context}
+use Rattle.ada_resolve.specs.Naming.{Context, is_one_of}
+use Rattle.ada_resolve.proofs.WellFormed.Forms.{AreIn, forms}
+use Rattle.ada_resolve.proofs.WellFormed.Tables.{access_same}
 
 -- numbers that rise from one on
 abbrev RiseFrom : ℕ → List ℕ → Type 0
@@ -59,8 +61,8 @@ past_other t form ts es same off r = record {
     each zero = below (t + 1) (t + 0) r.others (omega arith) r.from ∙ ap (λ (b : Bool). b && not (is_collected (t + 0) es)) (sym off)
     each (suc i) = further t form ts es r i
 
-past_access : (t : ℕ) (name : List ℕ) (d : ℕ) (ts : List TypeForm) (es : List DeclarationForm) → Rest (t + 1) ts es → (b : Bool) → is_collected t es ≡ b → Rest t (access_to name d ∷ ts) es
-past_access t name d ts es r true is = record {
+past_access : (t : ℕ) (name : List ℕ) (d : ℕ) (pool : Option ℕ) (ts : List TypeForm) (es : List DeclarationForm) → Rest (t + 1) ts es → (b : Bool) → is_collected t es ≡ b → Rest t (access_to name d pool ∷ ts) es
+past_access t name d pool ts es r true is = record {
   others = r.others;
   these = rw is r.these;
   from = rise_before (t + 1) t r.others (omega arith) r.from;
@@ -70,10 +72,10 @@ past_access t name d ts es r true is = record {
     here : t + 0 ≡ t
     here = omega arith
 
-    each : (i : ℕ) → is_one_of (t + i) r.others ≡ (fits.is_access (access_to name d ∷ ts) i && not (is_collected (t + i) es))
+    each : (i : ℕ) → is_one_of (t + i) r.others ≡ (fits.is_access (access_to name d pool ∷ ts) i && not (is_collected (t + i) es))
     each zero = rw (here, is) (below (t + 1) t r.others (omega arith) r.from)
-    each (suc i) = further t (access_to name d) ts es r i
-past_access t name d ts es r false is = record {
+    each (suc i) = further t (access_to name d pool) ts es r i
+past_access t name d pool ts es r false is = record {
   others = t ∷ r.others;
   these = rw is (ap (λ forms. collects t ∷ forms) r.these);
   from = (omega arith, r.from);
@@ -83,15 +85,15 @@ past_access t name d ts es r false is = record {
     here : t + 0 ≡ t
     here = omega arith
 
-    each : (i : ℕ) → is_one_of (t + i) (t ∷ r.others) ≡ (fits.is_access (access_to name d ∷ ts) i && not (is_collected (t + i) es))
+    each : (i : ℕ) → is_one_of (t + i) (t ∷ r.others) ≡ (fits.is_access (access_to name d pool ∷ ts) i && not (is_collected (t + i) es))
     each zero = let same : eqb t t ≡ true = eq-eqb t t refl in rw (here, is, same) refl
-    each (suc i) = let off : eqb t (t + suc i) ≡ false = ne_eqb t (t + suc i) (omega arith) in rw off (further t (access_to name d) ts es r i)
+    each (suc i) = let off : eqb t (t + suc i) ≡ false = ne_eqb t (t + suc i) (omega arith) in rw off (further t (access_to name d pool) ts es r i)
 
 rest_of : (t : ℕ) (ts : List TypeForm) (es : List DeclarationForm) → Rest t ts es
 rest_of t [] es = record { others = []; these = refl; from = tt; each = λ i. refl }
 rest_of t (record_of name ps cs ∷ ts) es = past_other t (record_of name ps cs) ts es refl refl (rest_of (t + 1) ts es)
 rest_of t (object_of record_type ∷ ts) es = past_other t (object_of record_type) ts es refl refl (rest_of (t + 1) ts es)
-rest_of t (access_to name d ∷ ts) es = past_access t name d ts es (rest_of (t + 1) ts es) (is_collected t es) refl
+rest_of t (access_to name d pool ∷ ts) es = past_access t name d pool ts es (rest_of (t + 1) ts es) (is_collected t es) refl
 
 -- a type of the part is one of those from its first type on
 past : (n : ℕ) (xs : List TypeForm) (i : ℕ) → slice_get (drop n xs) i ≡ slice_get xs (n + i)
@@ -103,12 +105,12 @@ past (suc n) (x ∷ xs) i = past n xs i ∙ ap (λ (m : ℕ). slice_get (x ∷ x
     next = omega arith
 
 -- an access type of these types is one of those that they become
-same_access : (ts us : List TypeForm) (t : ℕ) → ((u : ℕ) (form : TypeForm) → slice_get ts u ≡ Some form → slice_get us u ≡ Some form) → fits.is_access ts t ≡ (nat_lt t (length ts) && fits.is_access us t)
+same_access : (ts us : List TypeForm) (t : ℕ) → AreIn (forms ts) (forms us) → fits.is_access ts t ≡ (nat_lt t (length ts) && fits.is_access us t)
 same_access ts us t w = by_place (slice_get_cases ts t).1
   where
     by_place : ((x : TypeForm) × (t < length ts) × (slice_get ts t ≡ Some x) × (get_or ts t x ≡ x)) ⊎ ((length ts ≤ t) × (slice_get ts t ≡ None)) → fits.is_access ts t ≡ (nat_lt t (length ts) && fits.is_access us t)
     by_place (inl (x, lt, there, same)) =
-        ap (λ (o : Option TypeForm). is_some (fits.designated_in o)) (there ∙ sym (w t x there)) ∙ ap (λ (b : Bool). b && fits.is_access us t) (sym (lt-ltb t (length ts) lt))
+        sym (access_same ts us w t x there) ∙ ap (λ (b : Bool). b && fits.is_access us t) (sym (lt-ltb t (length ts) lt))
     by_place (inr (le, none)) =
         ap (λ (o : Option TypeForm). is_some (fits.designated_in o)) none ∙ ap (λ (b : Bool). b && fits.is_access us t) (sym (le-ltb t (length ts) le))
 
@@ -118,7 +120,7 @@ pub record Remain (k : Known) (p : Context) (made : List ℕ) : Type 0 where
   pub these : missing_collections k ≡ map collects others
   pub so : AreOthers p made others
 
-pub others_of : (k : Known) (p : Context) (made : List ℕ) → p.place.first_type ≡ k.here.first_type → p.place.types ≡ length k.types → ((t : ℕ) (form : TypeForm) → slice_get k.types t ≡ Some form → slice_get p.types t ≡ Some form) → ((t : ℕ) → is_one_of t made ≡ is_collected t k.here.elaborated) → Remain k p made
+pub others_of : (k : Known) (p : Context) (made : List ℕ) → p.place.first_type ≡ k.here.first_type → p.place.types ≡ length k.types → AreIn (forms k.types) (forms p.types) → ((t : ℕ) → is_one_of t made ≡ is_collected t k.here.elaborated) → Remain k p made
 others_of k p made first count w collected = record {
   others = r.others;
   these = r.these;

@@ -36,6 +36,7 @@ use Rattle.ada_resolve.specs.declared.scope.Entity.{Entity}
 use Rattle.ada_resolve.specs.declared.scope.Entity.TheVariants as entity
 use Rattle.ada_resolve.specs.declared.selectors.Reached.{Reached}
 use Rattle.ada_resolve.specs.declared.selectors.Reached.TheVariants as reached
+use Rattle.ada_resolve.specs.declared.fault.NameRule.{NameRule}
 use Rattle.ada_resolve.specs.declared.fault.NameRule.TheVariants.{UnknownName, WrongType, NotInProfile}
 use Rattle.ada_resolve.specs.Known.{Known, parts, visible, is_empty, is_with, if_with, parts_of, library_wrong, library_remark, library_found, library_path_remark, library_path_found}
 use Rattle.ada_resolve.specs.Library.{is_library_root, library_name}
@@ -43,7 +44,7 @@ use Rattle.ada_resolve.specs.Paths.{constant_wanted, follows_to, follows_value, 
 use Rattle.ada_resolve.specs.Operators.{record_value_wanted, Signature, arithmetic, ordering, equality, logical, signature_of, integer_in, boolean_in, asks_equal, equality_meant, binary_by, unary_meant, integer_wanted, boolean_wanted, equal_wanted, operands_by, operand_remark}
 use Rattle.ada_resolve.specs.Expressions.{after_items, all_items_remark, expression_meant, expression_remark, filling_of, items_remark}
 use Rattle.ada_resolve.specs.declared.library.LibraryName.{LibraryName}
-use Rattle.ada_resolve.specs.declared.library.LibraryName.TheVariants.{TextIo, PutLine, UncheckedDeallocation, RunInput, Get, EndError, OtherUnit, Unknown}
+use Rattle.ada_resolve.specs.declared.library.LibraryName.TheVariants.{TextIo, PutLine, UncheckedDeallocation, Finalization, OfFinalization, Pools, FirstFitPool, OfPools, RunInput, Get, EndError, OtherUnit, Unknown}
 use Rattle.ada_resolve.specs.declared.library.Withs.{Withs}
 use Rattle.ada_resolve.specs.Calls.{freed_wanted, got_wanted, actual_wanted, actual_remark, freeing, getting, taking, actual_found, taker_remark, taker_found, library_call_remark, library_call_found, own_call_remark, own_call_found, call_remark, call_found}
 use Rattle.ada_resolve.specs.declared.calls.Callee.{Callee}
@@ -67,7 +68,9 @@ use Rattle.ada_resolve.proofs.WellFormed.Remarks.{Quiet, quiet_unless}
 use Rattle.ada_resolve.proofs.WellFormed.Values.{access_designates}
 use Rattle.ada_resolve.proofs.WellFormed.Names.{EntityFits, IsVariableIn, PartsFit, visible_fits, kind_there, text_same}
 use Rattle.ada_resolve.proofs.WellFormed.Meanings.{MeantFits, path_fits}
-use Rattle.ada_resolve.proofs.WellFormed.Selected.{IsNamedOf, name_at, has_record, designated_same, designated_more}
+use Rattle.ada_resolve.proofs.WellFormed.Selected.{IsNamedOf, name_at, has_record, designated_same}
+use Rattle.ada_resolve.proofs.WellFormed.Forms.{object_stays, record_stays}
+use Rattle.ada_resolve.proofs.WellFormed.Growing.{designated_stays}
 use Rattle.ada_resolve.proofs.WellFormed.Tables.{get_other}
 use Rattle.ada_resolve.proofs.WellFormed.Items.{components_are, expression_fits, items_there}
 use Rattle.ada_resolve.proofs.ItemCounts.{items_all}
@@ -147,7 +150,7 @@ within_read k p spot t c w q = complete_or (is_incomplete_type k t) q
     found_or (Some found) is q =
         let at = component_found 0 c.text (components_of k.types t) found is in
         let there = has_record k.types t at.0 (the_part c.text found.1) at.2 in
-        (there.0, there.1, there.2, at.0, w.types t (record_of there.0 there.1 there.2) there.3, there.4)
+        (there.0, there.1, there.2, at.0, record_stays k.types p.types w.types t there.0 there.1 there.2 there.3, there.4)
 
     complete_or : (b : Bool) → Quiet (cond b (wrong spot WrongType) (component_wanted (component_named 0 c.text (components_of k.types t)) c)) → IsNamed p t c.text (cond b None (component_named 0 c.text (components_of k.types t)))
     complete_or true q = absurd q
@@ -190,7 +193,7 @@ held_read p t before c ss cs end (Some found) h r = by_kind found.1.kind h r
 
 -- the type that an access type designates
 pub type_designated : (k : Known) (p : Context) (t d : ℕ) → Ahead k p → fits.designated_type k.types t ≡ Some d → fits.designated_type p.types t ≡ Some d
-type_designated k p t d w e = sym (designated_same p.types t) ∙ designated_more k.types p.types t d w.types (designated_same k.types t ∙ e)
+type_designated k p t d w e = designated_stays k.types p.types k.variables k.variables w.types (λ i x is. is) t d e
 
 value_designates : (k : Known) (p : Context) (t : TypeNo) (d : ℕ) → Ahead k p → designated_of k.types t.0 ≡ Some d → type_behind p.types (Some (variable.Access t)) ≡ Some d
 value_designates k p t d w e = type_designated k p t.0 d w (sym (designated_same k.types t.0) ∙ e)
@@ -267,7 +270,7 @@ object_path_read : (k : Known) (p : Context) (x : VariableNo) (name : Ident) (ob
 object_path_read k p x name object t ss w b v is q = record {
   root = b;
   way = at_object t 0;
-  begins = subst (λ (o : Option VariableKind). IsBegun p.types o true (at_object t 0)) (sym v) (refl, t, w.types object.0 (object_of t) is, refl);
+  begins = subst (λ (o : Option VariableKind). IsBegun p.types o true (at_object t 0)) (sym v) (refl, t, object_stays k.types p.types w.types object.0 t is, refl);
   selectors = selectors_read k p name.spot (reached.Object (record { 0 = t }) 0) ss w q tt;
   spot = refl;
 }
@@ -290,7 +293,7 @@ record_place_read k p x name object ss w b v q = by_form (slice_get k.types obje
         let at = reached.Object (record { 0 = t }) 0 in
         meant_whole p tree (selected_path x true name.spot (components_selected k at ss)) (selectors_reached k at ss) (object_path_read k p x name object t ss w b v is q.0)
     by_form (Some (record_of n ps cs)) is q = unknown_read k p name (selected_path x true name.spot (components_selected k (reached.Value (variable.Record object)) ss)) object ss q.0
-    by_form (Some (access_to n d)) is q = unknown_read k p name (selected_path x true name.spot (components_selected k (reached.Value (variable.Record object)) ss)) object ss q.0
+    by_form (Some (access_to n d pool)) is q = unknown_read k p name (selected_path x true name.spot (components_selected k (reached.Value (variable.Record object)) ss)) object ss q.0
     by_form None is q = unknown_read k p name (selected_path x true name.spot (components_selected k (reached.Value (variable.Record object)) ss)) object ss q.0
 
 place_read : (k : Known) (p : Context) (x : VariableNo) (name : Ident) (of : VariableKind) (ss : List SelectorTree) → Ahead k p → IsObjectNamed p name.text x.0 → fits.variable_kind p.variables x.0 ≡ Some of → Quiet (variable_path_remark k name.spot of ss) → MeantRead p (path_expression (record { root = name; selectors = ss })) (variable_meant k x name.spot of ss)
@@ -528,7 +531,7 @@ aggregate_one k p name items spot (Some (entity.Record t size)) w v b q i c r =
       components = f.1;
       written = (refl, refl);
       bound = b (entity.Record t size) refl;
-      there = w.ahead.types t.0 (record_of name.text f.0 f.1) f.2;
+      there = record_stays k.types p.types w.ahead.types t.0 name.text f.0 f.1 f.2;
       count = count.0 ∙ ap (λ (ps : List PartForm). length ps) whole;
       given = subst (λ (ps : List PartForm). AreGiven p items 0 ps (flattened after.slots)) whole (whole_read p cs items after.slots all count.1 r);
     }
@@ -615,7 +618,7 @@ allocation_one k p (entity.Record t size) access spot end_spot name items w f r 
   components = f.1;
   designates = type_designated k p access.0 t.0 w.ahead (access_designates k.types access.0 t.0 (quiet_unless (designates k.types access.0 t.0) spot WrongType q));
   bound = r;
-  named = w.ahead.types t.0 (record_of name.text f.0 f.1) f.2;
+  named = record_stays k.types p.types w.ahead.types t.0 name.text f.0 f.1 f.2;
   filled = subst (λ (cs : List PartForm). AreItemsRead p cs items (flattened (filling_of k (Some (components_of k.types t.0)) items).slots))
       (components_are k.types t.0 name.text f.0 f.1 f.2) (aggregate_items_read k p (components_of k.types t.0) items end_spot w i);
 }
@@ -639,7 +642,7 @@ default_one : (k : Known) (p : Context) (e : Entity) (access : TypeNo) (at spot 
 default_one k p (entity.Record t size) access at spot name w f r q = (
   t.0,
   type_designated k p access.0 t.0 w.ahead (access_designates k.types access.0 t.0 (quiet_unless (designates k.types access.0 t.0) spot WrongType q)),
-  (r, f.0, f.1, w.ahead.types t.0 (record_of name.text f.0 f.1) f.2),
+  (r, f.0, f.1, record_stays k.types p.types w.ahead.types t.0 name.text f.0 f.1 f.2),
 )
 default_one k p e access at spot name w f r q = absurd q
 
@@ -868,17 +871,22 @@ with_is true true n m e = cc e
 with_is true false n m e = absurd (cc e)
 with_is false b n m e = absurd (cc e)
 
-no_with : (b : Bool) (n : LibraryName) (spot : Spot) → Quiet (wrong_if (not b) spot UnknownName) → if_with b n ≡ None → ⊥
-no_with true n spot q e = cc e
-no_with false n spot q e = q
+no_with : (b : Bool) (n : LibraryName) (spot : Spot) (rule : NameRule) → Quiet (wrong_if (not b) spot rule) → if_with b n ≡ None → ⊥
+no_with true n spot rule q e = cc e
+no_with false n spot rule q e = q
 
 pub no_name : (withs : Withs) (n : LibraryName) (spot : Spot) → Quiet (library_wrong withs n spot) → if_with (is_with withs n) n ≡ None → ⊥
-no_name withs TextIo spot q e = no_with withs.text_io TextIo spot q e
-no_name withs PutLine spot q e = no_with withs.text_io PutLine spot q e
-no_name withs UncheckedDeallocation spot q e = no_with withs.deallocation UncheckedDeallocation spot q e
-no_name withs RunInput spot q e = no_with withs.run_input RunInput spot q e
-no_name withs Get spot q e = no_with withs.run_input Get spot q e
-no_name withs EndError spot q e = no_with withs.run_input EndError spot q e
+no_name withs TextIo spot q e = no_with withs.text_io TextIo spot UnknownName q e
+no_name withs PutLine spot q e = no_with withs.text_io PutLine spot UnknownName q e
+no_name withs UncheckedDeallocation spot q e = no_with withs.deallocation UncheckedDeallocation spot UnknownName q e
+no_name withs Finalization spot q e = no_with withs.finalization Finalization spot UnknownName q e
+no_name withs OfFinalization spot q e = q
+no_name withs Pools spot q e = no_with withs.pools Pools spot UnknownName q e
+no_name withs FirstFitPool spot q e = no_with withs.pools FirstFitPool spot UnknownName q e
+no_name withs OfPools spot q e = q
+no_name withs RunInput spot q e = no_with withs.run_input RunInput spot UnknownName q e
+no_name withs Get spot q e = no_with withs.run_input Get spot UnknownName q e
+no_name withs EndError spot q e = no_with withs.run_input EndError spot UnknownName q e
 no_name withs OtherUnit spot q e = q
 no_name withs Unknown spot q e = q
 

@@ -4,6 +4,8 @@
 pub mod Order
 -- what was given on the way
 pub mod Given
+-- the pools of access types
+pub mod Housed
 -- types that are declared or completed
 pub mod Types
 -- what of the tables stays
@@ -20,10 +22,11 @@ pub mod Procedures
 pub mod Stated
 -- the parts of a program
 pub mod Body
-pub use Rattle.ada_resolve.proofs.Standing.Order.{IsBefore, AllBefore, PartsBefore, IsCalled, AllCalled, PartsCalled, AllSized, IsBounded, Sound, Complete, Grows, IsSettled, IsSettledEntity, Keeps, Stays, Inside, grows_same, grows_on, keeps_same, keeps_on, stays_same, stays_on, longer, more_types, more_bodies, more_variables, complete_grows, known_settled, object_settled, outer_settled, record_settled, visible_settled, first_sound, first_complete}
+pub use Rattle.ada_resolve.proofs.Standing.Order.{IsBefore, AllBefore, PartsBefore, IsCalled, AllCalled, PartsCalled, AllSized, IsBounded, Sound, Complete, Grows, IsSettled, IsSettledEntity, Keeps, Stays, Inside, grows_same, grows_on, keeps_same, keeps_on, stays_same, stays_on, longer, longer_types, more_types, more_pools, more_bodies, more_variables, complete_grows, known_settled, object_settled, outer_settled, record_settled, visible_settled, first_sound, first_complete}
 pub use Rattle.ada_resolve.proofs.Standing.Given.{gone_on, made_gives, made_from, known_gives, first_same, second_same, node_done, ConditionDone, condition_done, HeadIs, HeadDone, head_done, SimpleDone, simple_done, IfDone, if_done, LoopDone, loop_done, BlockDone, block_done, same_gives, same_end, ProcedureDone, procedure_done, SingleDone, single_done, DeclarationsDone, declarations_done, DeclareDone, declare_done, SequenceDone, sequence_done, StatementsDone, statements_done, BranchDone, branch_done, HandlerDone, handler_done}
-pub use Rattle.ada_resolve.proofs.Standing.Kept.{IsSlot, new_slot, slot_of, old_name, keeps_name, keeps_defined, defined_there, keeps_elaborated, keeps_object_type, keeps_variable, keeps_exception}
-pub use Rattle.ada_resolve.proofs.Standing.Declared.{none_ended, elaborated_sound, variable_sound, ended_sound, ended_keeps, declaration_sound, declaration_keeps}
+pub use Rattle.ada_resolve.proofs.Standing.Kept.{IsSlot, new_slot, slot_of, old_name, keeps_name, keeps_defined, defined_there, keeps_elaborated, keeps_object_type, keeps_variable, keeps_exception, keeps_pool, keeps_frozen, keeps_placed, name_bare}
+pub use Rattle.ada_resolve.proofs.Standing.Housed.{called_later, housed_later}
+pub use Rattle.ada_resolve.proofs.Standing.Declared.{no_pool, storage_quiet, none_ended, elaborated_sound, variable_sound, ended_sound, ended_keeps, declaration_sound, declaration_keeps}
 pub use Rattle.ada_resolve.proofs.Standing.Declarations.{gives_same, begin_open, begin_complete}
 pub use Rattle.ada_resolve.proofs.Standing.Inner.{part_sound, part_complete, part_inside, parameter_sound, parameter_complete, parameter_inside, inside_on, begun_inside, leave_sound, leave_complete, leave_stays}
 pub use Rattle.ada_resolve.proofs.Standing.Procedures.{get_front, IsFormal, FormalsSound, AllObjects, head_formals, head_objects, around_body, around_sound, InBody, head_in_body, types_keep, left_body, longer_bodies, ended_is, body_ended_sound, body_ended_names, body_ended_some, body_ended_keeps}

@@ -2,12 +2,16 @@
 
 -- where no fault is noted, nothing is wrong
 pub mod Remarks
+-- types but for their pools
+pub mod Forms
 -- what stays of lists and types as more of them are declared
 pub mod Tables
 -- the components of record types lie one behind the other
 pub mod Laid
 -- what names stand for is there
 pub mod Names
+-- types that get pools
+pub mod Placed
 -- exceptions, and what names stand for them
 pub mod Exceptions
 -- what the names of types stand for
@@ -16,6 +20,8 @@ pub mod Types
 mod Typing
 -- what stays as more is declared
 pub mod Growing
+-- what frees by the instances for the very types, as more is declared
+pub mod Freed
 -- what is selected behind a variable
 pub mod Selected
 -- what an expression means
@@ -55,16 +61,18 @@ use Rattle.std.specs.Prelude.{Some, None, ◌&&◌, ◌==◌}
 use Rattle.std.specs.List.{list_all, slice_get}
 use Rattle.std.proofs.lemmas.List.{append-nil}
 use Rattle.ada_tree.specs.Statements.{UnitTree}
+use Rattle.ada_program.specs.Freed.{FreesItsOwn}
 use Rattle.ada_program.specs.ProgramForm.{TypeForm, VariableForm, ProgramForm}
-use Rattle.ada_program.specs.WellFormed.{IsWellFormed, creations, all_creations, created_in_all, Creation, creates_from, has_collections, collections_first, collection_fits, initial_fits}
+use Rattle.ada_program.specs.WellFormed.{IsWellFormed, has_known_pool, creates_known_pool, creations, created_in_all, Creation, creates_from, has_collections, collections_first, collection_fits, initial_fits}
 use Rattle.ada_resolve.specs.declared.library.Withs.{Withs}
 use Rattle.ada_resolve.specs.Known.{Known}
 use Rattle.ada_resolve.specs.Resolution.{SequenceForm, known_first, program_of, Resolves}
-use Rattle.ada_resolve.proofs.Standing.{Sound, Complete, first_sound, declarations_keep, sequence_stays, BodyDone, body_done, before_sound, behind_sound}
-use Rattle.ada_resolve.proofs.WellFormed.Tables.{first_part, second_part}
+use Rattle.ada_resolve.proofs.Standing.{Sound, Complete, Keeps, first_sound, declarations_keep, sequence_stays, BodyDone, body_done, before_sound, behind_sound}
+use Rattle.ada_resolve.proofs.WellFormed.Forms.{forms}
+use Rattle.ada_resolve.proofs.WellFormed.Tables.{all_more, both_parts, first_part, second_part}
 use Rattle.ada_resolve.proofs.WellFormed.Created.{accesses, bodies_collect, collected_both, Creates, has_each}
 use Rattle.ada_resolve.proofs.WellFormed.Elaborated.{InOrder, first_order}
-use Rattle.ada_resolve.proofs.WellFormed.Lasting.{Ended, ended_all}
+use Rattle.ada_resolve.proofs.WellFormed.Lasting.{Ended, ended_all, ended_free}
 use Rattle.ada_resolve.proofs.WellFormed.Doing.{SequenceFits}
 use Rattle.ada_resolve.proofs.WellFormed.Stated.{declarations_ordered, sequence_fit}
 
@@ -89,20 +97,23 @@ each_collected k z cs none empty c =
 
 -- no body has ended at first
 pub first_ended : (withs : Withs) (procedure : List ℕ) → Ended (known_first withs procedure)
-first_ended withs procedure = record { fit = λ ts w. refl; below = λ a past. refl }
+first_ended withs procedure = record { fit = λ ts w. refl; below = λ a past. refl; frees = λ ts w. refl; pools = refl }
 
 -- a program whose parts fit
 program_fits : (k m z : Known) (body : SequenceForm) → k.types ≡ [] → k.variables ≡ [] → k.bodies ≡ [] → m.here.first_type ≡ length k.types → m.here.first_variable ≡ length k.variables → m.here.first_body ≡ length k.bodies → Sound z → Complete z → Ended z → SequenceFits m z false body → IsWellFormed (program_of z body.0 body.1)
 program_fits k m z body no_types no_variables no_bodies first_type first_variable first_body w c e f =
     let p = program_of z body.0 body.1 in
+    let known = creates_known_pool (length z.pools) in
     let es = z.here.elaborated in
     let front = collections_first es && list_all (collection_fits z.types) es in
     let initials = list_all (initial_fits z.types z.variables) es in
     let both : front ≡ true = first_part front initials f.declares in
     let creates : Creates k z (creations p) =
-    f.creates k (λ i x is. absurd (not_there k.types i x no_types is)) (λ i x is. absurd (not_there k.bodies i x no_bodies is)) first_type first_variable first_body in
+    f.creates k (λ i x is. absurd (not_there (forms k.types) i x (ap (λ ts. forms ts) no_types) is)) (λ i x is. absurd (not_there k.bodies i x no_bodies is)) first_type first_variable first_body in
     record {
       types_fit = w.types_fit;
+      pools_fit = both_parts (list_all (has_known_pool (length z.pools)) z.types) (list_all known (created_in_all z.bodies ++ creations p)) w.housed
+          (all_more known (created_in_all z.bodies) (creations p) e.pools creates.pools);
       variables_fit = w.variables_fit;
       creates_in_order = all_in_order k z (creations p) no_variables creates;
       collections_first = first_part (collections_first es) (list_all (collection_fits z.types) es) both;
@@ -117,19 +128,44 @@ program_fits k m z body no_types no_variables no_bodies first_type first_variabl
     not_there : {X : Type 0} (xs : List X) (i : ℕ) (x : X) → xs ≡ [] → slice_get xs i ≡ Some x → ⊥
     not_there xs i x none is = let no : slice_get xs i ≡ None = ap (λ ys. slice_get ys i) none in cc (no, is)
 
+-- what is known where the main procedure of a program ends
+record AtEnd (tree : UnitTree) (program : ProgramForm) (b : BodyDone tree program) : Type 0 where
+  keeps : Keeps b.first.0 b.behind.0
+  sound : Sound b.done.1.0
+  complete : Complete b.done.1.0
+  ended : Ended b.done.1.0
+  fits : SequenceFits b.behind.0 b.done.1.0 false b.done.0
+
+at_end : (tree : UnitTree) (program : ProgramForm) (b : BodyDone tree program) → AtEnd tree program b
+at_end tree program b =
+    let first = before_sound tree program b in
+    let sound = behind_sound tree program b in
+    let order : InOrder b.first.0 = subst InOrder (sym b.first_known) (first_order b.withs tree.name.text) in
+    let o = declarations_ordered tree.declarations b.first b.behind first order b.declared in
+    let f = sequence_fit false tree.body b.behind b.done sound o.order b.told in
+    let stays = (sequence_stays false tree.body b.behind b.done sound b.told).stays in
+    record {
+      keeps = declarations_keep tree.declarations b.first b.behind first b.declared;
+      sound = stays.sound;
+      complete = stays.complete;
+      ended = f.follows.ended (o.follows.ended (subst Ended (sym b.first_known) (first_ended b.withs tree.name.text)));
+      fits = f;
+    }
+
 -- the program that a tree means is well formed
 pub well_formed : (tree : UnitTree) (program : ProgramForm) → Resolves tree program → IsWellFormed program
 well_formed tree program e =
     let b = body_done tree program e in
-    let k = known_first b.withs tree.name.text in
-    let first = before_sound tree program b in
-    let sound = behind_sound tree program b in
-    let order : InOrder b.first.0 = subst InOrder (sym b.first_known) (first_order b.withs tree.name.text) in
-    let keeps = declarations_keep tree.declarations b.first b.behind first b.declared in
-    let o = declarations_ordered tree.declarations b.first b.behind first order b.declared in
-    let f = sequence_fit false tree.body b.behind b.done sound o.order b.told in
-    let stays = (sequence_stays false tree.body b.behind b.done sound b.told).stays in
-    let ended : Ended b.done.1.0 = f.follows.ended (o.follows.ended (subst Ended (sym b.first_known) (first_ended b.withs tree.name.text))) in
+    let a = at_end tree program b in
     subst IsWellFormed (sym b.form)
-    (program_fits k b.behind.0 b.done.1.0 b.done.0 refl refl refl (keeps.first_type ∙ ap (λ (v : Known). v.here.first_type) b.first_known)
-    (keeps.first_variable ∙ ap (λ (v : Known). v.here.first_variable) b.first_known) (keeps.first_body ∙ ap (λ (v : Known). v.here.first_body) b.first_known) stays.sound stays.complete ended f)
+    (program_fits (known_first b.withs tree.name.text) b.behind.0 b.done.1.0 b.done.0 refl refl refl (a.keeps.first_type ∙ ap (λ (v : Known). v.here.first_type) b.first_known)
+    (a.keeps.first_variable ∙ ap (λ (v : Known). v.here.first_variable) b.first_known) (a.keeps.first_body ∙ ap (λ (v : Known). v.here.first_body) b.first_known) a.sound a.complete a.ended a.fits)
+
+-- and it frees each object by the instance for its very type
+pub frees_own : (tree : UnitTree) (program : ProgramForm) → Resolves tree program → FreesItsOwn program
+frees_own tree program e =
+    let b = body_done tree program e in
+    let a = at_end tree program b in
+    let p = program_of b.done.1.0 b.done.0.0 b.done.0.1 in
+    let free : FreesItsOwn p = record { statements = a.fits.own_frees; handlers = a.fits.handled_frees; bodies = ended_free b.done.1.0 a.ended } in
+    subst FreesItsOwn (sym b.form) free

@@ -1,7 +1,7 @@
 -- The program that a tree means is read back as the tree: its statements, with the declarations in them, and the whole unit.
 
 use Rattle.std.proofs.Common.{drop, append_assoc, ◌≡◌, ◌∙◌, ℕ, Bool, true, false, List, [], ◌∷◌, ◌++◌, ◌+◌, length, length-append, refl, sym, ap, subst, eq-eqb}
-use Rattle.std.specs.Prelude.{Option, Some, None, ◌==◌}
+use Rattle.std.specs.Prelude.{Option, Some, None, ◌==◌, is_some}
 use Rattle.std.specs.List.{slice_get, list_all}
 use Rattle.std.proofs.lemmas.List.{append-nil}
 use Rattle.ada_text.specs.declared.spot.Spot.{Spot}
@@ -16,6 +16,7 @@ use Rattle.ada_program.specs.Form.{calls, DeclarationForm, ExpressionForm, StmtF
 use Rattle.ada_program.specs.Form as form
 use Rattle.ada_program.specs.ProgramForm.{TypeForm, VariableForm, BodyForm, ProgramForm}
 use Rattle.ada_program.specs.WellFormed as well
+use Rattle.ada_resolve.specs.Clauses.{pool_of}
 use Rattle.ada_resolve.specs.Known.{Known, Part, with_part, left_to, without_part, no_variable_yet, no_body_yet, types_go_on}
 use Rattle.ada_resolve.specs.Instances.{is_collected}
 use Rattle.ada_resolve.specs.Objects.{after_types, ends_types, missing_collections, collections_of}
@@ -24,8 +25,8 @@ use Rattle.ada_resolve.specs.Statements.{bound_meant, condition_meant, text_in, 
 use Rattle.ada_resolve.specs.Resolution.{gives, At, LoopHead, loop_of, behind_loop, with_parameter, declarations_told, SequenceForm, sequence_told, Others, simple_told, statement_told, statements_told, branches_told, handlers_told, program_of, known_first, Resolves}
 use Rattle.ada_resolve.specs.Spots.{end_of}
 use Rattle.ada_resolve.specs.declared.library.Withs.{Withs}
-use Rattle.ada_resolve.specs.Naming.{Context, Place}
-use Rattle.ada_resolve.specs.Reading.{read_at, inside, behind, with_new_constant, IsPartRead, IsExpressionRead, IsCallRead, IsSimpleRead, behind_simple, AreChoicesRead, IsStatementRead, AreStatementsRead, AreBranchesRead, AreHandlersRead, IsSequenceRead, is_one_of, IsHeadRead, AreFormalsRead, IsNextBody, IsEndName, in_body, behind_body, first_place, first_context, IsReadAs}
+use Rattle.ada_resolve.specs.Naming.{Context, Place, is_one_of}
+use Rattle.ada_resolve.specs.Reading.{read_at, inside, behind, with_new_constant, IsPartRead, IsExpressionRead, IsCallRead, IsSimpleRead, behind_simple, AreChoicesRead, IsStatementRead, AreStatementsRead, AreBranchesRead, AreHandlersRead, IsSequenceRead, IsHeadRead, AreFormalsRead, IsNextBody, IsEndName, in_body, behind_body, first_place, first_context, IsReadAs}
 use Rattle.ada_resolve.proofs.WellFormed.Tables.{get_last, both_parts}
 use Rattle.ada_resolve.proofs.Standing.{Grows, Keeps, complete_grows, gives_same, SequenceStays, sequence_stays, BodyStays, body_stays, ProcedureDone, procedure_done, declarations_done, told_sound, told_keeps, declarations_keep, ended_keeps, head_formals, around_body, ended_is, behind_sound, Sound, Complete, Stays, OthersStay, made_from, first_sound, if_done, loop_done, LoopDone, HeadIs, block_done, declare_done, SequenceDone, sequence_done, statements_done, branch_done, handler_done, simple_done, ended_sound, declarations_sound, begin_complete, part_sound, parameter_sound, parameter_complete, texts_stay, statement_stays, statements_stay, branches_stay, handlers_stay, body_done, BodyDone}
 use Rattle.ada_resolve.proofs.Agreeing.{Agrees, Ahead, Readable, agrees_same, agrees_inside, agrees_parameter, agrees_behind, not_predefined}
@@ -75,29 +76,31 @@ here_behind k m p end f fit agrees = record { sound = f.sound; complete = f.comp
 
 -- an inner part ends: tables stay
 left_ahead : (m : Known) (outer : List Part) (p : Context) → Ahead (left_to outer m) p → Ahead m p
-left_ahead m [] p w = record { types = w.types; variables = w.variables; exceptions = w.exceptions; texts = w.texts; bodies = w.bodies }
-left_ahead m (part ∷ outer) p w = record { types = w.types; variables = w.variables; exceptions = w.exceptions; texts = w.texts; bodies = w.bodies }
+left_ahead m [] p w = record { types = w.types; placed = w.placed; pools = w.pools; variables = w.variables; exceptions = w.exceptions; texts = w.texts; bodies = w.bodies }
+left_ahead m (part ∷ outer) p w = record { types = w.types; placed = w.placed; pools = w.pools; variables = w.variables; exceptions = w.exceptions; texts = w.texts; bodies = w.bodies }
 
 record SameCounts (k m : Known) : Type 0 where
   types : length k.types ≡ length m.types
+  pools : length k.pools ≡ length m.pools
+  placed : (t : ℕ) → pool_of k.types t ≡ pool_of m.types t
   variables : length k.variables ≡ length m.variables
   exceptions : length k.exceptions ≡ length m.exceptions
   texts : length k.texts ≡ length m.texts
   bodies : length k.bodies ≡ length m.bodies
 
 left_counts : (m : Known) (outer : List Part) → SameCounts (left_to outer m) m
-left_counts m [] = record { types = refl; variables = refl; exceptions = refl; texts = refl; bodies = refl }
-left_counts m (part ∷ outer) = record { types = refl; variables = refl; exceptions = refl; texts = refl; bodies = refl }
+left_counts m [] = record { types = refl; pools = refl; placed = λ t. refl; variables = refl; exceptions = refl; texts = refl; bodies = refl }
+left_counts m (part ∷ outer) = record { types = refl; pools = refl; placed = λ t. refl; variables = refl; exceptions = refl; texts = refl; bodies = refl }
 
 agrees_left : (k m z : Known) (place end : Place) → Stays k z → z ≡ without_part m → Agrees k place → Agrees m end → Agrees z (behind place end)
 agrees_left k m z place end f is w v =
     let c : SameCounts z m = subst (λ u. SameCounts u m) (sym is) (left_counts m m.outer) in
-    agrees_behind k m z place end (ap (λ (x : Part). x.names) f.here) (ap (λ (x : Part). x.first_type) f.here) (ap (λ (x : Part). x.around) f.here) f.outer c.types c.bodies c.variables c.exceptions c.texts w v
+    agrees_behind k m z place end (ap (λ (x : Part). x.names) f.here) (ap (λ (x : Part). x.first_type) f.here) (ap (λ (x : Part). x.around) f.here) f.outer c.types c.bodies c.variables c.exceptions c.texts c.pools c.placed w v
 
 -- behind a statement with no others in it, where the texts that it writes are counted
 no_texts : (k : Known) (place : Place) → Agrees k place → Agrees (with_texts [] k) place
 no_texts k place w =
-    agrees_same k (with_texts [] k) place refl refl refl refl refl refl refl refl (ap (λ (ts : List (List ℕ)). length ts) (append-nil k.texts)) w
+    agrees_same k (with_texts [] k) place refl refl refl refl refl refl refl refl (ap (λ (ts : List (List ℕ)). length ts) (append-nil k.texts)) refl (λ t. refl) w
 
 one_text : (k : Known) (place : Place) (text : List ℕ) → Agrees k place → Agrees (with_texts (text ∷ []) k) (record place { texts = place.texts + 1 })
 one_text k place text w = record {
@@ -105,6 +108,8 @@ one_text k place text w = record {
   outer = w.outer;
   first_type = w.first_type;
   types = w.types;
+  pools = w.pools;
+  placed = w.placed;
   bodies = w.bodies;
   variables = w.variables;
   exceptions = w.exceptions;
@@ -635,7 +640,8 @@ mutual
 
 -- nothing is bound before the first declaration
 first_agrees : (withs : Withs) (procedure : List ℕ) → Agrees (known_first withs procedure) first_place
-first_agrees withs procedure = record { here = λ text. refl; outer = λ text. refl; first_type = refl; types = refl; bodies = refl; variables = refl; exceptions = refl; texts = refl }
+unfolding pool_of
+first_agrees withs procedure = record { here = λ text. refl; outer = λ text. refl; first_type = refl; types = refl; pools = refl; placed = λ t. refl; bodies = refl; variables = refl; exceptions = refl; texts = refl }
 
 -- a whole unit
 unit_read : (tree : UnitTree) (p : ProgramForm) (b : BodyDone tree p) → IsReadAs tree p
@@ -648,11 +654,13 @@ unit_read tree p b = subst (λ v. IsReadAs tree v) (sym b.form) (record {
   body = sequence.read;
   counted = record {
     types = sym sequence.agrees.types;
+    pools = sym sequence.agrees.pools;
     bodies = sym sequence.agrees.bodies;
     variables = sym sequence.agrees.variables;
     exceptions = sym sequence.agrees.exceptions;
     texts = sym sequence.agrees.texts;
   };
+  placed = λ t n has. sequence.agrees.placed t ∙ ap (λ (o : Option ℕ). is_some o) has;
 })
   where
     z : Known
@@ -671,7 +679,7 @@ unit_read tree p b = subst (λ v. IsReadAs tree v) (sym b.form) (record {
     own = sequence_stays false tree.body b.behind b.done behind b.told
 
     ahead : Ahead z c
-    ahead = record { types = λ t x is. is; variables = λ t x is. is; exceptions = λ t x is. is; texts = λ t x is. is; bodies = λ t x is. is }
+    ahead = record { types = λ t x is. is; placed = λ t n is. is; pools = λ t x is. is; variables = λ t x is. is; exceptions = λ t x is. is; texts = λ t x is. is; bodies = λ t x is. is }
 
     begun : Begun b.first.0 c
     begun = first (record { sound = first_sound b.withs tree.name.text; agrees = first_agrees b.withs tree.name.text; fit = own.stays.sound.types_fit })

@@ -15,7 +15,7 @@ use Rattle.ada_program.specs.ProgramForm.{PartForm, TypeForm, record_of, access_
 use Rattle.ada_program.specs.WellFormed as well
 use Rattle.ada_resolve.specs.declared.fault.NameRule.TheVariants.{UnknownName, DeclaredTwice, WrongType}
 use Rattle.ada_resolve.specs.declared.library.LibraryName.{LibraryName}
-use Rattle.ada_resolve.specs.declared.library.LibraryName.TheVariants.{TextIo, PutLine, UncheckedDeallocation, RunInput, Get, EndError, OtherUnit, Unknown}
+use Rattle.ada_resolve.specs.declared.library.LibraryName.TheVariants.{TextIo, PutLine, UncheckedDeallocation, Finalization, OfFinalization, Pools, FirstFitPool, OfPools, RunInput, Get, EndError, OtherUnit, Unknown}
 use Rattle.ada_resolve.specs.declared.library.Withs.{Withs}
 use Rattle.ada_resolve.specs.declared.rights.Held.{Held}
 use Rattle.ada_resolve.specs.declared.rights.Held.TheVariants as held
@@ -42,7 +42,9 @@ use Rattle.ada_resolve.proofs.WellFormed.Tables.{first_part, second_part}
 use Rattle.ada_resolve.proofs.Agreeing.{Agrees, EntityRead, Readable, visible_read}
 use Rattle.ada_resolve.proofs.ComponentLists.{in_more}
 use Rattle.ada_resolve.proofs.Keeping.{HasName, has_name, Lasts}
-use Rattle.ada_resolve.proofs.Standing.{Sound, visible_settled}
+use Rattle.ada_resolve.proofs.Standing.{Sound, IsSettled, visible_settled}
+use Rattle.ada_resolve.proofs.WellFormed.Forms as forms
+use Rattle.ada_resolve.proofs.WellFormed.Forms.{access_stays, access_there, get_form, record_stays}
 use Rattle.ada_resolve.proofs.Reading.{FoundRight, right_read, empty_is, no_name}
 
 -- what declarations are read by, where a type may be incomplete
@@ -85,18 +87,24 @@ no_value k (Some (plain spot n)) q = absurd q
 no_value k (Some (minus spot n)) q = absurd q
 no_value k (Some (static_name name)) q = absurd q.1
 
+-- a record type that is settled is that of the program
+record_lasts : (k : Known) (p : Context) → Lasts k p → (t : ℕ) (name : List ℕ) (ps : List PartForm) (cs : List ComponentKind) → slice_get k.types t ≡ Some (record_of name ps cs) → IsSettled k t → slice_get p.types t ≡ Some (record_of name ps cs)
+record_lasts k p w t name ps cs is settled = forms.record_there p.types t name ps cs (w.settled t (record_of name ps cs) (get_form k.types t (record_of name ps cs) is) settled)
+
 kind_read : (k : Known) (p : Context) (name type_name : Ident) (initial : Option StaticTree) (o : Option Entity) → Legible k p → visible k type_name.text ≡ o → ((e : Entity) → o ≡ Some e → EntityFits k.types k.variables type_name.text e) → ((e : Entity) → o ≡ Some e → EntityRead p type_name.text e) → Quiet (kind_wanted o k (record { name = name; type_name = type_name; initial = initial })) → IsKindRead p (record { name = name; type_name = type_name; initial = initial }) (kind_in o k initial)
 kind_read k p name type_name initial (Some entity.Integer) w is f t q = integer_read k p name type_name initial w (t entity.Integer refl) q
 kind_read k p name type_name initial (Some entity.Boolean) w is f t q = boolean_read k p name type_name initial w (t entity.Boolean refl) q
 kind_read k p name type_name initial (Some (entity.Access a)) w is f t q =
-    let there = f (entity.Access a) refl in ((t (entity.Access a) refl, there.0, w.lasts.accesses a.0 type_name.text there.0 there.1), no_value k initial q)
+    let there = f (entity.Access a) refl in
+    let last = access_there p.types a.0 type_name.text there.0 (w.lasts.accesses a.0 type_name.text there.0 (get_form k.types a.0 (access_to type_name.text there.0 there.1) there.2)) in
+    ((t (entity.Access a) refl, there.0, last.0, last.1), no_value k initial q)
 kind_read k p name type_name initial (Some (entity.Record u size)) w is f t q =
     let there = f (entity.Record u size) refl in (
       (
         t (entity.Record u size) refl,
         there.0,
         there.1,
-        w.lasts.settled u.0 (record_of type_name.text there.0 there.1) there.2 (visible_settled k type_name.text u size w.sound is),
+        record_lasts k p w.lasts u.0 type_name.text there.0 there.1 there.2 (visible_settled k type_name.text u size w.sound is),
       ),
       no_value k initial q,
     )
@@ -137,8 +145,7 @@ all_laid k p cs w =
     stays : (text : List ℕ) (t : TypeNo) (size : ℕ) → visible k text ≡ Some (entity.Record t size) → elementary_of p.types t.0 ≡ elementary_of k.types t.0
     stays text t size is =
         let there = visible_fits k w.sound.names text (entity.Record t size) is in
-        let form = record_of text there.0 there.1 in
-        elementary_same k.types p.types t.0 (w.lasts.settled t.0 form there.2 (visible_settled k text t size w.sound is) ∙ sym there.2)
+        elementary_same k.types p.types t.0 (record_lasts k p w.lasts t.0 text there.0 there.1 there.2 (visible_settled k text t size w.sound is) ∙ sym there.2)
 
 -- no two components have one name
 abbrev IsApart : List ℕ → List PartForm → Type 0
@@ -203,21 +210,21 @@ record_there : (types : List TypeForm) (text : List ℕ) (d : ℕ) (o : Option T
 record_there types text d None there same is = absurd (cc is)
 record_there types text d (Some (record_of name ps cs)) there same is =
     let name_is : name ≡ text = cc same in (ps, cs, subst (λ (n : List ℕ). slice_get types d ≡ Some (record_of n ps cs)) name_is there)
-record_there types text d (Some (access_to name u)) there same is = absurd (cc is)
+record_there types text d (Some (access_to name u pool)) there same is = absurd (cc is)
 record_there types text d (Some (object_of record_type)) there same is = absurd (cc is)
 
-pub designated_read : (p : Context) (text designated : List ℕ) (t d : ℕ) → list_all (well.type_fits p.types) p.types ≡ true → slice_get p.types t ≡ Some (access_to text d) → HasName p.types designated d → IsTypeNamed p designated d → IsRecordNamed p designated d
-designated_read p text designated t d all there same named_so =
-    let is = record_there p.types designated d (slice_get p.types d) refl same (all_at (well.type_fits p.types) p.types t (access_to text d) all there) in (named_so, is.0, is.1, is.2)
+pub designated_read : (p : Context) (text designated : List ℕ) (t d : ℕ) (pool : Option ℕ) → list_all (well.type_fits p.types) p.types ≡ true → slice_get p.types t ≡ Some (access_to text d pool) → HasName p.types designated d → IsTypeNamed p designated d → IsRecordNamed p designated d
+designated_read p text designated t d pool all there same named_so =
+    let is = record_there p.types designated d (slice_get p.types d) refl same (all_at (well.type_fits p.types) p.types t (access_to text d pool) all there) in (named_so, is.0, is.1, is.2)
 
 -- the access type of an instance
 abbrev pub FoundAccess : Known → Context → Ident → Ident → Option TypeNo → Type 0
 FoundAccess k p access object None = ⊥
 FoundAccess k p access object (Some t) =
-    IsFullTypeNamed p access.text t.0 × (d : ℕ) × (slice_get k.types t.0 ≡ Some (access_to access.text d)) × HasName k.types object.text d × IsTypeNamed p object.text d
+    IsFullTypeNamed p access.text t.0 × (d : ℕ) × (pool : Option ℕ) × (slice_get k.types t.0 ≡ Some (access_to access.text d pool)) × HasName k.types object.text d × IsTypeNamed p object.text d
 
-reached : (types : List TypeForm) (t u d : ℕ) (text : List ℕ) → slice_get types t ≡ Some (access_to text d) → is_access_to (slice_get types t) u ≡ true → d ≡ u
-reached types t u d text there is = eqb-true d u (subst (λ (o : Option TypeForm). is_access_to o u ≡ true) there is)
+reached : (types : List TypeForm) (t u d : ℕ) (text : List ℕ) (pool : Option ℕ) → slice_get types t ≡ Some (access_to text d pool) → is_access_to (slice_get types t) u ≡ true → d ≡ u
+reached types t u d text pool there is = eqb-true d u (subst (λ (o : Option TypeForm). is_access_to o u ≡ true) there is)
 
 access_at : (k : Known) (p : Context) (access object : Ident) (u : TypeNo) (o : Option Entity) → HasName k.types object.text u.0 × IsTypeNamed p object.text u.0 → ((e : Entity) → o ≡ Some e → EntityFits k.types k.variables access.text e) → ((e : Entity) → o ≡ Some e → EntityRead p access.text e) → Quiet (access_wanted o k.types (Some u) access) → FoundAccess k p access object (access_in o k.types (Some u))
 unfolding designates
@@ -226,8 +233,8 @@ access_at k p access object u (Some (entity.Access t)) has f r q = by_test (is_a
     by_test : (b : Bool) → is_access_to (slice_get k.types t.0) u.0 ≡ b → b ≡ true → FoundAccess k p access object (access_if b t)
     by_test true is on =
         let there = f (entity.Access t) refl in
-        let same = sym (reached k.types t.0 u.0 there.0 access.text there.1 is) in
-        (r (entity.Access t) refl, there.0, there.1, subst (λ (d : ℕ). HasName k.types object.text d) same has.0, subst (λ (d : ℕ). IsTypeNamed p object.text d) same has.1)
+        let same = sym (reached k.types t.0 u.0 there.0 access.text there.1 there.2 is) in
+        (r (entity.Access t) refl, there.0, there.1, there.2, subst (λ (d : ℕ). HasName k.types object.text d) same has.0, subst (λ (d : ℕ). IsTypeNamed p object.text d) same has.1)
     by_test false is on = absurd (cc on)
 access_at k p access object u (Some e) has f r q = absurd q
 access_at k p access object u None has f r q = absurd q
@@ -242,6 +249,11 @@ generic_is : (withs : Withs) (n : LibraryName) (spot : Spot) → Quiet (library_
 generic_is withs UncheckedDeallocation spot q d = refl
 generic_is withs TextIo spot q d = absurd (subst (λ (b : Bool). Quiet (deallocation_wanted (if_with b TextIo) spot)) (quiet_unless withs.text_io spot UnknownName q) d)
 generic_is withs PutLine spot q d = absurd (subst (λ (b : Bool). Quiet (deallocation_wanted (if_with b PutLine) spot)) (quiet_unless withs.text_io spot UnknownName q) d)
+generic_is withs Finalization spot q d = absurd (subst (λ (b : Bool). Quiet (deallocation_wanted (if_with b Finalization) spot)) (quiet_unless withs.finalization spot UnknownName q) d)
+generic_is withs OfFinalization spot q d = absurd q
+generic_is withs Pools spot q d = absurd (subst (λ (b : Bool). Quiet (deallocation_wanted (if_with b Pools) spot)) (quiet_unless withs.pools spot UnknownName q) d)
+generic_is withs FirstFitPool spot q d = absurd (subst (λ (b : Bool). Quiet (deallocation_wanted (if_with b FirstFitPool) spot)) (quiet_unless withs.pools spot UnknownName q) d)
+generic_is withs OfPools spot q d = absurd q
 generic_is withs RunInput spot q d = absurd (subst (λ (b : Bool). Quiet (deallocation_wanted (if_with b RunInput) spot)) (quiet_unless withs.run_input spot UnknownName q) d)
 generic_is withs Get spot q d = absurd (subst (λ (b : Bool). Quiet (deallocation_wanted (if_with b Get) spot)) (quiet_unless withs.run_input spot UnknownName q) d)
 generic_is withs EndError spot q d = absurd (subst (λ (b : Bool). Quiet (deallocation_wanted (if_with b EndError) spot)) (quiet_unless withs.run_input spot UnknownName q) d)
@@ -310,19 +322,19 @@ object_at k p name type_name (Some right) entity.Boolean w alone f t q g = recor
   kind_named = (alone, t);
   starts = boolean_starts p right (initial_found k (Some held.Boolean) (Some right)) (right_read k p held.Boolean false right w q);
 }
-object_at k p name type_name None (entity.Access a) w alone f t q g = record { kind_named = (alone, (t, f.0, w.ahead.types a.0 (access_to type_name.first.text f.0) f.1)); starts = tt }
+object_at k p name type_name None (entity.Access a) w alone f t q g = record { kind_named = (alone, (let there = access_stays k.types p.types w.ahead.types a.0 type_name.first.text f.0 f.1 f.2 in (t, f.0, there.0, there.1))); starts = tt }
 object_at k p name type_name (Some right) (entity.Access a) w alone f t q g = record {
-  kind_named = (alone, (t, f.0, w.ahead.types a.0 (access_to type_name.first.text f.0) f.1));
+  kind_named = (alone, (let there = access_stays k.types p.types w.ahead.types a.0 type_name.first.text f.0 f.1 f.2 in (t, f.0, there.0, there.1)));
   starts = access_starts p a right (initial_found k (Some (held.Access a)) (Some right)) (right_read k p (held.Access a) false right w q);
 }
 object_at k p name type_name None (entity.Record u size) w alone f t q g = record {
   alone = alone;
-  record_named = (t, f.0, f.1, w.ahead.types u.0 (record_of type_name.first.text f.0 f.1) f.2);
+  record_named = (t, f.0, f.1, record_stays k.types p.types w.ahead.types u.0 type_name.first.text f.0 f.1 f.2);
   starts = tt;
 }
 object_at k p name type_name (Some right) (entity.Record u size) w alone f t q g = record {
   alone = alone;
-  record_named = (t, f.0, f.1, w.ahead.types u.0 (record_of type_name.first.text f.0 f.1) f.2);
+  record_named = (t, f.0, f.1, record_stays k.types p.types w.ahead.types u.0 type_name.first.text f.0 f.1 f.2);
   starts = record_starts p u right (initial_found k (Some (held.Record u)) (Some right)) (right_read k p (held.Record u) false right w q);
 }
 object_at k p name type_name initial e w alone f t q g = absurd g

@@ -1,18 +1,22 @@
 -- Instances of Unchecked_Deallocation: what is wrong with each, and what is known after it.
 
-use Rattle.std.specs.Prelude.{ℕ, Bool, true, false, ◌||◌, ◌==◌, nat_lt, not, if◌then◌else◌, List, [], ◌∷◌, ◌++◌, Option, Some, None}
+use Rattle.std.specs.List.{list_any}
+use Rattle.std.specs.Prelude.{ℕ, Bool, true, false, ◌||◌, ◌==◌, nat_eq, nat_lt, not, if◌then◌else◌, List, [], ◌∷◌, ◌++◌, Option, Some, None}
 use Rattle.ada_text.specs.declared.spot.Spot.{Spot}
-use Rattle.ada_program.specs.Form.{DeclarationForm, collects, declares, declares_record}
+use Rattle.ada_program.specs.Form.{DeclarationForm, creates_pool, collects, declares, declares_record}
 use Rattle.ada_tree.specs.Names.{Ident, NameTree}
 use Rattle.ada_program.specs.ProgramForm.{TypeForm}
+use Rattle.ada_program.specs.declared.program.ComponentKind.{ComponentKind}
+use Rattle.ada_program.specs.declared.program.ComponentKind.TheVariants as component
 use Rattle.ada_program.specs.declared.program.TypeNo.{TypeNo}
 use Rattle.ada_resolve.specs.declared.fault.NameRule.TheVariants.{WrongType, Layout}
 use Rattle.ada_resolve.specs.declared.library.LibraryName.{LibraryName}
 use Rattle.ada_resolve.specs.declared.library.LibraryName.TheVariants.{UncheckedDeallocation}
 use Rattle.ada_resolve.specs.declared.scope.Entity.{Entity}
 use Rattle.ada_resolve.specs.declared.scope.Entity.TheVariants as entity
-use Rattle.ada_resolve.specs.Known.{Known, declared, visible, missing, new_name_remark, library_remark, library_found, type_begins}
+use Rattle.ada_resolve.specs.Known.{Known, declared, visible, missing, new_name_remark, library_remark, library_found, type_begins, with_elaborated}
 use Rattle.ada_resolve.specs.Library.{is_library_root}
+use Rattle.ada_resolve.specs.Paths.{designated_of, elementary_of}
 use Rattle.ada_resolve.specs.Remark.{Remark, fine, wrong, ◌also◌, wrong_if}
 use Rattle.ada_resolve.specs.Types.{record_found, record_remark, designates}
 
@@ -73,6 +77,7 @@ freed_remark known access record_type = access_wanted (visible known access.text
 -- Whether the collection of an access type is created already (7.6.1): an instance creates it, or the first object does.
 abbrev pub is_collected : ℕ → List DeclarationForm → Bool
 is_collected access [] = false
+is_collected access (creates_pool pool ∷ es) = is_collected access es
 is_collected access (collects t ∷ es) = t == access || is_collected access es
 is_collected access (declares place value ∷ es) = is_collected access es
 is_collected access (declares_record place object initial ∷ es) = is_collected access es
@@ -107,13 +112,41 @@ instance_remark known spot name generic object access =
     one_instance (access_type_in (visible known access.text)) known.here.elaborated spot also
     own_type (access_type_in (visible known access.text)) known.here.first_type spot
 
--- What is known once the innermost part elaborates these too, in order (3.11).
-abbrev pub with_elaborated : List DeclarationForm → Known → Known
-with_elaborated declarations known = record known { here = record known.here { elaborated = known.here.elaborated ++ declarations } }
+-- Whether a number is among these.
+abbrev pub is_among : ℕ → List ℕ → Bool
+is_among n ns = list_any (nat_eq n) ns
+
+-- Numbers with one more, unless it is among them.
+abbrev pub with_number : List ℕ → ℕ → List ℕ
+with_number ns n = if is_among n ns then ns else ns ++ n ∷ []
+
+-- The numbers with that of the access type of an elementary component.
+abbrev pub with_component_frozen : ComponentKind → List ℕ → List ℕ
+with_component_frozen (component.Access access) frozen = with_number frozen access.0
+with_component_frozen (component.Integer n) frozen = frozen
+with_component_frozen (component.Boolean b) frozen = frozen
+
+-- The numbers with those of the access types of elementary components, in order.
+abbrev pub with_components_frozen : List ComponentKind → List ℕ → List ℕ
+with_components_frozen [] frozen = frozen
+with_components_frozen (kind ∷ kinds) frozen = with_components_frozen kinds (with_component_frozen kind frozen)
+
+-- The elementary components of a record type, at any depth, where it is known.
+abbrev pub components_behind : List TypeForm → Option ℕ → List ComponentKind
+components_behind types (Some t) = elementary_of types t
+components_behind types None = []
+
+-- What an instance freezes (13.14): its access type, and those of the components of what that designates, at any depth.
+abbrev pub frozen_by : List TypeForm → ℕ → List ℕ → List ℕ
+frozen_by types access frozen = with_components_frozen (components_behind types (designated_of types access)) (with_number frozen access)
+
+-- What is known once an instance for this access type is behind.
+abbrev pub with_frozen : ℕ → Known → Known
+with_frozen access known = record known { frozen = frozen_by known.types access known.frozen }
 
 -- After it the collection of the access type is created (the profile's place for it), and the instance is known.
 abbrev pub instance_of : Known → Ident → Option TypeNo → Known
-instance_of known name (Some t) = declared (with_elaborated (collects t.0 ∷ []) known) name.text (entity.Instance t)
+instance_of known name (Some t) = declared (with_frozen t.0 (with_elaborated (collects t.0 ∷ []) known)) name.text (entity.Instance t)
 instance_of known name None = known
 
 -- What is known after an instance.

@@ -5,7 +5,7 @@ use denote.Ref.{Bor}
 use Rattle.ada_tree.specs.Records.{ComponentTree}
 use Rattle.ada_program.specs.declared.program.ComponentKind.{ComponentKind}
 use Rattle.ada_program.specs.declared.program.PartKind.{PartKind}
-use Rattle.ada_program.specs.ProgramForm.{PartForm, TypeForm, record_of, access_to, object_of}
+use Rattle.ada_program.specs.ProgramForm.{PartForm, TypeForm, record_of, access_to, object_of, pool_number}
 use Rattle.ada_resolve.specs.declared.components.Components.{Components}
 use Rattle.ada_resolve.specs.declared.components.KnownComponent.{KnownComponent}
 use Rattle.ada_resolve.specs.declared.components.KnownType.{KnownType}
@@ -28,7 +28,7 @@ composition_in cs = record { parts = forms_of cs; kinds = cs.kinds.items; size =
 -- A type.
 abbrev pub known_type_form : KnownType → TypeForm
 known_type_form (known_type.Record name components) = record_of name.now (forms_of components) components.kinds.items
-known_type_form (known_type.Access name designated) = access_to name.now designated.0
+known_type_form (known_type.Access name designated pool) = access_to name.now designated.0 (pool_number pool)
 known_type_form (known_type.Object record_type) = object_of record_type.0
 
 -- Declared components with one more: last, or, where its name is there already, in place of that one, under whose name the code keeps one.

@@ -1,17 +1,18 @@
 -- What is known at a place in the procedures of a tree, and what the names stand for there.
 
-use Rattle.std.specs.Prelude.{ℕ, ◌-◌, Bool, true, false, ◌==◌, not, nat_lt, ◌&&◌, if◌then◌else◌, List, [], ◌∷◌, length, Option, Some, None, is_some, codes, bytes_eq}
+use Rattle.std.specs.Prelude.{ℕ, ◌-◌, Bool, true, false, ◌==◌, not, nat_lt, ◌&&◌, ◌||◌, if◌then◌else◌, List, [], ◌∷◌, ◌++◌, length, Option, Some, None, is_some, codes, bytes_eq}
 use Rattle.ada_text.specs.declared.spot.Spot.{Spot}
 use Rattle.ada_tree.specs.Names.{Ident, SelectorTree, component, dereference, PathTree, is_name}
 use Rattle.ada_program.specs.Form.{DeclarationForm}
-use Rattle.ada_program.specs.ProgramForm.{TypeForm, VariableForm, BodyForm}
+use Rattle.ada_program.specs.ProgramForm.{TypeForm, PoolForm, VariableForm, BodyForm}
 use Rattle.ada_program.specs.WellFormed.{is_borrower}
 use Rattle.ada_program.specs.declared.program.FormalMode.{FormalMode}
 use Rattle.ada_program.specs.declared.program.ProcedureNo.{ProcedureNo}
 use Rattle.ada_program.specs.declared.program.VariableNo.{VariableNo}
+use Rattle.ada_resolve.specs.declared.fault.NameRule.{NameRule}
 use Rattle.ada_resolve.specs.declared.fault.NameRule.TheVariants.{UnknownName, DeclaredTwice, NotInProfile, Layout, Limit}
 use Rattle.ada_resolve.specs.declared.library.LibraryName.{LibraryName}
-use Rattle.ada_resolve.specs.declared.library.LibraryName.TheVariants.{TextIo, PutLine, UncheckedDeallocation, RunInput, Get, EndError, OtherUnit, Unknown}
+use Rattle.ada_resolve.specs.declared.library.LibraryName.TheVariants.{TextIo, PutLine, UncheckedDeallocation, Finalization, OfFinalization, Pools, FirstFitPool, OfPools, RunInput, Get, EndError, OtherUnit, Unknown}
 use Rattle.ada_resolve.specs.declared.library.Withs.{Withs}
 use Rattle.ada_resolve.specs.declared.scope.Entity.{Entity}
 use Rattle.ada_resolve.specs.declared.scope.Entity.TheVariants as entity
@@ -38,18 +39,21 @@ pub record Part : Type 0 where
   pub around : Option (List VariableForm)
 
 -- What is known: the library units of the with clauses, the main procedure's name, the declarative part that declares here, those around it, the
--- inner ones first (8.1); by their numbers all types, the bodies of the procedures that have ended, the variables of the body at this place, all
--- exceptions, of which that is the name, and all texts.
+-- inner ones first (8.1); by their numbers all types, all pools, the bodies of the procedures that have ended, the variables of the body at this
+-- place, all exceptions, of which that is the name, and all texts; and the numbers of the access types that instances of Unchecked_Deallocation have
+-- frozen (13.14).
 pub record Known : Type 0 where
   pub withs : Withs
   pub procedure : List ℕ
   pub here : Part
   pub outer : List Part
   pub types : List TypeForm
+  pub pools : List PoolForm
   pub bodies : List BodyForm
   pub variables : List VariableForm
   pub exceptions : List (List ℕ)
   pub texts : List (List ℕ)
+  pub frozen : List ℕ
 
 -- The declarative parts of a place, the innermost first (8.1).
 abbrev pub parts : Known → List Part
@@ -124,9 +128,13 @@ inner_first (Some entity) own standard = Some entity
 inner_first None true standard = Some entity.Procedure
 inner_first None false standard = standard
 
--- A library unit of one name is visible where a with clause names it (10.1.2, 10.1.6): Run_Input is the one of the profile.
+-- Whether a name is that of a library unit of one name which a with clause names: Run_Input and Profile_Pools are those of the profile.
+abbrev pub is_unit_named : Withs → List ℕ → Bool
+is_unit_named withs text = (bytes_eq text (codes "RUN_INPUT") && withs.run_input) || (bytes_eq text (codes "PROFILE_POOLS") && withs.pools)
+
+-- A library unit of one name is visible where a with clause names it (10.1.2, 10.1.6).
 abbrev pub unit_named : Withs → List ℕ → Option Entity
-unit_named withs text = if bytes_eq text (codes "RUN_INPUT") && withs.run_input then Some entity.LibraryUnit else None
+unit_named withs text = if is_unit_named withs text then Some entity.LibraryUnit else None
 
 -- What a name stands for that no part declares: what is predefined, or a library unit.
 abbrev pub outermost : Withs → List ℕ → Option Entity
@@ -166,21 +174,38 @@ new_name_remark known name first =
     wrong_if (is_primitive name.text) first NotInProfile also
     wrong_if (not (nat_lt (own_names known.here) most_names)) name.spot Limit
 
--- Whether the unit of a library name stands in a with clause (10.1.2).
+-- Whether the unit of a library name stands in a with clause (10.1.2), and the name is in use.
 abbrev pub is_with : Withs → LibraryName → Bool
 is_with withs TextIo = withs.text_io
 is_with withs PutLine = withs.text_io
 is_with withs UncheckedDeallocation = withs.deallocation
+is_with withs Finalization = withs.finalization
+is_with withs OfFinalization = false
+is_with withs Pools = withs.pools
+is_with withs FirstFitPool = withs.pools
+is_with withs OfPools = false
 is_with withs RunInput = withs.run_input
 is_with withs Get = withs.run_input
 is_with withs EndError = withs.run_input
 is_with withs OtherUnit = false
 is_with withs Unknown = false
 
--- What is wrong with a name of the library: it is none of the profile's; or its unit stands in no with clause.
+-- The rule that a name breaks which is not in use yet: its unit stands in a with clause, or it does not.
+abbrev pub unused_rule : Bool → NameRule
+unused_rule true = NotInProfile
+unused_rule false = UnknownName
+
+-- The rule that a name of the library breaks which stands for nothing at a place: it is none of the profile's, or is not in use yet; or its unit
+-- stands in no with clause.
+abbrev pub library_rule : Withs → LibraryName → NameRule
+library_rule withs Unknown = NotInProfile
+library_rule withs OfFinalization = unused_rule withs.finalization
+library_rule withs OfPools = unused_rule withs.pools
+library_rule withs name = UnknownName
+
+-- What is wrong with a name of the library.
 abbrev pub library_wrong : Withs → LibraryName → Spot → Remark
-library_wrong withs Unknown spot = wrong spot NotInProfile
-library_wrong withs name spot = wrong_if (not (is_with withs name)) spot UnknownName
+library_wrong withs name spot = wrong_if (not (is_with withs name)) spot (library_rule withs name)
 
 -- What is wrong with a name that begins with a root of the library.
 abbrev pub library_remark : Known → Ident → List Ident → Remark
@@ -235,6 +260,10 @@ no_body_yet known = length known.bodies == known.here.first_body
 abbrev pub types_go_on : Known → Bool
 types_go_on known = no_variable_yet known && no_body_yet known
 
--- A type, a number, an exception or an instance begins: it is a node of the source, and none follows a variable or a body of its part.
+-- A type, a number, a pool, an exception, a clause or an instance begins: it is a node of the source, and none follows a variable or a body of its part.
 abbrev pub type_begins : Known → Spot → Remark
 type_begins known spot = node spot also wrong_if (not (types_go_on known)) spot Layout
+
+-- What is known once the innermost part elaborates these too, in order (3.11).
+abbrev pub with_elaborated : List DeclarationForm → Known → Known
+with_elaborated declarations known = record known { here = record known.here { elaborated = known.here.elaborated ++ declarations } }

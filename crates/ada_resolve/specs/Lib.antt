@@ -8,6 +8,8 @@ pub mod Spots
 pub mod Library
 -- what is known at a place in the procedure, and what names stand for there (8.3)
 pub mod Known
+-- pools, and the names of them (13.11)
+pub mod Pools
 -- incomplete types and access types (3.10)
 pub mod Types
 -- static values, and named numbers (3.3.2, 4.9)
@@ -16,6 +18,8 @@ pub mod Statics
 pub mod Records
 -- instances of Unchecked_Deallocation (12.3, 13.11.2)
 pub mod Instances
+-- attribute clauses (13.3)
+pub mod Clauses
 -- paths where a value is wanted (4.1)
 pub mod Paths
 -- operators (4.5)

@@ -6,7 +6,7 @@ use Rattle.ada_program.specs.declared.program.Exception.TheVariants.{ConstraintE
 use Rattle.ada_resolve.specs.declared.fault.NameRule.{NameRule}
 use Rattle.ada_resolve.specs.declared.fault.NameRule.TheVariants.{UnknownName, NotInProfile}
 use Rattle.ada_resolve.specs.declared.library.LibraryName.{LibraryName}
-use Rattle.ada_resolve.specs.declared.library.LibraryName.TheVariants.{TextIo, PutLine, UncheckedDeallocation, RunInput, Get, EndError, OtherUnit, Unknown}
+use Rattle.ada_resolve.specs.declared.library.LibraryName.TheVariants.{TextIo, PutLine, UncheckedDeallocation, Finalization, OfFinalization, Pools, FirstFitPool, OfPools, RunInput, Get, EndError, OtherUnit, Unknown}
 use Rattle.ada_resolve.specs.declared.scope.Entity.{Entity}
 use Rattle.ada_resolve.specs.declared.scope.Entity.TheVariants.{Integer, Boolean, Truth, Exception}
 
@@ -51,20 +51,15 @@ spelled [] (t ∷ ts) = false
 spelled (i ∷ is) [] = false
 spelled (i ∷ is) (t ∷ ts) = bytes_eq i.text t && spelled is ts
 
--- A name of the profile's library whose unit is not in use yet, or no name of it.
-abbrev pub other_if : Bool → LibraryName
-other_if true = OtherUnit
-other_if false = Unknown
-
--- The names under Ada of units that are not in use yet: Finalization (7.6), and Unchecked_Deallocate_Subpool (13.11.5).
+-- Further names under Ada: Finalization and its names (7.6), which are not in use yet, and the unit Unchecked_Deallocate_Subpool (13.11.5), which is not.
 unfoldable pub other_in_ada : List Ident → LibraryName
 other_in_ada rest =
-    if spelled rest (codes "FINALIZATION" ∷ []) then OtherUnit else (
-    if spelled rest (codes "FINALIZATION" ∷ codes "CONTROLLED" ∷ []) then OtherUnit else (
-    if spelled rest (codes "FINALIZATION" ∷ codes "LIMITED_CONTROLLED" ∷ []) then OtherUnit else (
+    if spelled rest (codes "FINALIZATION" ∷ []) then Finalization else (
+    if spelled rest (codes "FINALIZATION" ∷ codes "CONTROLLED" ∷ []) then OfFinalization else (
+    if spelled rest (codes "FINALIZATION" ∷ codes "LIMITED_CONTROLLED" ∷ []) then OfFinalization else (
     if spelled rest (codes "UNCHECKED_DEALLOCATE_SUBPOOL" ∷ []) then OtherUnit else Unknown)))
 
--- What the names under Ada stand for (A.2): Text_IO (A.10), Unchecked_Deallocation (13.11.2), and units that are not in use.
+-- What the names under Ada stand for (A.2): Text_IO (A.10), Unchecked_Deallocation (13.11.2), and others.
 unfoldable pub in_ada : List Ident → LibraryName
 in_ada rest =
     if spelled rest (codes "TEXT_IO" ∷ []) then TextIo else (
@@ -77,12 +72,18 @@ in_system rest =
     if spelled rest (codes "STORAGE_POOLS" ∷ codes "SUBPOOLS" ∷ []) then OtherUnit else (
     if spelled rest (codes "STORAGE_POOLS" ∷ codes "SUBPOOLS" ∷ codes "SUBPOOL_HANDLE" ∷ []) then OtherUnit else Unknown)
 
--- Profile_Pools and its names, which are the profile's own.
+-- The names under Profile_Pools that are not in use yet: those of pools with subpools (13.11.4), and of what creates one.
+unfoldable pub other_in_pools : List Ident → LibraryName
+other_in_pools rest =
+    if spelled rest (codes "SUBPOOL_POOL" ∷ []) then OfPools else (
+    if spelled rest (codes "MARK_RELEASE_POOL" ∷ []) then OfPools else (
+    if spelled rest (codes "CREATE_SUBPOOL" ∷ []) then OfPools else Unknown))
+
+-- Profile_Pools and its names, which are the profile's own: First_Fit_Pool is a pool's type (13.11).
 unfoldable pub in_pools : List Ident → LibraryName
 in_pools rest =
-    other_if (
-    spelled rest [] || (spelled rest (codes "FIRST_FIT_POOL" ∷ []) || (spelled rest (codes "SUBPOOL_POOL" ∷ []) ||
-    (spelled rest (codes "MARK_RELEASE_POOL" ∷ []) || spelled rest (codes "CREATE_SUBPOOL" ∷ [])))))
+    if spelled rest [] then Pools else (
+    if spelled rest (codes "FIRST_FIT_POOL" ∷ []) then FirstFitPool else other_in_pools rest)
 
 -- Run_Input and its names, which are the profile's own.
 unfoldable pub in_input : List Ident → LibraryName

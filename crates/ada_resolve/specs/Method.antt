@@ -1,20 +1,21 @@
 -- What the methods of the resolver promise, in a word each: what they answer, what is noted, and what is known after them.
 
-use Rattle.std.specs.Prelude.{◌≡◌, ◌++◌, ◌∷◌, ℕ, Bool, List, [], map, Option, Some, Result, IfOk, OnOk}
+use Rattle.std.specs.Prelude.{◌≡◌, ◌++◌, ◌∷◌, ℕ, Bool, List, [], length, map, Option, Some, Result, IfOk, OnOk}
 use Rattle.std.specs.Global.{Vec}
 use denote.MutBor.{MutBor}
 use denote.Ref.{Bor}
 use denote.Triple.Both.{Both}
 use Rattle.ada_text.specs.declared.spot.Spot.{Spot}
-use Rattle.ada_tree.specs.Declarations.{formal_of, optional_aspect_of}
+use Rattle.ada_tree.specs.Declarations.{formal_of, optional_aspect_of, size_of}
 use Rattle.ada_tree.specs.ExpressionView.{argument_of, expression_of, optional_right_of}
 use Rattle.ada_tree.specs.Expressions.{ExpressionTree}
 use Rattle.ada_tree.specs.Names.{Ident, ident_of, name_of, optional_ident_of}
 use Rattle.ada_tree.specs.Records.{component_of, record_of, static_of}
-use Rattle.ada_tree.specs.Statements.{DeclarationTree, access_type, borrower_declaration, constant_declaration, instance, object_declaration, record_type, HandlersTree, branches_from, handlers_from}
+use Rattle.ada_tree.specs.Statements.{DeclarationTree, access_type, attribute_clause, borrower_declaration, constant_declaration, instance, object_declaration, pool_declaration, record_type, HandlersTree, branches_from, handlers_from}
 use Rattle.ada_tree.specs.StatementView.{branch_of, handler_of, unit_of}
 use Rattle.ada_tree.specs.declared.declarations.Aspect.{Aspect}
 use Rattle.ada_tree.specs.declared.declarations.Formal.{Formal}
+use Rattle.ada_tree.specs.declared.declarations.Size.{Size}
 use Rattle.ada_tree.specs.declared.expressions.Argument.{Argument}
 use Rattle.ada_tree.specs.declared.expressions.Item.{Item as WrittenItem}
 use Rattle.ada_tree.specs.declared.expressions.Right.{Right}
@@ -27,9 +28,9 @@ use Rattle.ada_tree.specs.declared.records.StaticValue.{StaticValue}
 use Rattle.ada_tree.specs.declared.statements.Branch.{Branch}
 use Rattle.ada_tree.specs.declared.statements.Handler.{Handler}
 use Rattle.ada_tree.specs.declared.unit.Unit.{Unit as UnitOf}
-use Rattle.ada_program.specs.Form.{BranchesForm, DeclarationForm, component_number, declaration_form, declares, declares_record}
+use Rattle.ada_program.specs.Form.{BranchesForm, DeclarationForm, component_number, creates_pool, declaration_form, declares, declares_record}
 use Rattle.ada_program.specs.Kept.{variables_in}
-use Rattle.ada_program.specs.ProgramForm.{ProgramForm, VariableForm}
+use Rattle.ada_program.specs.ProgramForm.{PoolForm, ProgramForm, VariableForm}
 use Rattle.ada_program.specs.declared.program.FormalMode.{FormalMode}
 use Rattle.ada_program.specs.declared.program.Branch.{Branch as BranchOf}
 use Rattle.ada_program.specs.declared.program.ComponentKind.{ComponentKind}
@@ -55,12 +56,12 @@ use Rattle.ada_resolve.specs.declared.procedures.Sequence.{Sequence}
 use Rattle.ada_resolve.specs.declared.resolver.Resolver.{Resolver}
 use Rattle.ada_resolve.specs.declared.scope.Entity.{Entity}
 use Rattle.ada_resolve.specs.Arguments.{argument_remark, arguments_remark, image_remark, none_wanted}
-use Rattle.ada_resolve.specs.Instances.{with_elaborated}
 use Rattle.ada_resolve.specs.Expressions.{expression_meant, item_remark}
 use Rattle.ada_resolve.specs.Items.{Filling, after_item, filled_components, first_filling, for_remark}
 use Rattle.ada_resolve.specs.Kept.{composition_in, kept_with, known_type_form}
-use Rattle.ada_resolve.specs.Known.{Known, Named, Part, entered, new_name_remark, visible}
+use Rattle.ada_resolve.specs.Known.{Known, Named, Part, entered, new_name_remark, visible, with_elaborated}
 use Rattle.ada_resolve.specs.Objects.{initial_source, record_created, variable_created}
+use Rattle.ada_resolve.specs.Pools.{with_pool}
 use Rattle.ada_resolve.specs.Paths.{Meant, written_wanted}
 use Rattle.ada_resolve.specs.Records.{Composition, further_component_remark, with_record_defined}
 use Rattle.ada_resolve.specs.Remark.{Remark, ◌also◌, noted}
@@ -153,6 +154,22 @@ record_tree spot name definition = record_type spot (ident_of name) (record_of d
 -- `N : constant := 1;` (3.3.2)
 abbrev pub constant_tree : Identifier → StaticValue → DeclarationTree
 constant_tree name value = constant_declaration (ident_of name) (static_of value)
+
+-- `P : T (Pool_Size => 64);` (13.11)
+abbrev pub pool_tree : Identifier → Name → Option Identifier → Size → DeclarationTree
+pool_tree name type_name label size = pool_declaration (ident_of name) (name_of type_name) (optional_ident_of label) (size_of size)
+
+-- A pool, by its name and its size.
+abbrev pub pool_of : Identifier → (words : ℕ) → PoolForm
+pool_of name words = record { name = name.text.now; words = words }
+
+-- What is known once there is one more pool, which the innermost part creates.
+abbrev pub with_created_pool : Identifier → (words : ℕ) → Known → Known
+with_created_pool name words known = with_elaborated (creates_pool (length known.pools) ∷ []) (with_pool (pool_of name words) known)
+
+-- `for A'Storage_Pool use P;` (13.11)
+abbrev pub clause_tree : Spot → Identifier → Identifier → Size → DeclarationTree
+clause_tree spot name attribute value = attribute_clause spot (ident_of name) (ident_of attribute) (size_of value)
 
 -- `X : T := ..;` (3.3.1)
 abbrev pub object_tree : Identifier → Name → Option Right → DeclarationTree

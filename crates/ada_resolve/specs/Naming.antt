@@ -2,8 +2,9 @@
 -- and by the tables of the program. An inner declaration hides the outer ones (8.3); types, variables and exceptions are numbered in the order
 -- of the text, and so are the texts that Put_Line writes.
 
-use Rattle.std.specs.Prelude.{◌≡◌, ◌⊎◌, ℕ, ◌+◌, Bool, true, false, if◌then◌else◌, List, [], ◌∷◌, ◌++◌, length, Option, Some, None, slice_get, codes, bytes_eq, ℤ}
+use Rattle.std.specs.Prelude.{◌≡◌, ◌⊎◌, ℕ, ◌+◌, ◌≤◌, Bool, true, false, ◌==◌, ◌||◌, if◌then◌else◌, List, [], ◌∷◌, ◌++◌, length, Option, Some, None, slice_get, codes, bytes_eq, ℤ, pos}
 use Rattle.ada_tree.specs.Names.{Ident, NameTree}
+use Rattle.ada_tree.specs.Declarations.{AspectTree, SizeTree, number_size, named_size}
 use Rattle.ada_tree.specs.Records.{StaticTree, plain, minus, named as static_name, ComponentTree}
 use Rattle.ada_tree.specs.Statements.{DeclarationTree, access_type, record_type}
 use Rattle.ada_program.specs.declared.program.ComponentKind.{ComponentKind}
@@ -14,20 +15,22 @@ use Rattle.ada_program.specs.declared.program.PartKind.{PartKind}
 use Rattle.ada_program.specs.declared.program.PartKind.TheVariants as part
 use Rattle.ada_program.specs.declared.program.VariableKind.{VariableKind}
 use Rattle.ada_program.specs.declared.program.VariableKind.TheVariants as variable
-use Rattle.ada_program.specs.ProgramForm.{PartForm, TypeForm, record_of, access_to, VariableForm, BodyForm}
+use Rattle.ada_program.specs.ProgramForm.{PartForm, PoolForm, TypeForm, record_of, access_to, VariableForm, BodyForm}
 use Rattle.ada_resolve.specs.Library.{library_name}
-use Rattle.ada_resolve.specs.declared.library.LibraryName.TheVariants.{UncheckedDeallocation, EndError}
+use Rattle.ada_resolve.specs.declared.library.LibraryName.TheVariants.{UncheckedDeallocation, FirstFitPool, EndError}
+use Rattle.ada_resolve.specs.Pools.{most_words}
 use Rattle.ada_resolve.specs.Records.{components_written, kinds_within}
 use Rattle.ada_resolve.specs.Statics.{at_most_greatest, integer_of}
 
 -- What a declaration binds its name to: a type that is to be completed (3.10.1), a type, the value of a named number (3.3.2), an exception
--- (11.1), an instance for an access type (13.11.2), a variable (3.3.1), a loop parameter or a formal parameter of mode `in`, which are constants
+-- (11.1), a pool (13.11), an instance for an access type (13.11.2), a variable (3.3.1), a loop parameter or a formal parameter of mode `in`, which are constants
 -- (5.5, 6.2), a procedure whose body has ended or has not (6.3), or, seen from the body of a procedure, an object of a body around.
 pub data Meaning : Type 0 where
   an_incomplete_type : (t : ℕ) → Meaning
   a_type : (t : ℕ) → Meaning
   a_number : ℤ → Meaning
   an_exception : (e : ℕ) → Meaning
+  a_pool : (n : ℕ) → Meaning
   an_instance : (access : ℕ) → Meaning
   a_variable : (x : ℕ) → Meaning
   a_parameter : (x : ℕ) → Meaning
@@ -41,26 +44,35 @@ pub record Binding : Type 0 where
   pub meaning : Meaning
 
 -- A place in the text: what the innermost declarative part has bound before it, the last first; what the parts around it have bound, the inner
--- ones first; the number of the first type of the part; how many types and exceptions are declared before it, how many variables of its body, and
--- how many bodies of procedures have ended before it; and how many texts Put_Line writes before it.
+-- ones first; the number of the first type of the part; how many types, pools and exceptions are declared before it, how many variables of its body,
+-- and how many bodies of procedures have ended before it; how many texts Put_Line writes before it; and the numbers of the types whose pools aspects
+-- and clauses before it name.
 pub record Place : Type 0 where
   pub here : List Binding
   pub outer : List Binding
   pub first_type : ℕ
   pub types : ℕ
+  pub pools : ℕ
   pub bodies : ℕ
   pub variables : ℕ
   pub exceptions : ℕ
   pub texts : ℕ
+  pub placed : List ℕ
 
 -- What a tree is read by: a place in it, the tables of the program, and the variables of the body at the place.
 pub record Context : Type 0 where
   pub place : Place
   pub types : List TypeForm
+  pub pools : List PoolForm
   pub bodies : List BodyForm
   pub variables : List VariableForm
   pub texts : List (List ℕ)
   pub exceptions : List (List ℕ)
+
+-- Whether a number is one of these.
+abbrev pub is_one_of : ℕ → List ℕ → Bool
+is_one_of t [] = false
+is_one_of t (u ∷ us) = u == t || is_one_of t us
 
 -- What a name is bound to first among these.
 abbrev pub meaning_among : List ℕ → List Binding → Option Meaning
@@ -121,12 +133,12 @@ IsFullRecordNamed p text t =
 
 -- A name is that of the access type of a number (3.10).
 abbrev pub IsAccessNamed : Context → List ℕ → ℕ → Type 0
-IsAccessNamed p text t = IsFullTypeNamed p text t × (designated : ℕ) × (slice_get p.types t ≡ Some (access_to text designated))
+IsAccessNamed p text t = IsFullTypeNamed p text t × (designated : ℕ) × (pool : Option ℕ) × (slice_get p.types t ≡ Some (access_to text designated pool))
 
 -- A name is that of the access type of a number, which designates the record type of the other name (3.10).
 abbrev pub IsAccessTo : Context → List ℕ → List ℕ → ℕ → Type 0
 IsAccessTo p text designated t =
-    IsFullTypeNamed p text t × (d : ℕ) × (slice_get p.types t ≡ Some (access_to text d)) × IsRecordNamed p designated d
+    IsFullTypeNamed p text t × (d : ℕ) × (pool : Option ℕ) × (slice_get p.types t ≡ Some (access_to text d pool)) × IsRecordNamed p designated d
 
 -- How the two truth values are called (3.5.3).
 abbrev pub truth_name : Bool → List ℕ
@@ -180,11 +192,47 @@ AreLaidOut types before (c ∷ cs) components =
     (c.first ≡ before) × (rest : List ComponentKind) × (components ≡ kinds_within types c.kind ++ rest) ×
     AreLaidOut types (before + length (kinds_within types c.kind)) cs rest
 
+-- A name is that of the pool of a number (13.11).
+abbrev pub IsPoolNamed : Context → List ℕ → ℕ → Type 0
+IsPoolNamed p text n = IsBound p text (a_pool n)
+
+-- The size of a pool in words (13.11): a number, or that of a named number.
+abbrev pub IsSizeRead : Context → SizeTree → (words : ℕ) → Type 0
+IsSizeRead p (number_size spot n) words = words ≡ n
+IsSizeRead p (named_size name) words = IsNumberNamed p name.text (pos words)
+
+-- The discriminant of a pool, where it is named (3.7.1).
+abbrev pub IsLabelRead : Option Ident → Type 0
+IsLabelRead None = Unit {0}
+IsLabelRead (Some label) = label.text ≡ codes "POOL_SIZE"
+
+-- The next pool of the program is the one that is declared (13.11): a First_Fit_Pool of the name and of the size that is written.
+abbrev pub IsPoolRead : Context → Ident → NameTree → Option Ident → SizeTree → Type 0
+IsPoolRead p name type_name label size =
+    (words : ℕ) × (slice_get p.pools p.place.pools ≡ Some (record { name = name.text; words = words })) ×
+    (library_name type_name.first.text type_name.rest ≡ FirstFitPool) × IsLabelRead label × IsSizeRead p size words × (words ≤ most_words)
+
+-- The pool of an access type is that of its aspect, where it has one (13.1.1, 13.11); where it has none, a clause may name it.
+abbrev pub IsAspectRead : Context → Option AspectTree → (pool : Option ℕ) → Type 0
+IsAspectRead p None pool = Unit {0}
+IsAspectRead p (Some aspect) pool =
+    (n : ℕ) × (pool ≡ Some n) × (aspect.name.text ≡ codes "STORAGE_POOL") × IsPoolNamed p aspect.value.text n
+
+-- A clause for the access type of a number (13.11), whose name and whose pool have the names that are written: the type is of the innermost part, and
+-- no aspect and no other clause names its pool before.
+abbrev pub IsClauseRead : Context → (name attribute : Ident) → SizeTree → ℕ → Type 0
+IsClauseRead p name attribute (number_size spot n) t = ⊥
+IsClauseRead p name attribute (named_size pool) t =
+    (attribute.text ≡ codes "STORAGE_POOL") × (d : ℕ) × (n : ℕ) × IsFullTypeNamed p name.text t ×
+    (slice_get p.types t ≡ Some (access_to name.text d (Some n))) × IsPoolNamed p pool.text n × (p.place.first_type ≤ t) ×
+    (is_one_of t p.place.placed ≡ false)
+
 -- The type of a number is the one that a full type declaration declares (3.2.1): an access type, or a record type with its components, each of
 -- which has a name of its own, and with their elementary components.
 abbrev pub IsTypeRead : Context → DeclarationTree → ℕ → Type 0
 IsTypeRead p (access_type spot name designated aspect) t =
-    (aspect ≡ None) × (d : ℕ) × (slice_get p.types t ≡ Some (access_to name.text d)) × IsRecordNamed p designated.text d
+    (d : ℕ) × (pool : Option ℕ) × (slice_get p.types t ≡ Some (access_to name.text d pool)) × IsRecordNamed p designated.text d ×
+    IsAspectRead p aspect pool
 IsTypeRead p (record_type spot name definition) t =
     (parts : List PartForm) × (components : List ComponentKind) × (slice_get p.types t ≡ Some (record_of name.text parts components)) ×
     AreComponentsRead p (components_written definition) parts × AreNamedApart parts × AreLaidOut p.types 0 parts components

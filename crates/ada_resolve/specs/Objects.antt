@@ -13,10 +13,10 @@ use Rattle.ada_resolve.specs.declared.rights.Held.{Held}
 use Rattle.ada_resolve.specs.declared.rights.Held.TheVariants as held
 use Rattle.ada_resolve.specs.declared.scope.Entity.{Entity}
 use Rattle.ada_resolve.specs.declared.scope.Entity.TheVariants as entity
-use Rattle.ada_resolve.specs.Known.{Known, declared, visible, missing, new_name_remark, library_remark, library_found, is_empty, next_variable, types_go_on}
+use Rattle.ada_resolve.specs.Known.{Known, declared, visible, missing, new_name_remark, library_remark, library_found, is_empty, next_variable, types_go_on, with_elaborated}
 use Rattle.ada_resolve.specs.Library.{is_library_root}
 use Rattle.ada_resolve.specs.Remark.{Remark, fine, wrong, node, ◌also◌, wrong_if}
-use Rattle.ada_resolve.specs.Instances.{is_collected, with_elaborated}
+use Rattle.ada_resolve.specs.Instances.{is_collected}
 use Rattle.ada_resolve.specs.Paths.{designated_of, library_is_no_value}
 use Rattle.ada_resolve.specs.Rights.{Assigned, a_value, a_whole, right_found, right_remark}
 use Rattle.ada_resolve.specs.Types.{with_definition}
@@ -101,7 +101,7 @@ object_remark known name type_name initial =
 abbrev pub collections_of : ℕ → List TypeForm → List DeclarationForm → List DeclarationForm
 collections_of t [] elaborated = []
 collections_of t (record_of name parts components ∷ types) elaborated = collections_of (t + 1) types elaborated
-collections_of t (access_to name designated ∷ types) elaborated =
+collections_of t (access_to name designated pool ∷ types) elaborated =
     if is_collected t elaborated then collections_of (t + 1) types elaborated else collects t ∷ collections_of (t + 1) types elaborated
 collections_of t (object_of record_type ∷ types) elaborated = collections_of (t + 1) types elaborated
 

@@ -51,7 +51,7 @@ variable_path x spot = selected_path x false spot []
 -- The components of a record type as they are declared (3.8); none, if it is no record type.
 abbrev pub components_in : Option TypeForm → List PartForm
 components_in (Some (record_of name parts components)) = parts
-components_in (Some (access_to name designated)) = []
+components_in (Some (access_to name designated pool)) = []
 components_in (Some (object_of record_type)) = []
 components_in None = []
 
@@ -62,7 +62,7 @@ components_of types t = components_in (slice_get types t)
 -- The elementary components of a record type at any depth (3.8); none, if it is no record type.
 abbrev pub elementary_in : Option TypeForm → List ComponentKind
 elementary_in (Some (record_of name parts components)) = components
-elementary_in (Some (access_to name designated)) = []
+elementary_in (Some (access_to name designated pool)) = []
 elementary_in (Some (object_of record_type)) = []
 elementary_in None = []
 
@@ -72,7 +72,7 @@ elementary_of types t = elementary_in (slice_get types t)
 
 -- The type that an access type designates (3.10).
 abbrev pub designated_in : Option TypeForm → Option ℕ
-designated_in (Some (access_to name designated)) = Some designated
+designated_in (Some (access_to name designated pool)) = Some designated
 designated_in (Some (record_of name parts components)) = None
 designated_in (Some (object_of record_type)) = None
 designated_in None = None
@@ -85,7 +85,7 @@ designated_of types access = designated_in (slice_get types access)
 abbrev pub record_known_by : Option TypeForm → Option ℕ
 record_known_by (Some (object_of record_type)) = Some record_type
 record_known_by (Some (record_of name parts components)) = None
-record_known_by (Some (access_to name designated)) = None
+record_known_by (Some (access_to name designated pool)) = None
 record_known_by None = None
 
 -- The record type of the record object or parameter that is known by the type of a number.
@@ -109,7 +109,7 @@ component_named at text (c ∷ cs) = if bytes_eq text c.name then Some (at, know
 -- The name of a type.
 abbrev pub name_of_type : Option TypeForm → Option (List ℕ)
 name_of_type (Some (record_of name parts components)) = Some name
-name_of_type (Some (access_to name designated)) = Some name
+name_of_type (Some (access_to name designated pool)) = Some name
 name_of_type (Some (object_of record_type)) = None
 name_of_type None = None
 

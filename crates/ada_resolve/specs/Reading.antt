@@ -1,14 +1,14 @@
 -- A program read back: what its tree says at each place, name by name. A name in the tree and what the program has there have to agree, where
 -- an inner declaration hides the outer ones (8.3).
 
-use Rattle.std.specs.Prelude.{◌≡◌, ◌⊎◌, ℕ, ◌+◌, ◌<◌, Bool, true, false, ◌==◌, ◌||◌, ◌&&◌, not, nat_le, nat_lt, List, [], ◌∷◌, ◌++◌, map, length, Option, Some, None, slice_get, codes, ℤ}
+use Rattle.std.specs.Prelude.{◌≡◌, ◌⊎◌, ℕ, ◌+◌, ◌<◌, Bool, true, false, ◌&&◌, not, nat_le, nat_lt, List, [], ◌∷◌, ◌++◌, map, length, Option, Some, None, slice_get, codes, ℤ}
 use Rattle.ada_text.specs.declared.spot.Spot.{Spot}
 use Rattle.ada_values.specs.declared.operator.BinaryOperator.{BinaryOperator}
 use Rattle.ada_values.specs.declared.operator.BinaryOperator.TheVariants as binary
 use Rattle.ada_tree.specs.Names.{Ident, NameTree, SelectorTree, component, dereference, PathTree}
 use Rattle.ada_tree.specs.Expressions.{ExpressionTree, number_expression, null_expression, path_expression, aggregate_expression, enclosed_expression, unary_expression, binary_expression, ItemsTree, no_more_items, an_item, RightTree, expression_right, allocator_right, creation_right, ArgumentTree, expression_argument, text_argument, attribute_argument}
 use Rattle.ada_tree.specs.Declarations.{ChoiceTree, named_choice, others_choice, FormalTree, HeadTree}
-use Rattle.ada_tree.specs.Statements.{DeclarationTree, exception_declaration, constant_declaration, object_declaration, borrower_declaration, incomplete_type, access_type, record_type, body_declaration, instance, DeclarationsTree, no_declarations, a_declaration, SchemeTree, endless, while_scheme, for_scheme, StatementTree, null_statement, assignment, call, if_statement, loop_statement, exit_statement, return_statement, raise_statement, block, declare_block, StatementsTree, no_statements, a_statement, BranchesTree, no_branches, a_branch, HandlersTree, no_handlers, a_handler, SequenceTree, a_sequence, UnitTree}
+use Rattle.ada_tree.specs.Statements.{DeclarationTree, exception_declaration, constant_declaration, pool_declaration, attribute_clause, object_declaration, borrower_declaration, incomplete_type, access_type, record_type, body_declaration, instance, DeclarationsTree, no_declarations, a_declaration, SchemeTree, endless, while_scheme, for_scheme, StatementTree, null_statement, assignment, call, if_statement, loop_statement, exit_statement, return_statement, raise_statement, block, declare_block, StatementsTree, no_statements, a_statement, BranchesTree, no_branches, a_branch, HandlersTree, no_handlers, a_handler, SequenceTree, a_sequence, UnitTree}
 use Rattle.ada_program.specs.declared.program.FormalMode.{FormalMode}
 use Rattle.ada_program.specs.declared.program.FormalMode.TheVariants.{In, InOut}
 use Rattle.ada_program.specs.declared.program.Choice.{Choice}
@@ -19,13 +19,14 @@ use Rattle.ada_program.specs.declared.program.PartKind.TheVariants as part
 use Rattle.ada_program.specs.declared.program.TypeNo.{TypeNo}
 use Rattle.ada_program.specs.declared.program.VariableKind.{VariableKind}
 use Rattle.ada_program.specs.declared.program.VariableKind.TheVariants as variable
-use Rattle.ada_program.specs.Form.{ActualForm, in_value, in_null, in_access, in_record, in_out_path, in_out_access, in_out_component, in_out_record, DeclarationForm, collects, declares, declares_record, PathForm, RecordPathForm, ExpressionForm, integer, boolean, reads, is_null, applied_to, ItemForm, null_item, item_of_path, item_of_value, item_of_record, RightForm, nothing, value_of, allocates, allocates_default, computes, StmtForm, skips, assigns, assigns_record, frees, gets, writes, writes_text, chooses, repeats, counts, exits, calls, returns, raises, encloses, StmtsForm, no_stmts, a_stmt, BranchesForm, otherwise, HandlersForm}
+use Rattle.ada_program.specs.Form.{ActualForm, in_value, in_null, in_access, in_record, in_out_path, in_out_access, in_out_component, in_out_record, DeclarationForm, creates_pool, collects, declares, declares_record, PathForm, RecordPathForm, ExpressionForm, integer, boolean, reads, is_null, applied_to, ItemForm, null_item, item_of_path, item_of_value, item_of_record, RightForm, nothing, value_of, allocates, allocates_default, computes, StmtForm, skips, assigns, assigns_record, frees, gets, writes, writes_text, chooses, repeats, counts, exits, calls, returns, raises, encloses, StmtsForm, no_stmts, a_stmt, BranchesForm, otherwise, HandlersForm}
 use Rattle.ada_program.specs.Form as form
 use Rattle.ada_program.specs.ProgramForm.{PartForm, TypeForm, record_of, object_of, BodyForm, ProgramForm}
 use Rattle.ada_program.specs.WellFormed as fits
 use Rattle.ada_resolve.specs.Library.{library_name}
 use Rattle.ada_resolve.specs.declared.library.LibraryName.TheVariants.{PutLine, Get}
-use Rattle.ada_resolve.specs.Naming.{Context, Place, Binding, Meaning, an_incomplete_type, a_type, a_number, an_exception, an_instance, a_variable, a_parameter, a_procedure, a_procedure_around, an_outer_object, meaning_among, IsPredefined, IsExceptionNamed, IsNumberNamed, IsRecordNamed, IsVariableNamed, IsObjectNamed, IsAccessNamed, IsBound, IsFullRecordNamed, IsFullTypeNamed, IsStaticRead, IsTypeRead, IsInstanceRead, IsInstanceNamed, IsProcedureNamed, IsKindNamed, truth_name}
+use Rattle.ada_resolve.specs.Naming.{Context, Place, Binding, Meaning, an_incomplete_type, a_type, a_number, an_exception, a_pool, an_instance, a_variable, a_parameter, a_procedure, a_procedure_around, an_outer_object, meaning_among, is_one_of, IsPredefined, IsExceptionNamed, IsNumberNamed, IsRecordNamed, IsVariableNamed, IsObjectNamed, IsAccessNamed, IsBound, IsFullRecordNamed, IsFullTypeNamed, IsStaticRead, IsTypeRead, IsPoolRead, IsClauseRead, IsInstanceRead, IsInstanceNamed, IsProcedureNamed, IsKindNamed, truth_name}
+use Rattle.ada_resolve.specs.Clauses.{pool_of}
 use Rattle.ada_resolve.specs.Known.{parts_of}
 use Rattle.ada_resolve.specs.Operators.{joined}
 use Rattle.ada_resolve.specs.Paths.{follows_to, follows_value}
@@ -366,6 +367,19 @@ with_new_type name place = record (with_binding name (a_type place.types) place)
 abbrev pub with_new_exception : Ident → Place → Place
 with_new_exception name place = record (with_binding name (an_exception place.exceptions) place) { exceptions = place.exceptions + 1 }
 
+-- The place once the next pool has the name.
+abbrev pub with_new_pool : Ident → Place → Place
+with_new_pool name place = record (with_binding name (a_pool place.pools) place) { pools = place.pools + 1 }
+
+-- The place once a clause or an aspect has named the pool of the type of a number.
+abbrev pub with_placed : ℕ → Place → Place
+with_placed t place = record place { placed = t ∷ place.placed }
+
+-- The place once the type of a number is declared, perhaps with an aspect.
+abbrev pub with_aspect : DeclarationTree → ℕ → Place → Place
+with_aspect (access_type spot name designated (Some aspect)) t place = with_placed t place
+with_aspect d t place = place
+
 -- The place once the next variable has the name.
 abbrev pub with_new_variable : Ident → Place → Place
 with_new_variable name place = record (with_binding name (a_variable place.variables) place) { variables = place.variables + 1 }
@@ -439,11 +453,6 @@ AreObjectsRead p (a_declaration (borrower_declaration name designated initial) d
     AreObjectsRead (read_at (with_new_variable name p.place) p) ds forms end
 AreObjectsRead p ds forms end = ⊥
 
--- Whether a number is one of these.
-abbrev pub is_one_of : ℕ → List ℕ → Bool
-is_one_of t [] = false
-is_one_of t (u ∷ us) = u == t || is_one_of t us
-
 -- Each number is less than the next.
 abbrev pub Rise : List ℕ → Type 0
 Rise [] = Unit {0}
@@ -474,8 +483,8 @@ declared_type other = None
 pub data IsTypeDeclared (p : Context) (d : DeclarationTree) (name : Ident) : (next : Place) → Type 0 where
   by_completion :
       {t : ℕ} → meaning_among name.text p.place.here ≡ Some (an_incomplete_type t) → IsTypeRead p d t →
-      IsTypeDeclared p d name (with_binding name (a_type t) p.place)
-  by_new_type : IsNew p.place name → IsTypeRead p d p.place.types → IsTypeDeclared p d name (with_new_type name p.place)
+      IsTypeDeclared p d name (with_binding name (a_type t) (with_aspect d t p.place))
+  by_new_type : IsNew p.place name → IsTypeRead p d p.place.types → IsTypeDeclared p d name (with_new_type name (with_aspect d p.place.types p.place))
 
 -- A statement with no others in it (5.1): among others, an exit (5.7) and a return (6.5), each where it stands, and one that raises the
 -- exception of its name (11.3).
@@ -610,7 +619,8 @@ abbrev mutual
   -- The rest of a declarative part, up to its end (3.11): among its types, where the collections of these access types are created before (7.6.1), or
   -- behind them. Each name is new in the part, and is bound behind its declaration. An incomplete type is the next type, which a full type
   -- declaration of the part completes. An instance creates the collection of its access type. The types end at the first body, at the first object
-  -- or where the part ends. Each body has a part, statements and handlers of its own. A type, a number, an exception or a body creates nothing.
+  -- or where the part ends. Each body has a part, statements and handlers of its own. A pool is created where it is declared. A type, a number, an
+  -- exception, a clause or a body creates nothing.
   pub IsPartRead : Context → (made : Option (List ℕ)) → DeclarationsTree → List DeclarationForm → (end : Place) → Type 0
   IsPartRead p (Some made) (a_declaration (incomplete_type spot name) ds) forms end =
       IsNew p.place name × IsPartRead (read_at (with_incomplete_type name p.place) p) (Some made) ds forms end
@@ -623,6 +633,11 @@ abbrev mutual
   IsPartRead p (Some made) (a_declaration (exception_declaration name) ds) forms end =
       IsNew p.place name × (slice_get p.exceptions p.place.exceptions ≡ Some name.text) ×
       IsPartRead (read_at (with_new_exception name p.place) p) (Some made) ds forms end
+  IsPartRead p (Some made) (a_declaration (pool_declaration name type_name label size) ds) forms end =
+      (rest : List DeclarationForm) × (forms ≡ creates_pool p.place.pools ∷ rest) × IsNew p.place name × IsPoolRead p name type_name label size ×
+      IsPartRead (read_at (with_new_pool name p.place) p) (Some made) ds rest end
+  IsPartRead p (Some made) (a_declaration (attribute_clause spot name attribute value) ds) forms end =
+      (t : ℕ) × IsClauseRead p name attribute value t × IsPartRead (read_at (with_placed t p.place) p) (Some made) ds forms end
   IsPartRead p (Some made) (a_declaration (instance spot name generic object access) ds) forms end =
       (t : ℕ) × (rest : List DeclarationForm) × (forms ≡ collects t ∷ rest) × IsNew p.place name × IsInstanceRead p generic object access t ×
       IsPartRead (read_at (with_binding name (an_instance t) p.place) p) (Some (t ∷ made)) ds rest end
@@ -683,30 +698,37 @@ abbrev mutual
 
 -- The place before the first declaration of a tree.
 abbrev pub first_place : Place
-first_place = record { here = []; outer = []; first_type = 0; types = 0; bodies = 0; variables = 0; exceptions = 0; texts = 0 }
+first_place = record { here = []; outer = []; first_type = 0; types = 0; pools = 0; bodies = 0; variables = 0; exceptions = 0; texts = 0; placed = [] }
 
 -- A tree is read from there, by the tables of a program.
 abbrev pub first_context : ProgramForm → Context
 first_context program = record {
   place = first_place;
   types = program.types;
+  pools = program.pools;
   bodies = program.bodies;
   variables = program.variables;
   texts = program.texts;
   exceptions = program.exceptions;
 }
 
--- The program has as many types, procedures, variables of the main one and exceptions as the text up to the place declares, and as many texts as
+-- The program has as many types, pools, procedures, variables of the main one and exceptions as the text up to the place declares, and as many texts as
 -- it writes, and no more.
 pub record AreCounted (program : ProgramForm) (end : Place) : Type 0 where
   pub types : length program.types ≡ end.types
+  pub pools : length program.pools ≡ end.pools
   pub bodies : length program.bodies ≡ end.bodies
   pub variables : length program.variables ≡ end.variables
   pub exceptions : length program.exceptions ≡ end.exceptions
   pub texts : length program.texts ≡ end.texts
 
+-- The objects of an access type are in a pool that the program declares only where the text up to the place names that pool, by an aspect or by a clause;
+-- those of all others are in the standard pool (13.11).
+abbrev pub ArePlaced : ProgramForm → (end : Place) → Type 0
+ArePlaced program end = (t n : ℕ) → pool_of program.types t ≡ Some n → is_one_of t end.placed ≡ true
+
 -- Each declaration and each statement of the program is what the tree says there: nothing is left out, put in or filled up in silence, and each
--- name, literal, operator and text is the one that is written. Types, exceptions and the texts of Put_Line are numbered in the order of the text,
+-- name, literal, operator and text is the one that is written. Types, pools, exceptions and the texts of Put_Line are numbered in the order of the text,
 -- procedures in the order in which their bodies end, and the variables of each body in the order of the text; each has a number of its own. A name
 -- stands for what its innermost declaration declares; a part declares a name once (8.3), no declaration has a predefined one (A.1), a body uses no
 -- object of the bodies around, and nothing is written to a loop parameter or a formal parameter of mode `in`, nor to its components at any depth that
@@ -719,3 +741,4 @@ pub record IsReadAs (tree : UnitTree) (program : ProgramForm) : Type 0 where
   pub elaborated : IsPartRead (first_context program) (Some []) tree.declarations program.declarations declared
   pub body : IsSequenceRead (read_at declared (first_context program)) tree.body program.statements program.handlers end
   pub counted : AreCounted program end
+  pub placed : ArePlaced program end

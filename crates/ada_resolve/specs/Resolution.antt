@@ -5,7 +5,7 @@ use Rattle.ada_text.specs.declared.spot.Spot.{Spot}
 use Rattle.ada_tree.specs.Expressions.{ExpressionTree}
 use Rattle.ada_tree.specs.Names.{Ident, NameTree}
 use Rattle.ada_tree.specs.Declarations.{ChoiceTree, ClauseTree, HeadTree}
-use Rattle.ada_tree.specs.Statements.{DeclarationTree, exception_declaration, constant_declaration, incomplete_type, access_type, record_type, instance, object_declaration, borrower_declaration, body_declaration, DeclarationsTree, no_declarations, a_declaration, SchemeTree, endless, while_scheme, for_scheme, StatementTree, if_statement, loop_statement, block, declare_block, StatementsTree, no_statements, a_statement, BranchesTree, no_branches, a_branch, BranchTree, HandlersTree, no_handlers, a_handler, HandlerTree, SequenceTree, a_sequence, begin_of, UnitTree}
+use Rattle.ada_tree.specs.Statements.{DeclarationTree, exception_declaration, constant_declaration, incomplete_type, access_type, record_type, attribute_clause, pool_declaration, instance, object_declaration, borrower_declaration, body_declaration, DeclarationsTree, no_declarations, a_declaration, SchemeTree, endless, while_scheme, for_scheme, StatementTree, if_statement, loop_statement, block, declare_block, StatementsTree, no_statements, a_statement, BranchesTree, no_branches, a_branch, BranchTree, HandlersTree, no_handlers, a_handler, HandlerTree, SequenceTree, a_sequence, begin_of, UnitTree}
 use Rattle.ada_program.specs.Form.{ExpressionForm, StmtForm, chooses, counts, encloses, repeats, StmtsForm, no_stmts, a_stmt, BranchesForm, otherwise, HandlersForm}
 use Rattle.ada_program.specs.Form as form
 use Rattle.ada_program.specs.declared.program.Choice.{Choice}
@@ -14,7 +14,7 @@ use Rattle.ada_program.specs.declared.program.VariableKind.TheVariants as variab
 use Rattle.ada_resolve.specs.declared.fault.NameRule.{NameRule}
 use Rattle.ada_resolve.specs.declared.fault.NameRule.TheVariants.{UnknownName, DeclaredTwice, NotInProfile, BodyMissing}
 use Rattle.ada_resolve.specs.declared.library.LibraryName.{LibraryName}
-use Rattle.ada_resolve.specs.declared.library.LibraryName.TheVariants.{TextIo, UncheckedDeallocation, RunInput}
+use Rattle.ada_resolve.specs.declared.library.LibraryName.TheVariants.{TextIo, UncheckedDeallocation, Finalization, Pools, RunInput}
 use Rattle.ada_resolve.specs.declared.library.Withs.{Withs}
 use Rattle.ada_resolve.specs.declared.notes.Notes.{Notes}
 use Rattle.ada_resolve.specs.declared.scope.Entity.{Entity}
@@ -24,9 +24,11 @@ use Rattle.ada_resolve.specs.Library.{is_taken, is_primitive, library_name}
 use Rattle.ada_resolve.specs.Remark.{Remark, fine, wrong, node, ◌also◌, wrong_if, noted}
 use Rattle.ada_resolve.specs.Spots.{declaration_spot, end_of}
 use Rattle.ada_resolve.specs.Borrowers.{borrower_known, borrower_remark}
+use Rattle.ada_resolve.specs.Clauses.{clause_known, clause_remark}
 use Rattle.ada_resolve.specs.Exceptions.{choices_meant, choices_remark, exception_known, exception_remark}
 use Rattle.ada_resolve.specs.Instances.{instance_known, instance_remark}
 use Rattle.ada_resolve.specs.Objects.{after_types, object_known, object_remark, with_variable}
+use Rattle.ada_resolve.specs.Pools.{pool_known, pool_remark}
 use Rattle.ada_resolve.specs.Procedures.{behind_head, body_ended, body_head_remark}
 use Rattle.ada_resolve.specs.Records.{record_type_known, record_type_remark}
 use Rattle.ada_resolve.specs.Statements.{bound_meant, bound_remark, condition_meant, condition_remark, simple_texts, statement_meant, statement_remark, with_texts}
@@ -60,12 +62,14 @@ At = Known × Notes
 abbrev pub with_unit : LibraryName → Spot → Withs → Told Withs
 with_unit TextIo spot withs = gives (record withs { text_io = true })
 with_unit UncheckedDeallocation spot withs = gives (record withs { deallocation = true })
+with_unit Finalization spot withs = gives (record withs { finalization = true })
+with_unit Pools spot withs = gives (record withs { pools = true })
 with_unit RunInput spot withs = gives (record withs { run_input = true })
 with_unit other spot withs = broken spot NotInProfile
 
 -- No library unit is named yet.
 abbrev pub no_units : Withs
-no_units = record { text_io = false; deallocation = false; run_input = false }
+no_units = record { text_io = false; deallocation = false; finalization = false; pools = false; run_input = false }
 
 -- The library units with that of one more name.
 abbrev pub unit_told : NameTree → Withs → Told Withs
@@ -98,10 +102,12 @@ known_first withs procedure = record {
   here = part_from 0 0 0;
   outer = [];
   types = [];
+  pools = [];
   bodies = [];
   variables = [];
   exceptions = [];
   texts = [];
+  frozen = [];
 }
 
 -- Nothing is noted yet.
@@ -126,6 +132,8 @@ declaration_remark known (record_type spot name definition) = record_type_remark
 declaration_remark known (instance spot name generic designated access) = instance_remark known spot name generic designated access
 declaration_remark known (exception_declaration name) = exception_remark known name
 declaration_remark known (constant_declaration name value) = constant_remark known name value
+declaration_remark known (pool_declaration name type_name label size) = pool_remark known name type_name label size
+declaration_remark known (attribute_clause spot name attribute value) = clause_remark known spot name attribute value
 declaration_remark known (object_declaration name type_name initial) = object_remark known name type_name initial
 declaration_remark known (borrower_declaration name designated initial) = borrower_remark known name designated initial
 declaration_remark known other = unused_remark other
@@ -133,11 +141,13 @@ declaration_remark known other = unused_remark other
 -- What is known after it.
 abbrev pub declaration_known : Known → DeclarationTree → Known
 declaration_known known (incomplete_type spot name) = incomplete_known known name
-declaration_known known (access_type spot name designated aspect) = access_known known name designated
+declaration_known known (access_type spot name designated aspect) = access_known known name designated aspect
 declaration_known known (record_type spot name definition) = record_type_known known name definition
 declaration_known known (instance spot name generic designated access) = instance_known known name designated access
 declaration_known known (exception_declaration name) = exception_known known name
 declaration_known known (constant_declaration name value) = constant_known known name value
+declaration_known known (pool_declaration name type_name label size) = pool_known known name size
+declaration_known known (attribute_clause spot name attribute value) = clause_known known name value
 declaration_known known (object_declaration name type_name initial) = object_known known name type_name initial
 declaration_known known (borrower_declaration name designated initial) = borrower_known known name initial
 declaration_known known other = known
@@ -361,6 +371,7 @@ handler_told inside_loop handler at =
 abbrev pub program_of : Known → StmtsForm → HandlersForm → ProgramForm
 program_of known forms handled = record {
   types = known.types;
+  pools = known.pools;
   bodies = known.bodies;
   formals = [];
   variables = known.variables;

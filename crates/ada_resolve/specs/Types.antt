@@ -4,12 +4,14 @@ use Rattle.std.specs.Prelude.{ℕ, Bool, false, ◌||◌, ◌==◌, List, [], �
 use Rattle.ada_text.specs.declared.spot.Spot.{Spot}
 use Rattle.ada_tree.specs.Names.{Ident}
 use Rattle.ada_tree.specs.Declarations.{AspectTree}
-use Rattle.ada_program.specs.ProgramForm.{TypeForm, record_of, access_to, object_of}
+use Rattle.ada_program.specs.ProgramForm.{TypeForm, record_of, access_to, object_of, pool_number}
+use Rattle.ada_program.specs.declared.program.PoolNo.{PoolNo}
 use Rattle.ada_program.specs.declared.program.TypeNo.{TypeNo}
-use Rattle.ada_resolve.specs.declared.fault.NameRule.TheVariants.{WrongType, NotInProfile}
+use Rattle.ada_resolve.specs.declared.fault.NameRule.TheVariants.{WrongType}
 use Rattle.ada_resolve.specs.declared.scope.Entity.{Entity}
 use Rattle.ada_resolve.specs.declared.scope.Entity.TheVariants as entity
 use Rattle.ada_resolve.specs.Known.{Known, named, declared, visible, missing, new_name_remark, type_begins}
+use Rattle.ada_resolve.specs.Pools.{aspect_found, aspect_remark}
 use Rattle.ada_resolve.specs.Remark.{Remark, fine, wrong, ◌also◌, wrong_if}
 
 -- The incomplete type that a name stands for (3.10.1): a type declaration of that name completes it.
@@ -66,7 +68,7 @@ complete_remark known name = complete_type_wanted (visible known name.text) name
 
 -- Whether an access type designates the record type (3.10).
 abbrev pub is_access_to : Option TypeForm → ℕ → Bool
-is_access_to (Some (access_to name designated)) wanted = designated == wanted
+is_access_to (Some (access_to name designated pool)) wanted = designated == wanted
 is_access_to (Some (record_of name parts components)) wanted = false
 is_access_to (Some (object_of record_type)) wanted = false
 is_access_to None wanted = false
@@ -79,7 +81,7 @@ designates types access wanted = is_access_to (slice_get types access) wanted
 abbrev pub is_designated : ℕ → List TypeForm → Bool
 is_designated t [] = false
 is_designated t (record_of name parts components ∷ types) = is_designated t types
-is_designated t (access_to name designated ∷ types) = designated == t || is_designated t types
+is_designated t (access_to name designated pool ∷ types) = designated == t || is_designated t types
 is_designated t (object_of record_type ∷ types) = is_designated t types
 
 -- The number of the type that a declaration defines: that of the incomplete type that it completes, else the next.
@@ -117,27 +119,24 @@ completion_remark (Some t) known name designated =
     wrong_if (is_designated t.0 known.types) name.spot WrongType also wrong_if (bytes_eq designated.text name.text) name.spot WrongType
 completion_remark None known name designated = fine
 
--- No aspect of a type is in the profile yet (13.1.1).
-abbrev pub aspect_remark : Option AspectTree → Remark
-aspect_remark (Some aspect) = wrong aspect.spot NotInProfile
-aspect_remark None = fine
-
--- `type A is access T;` (3.10): its name is new or completes such a type, and it designates a record type.
+-- `type A is access T with Storage_Pool => P;` (3.10, 13.11): its name is new or completes such a type, it designates a record type, and where it has an
+-- aspect, that names a pool.
 abbrev pub access_remark : Known → Spot → Ident → Ident → Option AspectTree → Remark
 access_remark known spot name designated aspect =
     type_begins known spot also
     completion_remark (completed_type known name) known name designated also
     new_unless (completed_type known name) (new_name_remark known name spot) also
     record_remark known designated also
-    aspect_remark aspect
+    aspect_remark known aspect
 
--- After it the access type is known.
-abbrev pub access_defined : Known → Ident → Option TypeNo → Option TypeNo → Known
-access_defined known name completes (Some record_type) =
-    declared (record known { types = defined completes (access_to name.text record_type.0) known.types }) name.text
+-- After it the access type is known, with the pool of its aspect, where it has one.
+abbrev pub access_defined : Known → Ident → (completes record_type : Option TypeNo) → (pool : Option PoolNo) → Known
+access_defined known name completes (Some record_type) pool =
+    declared (record known { types = defined completes (access_to name.text record_type.0 (pool_number pool)) known.types }) name.text
     (entity.Access (number_of completes known.types))
-access_defined known name completes None = known
+access_defined known name completes None pool = known
 
 -- What is known after the declaration of an access type.
-abbrev pub access_known : Known → Ident → Ident → Known
-access_known known name designated = access_defined known name (completed_type known name) (record_found known designated)
+abbrev pub access_known : Known → Ident → Ident → Option AspectTree → Known
+access_known known name designated aspect =
+    access_defined known name (completed_type known name) (record_found known designated) (aspect_found known aspect)

@@ -3,7 +3,7 @@
 use Rattle.std.specs.Prelude.{◌≡◌, ℕ, List, [], ◌∷◌, map, reverse, Option, Some, None, option_map, Result, Ok, Err}
 use Rattle.ada_tree.specs.Statements.{UnitTree}
 use Rattle.ada_program.specs.Form.{PathForm, RightForm, StmtForm, StmtsForm, ItemForm, LinksForm, a_link, no_more_links, path_form, record_path_form, expression_form, right_form, item_form, stmt_form, stmts_form, branches_form, condition_form, BranchesForm, ExpressionForm, declaration_form, HandlersForm, handlers_form}
-use Rattle.ada_program.specs.ProgramForm.{TypeForm, VariableForm, body_form, variable_form}
+use Rattle.ada_program.specs.ProgramForm.{TypeForm, VariableForm, body_form, pool_form, variable_form}
 use Rattle.ada_program.specs.declared.program.Item.{Item}
 use Rattle.ada_program.specs.declared.program.Link.{Link}
 use Rattle.ada_program.specs.declared.program.Path.{Path}
@@ -96,10 +96,12 @@ known_of r = record {
   here = part_of r.here;
   outer = reverse (map part_of r.outer.items);
   types = map known_type_form r.types.items;
+  pools = map pool_form r.pools.items;
   bodies = map body_form r.procedures.items;
   variables = map variable_form r.variables.items;
   exceptions = map string_bytes r.exceptions.items;
   texts = map string_bytes r.texts.items;
+  frozen = r.frozen.keys;
 }
 
 -- The items of a record.

@@ -8,8 +8,8 @@ ghost use Rattle.ada_resolve.specs.Paths.{component_at, component_named};
 ghost use Rattle.ada_resolve.specs.Records.{is_component, no_components};
 
 use crate::fault::NameFault;
-use ada_program::TypeNo;
 use ada_program::program::{ComponentKind, ComponentNo, Part, PartKind, TypeDefinition};
+use ada_program::{PoolNo, TypeNo};
 use indexmap::IndexMap;
 use std::alloc::Global;
 
@@ -44,6 +44,8 @@ pub(crate) enum KnownType<'t> {
     Access {
         name: &'t str,
         designated: TypeNo,
+        /// The pool that an aspect or a clause names (13.11).
+        pool: Option<PoolNo>,
     },
     /// What one record object or record parameter is known by (3.3.1, 6.2), and its record type.
     Object {
@@ -70,6 +72,14 @@ impl<'t> Components<'t> {
         ensures { result ≡ (composition_in self.now).size }
     {
         self.size
+    }
+
+    /// The elementary components at any depth, in order.
+    #[tactic(auto, unfolding(crate::specs::Kept::composition_in))]
+    pub(crate) fn elementary(&self) -> &[ComponentKind]
+        ensures { result.now ≡ self.now.kinds.items }
+    {
+        &self.kinds
     }
 
     /// How many components are declared.
@@ -196,9 +206,14 @@ impl<'t> KnownType<'t> {
                 parts: components.parts(alloc)?,
                 components: components.kinds(alloc)?,
             }),
-            KnownType::Access { name, designated } => Ok(TypeDefinition::Access {
+            KnownType::Access {
+                name,
+                designated,
+                pool,
+            } => Ok(TypeDefinition::Access {
                 name: String::from_str(alloc, *name)?,
                 designated: *designated,
+                pool: *pool,
             }),
             KnownType::Object { record } => Ok(TypeDefinition::Object { record: *record }),
         }

@@ -104,6 +104,18 @@ impl<'t> Resolver<'t> {
             ),
             Declaration::Exception { name } => self.exception(*name, notes),
             Declaration::Constant { name, value } => self.constant(*name, value, notes),
+            Declaration::Pool {
+                name,
+                type_name,
+                label,
+                size,
+            } => self.pool(*name, type_name, *label, *size, notes),
+            Declaration::Clause {
+                spot,
+                name,
+                attribute,
+                value,
+            } => self.clause(*spot, *name, *attribute, *value, notes),
             Declaration::Object {
                 name,
                 type_name,
@@ -120,9 +132,7 @@ impl<'t> Resolver<'t> {
                 self.end_of_types()?;
                 self.borrower(*name, *designated, initial, notes)
             }
-            Declaration::Pool { .. }
-            | Declaration::DerivedType { .. }
-            | Declaration::Clause { .. }
+            Declaration::DerivedType { .. }
             | Declaration::Specification(_)
             | Declaration::Body { .. } => not_in_use(declaration, notes),
         }

@@ -1,20 +1,26 @@
 //! Resolution of instances of Unchecked_Deallocation (12.3, 13.11.2).
 
-ghost use Rattle.std.specs.Prelude.{◌≡◌, OnOk, IfErr, ◌∷◌, []};
+ghost use Rattle.std.specs.Prelude.{◌≡◌, OnOk, IfErr, ◌∷◌, [], map, option_copied};
 ghost use Rattle.ada_tree.specs.Names.{ident_of, name_of};
 ghost use Rattle.ada_program.specs.Form.{collects};
 ghost use Rattle.ada_resolve.specs.Method.{known, entity_of, IsNoted, Changes, instance_tree, Declares};
+ghost use Rattle.ada_resolve.specs.Kept.{kinds_in, known_type_form};
+ghost use Rattle.ada_resolve.specs.Paths.{designated_of};
 ghost use Rattle.ada_resolve.specs.Types.{designates};
-ghost use Rattle.ada_resolve.specs.Instances.{access_type_in, designates_if_known, freed_found, freed_remark, is_collected, one_instance, own_type, complete_wanted, generic_remark, with_elaborated};
+ghost use Rattle.ada_resolve.specs.Instances.{access_type_in, components_behind, designates_if_known, freed_found, freed_remark, is_collected, one_instance, own_type, complete_wanted, generic_remark, with_component_frozen, with_components_frozen, with_frozen, with_number};
+ghost use Rattle.ada_resolve.specs.Known.{with_elaborated};
 
-use crate::components::KnownType;
+use crate::components::{Components, KnownType};
 use crate::fault::{NameFault, NameRule};
 use crate::library::{LibraryName, is_library_root};
 use crate::notes::Notes;
+use crate::paths::components_of;
 use crate::resolver::Resolver;
 use crate::scope::Entity;
+use ada_program::program::ComponentKind;
 use ada_program::{Spot, TypeNo};
 use ada_tree::names::{Identifier, Name};
+use indexmap::IndexSet;
 
 /// An instance as it is written: `procedure Free is new .. (T, A);`
 #[derive(Clone, Copy)]
@@ -79,6 +85,7 @@ impl<'t> Resolver<'t> {
             return Ok(());
         };
         self.add_collection(number)?;
+        self.freeze(number)?;
         self.declare(name.text, Entity::Instance(number))
     }
 
@@ -108,7 +115,7 @@ impl<'t> Resolver<'t> {
     }
 
     /// The access type that a name stands for.
-    fn access_type_of(&self, name: Identifier<'t>) -> Option<TypeNo>
+    pub(crate) fn access_type_of(&self, name: Identifier<'t>) -> Option<TypeNo>
         ensures { result ≡ access_type_in (entity_of self name.entry) }
     {
         match self.visible(name.text) {
@@ -128,7 +135,7 @@ impl<'t> Resolver<'t> {
 
     /// An instance frees objects of an access type of its own part.
     #[tactic(auto, unfolding(crate::specs::View::known_of, crate::specs::View::part_of))]
-    fn own_type(&self, access: Option<TypeNo>, spot: Spot, notes: &mut Notes)
+    pub(crate) fn own_type(&self, access: Option<TypeNo>, spot: Spot, notes: &mut Notes)
         ensures { IsNoted notes (own_type access (known self).here.first_type spot) }
     {
         if let Some(number) = access {
@@ -184,6 +191,7 @@ impl<'t> Resolver<'t> {
                 KnownType::Access {
                     name: _,
                     designated,
+                    pool: _,
                 },
             ) => designated.0 == wanted.0,
             _ => false,
@@ -205,5 +213,70 @@ impl<'t> Resolver<'t> {
         ensures memory { IfErr result (λ e. e ≡ NameFault.NoMemory) }
     {
         self.here.add_collection(number)
+    }
+    /// An instance freezes its access type, and those of the components of what that designates (13.14).
+    #[tactic(auto, unfolding(crate::specs::View::known_of))]
+    fn freeze(&mut self, access: TypeNo) -> Result<(), NameFault>
+        ensures known { OnOk result (Changes self (with_frozen access.0)) }
+        ensures memory { IfErr result (λ e. e ≡ NameFault.NoMemory) }
+    {
+        freeze(&mut self.frozen, access)?;
+        match behind(&self.types, access) {
+            Some(components) => freeze_components(&mut self.frozen, components.elementary()),
+            None => Ok(()),
+        }
+    }
+}
+
+/// An access type is frozen.
+fn freeze(frozen: &mut IndexSet<usize>, access: TypeNo) -> Result<(), NameFault>
+    ensures added { OnOk result (frozen.new.keys ≡ with_number frozen.old.keys access.0) }
+    ensures memory { IfErr result (λ e. e ≡ NameFault.NoMemory) }
+{
+    frozen.insert(access.0)?;
+    Ok(())
+}
+
+/// The access types of elementary components are frozen.
+fn freeze_components(
+    frozen: &mut IndexSet<usize>,
+    components: &[ComponentKind],
+) -> Result<(), NameFault>
+    ensures added { OnOk result
+        (frozen.new.keys ≡ with_components_frozen components.now frozen.old.keys) }
+    ensures memory { IfErr result (λ e. e ≡ NameFault.NoMemory) }
+{
+    for component in components {
+        freeze_component(frozen, *component)?;
+    }
+    Ok(())
+}
+
+/// The access type of an elementary component is frozen.
+fn freeze_component(frozen: &mut IndexSet<usize>, component: ComponentKind) -> Result<(), NameFault>
+    ensures added { OnOk result (frozen.new.keys ≡ with_component_frozen component frozen.old.keys) }
+    ensures memory { IfErr result (λ e. e ≡ NameFault.NoMemory) }
+{
+    match component {
+        ComponentKind::Access(access) => freeze(frozen, access),
+        ComponentKind::Integer { .. } | ComponentKind::Boolean { .. } => Ok(()),
+    }
+}
+
+/// The components of the record type that an access type designates.
+#[tactic(auto, unfolding(crate::specs::Paths::designated_of, crate::specs::Paths::elementary_of), using(crate::proofs::Names::map_get))]
+fn behind<'k, 't>(types: &'k [KnownType<'t>], access: TypeNo) -> Option<&'k Components<'t>>
+    ensures { kinds_in (option_copied result)
+        ≡ components_behind (map known_type_form types.now) (designated_of (map known_type_form types.now) access.0) }
+{
+    match types.get(access.0) {
+        Some(
+            KnownType::Access {
+                name: _,
+                designated,
+                pool: _,
+            },
+        ) => components_of(types, *designated),
+        _ => None,
     }
 }

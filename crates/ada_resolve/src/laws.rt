@@ -1,6 +1,7 @@
 //! The laws of resolution. Each is a function that does nothing, and whose contract is the theorem.
 
 ghost use Rattle.ada_tree.specs.Statements.{UnitTree};
+ghost use Rattle.ada_program.specs.Freed.{FreesItsOwn};
 ghost use Rattle.ada_program.specs.Nested.{CollectionsNest};
 ghost use Rattle.ada_program.specs.ProgramForm.{ProgramForm};
 ghost use Rattle.ada_program.specs.WellFormed.{IsWellFormed};
@@ -12,6 +13,13 @@ ghost use Rattle.ada_resolve.specs.Resolution.{Resolves};
 pub fn programs_are_well_formed()
     ensures { (tree : UnitTree) (program : ProgramForm) →
         Resolves tree program → IsWellFormed program }
+{}
+
+/// The program that a tree means frees each object by the instance of `Unchecked_Deallocation` for the very access type
+/// of what it frees, so the object's words go back to the pool of that type.
+pub fn programs_free_their_own()
+    ensures { (tree : UnitTree) (program : ProgramForm) →
+        Resolves tree program → FreesItsOwn program }
 {}
 
 /// Collections nest in the program that a tree means. No part creates a collection that is open around it. What the

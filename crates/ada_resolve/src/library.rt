@@ -2,8 +2,8 @@
 
 ghost use Rattle.std.specs.Prelude.{◌≡◌, map, [], ◌∷◌};
 ghost use Rattle.ada_tree.specs.Names.{ident_of};
-ghost use Rattle.ada_resolve.specs.Known.{is_with};
-ghost use Rattle.ada_resolve.specs.Library.{spelled, other_if, other_in_ada, in_ada, in_system, in_pools, in_input, library_name, is_library_root, is_primitive, missing_rule, no_component_rule};
+ghost use Rattle.ada_resolve.specs.Known.{is_unit_named, is_with, library_rule, unused_rule};
+ghost use Rattle.ada_resolve.specs.Library.{spelled, other_in_ada, in_ada, in_system, other_in_pools, in_pools, in_input, library_name, is_library_root, is_primitive, missing_rule, no_component_rule};
 
 use crate::fault::NameRule;
 use ada_tree::names::Identifier;
@@ -17,6 +17,16 @@ pub(crate) enum LibraryName {
     PutLine,
     /// `Ada.Unchecked_Deallocation` (13.11.2): the unit, and the generic procedure.
     UncheckedDeallocation,
+    /// `Ada.Finalization` (7.6)
+    Finalization,
+    /// A name under `Ada.Finalization`, which is not in use.
+    OfFinalization,
+    /// `Profile_Pools`, the profile's own unit.
+    Pools,
+    /// `Profile_Pools.First_Fit_Pool`, a pool's type (13.11).
+    FirstFitPool,
+    /// A name under `Profile_Pools` that is not in use.
+    OfPools,
     /// `Run_Input`, the profile's own unit.
     RunInput,
     /// `Run_Input.Get`
@@ -34,20 +44,47 @@ pub(crate) enum LibraryName {
 pub(crate) struct Withs {
     pub(crate) text_io: bool,
     pub(crate) deallocation: bool,
+    pub(crate) finalization: bool,
+    pub(crate) pools: bool,
     pub(crate) run_input: bool,
 }
 
 impl Withs {
-    /// Whether the unit of a library name is named.
+    /// Whether the unit of a library name is named, and the name is in use.
     pub(crate) fn has(&self, name: LibraryName) -> bool
         ensures { result ≡ is_with self.now name }
     {
         match name {
             LibraryName::TextIo | LibraryName::PutLine => self.text_io,
             LibraryName::UncheckedDeallocation => self.deallocation,
+            LibraryName::Finalization => self.finalization,
+            LibraryName::Pools | LibraryName::FirstFitPool => self.pools,
             LibraryName::RunInput | LibraryName::Get | LibraryName::EndError => self.run_input,
-            LibraryName::OtherUnit | LibraryName::Unknown => false,
+            LibraryName::OfFinalization
+            | LibraryName::OfPools
+            | LibraryName::OtherUnit
+            | LibraryName::Unknown => false,
         }
+    }
+
+    /// The rule that a name of the library breaks for which the units have nothing.
+    pub(crate) fn rule(&self, name: LibraryName) -> NameRule
+        ensures { result ≡ library_rule self.now name }
+    {
+        match name {
+            LibraryName::Unknown => NameRule::NotInProfile,
+            LibraryName::OfFinalization => unused_rule(self.finalization),
+            LibraryName::OfPools => unused_rule(self.pools),
+            _ => NameRule::UnknownName,
+        }
+    }
+
+    /// Whether this is the name of a unit of one name that is named.
+    #[tactic(auto, unfolding(crate::specs::Library::is_library_root))]
+    pub(crate) fn is_unit_named(&self, text: &str) -> bool
+        ensures { result ≡ is_unit_named self.now text.now }
+    {
+        (text == "RUN_INPUT" && self.run_input) || (text == "PROFILE_POOLS" && self.pools)
     }
 }
 
@@ -81,19 +118,19 @@ fn in_ada(rest: &[Identifier<'_>]) -> LibraryName
     }
 }
 
-/// A name after `Ada` of a unit that is not in use.
+/// A further name after `Ada`: of Finalization, or of a unit that is not in use.
 #[tactic(auto, unfolding(crate::specs::Library::other_in_ada))]
 fn other_in_ada(rest: &[Identifier<'_>]) -> LibraryName
     ensures { result ≡ other_in_ada (map ident_of rest.now) }
 {
     if is_one(rest, "FINALIZATION") {
-        return LibraryName::OtherUnit;
+        return LibraryName::Finalization;
     }
     if is_two(rest, "FINALIZATION", "CONTROLLED") {
-        return LibraryName::OtherUnit;
+        return LibraryName::OfFinalization;
     }
     if is_two(rest, "FINALIZATION", "LIMITED_CONTROLLED") {
-        return LibraryName::OtherUnit;
+        return LibraryName::OfFinalization;
     }
     if is_one(rest, "UNCHECKED_DEALLOCATE_SUBPOOL") {
         return LibraryName::OtherUnit;
@@ -120,13 +157,29 @@ fn in_system(rest: &[Identifier<'_>]) -> LibraryName
 fn in_pools(rest: &[Identifier<'_>]) -> LibraryName
     ensures { result ≡ in_pools (map ident_of rest.now) }
 {
-    other_if(
-        is_none(rest)
-            || is_one(rest, "FIRST_FIT_POOL")
-            || is_one(rest, "SUBPOOL_POOL")
-            || is_one(rest, "MARK_RELEASE_POOL")
-            || is_one(rest, "CREATE_SUBPOOL"),
-    )
+    if is_none(rest) {
+        LibraryName::Pools
+    } else if is_one(rest, "FIRST_FIT_POOL") {
+        LibraryName::FirstFitPool
+    } else {
+        other_in_pools(rest)
+    }
+}
+
+/// A name after `Profile_Pools` that is not in use.
+#[tactic(auto, unfolding(crate::specs::Library::other_in_pools))]
+fn other_in_pools(rest: &[Identifier<'_>]) -> LibraryName
+    ensures { result ≡ other_in_pools (map ident_of rest.now) }
+{
+    if is_one(rest, "SUBPOOL_POOL") {
+        LibraryName::OfPools
+    } else if is_one(rest, "MARK_RELEASE_POOL") {
+        LibraryName::OfPools
+    } else if is_one(rest, "CREATE_SUBPOOL") {
+        LibraryName::OfPools
+    } else {
+        LibraryName::Unknown
+    }
 }
 
 /// What the name stands for after `Run_Input`.
@@ -140,17 +193,6 @@ fn in_input(rest: &[Identifier<'_>]) -> LibraryName
         LibraryName::Get
     } else if is_one(rest, "END_ERROR") {
         LibraryName::EndError
-    } else {
-        LibraryName::Unknown
-    }
-}
-
-/// A name of a unit that is not in use, if the test holds, else no name of the library.
-fn other_if(test: bool) -> LibraryName
-    ensures { result ≡ other_if test }
-{
-    if test {
-        LibraryName::OtherUnit
     } else {
         LibraryName::Unknown
     }
@@ -219,6 +261,17 @@ pub(crate) fn missing_rule(text: &str) -> NameRule
     ensures { result ≡ missing_rule text.now }
 {
     if is_primitive(text) || text == "ADA" || text == "SYSTEM" {
+        NameRule::NotInProfile
+    } else {
+        NameRule::UnknownName
+    }
+}
+
+/// The rule that a name breaks which is not in use, where its unit is named in a `with` clause or not.
+pub(crate) fn unused_rule(named: bool) -> NameRule
+    ensures { result ≡ unused_rule named }
+{
+    if named {
         NameRule::NotInProfile
     } else {
         NameRule::UnknownName

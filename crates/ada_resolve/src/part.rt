@@ -1,7 +1,7 @@
 //! A declarative part: what it declares so far, and what names stand for in it.
 
 ghost use Rattle.std.specs.Prelude.{◌≡◌, map, reverse, is_some, OnOk, IfErr, [], ◌∷◌};
-ghost use Rattle.ada_program.specs.Form.{collects, declares, declares_record, declaration_form};
+ghost use Rattle.ada_program.specs.Form.{collects, creates_pool, declares, declares_record, declaration_form};
 ghost use Rattle.ada_program.specs.Kept.{variables_in};
 ghost use Rattle.ada_program.specs.ProgramForm.{variable_form};
 ghost use Rattle.ada_resolve.specs.Instances.{is_collected};
@@ -16,7 +16,7 @@ use crate::fault::NameFault;
 use crate::scope::{Entity, Role};
 use ada_program::borrowers::is_borrower;
 use ada_program::program::{self, Declaration, FormalMode, Variable};
-use ada_program::{TypeNo, VariableNo};
+use ada_program::{PoolNo, TypeNo, VariableNo};
 use indexmap::IndexMap;
 use std::alloc::Global;
 
@@ -185,6 +185,16 @@ impl<'t> Part<'t> {
         ensures memory { IfErr result (λ e. e ≡ NameFault.NoMemory) }
     {
         self.declarations.push(Declaration::Collection(number))?;
+        Ok(())
+    }
+
+    /// A pool is created.
+    #[tactic(auto, unfolding(crate::specs::View::part_of), using(crate::proofs::Names::map_snoc))]
+    pub(crate) fn add_pool(&mut self, number: PoolNo) -> Result<(), NameFault>
+        ensures known { OnOk result (Elaborates self (creates_pool number.0 ∷ [])) }
+        ensures memory { IfErr result (λ e. e ≡ NameFault.NoMemory) }
+    {
+        self.declarations.push(Declaration::Pool(number))?;
         Ok(())
     }
 

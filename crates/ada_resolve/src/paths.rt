@@ -3,7 +3,7 @@
 ghost use Rattle.std.specs.Prelude.{◌≡◌, map, slice_get, option_copied, IfErr};
 ghost use Rattle.ada_tree.specs.Names.{ident_of, selector_of};
 ghost use Rattle.ada_program.specs.Form.{expression_form, path_form};
-ghost use Rattle.ada_resolve.specs.Kept.{forms_in, kinds_in};
+ghost use Rattle.ada_resolve.specs.Kept.{forms_in, kinds_in, known_type_form};
 ghost use Rattle.ada_resolve.specs.Known.{next_variable, parts_of};
 ghost use Rattle.ada_resolve.specs.Look.{Looks, library_path_look, named_look, outer_look, path_look, variable_look};
 ghost use Rattle.ada_resolve.specs.Method.{known, Finds, IsNoted, each, path_written_remark};
@@ -184,6 +184,7 @@ impl<'t> Resolver<'t> {
                 KnownType::Access {
                     name: _,
                     designated,
+                    pool: _,
                 },
             ) => Some(*designated),
             _ => None,
@@ -191,22 +192,14 @@ impl<'t> Resolver<'t> {
     }
 
     /// The components of a record type.
-    #[tactic(auto, unfolding(crate::specs::View::known_of, crate::specs::Paths::components_of, crate::specs::Paths::elementary_of), using(crate::proofs::Names::map_get))]
+    #[tactic(auto, unfolding(crate::specs::View::known_of))]
     pub(crate) fn components_of(&self, number: TypeNo) -> Option<&Components<'t>>
         ensures declared { forms_in (option_copied result)
             ≡ components_of (known self).types number.0 }
         ensures elementary { kinds_in (option_copied result)
             ≡ elementary_of (known self).types number.0 }
     {
-        match self.types.get(number.0) {
-            Some(
-                KnownType::Record {
-                    name: _,
-                    components,
-                },
-            ) => Some(components),
-            _ => None,
-        }
+        components_of(&self.types, number)
     }
 
     /// Whether a type is still incomplete.
@@ -352,4 +345,26 @@ pub(crate) fn is_record_kind(kind: VariableKind) -> bool
     ensures { result ≡ is_record_kind kind }
 {
     matches!(kind, VariableKind::Record(_))
+}
+
+/// The components of a record type among these.
+#[tactic(auto, unfolding(crate::specs::Paths::components_of, crate::specs::Paths::elementary_of), using(crate::proofs::Names::map_get))]
+pub(crate) fn components_of<'k, 't>(
+    types: &'k [KnownType<'t>],
+    number: TypeNo,
+) -> Option<&'k Components<'t>>
+    ensures declared { forms_in (option_copied result)
+        ≡ components_of (map known_type_form types.now) number.0 }
+    ensures elementary { kinds_in (option_copied result)
+        ≡ elementary_of (map known_type_form types.now) number.0 }
+{
+    match types.get(number.0) {
+        Some(
+            KnownType::Record {
+                name: _,
+                components,
+            },
+        ) => Some(components),
+        _ => None,
+    }
 }

@@ -4,6 +4,7 @@ ghost use Rattle.std.specs.Prelude.{◌≡◌, map, IfOk, IfErr};
 ghost use Rattle.ada_tree.specs.Declarations.{clause_of};
 ghost use Rattle.ada_tree.specs.Names.{ident_of, name_of};
 ghost use Rattle.ada_tree.specs.StatementView.{unit_of};
+ghost use Rattle.ada_program.specs.Freed.{FreesItsOwn};
 ghost use Rattle.ada_program.specs.Nested.{CollectionsNest};
 ghost use Rattle.ada_program.specs.ProgramForm.{program_form};
 ghost use Rattle.ada_program.specs.WellFormed.{IsWellFormed};
@@ -13,7 +14,7 @@ ghost use Rattle.ada_resolve.specs.View.{same_units, Answers, Faults};
 
 use crate::components::definitions;
 use crate::fault::{NameFault, NameRule};
-use crate::laws::{collections_nest, programs_are_well_formed};
+use crate::laws::{collections_nest, programs_are_well_formed, programs_free_their_own};
 use crate::library::{LibraryName, Withs, is_primitive, library_name};
 use crate::notes::Notes;
 use crate::procedures::{Sequence, same_name};
@@ -24,7 +25,8 @@ use ada_tree::names::{Identifier, Name};
 use ada_tree::unit::{Clause, Unit};
 use std::alloc::Global;
 
-/// The program of a tree, which is well formed, and whose collections nest.
+/// The program of a tree, which is well formed, whose collections nest, and which frees each object by the instance for
+/// its very access type.
 ///
 /// # Errors
 /// At the first declaration or statement that breaks a rule of names; there at the leftmost spot, and of two rules
@@ -34,9 +36,11 @@ pub fn resolve(alloc: Global, unit: &Unit<'_>) -> Result<Program, NameFault>
     ensures first { IfErr result (λ e. Faults e (unit_of unit.now)) }
     ensures well_formed { IfOk result (λ p. IsWellFormed (program_form p)) }
     ensures nests { IfOk result (λ p. CollectionsNest (program_form p)) }
+    ensures frees_own { IfOk result (λ p. FreesItsOwn (program_form p)) }
 {
     programs_are_well_formed();
     collections_nest();
+    programs_free_their_own();
     whole_program(alloc, unit)
 }
 
@@ -71,6 +75,8 @@ fn library_units(clauses: &[Clause<'_>]) -> Result<Withs, NameFault>
     let mut units = Withs {
         text_io: false,
         deallocation: false,
+        finalization: false,
+        pools: false,
         run_input: false,
     };
     for clause in clauses {
@@ -111,6 +117,14 @@ fn with_unit(name: &Name<'_>, units: Withs) -> Result<Withs, NameFault>
             deallocation: true,
             ..units
         }),
+        LibraryName::Finalization => Ok(Withs {
+            finalization: true,
+            ..units
+        }),
+        LibraryName::Pools => Ok(Withs {
+            pools: true,
+            ..units
+        }),
         LibraryName::RunInput => Ok(Withs {
             run_input: true,
             ..units
@@ -144,13 +158,16 @@ fn assemble(resolver: Resolver<'_>, body: Sequence) -> Result<Program, NameFault
         here,
         outer: _,
         types: _,
+        pools,
         procedures,
         variables,
         exceptions,
         texts,
+        frozen: _,
     } = resolver;
     Ok(Program {
         types,
+        pools,
         procedures,
         variables,
         texts,

@@ -4,7 +4,7 @@ ghost use Rattle.std.specs.Prelude.{◌≡◌, map, length, IfOk, OnOk, IfErr, b
 ghost use Rattle.ada_tree.specs.Names.{ident_of};
 ghost use Rattle.ada_program.specs.Form.{declaration_form};
 ghost use Rattle.ada_program.specs.ProgramForm.{body_form, variable_form};
-ghost use Rattle.ada_resolve.specs.Known.{named, named_in, next_part, no_body_yet, own_names, parts, declared, visible, name_remark, new_name_remark, library_remark, library_found, is_with, no_variable_yet, outermost, type_begins, types_go_on, with_part, without_part};
+ghost use Rattle.ada_resolve.specs.Known.{named, named_in, next_part, no_body_yet, own_names, parts, declared, visible, name_remark, new_name_remark, library_remark, library_found, library_rule, is_with, no_variable_yet, outermost, type_begins, types_go_on, with_part, without_part};
 ghost use Rattle.ada_resolve.specs.Method.{at_work_again, known, each, IsNoted, Changes, with_type, without_body_of};
 ghost use Rattle.ada_resolve.specs.Procedures.{with_body, with_procedure};
 ghost use Rattle.ada_resolve.specs.Resolution.{known_first};
@@ -18,9 +18,10 @@ use crate::notes::Notes;
 use crate::part::{Contents, Part, named_in};
 use crate::procedures::Sequence;
 use crate::scope::{Entity, is_taken, predefined};
-use ada_program::program::{Declaration, Procedure, Variable};
+use ada_program::program::{Declaration, Pool, Procedure, Variable};
 use ada_program::{Spot, TypeNo};
 use ada_tree::names::Identifier;
+use indexmap::IndexSet;
 use std::alloc::Global;
 use std::mem;
 
@@ -40,6 +41,8 @@ pub(crate) struct Resolver<'t> {
     /// The declarative parts around it, of which the last is the inner one of the others.
     pub(crate) outer: Vec<Part<'t>>,
     pub(crate) types: Vec<KnownType<'t>>,
+    /// The pools that are declared.
+    pub(crate) pools: Vec<Pool>,
     /// The procedures whose bodies have ended.
     pub(crate) procedures: Vec<Procedure>,
     /// The variables of the body at work.
@@ -48,6 +51,8 @@ pub(crate) struct Resolver<'t> {
     pub(crate) exceptions: Vec<String>,
     /// The texts that the statements so far write.
     pub(crate) texts: Vec<String>,
+    /// The numbers of the access types that instances of Unchecked_Deallocation have frozen (13.14).
+    pub(crate) frozen: IndexSet<usize>,
 }
 
 impl<'t> Resolver<'t> {
@@ -63,10 +68,12 @@ impl<'t> Resolver<'t> {
             here: Part::new(alloc, 0, 0, 0),
             outer: Vec::new(alloc),
             types: Vec::new(alloc),
+            pools: Vec::new(alloc),
             procedures: Vec::new(alloc),
             variables: Vec::new(alloc),
             exceptions: Vec::new(alloc),
             texts: Vec::new(alloc),
+            frozen: IndexSet::new(alloc),
         }
     }
 
@@ -245,7 +252,7 @@ impl<'t> Resolver<'t> {
     {
         match predefined(text) {
             Some(entity) => Some(entity),
-            None if text == "RUN_INPUT" && self.withs.run_input => Some(Entity::LibraryUnit),
+            None if self.withs.is_unit_named(text) => Some(Entity::LibraryUnit),
             None => None,
         }
     }
@@ -298,16 +305,20 @@ impl<'t> Resolver<'t> {
             (library_remark (known self) (ident_of first.entry) (map ident_of rest.now)) }
     {
         let name = library_name(first.text, rest);
-        if let LibraryName::Unknown = name {
-            notes.note(first.spot, NameRule::NotInProfile);
-            return None;
-        }
         if self.is_with(name) {
             Some(name)
         } else {
-            notes.note(first.spot, NameRule::UnknownName);
+            notes.note(first.spot, self.library_rule(name));
             None
         }
+    }
+
+    /// The rule that a name of the library breaks which stands for nothing here.
+    #[tactic(auto, unfolding(crate::specs::View::known_of))]
+    fn library_rule(&self, name: LibraryName) -> NameRule
+        ensures { result ≡ library_rule (known self).withs name }
+    {
+        self.withs.rule(name)
     }
 
     /// Whether the unit of a library name is named in a `with` clause.
@@ -341,7 +352,7 @@ impl<'t> Resolver<'t> {
         self.no_object_yet() && self.no_body_yet()
     }
 
-    /// A type, a number, an exception or an instance begins: none follows an object or a body of its part.
+    /// A type, a number, a pool, an exception, a clause or an instance begins: none follows an object or a body of its part.
     pub(crate) fn type_begins(&self, spot: Spot, notes: &mut Notes)
         ensures { IsNoted notes (type_begins (known self) spot) }
     {

@@ -5,7 +5,7 @@ ghost use Rattle.ada_resolve.specs.Library.{predefined, is_taken};
 
 use crate::library::is_library_root;
 use ada_program::program::{Exception, ProcedureNo, VariableKind};
-use ada_program::{TypeNo, VariableNo};
+use ada_program::{PoolNo, TypeNo, VariableNo};
 
 /// What a name stands for.
 #[derive(Clone, Copy)]
@@ -20,6 +20,8 @@ pub(crate) enum Entity {
     Number(i32),
     /// An exception (11.1).
     Exception(Exception),
+    /// A pool (13.11).
+    Pool(PoolNo),
     /// A procedure whose body has not ended: the main procedure, or one around the place.
     Procedure,
     /// A procedure whose body has ended: it may be called (6.4).

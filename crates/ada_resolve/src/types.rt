@@ -1,11 +1,10 @@
 //! Resolution of incomplete types and access types (3.10).
 
 ghost use Rattle.std.specs.Prelude.{◌≡◌, IfOk, IfErr, OnOk};
-ghost use Rattle.ada_tree.specs.Declarations.{optional_aspect_of};
 ghost use Rattle.ada_tree.specs.Names.{ident_of};
 ghost use Rattle.ada_tree.specs.Statements.{incomplete_type};
 ghost use Rattle.ada_resolve.specs.Method.{known, IsNoted, Changes, access_tree, Declares, completing_remark, type_name_remark, with_type};
-ghost use Rattle.ada_resolve.specs.Types.{completed_type, number_of, is_designated, complete_found, complete_remark, record_found, record_remark, aspect_remark};
+ghost use Rattle.ada_resolve.specs.Types.{completed_type, number_of, is_designated, complete_found, complete_remark, record_found, record_remark};
 ghost use Rattle.ada_resolve.specs.View.{known_of};
 
 use crate::components::{Components, KnownType};
@@ -38,7 +37,7 @@ impl<'t> Resolver<'t> {
         self.declare(name.text, Entity::Incomplete(number))
     }
 
-    /// `type A is access T;` (3.10); it may complete an incomplete type that no access type designates.
+    /// `type A is access T with Storage_Pool => P;` (3.10); it may complete an incomplete type that no access type designates.
     pub(crate) fn access_type(
         &mut self,
         spot: Spot,
@@ -55,7 +54,7 @@ impl<'t> Resolver<'t> {
         self.completion(completes, name, designated, notes);
         self.new_unless(completes, name, spot, notes);
         let record = self.record_name(designated, notes);
-        no_aspect(aspect, notes);
+        let pool = self.aspect(aspect, notes);
         notes.settle()?;
         let Some(designated) = record else {
             return Ok(());
@@ -63,6 +62,7 @@ impl<'t> Resolver<'t> {
         let definition = KnownType::Access {
             name: name.text,
             designated,
+            pool,
         };
         let number = self.define(completes, definition)?;
         self.declare(name.text, Entity::Access(number))
@@ -129,7 +129,7 @@ impl<'t> Resolver<'t> {
 
     /// The definition of a type that was incomplete.
     #[tactic(auto, unfolding(crate::specs::View::known_of), using(crate::proofs::Names::map_set, crate::proofs::Names::set_beyond))]
-    fn replace_type(&mut self, number: TypeNo, definition: KnownType<'t>)
+    pub(crate) fn replace_type(&mut self, number: TypeNo, definition: KnownType<'t>)
         ensures { Changes self (with_type (Some number) definition.entry) }
     {
         if let Some(slot) = self.types.get_mut(number.0) {
@@ -146,6 +146,7 @@ impl<'t> Resolver<'t> {
             if let KnownType::Access {
                 name: _,
                 designated,
+                pool: _,
             } = definition
                 && designated.0 == number.0
             {
@@ -185,14 +186,5 @@ impl<'t> Resolver<'t> {
             }
             None => None,
         }
-    }
-}
-
-/// No aspect of a type is in use.
-fn no_aspect(aspect: Option<Aspect<'_>>, notes: &mut Notes)
-    ensures { IsNoted notes (aspect_remark (optional_aspect_of aspect.entry)) }
-{
-    if let Some(aspect) = aspect {
-        notes.note(aspect.spot, NameRule::NotInProfile);
     }
 }

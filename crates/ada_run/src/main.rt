@@ -1,4 +1,5 @@
-//! `ada_run check [--source FILE]` and `ada_run run [--source FILE] [--input FILE] [--steps N] [--refuse K]`: checks a
+//! `ada_run check [--source FILE]` and
+//! `ada_run run [--source FILE] [--input FILE] [--standard WORDS] [--steps N] [--refuse K] [NAME=WORDS]...`: checks a
 //! source, or runs it on its input if it is accepted.
 //!
 //! The exit status tells how that ended, even where the standard error cannot be written.

@@ -18,7 +18,7 @@ use Rattle.ada_meaning.specs.declared.state.Value.TheVariants.{Names}
 use Rattle.ada_meaning.specs.Heap.{Cell}
 use Rattle.ada_meaning.specs.Frame.{Frame}
 use Rattle.ada_meaning.specs.Frame as frame
-use Rattle.ada_meaning.specs.State.{Owned, declared, collection, record_object, type_housed, Item, Master}
+use Rattle.ada_meaning.specs.State.{Owned, declared, collection, record_object, storage_pool, type_housed, pool_housed, Item, Master}
 use Rattle.ada_meaning.specs.Step.{older}
 use Rattle.ada_meaning.specs.Named.{Object, State, object_at}
 use Rattle.ada_meaning.specs.Law.{Differ, items_of, Falls}
@@ -28,7 +28,7 @@ use Rattle.ada_typed.proofs.Runs.{objects_have_their_kinds}
 use Rattle.ada_order.proofs.Orders as orders
 use Rattle.ada_scopes.specs.Scopes.{type_collected, CollectTwoTypes, TypesHaveOneCollection, is_number_of, lasting, IsOpenIn, is_leaving, is_innermost, IsGoing, IsListed, ObjectsLieInCollections, HoldsNames, ComponentsAreOutlived, HeldOutside, NamesStayOutside, InnermostHeldInside, InnermostIsNotNamed}
 use Rattle.ada_scopes.proofs.Counts.{one, times, times_append, target_open, opened_by, opened, Scopes, scopes, all_of, opened_all}
-use Rattle.ada_scopes.proofs.Homes.{HasItem, has_split, opened_here, opened_later, ItemsFit, fit_before, fit_after, opened_fits, has_opened, Housed, housed_after}
+use Rattle.ada_scopes.proofs.Homes.{HasItem, has_split, HasHome, home_item, opened_here, opened_later, ItemsFit, fit_before, fit_after, opened_fits, has_opened, Housed, housed_after}
 use Rattle.ada_scopes.proofs.Control.{Goes, NeedsOpen, AreOpen, RecordNeeds, RecordsNeed, RecordsOpen, Lone, Begins, Nested, standing, beginning, parting}
 use Rattle.ada_scopes.proofs.Runs.{Scoped, state_nested}
 
@@ -48,14 +48,16 @@ lone_in types callees s (parting p runs goes) = p.lone
 differ_by : (t : ℕ) (owned : Owned) (us : List ℕ) → times t (opened_by owned us) ≡ 0 → Differ (Some t) (type_collected owned)
 differ_by t (declared x) us none = tt
 differ_by t (record_object u) us none = tt
-differ_by t (collection access) us none = λ same.
+differ_by t (storage_pool declaration number) us none = tt
+differ_by t (collection access pool) us none = λ same.
     let found : one (access == t) ≡ 1 = ap one (eq-eqb access t (sym same)) in
     omega (arith, none, found)
 
 none_behind : (t : ℕ) (owned : Owned) (us : List ℕ) → times t (opened_by owned us) ≡ 0 → times t us ≡ 0
 none_behind t (declared x) us none = none
 none_behind t (record_object u) us none = none
-none_behind t (collection access) us none = omega (arith, none)
+none_behind t (storage_pool declaration number) us none = none
+none_behind t (collection access pool) us none = omega (arith, none)
 
 none_of_type : (t : ℕ) (is : List Item) → times t (opened is) ≡ 0 → All (λ j. Differ (Some t) (type_collected j.owned)) is
 none_of_type t [] none = All-nil (λ (j : Item). Differ (Some t) (type_collected j.owned))
@@ -65,7 +67,8 @@ none_of_type t (i ∷ is) none =
 newest_alone : (owned : Owned) (is : List Item) → ((t : ℕ) → times t (opened_by owned (opened is)) ≤ 1) → All (λ j. Differ (type_collected owned) (type_collected j.owned)) is
 newest_alone (declared x) is lone = λ k d lt. tt
 newest_alone (record_object u) is lone = λ k d lt. tt
-newest_alone (collection access) is lone =
+newest_alone (storage_pool declaration number) is lone = λ k d lt. tt
+newest_alone (collection access pool) is lone =
     let le = lone access in
     let found : one (access == access) ≡ 1 = ap one (eq-eqb access access refl) in
     none_of_type access is (omega (arith, le, found))
@@ -73,16 +76,21 @@ newest_alone (collection access) is lone =
 behind_alone : (owned : Owned) (us : List ℕ) → ((t : ℕ) → times t (opened_by owned us) ≤ 1) → (t : ℕ) → times t us ≤ 1
 behind_alone (declared x) us lone t = lone t
 behind_alone (record_object u) us lone t = lone t
-behind_alone (collection access) us lone t = let le = lone t in omega (arith, le)
+behind_alone (storage_pool declaration number) us lone t = lone t
+behind_alone (collection access pool) us lone t = let le = lone t in omega (arith, le)
 
 two_types : (is : List Item) → ((t : ℕ) → times t (opened is) ≤ 1) → AllPairs CollectTwoTypes is
 two_types [] lone = λ i j d lt short. absurd (omega (arith, short))
 two_types (i ∷ is) lone = AllPairs-cons CollectTwoTypes i is (newest_alone i.owned is lone) (two_types is (behind_alone i.owned (opened is) lone))
 
+-- So no two items of a state are collections of one access type.
+pub collect_two : (p : ProgramForm) (s : State) → Scoped p s → AllPairs CollectTwoTypes (items_of s.masters)
+collect_two p s scoped =
+    let lone = lone_in p.types (callees_of p) s scoped.nested in
+    two_types (items_of s.masters) (λ t. subst (λ (us : List ℕ). times t us ≤ 1) (sym (opened_all s.masters)) (lone t))
+
 pub one_collection : TypesHaveOneCollection
-one_collection program well nest input events last run =
-    let lone = lone_in (program_form program).types (callees_of (program_form program)) last (state_nested program well nest input events last run).nested in
-    two_types (items_of last.masters) (λ t. subst (λ (us : List ℕ). times t us ≤ 1) (sym (opened_all last.masters)) (lone t))
+one_collection program well nest input events last run = collect_two (program_form program) last (state_nested program well nest input events last run)
 
 -- Each object in its collection has that as its home.
 pub housed_in : (types : List TypeForm) (callees : Callees) (s : State) → Nested types callees s → Housed s.heap (items_of s.masters)
@@ -97,34 +105,38 @@ fit_in types callees s (standing w n) = w.fit
 fit_in types callees s (beginning b) = subst (λ (ms : List Master). ItemsFit types (items_of ms)) (sym b.masters) b.growing.fit
 fit_in types callees s (parting p runs goes) = p.fit
 
-contains_item : (n access : ℕ) (is : List Item) → HasItem n access is → (i : Item) × Contains is i × (i.number ≡ n) × (type_housed i.owned ≡ Some access)
-contains_item n access [] h = absurd h
-contains_item n access (i ∷ is) (inl e) = (i, (zero, omega arith, refl), e.0, e.1)
-contains_item n access (i ∷ is) (inr h) =
-    let j = contains_item n access is h in
-    (j.0, (suc j.1.0, omega (arith, j.1.1), j.1.2), j.2, j.3)
+contains_home : (n access : ℕ) (pool : Option ℕ) (is : List Item) → HasHome n access pool is → (i : Item) × Contains is i × (i.number ≡ n) × (type_housed i.owned ≡ Some access) × (pool_housed i.owned ≡ pool)
+contains_home n access pool [] h = absurd h
+contains_home n access pool (i ∷ is) (inl e) = (i, (zero, omega arith, refl), e.0, e.1, e.2)
+contains_home n access pool (i ∷ is) (inr h) =
+    let j = contains_home n access pool is h in
+    (j.0, (suc j.1.0, omega (arith, j.1.1), j.1.2), j.2, j.3, j.4)
 
 pub in_collections : ObjectsLieInCollections
 in_collections program well nest input events last run o object listed =
-    contains_item object.cell.home.item object.cell.access (items_of last.masters)
+    contains_home object.cell.home.item object.cell.access object.cell.home.pool (items_of last.masters)
     (housed_in (program_form program).types (callees_of (program_form program)) last (state_nested program well nest input events last run).nested o object listed.0 listed.1)
 
 -- What is opened is the collection of an item.
-opened_item : (t : ℕ) (is : List Item) → 1 ≤ times t (opened is) → (i : Item) × Contains is i × (i.owned ≡ collection t)
+abbrev HasOpened : ℕ → List Item → Type 0
+HasOpened t is = (i : Item) × (pool : Option ℕ) × Contains is i × (i.owned ≡ collection t pool)
+
+opened_item : (t : ℕ) (is : List Item) → 1 ≤ times t (opened is) → HasOpened t is
 opened_item t [] le = absurd (omega (arith, le))
 opened_item t (i ∷ is) le = opened_first t i is i.owned refl le (opened_item t is)
   where
-    later : (x : ℕ) (j : Item) (js : List Item) → ((i : Item) × Contains js i × (i.owned ≡ collection x)) → (i : Item) × Contains (j ∷ js) i × (i.owned ≡ collection x)
-    later x j js k = (k.0, (suc k.1.0, omega (arith, k.1.1), k.1.2), k.2)
+    later : (x : ℕ) (j : Item) (js : List Item) → HasOpened x js → HasOpened x (j ∷ js)
+    later x j js k = (k.0, k.1, (suc k.2.0, omega (arith, k.2.1), k.2.2), k.3)
 
-    first_or_later : (x : ℕ) (j : Item) (js : List Item) (access : ℕ) (b : Bool) → (access == x) ≡ b → j.owned ≡ collection access → 1 ≤ one b + times x (opened js) → (1 ≤ times x (opened js) → (i : Item) × Contains js i × (i.owned ≡ collection x)) → (i : Item) × Contains (j ∷ js) i × (i.owned ≡ collection x)
-    first_or_later x j js access true same own more k = (j, (zero, omega arith, refl), own ∙ ap collection (eqb-true access x same))
-    first_or_later x j js access false same own more k = later x j js (k (omega (arith, more)))
+    first_or_later : (x : ℕ) (j : Item) (js : List Item) (access : ℕ) (pool : Option ℕ) (b : Bool) → (access == x) ≡ b → j.owned ≡ collection access pool → 1 ≤ one b + times x (opened js) → (1 ≤ times x (opened js) → HasOpened x js) → HasOpened x (j ∷ js)
+    first_or_later x j js access pool true same own more k = (j, pool, (zero, omega arith, refl), own ∙ ap (λ (u : ℕ). collection u pool) (eqb-true access x same))
+    first_or_later x j js access pool false same own more k = later x j js (k (omega (arith, more)))
 
-    opened_first : (x : ℕ) (j : Item) (js : List Item) (owned : Owned) → j.owned ≡ owned → 1 ≤ times x (opened_by owned (opened js)) → (1 ≤ times x (opened js) → (i : Item) × Contains js i × (i.owned ≡ collection x)) → (i : Item) × Contains (j ∷ js) i × (i.owned ≡ collection x)
+    opened_first : (x : ℕ) (j : Item) (js : List Item) (owned : Owned) → j.owned ≡ owned → 1 ≤ times x (opened_by owned (opened js)) → (1 ≤ times x (opened js) → HasOpened x js) → HasOpened x (j ∷ js)
     opened_first x j js (declared y) own more k = later x j js (k more)
     opened_first x j js (record_object y) own more k = later x j js (k more)
-    opened_first x j js (collection access) own more k = first_or_later x j js access (access == x) refl own more k
+    opened_first x j js (storage_pool declaration number) own more k = later x j js (k more)
+    opened_first x j js (collection access pool) own more k = first_or_later x j js access pool (access == x) refl own more k
 
 open_in : (t : ℕ) (ms : List Master) → 1 ≤ times t (all_of (scopes ms)) → IsOpenIn ms t
 open_in t ms le = opened_item t (items_of ms) (subst (λ (us : List ℕ). 1 ≤ times t us) (sym (opened_all ms)) le)
@@ -179,12 +191,17 @@ has_number n access [] h = absurd h
 has_number n access (i ∷ is) (inl e) = number_here (i.number == n) (is_number_of is n) (eq-eqb i.number n e.0)
 has_number n access (i ∷ is) (inr h) = number_by (i.number == n) (is_number_of is n) (has_number n access is h)
 
+-- An object in its collection has an item of its type.
+pub at_item : (heap : List Object) (is : List Item) → Housed heap is → (o : Id) (x : Object) → IsListed heap o x → HasItem x.cell.home.item x.cell.access is
+at_item heap is housed o x listed = home_item x.cell.home.item x.cell.access x.cell.home.pool is (housed o x listed.0 listed.1)
+
 -- What the components of objects name lies in open collections, where such objects are housed.
 item_opens_by : (types : List TypeForm) (there us : List ℕ) (owned : Owned) (access : ℕ) → type_housed owned ≡ Some access → NeedsOpen types (opened_by owned us) there → RecordNeeds types there owned → are_open there (reached_components types access) ≡ true
 item_opens_by types there us (declared x) access same needs record_needs = absurd (cc)
-item_opens_by types there us (collection t) access same needs record_needs =
+item_opens_by types there us (storage_pool declaration number) access same needs record_needs = absurd (cc)
+item_opens_by types there us (collection t pool) access same needs record_needs =
     let one_type : t ≡ access = cc in
-    needs access (opened_here (collection t) access us (ap collection one_type))
+    needs access (opened_here (collection t pool) access pool us (ap (λ (u : ℕ). collection u pool) one_type))
 item_opens_by types there us (record_object t) access same needs record_needs =
     let one_type : t ≡ access = cc in
     subst (λ (u : ℕ). are_open there (reached_components types u) ≡ true) one_type record_needs
@@ -219,12 +236,12 @@ goes_leaving types callees ss (f ∷ k) goes = absurd goes
 
 target_nested : (types : List TypeForm) (callees : Callees) (s : State) (o : Id) (x : Object) (c : ℕ) (target : TypeNo) → Nested types callees s → IsListed s.heap o x → HoldsNames types x.cell.access c target → IsGoing s x.cell.home.item ⊎ (1 ≤ times target.0 (all_of (scopes (lasting x.cell.home.item s.masters))))
 target_nested types callees s o x c target (standing w n) listed names =
-    inr (target_in types x.cell.home.item x.cell.access c target s.masters w.needs w.records names (w.housed o x listed.0 listed.1))
+    inr (target_in types x.cell.home.item x.cell.access c target s.masters w.needs w.records names (at_item s.heap (items_of s.masters) w.housed o x listed))
 target_nested types callees s o x c target (beginning b) listed names =
     inr (subst (λ (ms : List Master). 1 ≤ times target.0 (all_of (scopes (lasting x.cell.home.item ms)))) (sym b.masters)
-    (lasting_more x.cell.home.item target.0 b.m b.rest (target_in types x.cell.home.item x.cell.access c target b.rest b.growing.outer b.growing.records names (b.growing.housed o x listed.0 listed.1))))
+    (lasting_more x.cell.home.item target.0 b.m b.rest (target_in types x.cell.home.item x.cell.access c target b.rest b.growing.outer b.growing.records names (at_item s.heap (items_of b.rest) b.growing.housed o x listed))))
 target_nested types callees s o x c target (parting p runs goes) listed names =
-    elim (target_parting types x.cell.home.item x.cell.access c target s.masters p.needs p.records names (p.housed o x listed.0 listed.1)) [
+    elim (target_parting types x.cell.home.item x.cell.access c target s.masters p.needs p.records names (at_item s.heap (items_of s.masters) p.housed o x listed)) [
       | inl innermost ↦ inl (goes_leaving types callees (scopes s.masters) s.control goes, innermost)
       | inr later ↦ inr later
     ]
@@ -309,7 +326,7 @@ held_outside program s scoped kinds holder held holds =
     let twice : Some named.2.0 ≡ Some held.cell = sym named.2.1 ∙ here in
     let one_cell : named.2.0 ≡ held.cell = cc in
     let access : held.cell.access ≡ named.0.0 = ap (λ (x : Cell Value). x.access) (sym one_cell) ∙ named.2.2 in
-    let has = housed_in types callees s nested p held own.0 own.1 in
+    let has = at_item s.heap (items_of s.masters) (housed_in types callees s nested) p held own in
     stays_by types s holder.cell.home.item held.cell.home.item named.0.0 (fit_in types callees s nested) (lone_in types callees s nested) (subst (λ (a : ℕ). HasItem held.cell.home.item a (items_of s.masters)) access has)
     (target_nested types callees s o holder holds.2 named.0 nested listed names)
 

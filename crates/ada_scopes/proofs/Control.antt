@@ -1,7 +1,7 @@
 -- What is left to do nests in the masters that are entered: the statements of each frame were written where the collections are open that
 -- its master and the outer ones have.
 
-use Rattle.std.proofs.Common.{◌≡◌, ℕ, zero, suc, ◌+◌, ◌≤◌, Bool, true, false, List, [], ◌∷◌, ◌++◌, Some, arith, refl, sym, ap, inl}
+use Rattle.std.proofs.Common.{◌≡◌, ℕ, zero, suc, ◌+◌, ◌≤◌, Bool, true, false, List, [], ◌∷◌, ◌++◌, Some, None, arith, refl, sym, ap, inl}
 use Rattle.std.specs.List.{list_all}
 use Rattle.ada_program.specs.Form.{DeclarationForm, StmtsForm, HandlersForm}
 use Rattle.ada_program.specs.ProgramForm.{TypeForm}
@@ -12,7 +12,7 @@ use Rattle.ada_meaning.specs.declared.state.Mode.TheVariants.{Running}
 use Rattle.ada_meaning.specs.Heap.{Cell}
 use Rattle.ada_meaning.specs.Frame.{Frame, is_master}
 use Rattle.ada_meaning.specs.Frame as frame
-use Rattle.ada_meaning.specs.State.{Owned, declared, collection, record_object, Item, Master}
+use Rattle.ada_meaning.specs.State.{Owned, declared, collection, record_object, storage_pool, Item, Master}
 use Rattle.ada_meaning.specs.Step.{older, owning, shorter}
 use Rattle.ada_meaning.specs.Named.{Object, State, new_object}
 use Rattle.ada_meaning.specs.Law.{items_of}
@@ -89,8 +89,9 @@ open_older types (us ∷ ss) h = h.1
 -- What the components of record objects name lies in collections that are open.
 abbrev pub RecordNeeds : List TypeForm → (there : List ℕ) → Owned → Type 0
 RecordNeeds types there (declared x) = Unit {0}
-RecordNeeds types there (collection access) = Unit {0}
+RecordNeeds types there (collection access pool) = Unit {0}
 RecordNeeds types there (record_object t) = are_open there (reached_components types t) ≡ true
+RecordNeeds types there (storage_pool declaration number) = Unit {0}
 
 abbrev pub RecordsNeed : List TypeForm → (there : List ℕ) → List Item → Type 0
 RecordsNeed types there [] = Unit {0}
@@ -103,8 +104,9 @@ RecordsOpen types (m ∷ ms) = RecordsNeed types (opened m.items ++ all_of (scop
 
 record_within : (types : List TypeForm) (us vs : List ℕ) (owned : Owned) → Within us vs → RecordNeeds types us owned → RecordNeeds types vs owned
 record_within types us vs (declared x) within h = h
-record_within types us vs (collection access) within h = h
+record_within types us vs (collection access pool) within h = h
 record_within types us vs (record_object t) within h = open_within us vs (reached_components types t) within h
+record_within types us vs (storage_pool declaration number) within h = h
 
 records_within : (types : List TypeForm) (us vs : List ℕ) (is : List Item) → Within us vs → RecordsNeed types us is → RecordsNeed types vs is
 records_within types us vs [] within h = h
@@ -194,12 +196,12 @@ whole_declared types number x ms heap w = record {
     records_declared (m ∷ xs) h = ((tt, h.0), h.1)
 
 -- A record object is one item more, which is the home of the object.
-pub whole_recorded : (types : List TypeForm) (number t : ℕ) (ms : List Master) (heap : List Object) (cell : Cell Value) (around : List ℕ) → HasOne (scopes ms) → cell.home.item ≡ number → cell.access ≡ t → Alike around (all_of (scopes ms)) → is_access types t ≡ false → are_open around (reached_components types t) ≡ true → Whole types ms heap → Whole types (owning (record { number = number; owned = record_object t }) ms) (heap ++ new_object cell ∷ [])
-whole_recorded types number t [] heap cell around some home access alike never opens w = absurd some
-whole_recorded types number t (m ∷ ms) heap cell around some home access alike never opens w = record {
+pub whole_recorded : (types : List TypeForm) (number t : ℕ) (ms : List Master) (heap : List Object) (cell : Cell Value) (around : List ℕ) → HasOne (scopes ms) → cell.home.item ≡ number → cell.access ≡ t → cell.home.pool ≡ None → Alike around (all_of (scopes ms)) → is_access types t ≡ false → are_open around (reached_components types t) ≡ true → Whole types ms heap → Whole types (owning (record { number = number; owned = record_object t }) ms) (heap ++ new_object cell ∷ [])
+whole_recorded types number t [] heap cell around some home access pool alike never opens w = absurd some
+whole_recorded types number t (m ∷ ms) heap cell around some home access pool alike never opens w = record {
   lone = w.lone;
   needs = w.needs;
-  housed = housed_new heap cell (items_of (owning (record { number = number; owned = record_object t }) (m ∷ ms))) (inl (sym home, ap Some (sym access)))
+  housed = housed_new heap cell (items_of (owning (record { number = number; owned = record_object t }) (m ∷ ms))) (inl (sym home, ap Some (sym access), sym pool))
       (housed_owning heap (record { number = number; owned = record_object t }) (m ∷ ms) w.housed);
   fit = (never, w.fit);
   records = ((open_within around (all_of (scopes (m ∷ ms))) (reached_components types t) (λ u le. let same = alike u in omega (arith, same, le)) opens, w.records.0), w.records.1);

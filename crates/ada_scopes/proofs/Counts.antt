@@ -9,7 +9,7 @@ use Rattle.ada_program.specs.declared.program.TypeNo.{TypeNo}
 use Rattle.ada_program.specs.declared.program.VariableKind.TheVariants as variable
 use Rattle.ada_program.specs.WellFormed.{held_kind, component_kind, kind_among}
 use Rattle.ada_program.specs.Nested.{is_one_of, kind_is_open, are_open}
-use Rattle.ada_meaning.specs.State.{Owned, declared, collection, record_object, Item, Master}
+use Rattle.ada_meaning.specs.State.{Owned, declared, collection, record_object, storage_pool, Item, Master}
 use Rattle.ada_meaning.specs.Step.{older, owning, shorter}
 use Rattle.ada_meaning.specs.Law.{items_of}
 
@@ -110,8 +110,9 @@ target_open us (Some cs) c target is opens = component_open us cs c target is op
 -- The access types whose collections are items, newest first.
 abbrev pub opened_by : Owned → List ℕ → List ℕ
 opened_by (declared x) us = us
-opened_by (collection access) us = access ∷ us
+opened_by (collection access pool) us = access ∷ us
 opened_by (record_object t) us = us
+opened_by (storage_pool declaration number) us = us
 
 abbrev pub opened : List Item → List ℕ
 opened [] = []
@@ -132,7 +133,8 @@ all_of (us ∷ uss) = us ++ all_of uss
 opened_append_by : (owned : Owned) (us vs ws : List ℕ) → us ≡ vs ++ ws → opened_by owned us ≡ opened_by owned vs ++ ws
 opened_append_by (declared x) us vs ws is = is
 opened_append_by (record_object t) us vs ws is = is
-opened_append_by (collection access) us vs ws is = ap (λ (xs : List ℕ). access ∷ xs) is
+opened_append_by (collection access pool) us vs ws is = ap (λ (xs : List ℕ). access ∷ xs) is
+opened_append_by (storage_pool declaration number) us vs ws is = is
 
 opened_append : (is js : List Item) → opened (is ++ js) ≡ opened is ++ opened js
 opened_append [] js = refl
@@ -154,8 +156,9 @@ scopes_recorded number t (m ∷ ms) = refl
 -- An item goes.
 fewer_by : (t : ℕ) (owned : Owned) (us : List ℕ) → times t us ≤ times t (opened_by owned us)
 fewer_by t (declared x) us = omega arith
-fewer_by t (collection access) us = omega arith
+fewer_by t (collection access pool) us = omega arith
 fewer_by t (record_object u) us = omega arith
+fewer_by t (storage_pool declaration number) us = omega arith
 
 fewer_opened : (t : ℕ) (is : List Item) → times t (opened (older is)) ≤ times t (opened is)
 fewer_opened t [] = omega arith

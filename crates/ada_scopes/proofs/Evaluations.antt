@@ -17,7 +17,7 @@ use Rattle.ada_meaning.specs.declared.event.Why.TheVariants.{GivesElsewhere}
 use Rattle.ada_meaning.specs.Event.{Back}
 use Rattle.ada_meaning.specs.Frame.{Frame, is_master, is_loop, is_return, Landing, passes_on, goes_behind, goes_in, handler_landing, landing}
 use Rattle.ada_meaning.specs.Frame as frame
-use Rattle.ada_meaning.specs.State.{home_of}
+use Rattle.ada_meaning.specs.State.{Destination, home_of}
 use Rattle.ada_meaning.specs.Heap.{Cell, Found, on_null, on_gone, on_other, finds}
 use Rattle.ada_meaning.specs.Step.{halts, moves, tells, asks, picks, at, held, newest, reading, component_next, follow_next, path_next, before_last, last_of, selected, named_next, holder_next, first_in, record_holder_next, referred_next, refers_next, open_next, opened_next, opens_next, expression_next, null_test_next, is_decided, link_next, links_next, outcome_next, item_next, items_next, copied_next, copies_next, newest_ones, without_newest, record_in, record_target_next, stored_from, record_stored_next, store_record_next, new_cell, answered, new_next, right_next, free_next, end_next, same_pool, told_back, given_back, back_next, freeing, freed_next, free_component_next, free_in_next}
 use Rattle.ada_meaning.specs.Named.{Object, State, Next, named, whole, inside, look, parted, finished, filled, returned, on_object, reads_boolean}
@@ -167,15 +167,15 @@ module _ (types : List TypeForm) (callees : Callees) where
   store_record_good o first count on_other s h = tt
   store_record_good o first count (finds cell) s h = record_stored_good o first (newest_ones named count s) (record_in cell.values first count) (without_newest named count s) h
 
-  answered_good : (access count item words : ℕ) (s : State) (granted : Bool) → home_of access s.masters ≡ Some item → Stands types callees s → Nested types callees (answered named access count item words s granted)
-  answered_good access count item words s true home h =
-      let cell = new_cell named access count item s in
-      standing (whole_heap types s.masters s.heap _ (housed_new s.heap cell (items_of s.masters) (home_has access item s.masters home) h.0.housed) h.0) h.1
-  answered_good access count item words s false home h = standing h.0 h.1
+  answered_good : (access count words : ℕ) (home : Destination) (s : State) (granted : Bool) → home_of access s.masters ≡ Some home → Stands types callees s → Nested types callees (answered named access count words home s granted)
+  answered_good access count words home s true is h =
+      let cell = new_cell named access count home s in
+      standing (whole_heap types s.masters s.heap _ (housed_new s.heap cell (items_of s.masters) (home_has access home s.masters is) h.0.housed) h.0) h.1
+  answered_good access count words home s false is h = standing h.0 h.1
 
-  pub new_good : (access count words : ℕ) (home : Option ℕ) (s : State) → home_of access s.masters ≡ home → Stands types callees s → Good types callees (new_next named access count words home s)
+  pub new_good : (access count words : ℕ) (home : Option Destination) (s : State) → home_of access s.masters ≡ home → Stands types callees s → Good types callees (new_next named access count words home s)
   new_good access count words None s is h = standing h.0 h.1
-  new_good access count words (Some item) s is h = λ granted. answered_good access count item words s granted is h
+  new_good access count words (Some home) s is h = λ granted. answered_good access count words home s granted is h
 
   -- What is passed by reference, and the components that get something back.
   referred_good : (o : Value) (first : ℕ) (found : Option (List Value)) (s : State) → Stands types callees s → Good types callees (referred_next named o first found s)

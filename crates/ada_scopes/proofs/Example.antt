@@ -3,8 +3,8 @@
 use Rattle.std.proofs.Common.{◌≡◌, ◌≤◌, ◌<◌, ◌==◌, ◌+◌, ℕ, zero, suc, Bool, true, false, List, [], ◌∷◌, ◌++◌, length, map, refl, sym, ap, ◌∙◌, subst, arith, inl, inr}
 use Rattle.std.proofs.Math.ListN.{replicate}
 use Rattle.std.proofs.lemmas.Bool.{eq-eqb}
-use Rattle.std.specs.Prelude.{None, Some, pos, String}
-use Rattle.std.specs.List.{slice_index_or}
+use Rattle.std.specs.Prelude.{Option, None, Some, pos, String}
+use Rattle.std.specs.List.{list_all, slice_index_or}
 use Rattle.std.specs.Global.{Vec, Global}
 use Rattle.ada_program.specs.declared.program.Item.{Item as AllocatorItem}
 use Rattle.ada_program.specs.declared.program.Item.TheVariants as item
@@ -25,10 +25,10 @@ use Rattle.ada_program.specs.declared.program.VariableKind.TheVariants as variab
 use Rattle.ada_program.specs.declared.program.Program.{Program}
 use Rattle.ada_program.specs.Form.{expression_form, stmt_form, allocates, null_item, skips, calls, encloses, StmtsForm, no_stmts, a_stmt, no_handlers, DeclarationForm, collects, declares, declaration_forms, stmt_forms, handler_forms, statement_rules}
 use Rattle.ada_program.specs.ProgramForm.{BodyForm, variable_form, body_forms, program_form}
-use Rattle.ada_program.specs.WellFormed.{Creation, created_in_all, profile_of, bodies_fit, creation, created_by_all, created_by_handlers, creates_from, has_collections, IsWellFormed, stmts_fit}
+use Rattle.ada_program.specs.WellFormed.{Creation, created_in_all, profile_of, bodies_fit, creation, created_by_all, created_by_handlers, creates_from, has_collections, creates_known_pool, IsWellFormed, stmts_fit}
 use Rattle.ada_program.specs.Nested.{callees_from, collected, statements_nest, CollectionsNest}
 use Rattle.ada_meaning.specs.declared.state.Id.{Id}
-use Rattle.ada_meaning.specs.State.{Owned, declared, collection, record_object, Item}
+use Rattle.ada_meaning.specs.State.{Owned, declared, collection, record_object, storage_pool, Item}
 use Rattle.ada_meaning.specs.Named.{Object, State, next}
 use Rattle.ada_meaning.specs.Run.{Choice, settled, grants}
 use Rattle.ada_order.specs.Example.{InSomeRun}
@@ -64,7 +64,7 @@ abbrev cell_of : (components : List ComponentKind) → length (parts_from 0 comp
 cell_of components few le = definition.Record no_name (vec (parts_from 0 components) few) (vec components le)
 
 abbrev access_to : ℕ → TypeDefinition
-access_to designated = definition.Access no_name (record { 0 = designated })
+access_to designated = definition.Access no_name (record { 0 = designated }) None
 
 abbrev of_type : ℕ → Variable
 of_type access = record { name = no_name; spot = record { line = 1; column = 1 }; kind = variable.Access (record { 0 = access }); borrows = false }
@@ -85,6 +85,7 @@ block_form ds = a_stmt (encloses ds (a_stmt skips no_stmts) no_handlers) no_stmt
 abbrev pub nested : Program
 nested = record {
   types = vec (cell_of (kind.Integer (pos 0) ∷ []) (omega arith) (omega arith) ∷ access_to 0 ∷ cell_of (access_kind 1 ∷ access_kind 3 ∷ []) (omega arith) (omega arith) ∷ access_to 2 ∷ []) (omega arith);
+  pools = vec [] (omega arith);
   procedures = vec [] (omega arith);
   variables = vec (of_type 1 ∷ of_type 3 ∷ []) (omega arith);
   texts = vec [] (omega arith);
@@ -104,12 +105,17 @@ nested_are = simp statement_rules
 abbrev creations_with : Program → StmtsForm → List Creation
 creations_with program fs = map creation (declaration_forms program) ++ created_by_all fs ++ created_by_handlers (handler_forms program)
 
+-- These creations create no pool.
+abbrev no_pools : List Creation → Bool
+no_pools creations = list_all (creates_known_pool 0) creations
+
 abbrev fits_with : Program → StmtsForm → Bool
 fits_with program fs = stmts_fit (program_form program).types (program_form program).variables (program_form program).texts (program_form program).exceptions [] false fs
 
 pub nested_well_formed : IsWellFormed (program_form nested)
 nested_well_formed = record {
   types_fit = refl;
+  pools_fit = ap (λ (fs : StmtsForm). no_pools (creations_with nested fs)) nested_are;
   variables_fit = refl;
   creates_in_order = ap (λ (fs : StmtsForm). creates_from 2 0 (creations_with nested fs)) nested_are;
   collections_first = refl;
@@ -144,8 +150,8 @@ holds_both =
       listed = (refl, refl);
       first = refl;
       second = refl;
-      far_is_open = (_, (1, omega arith, refl), refl);
-      near_is_open = (_, (0, omega arith, refl), refl);
+      far_is_open = (_, _, (1, omega arith, refl), refl);
+      near_is_open = (_, _, (0, omega arith, refl), refl);
     })
 
 -- type Cell is record Value : Integer; end record; type Far is access Cell; X : Far;
@@ -153,6 +159,7 @@ holds_both =
 abbrev pub calling : Program
 calling = record {
   types = nested.types;
+  pools = nested.pools;
   procedures = vec (record {
     formals = vec [] (omega arith);
     variables = vec (of_type 3 ∷ []) (omega arith);
@@ -195,6 +202,7 @@ of_both test is = rw (bodies_are, calling_are) is
 pub calling_well_formed : IsWellFormed (program_form calling)
 calling_well_formed = record {
   types_fit = refl;
+  pools_fit = of_both (λ bs fs. no_pools (created_in_all bs ++ creations_with calling fs)) refl;
   variables_fit = refl;
   creates_in_order = ap (λ (fs : StmtsForm). creates_from 1 0 (creations_with calling fs)) calling_are;
   collections_first = refl;
@@ -232,8 +240,8 @@ body_holds_both =
       listed = (refl, refl);
       first = refl;
       second = refl;
-      far_is_open = (_, (1, omega arith, refl), refl);
-      near_is_open = (_, (0, omega arith, refl), refl);
+      far_is_open = (_, _, (1, omega arith, refl), refl);
+      near_is_open = (_, _, (0, omega arith, refl), refl);
     })
 
 -- type Near; type Link is record Next : Near; end record; type Far is access Link; X : Far := new Link'(null);
@@ -241,6 +249,7 @@ body_holds_both =
 abbrev pub loose : Program
 loose = record {
   types = vec (cell_of (access_kind 2 ∷ []) (omega arith) (omega arith) ∷ access_to 0 ∷ access_to 3 ∷ cell_of (kind.Integer (pos 0) ∷ []) (omega arith) (omega arith) ∷ []) (omega arith);
+  pools = vec [] (omega arith);
   procedures = vec [] (omega arith);
   variables = vec (of_type 1 ∷ []) (omega arith);
   texts = vec [] (omega arith);
@@ -259,6 +268,7 @@ loose_are = simp statement_rules
 pub loose_well_formed : IsWellFormed (program_form loose)
 loose_well_formed = record {
   types_fit = refl;
+  pools_fit = ap (λ (fs : StmtsForm). no_pools (creations_with loose fs)) loose_are;
   variables_fit = refl;
   creates_in_order = ap (λ (fs : StmtsForm). creates_from 1 0 (creations_with loose fs)) loose_are;
   collections_first = refl;
@@ -271,21 +281,22 @@ loose_well_formed = record {
 }
 
 -- An item that is a collection is counted.
-opened_one : (t : ℕ) (i : Item) (is : List Item) → i.owned ≡ collection t → 1 ≤ times t (opened (i ∷ is))
-opened_one t i is own =
+opened_one : (t : ℕ) (i : Item) (pool : Option ℕ) (is : List Item) → i.owned ≡ collection t pool → 1 ≤ times t (opened (i ∷ is))
+opened_one t i pool is own =
     let found : one (t == t) ≡ 1 = ap one (eq-eqb t t refl) in
-    let here : 1 ≤ times t (opened_by (collection t) (opened is)) = omega (arith, found) in
+    let here : 1 ≤ times t (opened_by (collection t pool) (opened is)) = omega (arith, found) in
     subst (λ (o : Owned). 1 ≤ times t (opened_by o (opened is))) (sym own) here
 
 opened_more : (t : ℕ) (owned : Owned) (us : List ℕ) → 1 ≤ times t us → 1 ≤ times t (opened_by owned us)
 opened_more t (declared x) us le = le
 opened_more t (record_object u) us le = le
-opened_more t (collection access) us le = omega (arith, le)
+opened_more t (storage_pool declaration number) us le = le
+opened_more t (collection access pool) us le = omega (arith, le)
 
-contains_opened : (t : ℕ) (is : List Item) (i : Item) (k : ℕ) → k < length is → slice_index_or is k i ≡ i → i.owned ≡ collection t → 1 ≤ times t (opened is)
-contains_opened t [] i k lt at own = absurd (omega (arith, lt))
-contains_opened t (j ∷ is) i zero lt at own = opened_one t j is (ap (λ (x : Item). x.owned) at ∙ own)
-contains_opened t (j ∷ is) i (suc k) lt at own = opened_more t j.owned (opened is) (contains_opened t is i k (omega (arith, lt)) at own)
+contains_opened : (t : ℕ) (is : List Item) (i : Item) (pool : Option ℕ) (k : ℕ) → k < length is → slice_index_or is k i ≡ i → i.owned ≡ collection t pool → 1 ≤ times t (opened is)
+contains_opened t [] i pool k lt at own = absurd (omega (arith, lt))
+contains_opened t (j ∷ is) i pool zero lt at own = opened_one t j pool is (ap (λ (x : Item). x.owned) at ∙ own)
+contains_opened t (j ∷ is) i pool (suc k) lt at own = opened_more t j.owned (opened is) (contains_opened t is i pool k (omega (arith, lt)) at own)
 
 -- What this object's component names does not last as long.
 abbrev IsShort : State → Type 0
@@ -294,14 +305,14 @@ IsShort s =
 
 -- What the main procedure owns.
 abbrev main_items : List Item
-main_items = record { number = 1; owned = declared 0 } ∷ record { number = 0; owned = collection 1 } ∷ []
+main_items = record { number = 1; owned = declared 0 } ∷ record { number = 0; owned = collection 1 (Some 0) } ∷ []
 
 -- The block's collection has been created.
 is_short : InSomeRun loose (λ events last. IsShort last)
 unfolding next expression_form stmt_form
 is_short =
     run_by loose [] loose_forms refl loose_are (steps 5 ++ grants true ∷ steps 4) (λ events last. IsShort last) refl
-    (record { 0 = 0 }, _, 0, record { 0 = 2 }, (refl, refl), refl, λ outlived. elim outlived [ inl going ↦ cc (going.0) | inr found ↦ omega (arith, contains_opened 2 main_items found.0 found.1.0 found.1.1 found.1.2 found.2) ])
+    (record { 0 = 0 }, _, 0, record { 0 = 2 }, (refl, refl), refl, λ outlived. elim outlived [ inl going ↦ cc (going.0) | inr found ↦ omega (arith, contains_opened 2 main_items found.0 found.1 found.2.0 found.2.1 found.2.2 found.3) ])
 
 pub not_outlived : ComponentsAreOutlivedIn loose → ⊥
 not_outlived all =
@@ -314,6 +325,7 @@ not_outlived all =
 abbrev pub passing : Program
 passing = record {
   types = vec (cell_of (access_kind 2 ∷ []) (omega arith) (omega arith) ∷ access_to 0 ∷ access_to 3 ∷ cell_of (kind.Integer (pos 0) ∷ []) (omega arith) (omega arith) ∷ []) (omega arith);
+  pools = vec [] (omega arith);
   procedures = vec [] (omega arith);
   variables = vec (of_type 1 ∷ []) (omega arith);
   texts = vec [] (omega arith);
@@ -332,6 +344,7 @@ passing_are = simp statement_rules
 pub passing_well_formed : IsWellFormed (program_form passing)
 passing_well_formed = record {
   types_fit = refl;
+  pools_fit = ap (λ (fs : StmtsForm). no_pools (creations_with passing fs)) passing_are;
   variables_fit = refl;
   creates_in_order = ap (λ (fs : StmtsForm). creates_from 1 0 (creations_with passing fs)) passing_are;
   collections_first = refl;
@@ -352,7 +365,7 @@ passing_nests = record {
 
 -- What the main procedure owns once its newest collection is gone.
 abbrev oldest_item : List Item
-oldest_item = record { number = 0; owned = collection 1 } ∷ []
+oldest_item = record { number = 0; owned = collection 1 (Some 0) } ∷ []
 
 -- The variable and that collection are gone.
 pub outlasts : InSomeRun passing (λ events last. OutlastsTarget passing last)
@@ -366,5 +379,5 @@ outlasts =
       target = record { 0 = 2 };
       listed = (refl, refl);
       names = refl;
-      gone = λ found. omega (arith, contains_opened 2 oldest_item found.0 found.1.0 found.1.1 found.1.2 found.2);
+      gone = λ found. omega (arith, contains_opened 2 oldest_item found.0 found.1 found.2.0 found.2.1 found.2.2 found.3);
     })

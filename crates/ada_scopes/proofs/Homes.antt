@@ -9,7 +9,7 @@ use Rattle.ada_meaning.specs.declared.state.Id.{Id}
 use Rattle.ada_meaning.specs.declared.state.Value.{Value}
 use Rattle.ada_meaning.specs.declared.state.Value.TheVariants.{Null, Names, Scalar, Part}
 use Rattle.ada_meaning.specs.Heap.{Cell}
-use Rattle.ada_meaning.specs.State.{Owned, declared, collection, record_object, type_housed, Item, Master, collection_in, home_among, home_of}
+use Rattle.ada_meaning.specs.State.{Owned, declared, collection, record_object, storage_pool, type_housed, pool_housed, Item, Master, Destination, destination, collection_in, home_among, home_of}
 use Rattle.ada_meaning.specs.Step.{owning, shorter}
 use Rattle.ada_meaning.specs.Named.{Object, object_at, new_object, changed, on_object, is_member, members_from, members}
 use Rattle.ada_meaning.specs.Law.{items_of}
@@ -20,37 +20,49 @@ abbrev pub HasItem : (n access : ℕ) → List Item → Type 0
 HasItem n access [] = ⊥
 HasItem n access (i ∷ is) = ((i.number ≡ n) × (type_housed i.owned ≡ Some access)) ⊎ HasItem n access is
 
-pub has_after : (n access : ℕ) (is js : List Item) → HasItem n access js → HasItem n access (is ++ js)
-has_after n access [] js h = h
-has_after n access (i ∷ is) js h = inr (has_after n access is js h)
-
 pub has_split : (n access : ℕ) (is js : List Item) → HasItem n access (is ++ js) → HasItem n access is ⊎ HasItem n access js
 has_split n access [] js h = inr h
 has_split n access (i ∷ is) js (inl e) = inl (inl e)
 has_split n access (i ∷ is) js (inr h) = elim (has_split n access is js h) [ inl g ↦ inl (inr g) | inr g ↦ inr g ]
 
-pub has_owning : (n access : ℕ) (item : Item) (ms : List Master) → HasItem n access (items_of ms) → HasItem n access (items_of (owning item ms))
-has_owning n access item [] h = h
-has_owning n access item (m ∷ ms) h = inr h
+-- Such an item is among these, and its objects are from this pool (13.11).
+abbrev pub HasHome : (n access : ℕ) → (pool : Option ℕ) → List Item → Type 0
+HasHome n access pool [] = ⊥
+HasHome n access pool (i ∷ is) = ((i.number ≡ n) × (type_housed i.owned ≡ Some access) × (pool_housed i.owned ≡ pool)) ⊎ HasHome n access pool is
+
+pub home_item : (n access : ℕ) (pool : Option ℕ) (is : List Item) → HasHome n access pool is → HasItem n access is
+home_item n access pool [] h = h
+home_item n access pool (i ∷ is) (inl e) = inl (e.0, e.1)
+home_item n access pool (i ∷ is) (inr h) = inr (home_item n access pool is h)
+
+home_after : (n access : ℕ) (pool : Option ℕ) (is js : List Item) → HasHome n access pool js → HasHome n access pool (is ++ js)
+home_after n access pool [] js h = h
+home_after n access pool (i ∷ is) js h = inr (home_after n access pool is js h)
+
+home_owning : (n access : ℕ) (pool : Option ℕ) (item : Item) (ms : List Master) → HasHome n access pool (items_of ms) → HasHome n access pool (items_of (owning item ms))
+home_owning n access pool item [] h = h
+home_owning n access pool item (m ∷ ms) h = inr h
 
 -- Such a collection is opened.
-pub opened_here : (owned : Owned) (access : ℕ) (us : List ℕ) → owned ≡ collection access → 1 ≤ times access (opened_by owned us)
-opened_here owned access us is =
+pub opened_here : (owned : Owned) (access : ℕ) (pool : Option ℕ) (us : List ℕ) → owned ≡ collection access pool → 1 ≤ times access (opened_by owned us)
+opened_here owned access pool us is =
     let self : (access == access) ≡ true = eq-eqb access access refl in
     let once : one (access == access) ≡ 1 = ap one self in
-    let here : 1 ≤ times access (opened_by (collection access) us) = omega (arith, once) in
+    let here : 1 ≤ times access (opened_by (collection access pool) us) = omega (arith, once) in
     subst (λ (o : Owned). 1 ≤ times access (opened_by o us)) (sym is) here
 
 pub opened_later : (owned : Owned) (access : ℕ) (us : List ℕ) → 1 ≤ times access us → 1 ≤ times access (opened_by owned us)
 opened_later (declared x) access us le = le
-opened_later (collection t) access us le = omega (arith, le)
+opened_later (collection t pool) access us le = omega (arith, le)
 opened_later (record_object t) access us le = le
+opened_later (storage_pool declaration number) access us le = le
 
 -- Collections are those of access types, and record objects are known by other types.
 abbrev pub OwnedFits : List TypeForm → Owned → Type 0
 OwnedFits types (declared x) = Unit {0}
-OwnedFits types (collection access) = is_access types access ≡ true
+OwnedFits types (collection access pool) = is_access types access ≡ true
 OwnedFits types (record_object t) = is_access types t ≡ false
+OwnedFits types (storage_pool declaration number) = Unit {0}
 
 abbrev pub ItemsFit : List TypeForm → List Item → Type 0
 ItemsFit types [] = Unit {0}
@@ -74,8 +86,9 @@ access_opened types t u n false same is later le = later (omega (arith, le))
 
 opened_fits_by : (types : List TypeForm) (t : ℕ) (owned : Owned) (us : List ℕ) → OwnedFits types owned → (1 ≤ times t us → is_access types t ≡ true) → 1 ≤ times t (opened_by owned us) → is_access types t ≡ true
 opened_fits_by types t (declared x) us fits later le = later le
-opened_fits_by types t (collection access) us fits later le = access_opened types t access (times t us) (access == t) refl fits later le
+opened_fits_by types t (collection access pool) us fits later le = access_opened types t access (times t us) (access == t) refl fits later le
 opened_fits_by types t (record_object u) us fits later le = later le
+opened_fits_by types t (storage_pool declaration number) us fits later le = later le
 
 pub opened_fits : (types : List TypeForm) (t : ℕ) (is : List Item) → ItemsFit types is → 1 ≤ times t (opened is) → is_access types t ≡ true
 opened_fits types t [] fits le = absurd (omega (arith, le))
@@ -84,11 +97,12 @@ opened_fits types t (i ∷ is) fits le = opened_fits_by types t i.owned (opened 
 -- What houses objects of an access type is its collection.
 housing_opened : (types : List TypeForm) (owned : Owned) (access : ℕ) (us : List ℕ) → OwnedFits types owned → is_access types access ≡ true → type_housed owned ≡ Some access → 1 ≤ times access (opened_by owned us)
 housing_opened types (declared x) access us fits is same = absurd (cc)
-housing_opened types (collection t) access us fits is same = let one_type : t ≡ access = cc in opened_here (collection t) access us (ap collection one_type)
+housing_opened types (collection t pool) access us fits is same = let one_type : t ≡ access = cc in opened_here (collection t pool) access pool us (ap (λ (u : ℕ). collection u pool) one_type)
 housing_opened types (record_object t) access us fits is same =
     let one_type : t ≡ access = cc in
     let never : true ≡ false = sym is ∙ ap (is_access types) (sym one_type) ∙ fits in
     absurd (cc)
+housing_opened types (storage_pool declaration number) access us fits is same = absurd (cc)
 
 pub has_opened : (types : List TypeForm) (n access : ℕ) (is : List Item) → ItemsFit types is → is_access types access ≡ true → HasItem n access is → 1 ≤ times access (opened is)
 has_opened types n access [] fits known h = absurd h
@@ -96,26 +110,32 @@ has_opened types n access (i ∷ is) fits known (inl e) = housing_opened types i
 has_opened types n access (i ∷ is) fits known (inr h) = opened_later i.owned access (opened is) (has_opened types n access is fits.1 known h)
 
 -- The collection that an access type denotes is an item, and is of that type.
-HasSome : ℕ → Option ℕ → List Item → Type 0
+HasSome : ℕ → Option Destination → List Item → Type 0
 HasSome access None is = Unit {0}
-HasSome access (Some n) is = HasItem n access is
+HasSome access (Some home) is = HasHome home.item access (Some home.pool) is
 
-has_one : (access : ℕ) (b : Bool) (n : ℕ) (is : List Item) (outer : Option ℕ) → (b ≡ true → HasItem n access is) → HasSome access outer is → HasSome access (if b then Some n else outer) is
-unfolding HasSome
-has_one access true n is outer h o = h refl
-has_one access false n is outer h o = o
+has_one : (access : ℕ) (b : Bool) (own : Option Destination) (is : List Item) (outer : Option Destination) → (b ≡ true → HasSome access own is) → HasSome access outer is → HasSome access (if b then own else outer) is
+has_one access true own is outer h o = h refl
+has_one access false own is outer h o = o
 
-some_more : (access : ℕ) (i : Item) (is : List Item) (outer : Option ℕ) → HasSome access outer is → HasSome access outer (i ∷ is)
+some_more : (access : ℕ) (i : Item) (is : List Item) (outer : Option Destination) → HasSome access outer is → HasSome access outer (i ∷ is)
 unfolding HasSome
 some_more access i is None h = h
-some_more access i is (Some n) h = inr h
+some_more access i is (Some home) h = inr h
 
-collection_has : (access : ℕ) (i : Item) (owned : Owned) → i.owned ≡ owned → (is : List Item) (outer : Option ℕ) → HasSome access outer (i ∷ is) → HasSome access (collection_in access i owned outer) (i ∷ is)
+newest_has : (access : ℕ) (i : Item) (t : ℕ) (pool : Option ℕ) (is : List Item) → i.owned ≡ collection t pool → t ≡ access → HasSome access (destination i.number pool) (i ∷ is)
+unfolding HasSome
+newest_has access i t None is e same = tt
+newest_has access i t (Some pool) is e same = inl (refl, ap type_housed e ∙ ap Some same, ap pool_housed e)
+
+collection_has : (access : ℕ) (i : Item) (owned : Owned) → i.owned ≡ owned → (is : List Item) (outer : Option Destination) → HasSome access outer (i ∷ is) → HasSome access (collection_in access i owned outer) (i ∷ is)
 collection_has access i (declared x) e is outer o = o
 collection_has access i (record_object t) e is outer o = o
-collection_has access i (collection t) e is outer o = has_one access (access == t) i.number (i ∷ is) outer (λ same. inl (refl, ap type_housed e ∙ ap Some (sym (eqb-true access t same)))) o
+collection_has access i (storage_pool declaration number) e is outer o = o
+collection_has access i (collection t pool) e is outer o =
+    has_one access (access == t) (destination i.number pool) (i ∷ is) outer (λ same. newest_has access i t pool is e (sym (eqb-true access t same))) o
 
-among_has : (access : ℕ) (is js : List Item) (outer : Option ℕ) → HasSome access outer js → HasSome access (home_among access is outer) (is ++ js)
+among_has : (access : ℕ) (is js : List Item) (outer : Option Destination) → HasSome access outer js → HasSome access (home_among access is outer) (is ++ js)
 among_has access [] js outer o = o
 among_has access (i ∷ is) js outer o = collection_has access i i.owned refl (is ++ js) (home_among access is outer) (some_more access i (is ++ js) (home_among access is outer) (among_has access is js outer o))
 
@@ -124,23 +144,23 @@ unfolding HasSome
 of_has access [] = tt
 of_has access (m ∷ ms) = among_has access m.items (items_of ms) (home_of access ms) (of_has access ms)
 
-pub home_has : (access item : ℕ) (ms : List Master) → home_of access ms ≡ Some item → HasItem item access (items_of ms)
+pub home_has : (access : ℕ) (home : Destination) (ms : List Master) → home_of access ms ≡ Some home → HasHome home.item access (Some home.pool) (items_of ms)
 unfolding HasSome
-home_has access item ms e = rw e at (of_has access ms)
+home_has access home ms e = rw e at (of_has access ms)
 
--- The home of an object is the collection of its access type, or the record object that it is.
+-- The home of an object is the collection of its access type, or the record object that it is, and it is from the pool of that.
 abbrev pub IsAtHome : List Item → Object → Type 0
-IsAtHome is x = HasItem x.cell.home.item x.cell.access is
+IsAtHome is x = HasHome x.cell.home.item x.cell.access x.cell.home.pool is
 
 -- So it is of each object that is in its collection.
 abbrev pub Housed : List Object → List Item → Type 0
 Housed heap is = (o : Id) (x : Object) → object_at heap o ≡ Some x → x.listed ≡ true → IsAtHome is x
 
 pub housed_after : (heap : List Object) (is js : List Item) → Housed heap js → Housed heap (is ++ js)
-housed_after heap is js h o x at listed = has_after x.cell.home.item x.cell.access is js (h o x at listed)
+housed_after heap is js h o x at listed = home_after x.cell.home.item x.cell.access x.cell.home.pool is js (h o x at listed)
 
 pub housed_owning : (heap : List Object) (item : Item) (ms : List Master) → Housed heap (items_of ms) → Housed heap (items_of (owning item ms))
-housed_owning heap item ms h o x at listed = has_owning x.cell.home.item x.cell.access item ms (h o x at listed)
+housed_owning heap item ms h o x at listed = home_owning x.cell.home.item x.cell.access x.cell.home.pool item ms (h o x at listed)
 
 -- An object changes: it keeps its access type and its home, and joins no collection.
 pub record KeepsHome (before after : Object) : Type 0 where
@@ -183,7 +203,7 @@ more_get [] (suc j) y z at = absurd (cc)
 more_get (x ∷ xs) zero y z at = inl at
 more_get (x ∷ xs) (suc j) y z at = more_get xs j y z at
 
-pub housed_new : (heap : List Object) (cell : Cell Value) (is : List Item) → HasItem cell.home.item cell.access is → Housed heap is → Housed (heap ++ new_object cell ∷ []) is
+pub housed_new : (heap : List Object) (cell : Cell Value) (is : List Item) → HasHome cell.home.item cell.access cell.home.pool is → Housed heap is → Housed (heap ++ new_object cell ∷ []) is
 housed_new heap cell is home h o x at listed = elim (more_get heap o.0 (new_object cell) x at) [ inl same ↦ h o x same listed | inr new ↦ subst (λ (w : Object). IsAtHome is w) (sym new) home ]
 
 -- Where no member is left, no object is in the collection.
@@ -207,13 +227,15 @@ none_is_left item heap o x none is listed home = none_from item 0 heap o.0 x non
 -- The newest item goes: it houses no objects, or none is left in it.
 abbrev pub IsEmpty : List Object → Item → Owned → Type 0
 IsEmpty heap item (declared x) = Unit {0}
-IsEmpty heap item (collection access) = members heap item.number ≡ []
+IsEmpty heap item (collection access pool) = members heap item.number ≡ []
 IsEmpty heap item (record_object t) = members heap item.number ≡ []
+IsEmpty heap item (storage_pool declaration number) = Unit {0}
 
 not_there : (heap : List Object) (item : Item) (owned : Owned) (o : Id) (x : Object) → item.owned ≡ owned → IsEmpty heap item owned → object_at heap o ≡ Some x → x.listed ≡ true → item.number ≡ x.cell.home.item → type_housed owned ≡ Some x.cell.access → ⊥
 not_there heap item (declared y) o x is empty at listed home own = absurd (cc)
-not_there heap item (collection access) o x is empty at listed home own = none_is_left item.number heap o x empty at listed (sym home)
+not_there heap item (collection access pool) o x is empty at listed home own = none_is_left item.number heap o x empty at listed (sym home)
 not_there heap item (record_object t) o x is empty at listed home own = none_is_left item.number heap o x empty at listed (sym home)
+not_there heap item (storage_pool declaration number) o x is empty at listed home own = absurd (cc)
 
 housed_behind : (heap : List Object) (item : Item) (items js : List Item) → IsEmpty heap item item.owned → Housed heap ((item ∷ items) ++ js) → Housed heap (items ++ js)
 housed_behind heap item items js empty h o x at listed = elim (h o x at listed) [ inl e ↦ absurd (not_there heap item item.owned o x refl empty at listed e.0 e.1) | inr g ↦ g ]

@@ -16,7 +16,7 @@ use Rattle.ada_meaning.specs.declared.event.Why.TheVariants.{GivesElsewhere}
 use Rattle.ada_meaning.specs.Event.{Back}
 use Rattle.ada_meaning.specs.Frame.{Frame, is_master, is_loop, is_return, Landing, passes_on, goes_behind, goes_in, handler_landing, landing}
 use Rattle.ada_meaning.specs.Frame as frame
-use Rattle.ada_meaning.specs.State.{Owned, declared, collection, record_object, Item, Master, pool_of}
+use Rattle.ada_meaning.specs.State.{Owned, declared, collection, record_object, storage_pool, Item, Master}
 use Rattle.ada_meaning.specs.Heap.{Cell, Found, on_null, on_gone, on_other, finds}
 use Rattle.ada_meaning.specs.Step.{halts, at, older, shorter, end_next, same_pool, told_back, given_back, back_next, members_next, item_leave_next, master_leave_next, leave_next, running_next}
 use Rattle.ada_meaning.specs.Named.{Object, State, named, look, lent, parted, finished, returned, on_object, members}
@@ -50,8 +50,10 @@ module _ (types : List TypeForm) (callees : Callees) where
   item_leave_good : (mode : Mode) (m : ℕ) (item : Item) (items : List Item) (ms : List Master) (owned : Owned) (s : State) → item.owned ≡ owned → s.masters ≡ record { number = m; items = item ∷ items } ∷ ms → Parting types s.masters s.heap → s.mode ≡ Running → Nests types callees (older (scopes s.masters)) s.control → Good types callees (item_leave_next named m item owned (at (frame.Leaves mode ∷ s.control) s))
   item_leave_good mode m item items ms (declared x) s own is p runs n =
       shorter_good mode m item items ms s is (subst (λ (o : Owned). IsEmpty s.heap item o) (sym own) tt) p runs n
-  item_leave_good mode m item items ms (collection access) s own is p runs n =
-      members_good mode m (Some (pool_of access)) item items ms (members s.heap item.number) s (λ none. subst (λ (o : Owned). IsEmpty s.heap item o) (sym own) none) refl is p runs n
+  item_leave_good mode m item items ms (storage_pool declaration number) s own is p runs n =
+      shorter_good mode m item items ms s is (subst (λ (o : Owned). IsEmpty s.heap item o) (sym own) tt) p runs n
+  item_leave_good mode m item items ms (collection access pool) s own is p runs n =
+      members_good mode m pool item items ms (members s.heap item.number) s (λ none. subst (λ (o : Owned). IsEmpty s.heap item o) (sym own) none) refl is p runs n
   item_leave_good mode m item items ms (record_object t) s own is p runs n =
       members_good mode m None item items ms (members s.heap item.number) s (λ none. subst (λ (o : Owned). IsEmpty s.heap item o) (sym own) none) refl is p runs n
 

@@ -6,10 +6,10 @@ use Rattle.std.proofs.lemmas.Bool.{eq-eqb}
 use Rattle.std.specs.List.{slice_get, list_all}
 use Rattle.ada_program.specs.declared.program.TypeDefinition.{TypeDefinition}
 use Rattle.ada_program.specs.declared.program.Exception.{Exception}
-use Rattle.ada_program.specs.Form.{ActualForm, in_value, in_null, in_access, in_record, in_out_path, in_out_access, in_out_component, in_out_record, ExpressionForm, ItemForm, RightForm, StmtForm, skips, assigns, assigns_record, frees, gets, writes, writes_text, chooses, repeats, counts, exits, calls, returns, raises, encloses, StmtsForm, no_stmts, a_stmt, BranchesForm, otherwise, a_branch, HandlersForm, no_handlers, a_handler, DeclarationForm, collects, declares, declares_record}
+use Rattle.ada_program.specs.Form.{ActualForm, in_value, in_null, in_access, in_record, in_out_path, in_out_access, in_out_component, in_out_record, ExpressionForm, ItemForm, RightForm, StmtForm, skips, assigns, assigns_record, frees, gets, writes, writes_text, chooses, repeats, counts, exits, calls, returns, raises, encloses, StmtsForm, no_stmts, a_stmt, BranchesForm, otherwise, a_branch, HandlersForm, no_handlers, a_handler, DeclarationForm, creates_pool, collects, declares, declares_record}
 use Rattle.ada_program.specs.Handling.{some_takes, handler_of}
 use Rattle.ada_program.specs.ProgramForm.{TypeForm, BodyForm}
-use Rattle.ada_program.specs.Typed.{reached_of, words_of, width_of}
+use Rattle.ada_program.specs.Typed.{reached_of, words_of, width_of, pool_named}
 use Rattle.ada_program.specs.WellFormed.{is_access, reached_components, is_object}
 use Rattle.ada_program.specs.Nested.{Callees, call_nests, collected, are_open}
 use Rattle.ada_meaning.specs.declared.state.Value.{Value}
@@ -19,7 +19,7 @@ use Rattle.ada_meaning.specs.declared.state.Mode.TheVariants.{Running, Raising, 
 use Rattle.ada_meaning.specs.Event.{Quiet}
 use Rattle.ada_meaning.specs.Frame.{Frame, is_master, is_loop, is_return, Landing, passes_on, goes_behind, goes_in, handler_landing, landing}
 use Rattle.ada_meaning.specs.Frame as frame
-use Rattle.ada_meaning.specs.State.{collection, Master, height, home_of}
+use Rattle.ada_meaning.specs.State.{collection, storage_pool, Master, height, home_of, pools_in, pool_for}
 use Rattle.ada_meaning.specs.Heap.{Cell, Found, on_null, on_gone, on_other, finds}
 use Rattle.ada_meaning.specs.Step.{moves, at, older, owning, popped, held, newest, newest_ones, without_newest, initial_values, record_cell, made, record_next, operand_count, references_in, storing, assign_next, target_next, stored_next, store_next, frees_next, branches_next, decided_next, turn_next, repeats_next, turned_next, count_turn_next, ranges_next, gets_next, received_next, receive_next, exit_next, exited_next, begun, computing, call_next, stmt_next, stmts_next, line_next, declarations_next, frame_next, resumed, returned, left_by, unwound, landed, pass_next, running_next, jump_next, mode_next}
 use Rattle.ada_meaning.specs.Named.{Object, State, next, named, look, lent, an_integer, filled, reads_boolean, reads_null, reads_integer, unary_given, binary_given}
@@ -203,7 +203,7 @@ module _ (types : List TypeForm) (callees : Callees) (bodies : List BodyForm) (n
   made_good : (definitions : List TypeDefinition) (x t : ℕ) (values : List Value) (s : State) → RecordHere types (all_of (scopes s.masters)) t → HasOne (scopes s.masters) → Stands types callees s → Nested types callees (made named definitions x t values s)
   made_good definitions x t values s opens some h =
       standing
-      (whole_recorded types (height s.masters) t s.masters s.heap (record_cell named t (height s.masters) values) opens.0 some refl refl opens.1 opens.2.0 opens.2.1 h.0)
+      (whole_recorded types (height s.masters) t s.masters s.heap (record_cell named t (height s.masters) values) opens.0 some refl refl refl opens.1 opens.2.0 opens.2.1 h.0)
       (nests_recorded types callees (height s.masters) t s.masters s.control h.1)
 
   record_good : (definitions : List TypeDefinition) (x t : ℕ) (initial : Option (List ItemForm)) (s : State) → RecordHere types (all_of (scopes s.masters)) t → HasOne (scopes s.masters) → Stands types callees s → Good types callees (record_next named definitions x t initial s)
@@ -213,6 +213,7 @@ module _ (types : List TypeForm) (callees : Callees) (bodies : List BodyForm) (n
   -- Declarations of a part whose collections have all been created.
   elaborated_good : (definitions : List TypeDefinition) (ds : List DeclarationForm) (fs : StmtsForm) (hs : HandlersForm) (s : State) → Whole types s.masters s.heap → FrameNests types callees (scopes s.masters) (frame.Elaborates ds fs hs) → Nests types callees (older (scopes s.masters)) s.control → Good types callees (declarations_next named definitions ds fs hs s)
   elaborated_good definitions [] fs hs s w nest n = standing w ((nest.1.0, nest.1.1, nest.1.2.0), ((nest.1.0, nest.1.1, nest.1.2.1), (tt, n)))
+  elaborated_good definitions (creates_pool pool ∷ ds) fs hs s w nest n = absurd (cc (nest.0))
   elaborated_good definitions (collects access ∷ ds) fs hs s w nest n = absurd (cc (nest.0))
   elaborated_good definitions (declares x right ∷ ds) fs hs s w nest n = standing w (tt, (tt, ((nest.0, nest.1, nest.2), n)))
   elaborated_good definitions (declares_record x t initial ∷ ds) fs hs s w nest n =
@@ -338,6 +339,7 @@ module _ (types : List TypeForm) (callees : Callees) (bodies : List BodyForm) (n
   -- A part begins: its collections are created before its first variable.
   all_objects : (ds : List DeclarationForm) → list_all is_object ds ≡ true → collected ds ≡ []
   all_objects [] is = refl
+  all_objects (creates_pool pool ∷ ds) is = absurd (cc)
   all_objects (collects access ∷ ds) is = absurd (cc)
   all_objects (declares x right ∷ ds) is = all_objects ds is
   all_objects (declares_record x t initial ∷ ds) is = all_objects ds is
@@ -353,8 +355,8 @@ module _ (types : List TypeForm) (callees : Callees) (bodies : List BodyForm) (n
   new_need m rest heap access ds there g t true same le = let once : one (access == t) ≡ 1 = ap one same in g.left t (omega (arith, once))
   new_need m rest heap access ds there g t false same le = g.here t (omega (arith, le))
 
-  collects_more : (m : Master) (rest : List Master) (heap : List Object) (number access : ℕ) (ds : List DeclarationForm) (there : List ℕ) → Growing types m rest heap (collects access ∷ ds) there → Growing types (record m { items = record { number = number; owned = collection access } ∷ m.items }) rest heap ds there
-  collects_more m rest heap number access ds there g = record {
+  collects_more : (m : Master) (rest : List Master) (heap : List Object) (number access : ℕ) (pool : Option ℕ) (ds : List DeclarationForm) (there : List ℕ) → Growing types m rest heap (collects access ∷ ds) there → Growing types (record m { items = record { number = number; owned = collection access pool } ∷ m.items }) rest heap ds there
+  collects_more m rest heap number access pool ds there g = record {
     first = g.first;
     once = g.once;
     all = λ t. let all = g.all t in omega (arith, all);
@@ -372,23 +374,56 @@ module _ (types : List TypeForm) (callees : Callees) (bodies : List BodyForm) (n
       of_access : is_access types access ≡ true
       of_access = let once : one (access == access) ≡ 1 = ap one (eq-eqb access access refl) in g.accesses access (omega (arith, once))
 
+  -- A pool is created, which opens no collection.
+  pools_more : (m : Master) (rest : List Master) (heap : List Object) (number declaration pool : ℕ) (ds : List DeclarationForm) (there : List ℕ) → Growing types m rest heap (creates_pool declaration ∷ ds) there → Growing types (record m { items = record { number = number; owned = storage_pool declaration pool } ∷ m.items }) rest heap ds there
+  pools_more m rest heap number declaration pool ds there g = record {
+    first = g.first;
+    once = g.once;
+    all = g.all;
+    left = g.left;
+    here = g.here;
+    outer = g.outer;
+    housed = g.housed;
+    accesses = g.accesses;
+    fit = (tt, g.fit);
+    own = (tt, g.own);
+    records = g.records;
+    coming = g.coming;
+  }
+
   begins_good : (definitions : List TypeDefinition) (ds : List DeclarationForm) (fs : StmtsForm) (hs : HandlersForm) (m : Master) (rest : List Master) (there : List ℕ) (s : State) → s.masters ≡ m ∷ rest → s.mode ≡ Running → Growing types m rest s.heap ds there → StatementsNest types callees there fs → HandlersNest types callees there hs → Nests types callees (scopes rest) s.control → Good types callees (declarations_next named definitions ds fs hs s)
   begins_good definitions [] fs hs m rest there s is runs g nest handled n = created_good definitions [] fs hs m rest there s is refl g nest handled n
   begins_good definitions (declares x right ∷ ds) fs hs m rest there s is runs g nest handled n = created_good definitions (declares x right ∷ ds) fs hs m rest there s is g.first g nest handled n
   begins_good definitions (declares_record x t initial ∷ ds) fs hs m rest there s is runs g nest handled n =
       created_good definitions (declares_record x t initial ∷ ds) fs hs m rest there s is g.first g nest handled n
   begins_good definitions (collects access ∷ ds) fs hs m rest there s is runs g nest handled n = beginning (record {
-    m = record m { items = record { number = height s.masters; owned = collection access } ∷ m.items };
+    m = record m { items = record { number = height s.masters; owned = collection access (pool_for (pool_named definitions access) s.masters) } ∷ m.items };
     rest = rest;
     ds = ds;
     fs = fs;
     hs = hs;
     k = s.control;
     there = there;
-    masters = ap (owning (record { number = height s.masters; owned = collection access })) is;
+    masters = ap (owning (record { number = height s.masters; owned = collection access (pool_for (pool_named definitions access) s.masters) })) is;
     control = refl;
     runs = runs;
-    growing = collects_more m rest s.heap (height s.masters) access ds there g;
+    growing = collects_more m rest s.heap (height s.masters) access (pool_for (pool_named definitions access) s.masters) ds there g;
+    statements = nest;
+    handlers = handled;
+    nests = n;
+  })
+  begins_good definitions (creates_pool declaration ∷ ds) fs hs m rest there s is runs g nest handled n = beginning (record {
+    m = record m { items = record { number = height s.masters; owned = storage_pool declaration (pools_in s.masters + 1) } ∷ m.items };
+    rest = rest;
+    ds = ds;
+    fs = fs;
+    hs = hs;
+    k = s.control;
+    there = there;
+    masters = ap (owning (record { number = height s.masters; owned = storage_pool declaration (pools_in s.masters + 1) })) is;
+    control = refl;
+    runs = runs;
+    growing = pools_more m rest s.heap (height s.masters) declaration (pools_in s.masters + 1) ds there g;
     statements = nest;
     handlers = handled;
     nests = n;

@@ -6,9 +6,9 @@ use Rattle.std.proofs.lemmas.Bool.{eqb-true}
 use Rattle.std.proofs.lemmas.List.Sums.{sum_by-cons}
 use Rattle.std.specs.List.{slice_get, list_all}
 use Rattle.ada_program.specs.declared.program.ScalarType.TheVariants.{Integer, Boolean}
-use Rattle.ada_program.specs.Form.{DeclarationForm, collects, declares, declares_record, StmtForm, skips, assigns, assigns_record, frees, gets, writes, writes_text, chooses, repeats, counts, exits, calls, returns, raises, encloses, StmtsForm, no_stmts, a_stmt, BranchesForm, otherwise, a_branch, HandlersForm, no_handlers, a_handler}
+use Rattle.ada_program.specs.Form.{DeclarationForm, creates_pool, collects, declares, declares_record, StmtForm, skips, assigns, assigns_record, frees, gets, writes, writes_text, chooses, repeats, counts, exits, calls, returns, raises, encloses, StmtsForm, no_stmts, a_stmt, BranchesForm, otherwise, a_branch, HandlersForm, no_handlers, a_handler}
 use Rattle.ada_program.specs.ProgramForm.{TypeForm, record_of, access_to, object_of, VariableForm, BodyForm, ProgramForm}
-use Rattle.ada_program.specs.WellFormed.{IsWellFormed, Profile, all_creations, Creation, of_collection, of_variable, creation, created_by, created_by_all, created_by_branches, created_by_handlers, is_access, designated_in, collections_first, collection_fits, is_collection, has_collections, has_type, variable_fits, is_record_object, record_initial_fits, initial_fits, declarations_fit, is_type, scalar_of, variable_kind, condition_fits, has_statement, choice_fits, statement_fits, stmts_fit, branches_fit, handlers_fit, reached_components}
+use Rattle.ada_program.specs.WellFormed.{IsWellFormed, Profile, all_creations, Creation, of_pool, of_collection, of_variable, creation, created_by, created_by_all, created_by_branches, created_by_handlers, is_access, designated_in, collections_first, collection_fits, is_collection, has_collections, has_type, variable_fits, is_record_object, record_initial_fits, initial_fits, declarations_fit, is_type, scalar_of, variable_kind, condition_fits, has_statement, choice_fits, statement_fits, stmts_fit, branches_fit, handlers_fit, reached_components}
 use Rattle.ada_program.specs.Nested.{Callees, call_nests, collected, record_objects, is_one_of, are_open, collection_nests, record_nests, part_nests, statement_nests, statements_nest, branches_nest, handlers_nest}
 use Rattle.ada_typed.proofs.Objects.{record_no_access}
 use Rattle.ada_scopes.proofs.Counts.{and_left, and_right, one, times, times_of, times_none, all_times}
@@ -16,6 +16,7 @@ use Rattle.ada_scopes.proofs.Counts.{and_left, and_right, one, times, times_of, 
 -- What the components of the record objects name that declarations create lies in collections that are open; and their types are no access types.
 abbrev pub RecordsNest : List TypeForm → (there : List ℕ) → List DeclarationForm → Type 0
 RecordsNest types there [] = Unit {0}
+RecordsNest types there (creates_pool pool ∷ ds) = RecordsNest types there ds
 RecordsNest types there (collects access ∷ ds) = RecordsNest types there ds
 RecordsNest types there (declares x right ∷ ds) = RecordsNest types there ds
 RecordsNest types there (declares_record x t initial ∷ ds) = (is_access types t ≡ false) × (are_open there (reached_components types t) ≡ true) × RecordsNest types there ds
@@ -74,6 +75,7 @@ BodiesNest types callees bodies =
 
 -- How often creations create the collection of a type.
 abbrev pub makes_by : ℕ → Creation → ℕ
+makes_by t (of_pool pool) = 0
 makes_by t (of_collection access) = one (access == t)
 makes_by t (of_variable x) = 0
 
@@ -90,6 +92,7 @@ one_is true = refl
 one_is false = refl
 
 makes_one : (t : ℕ) (c : Creation) → makes_by t c ≡ cond (is_collection t c) 1 0
+makes_one t (of_pool pool) = refl
 makes_one t (of_collection access) = one_is (access == t)
 makes_one t (of_variable x) = refl
 
@@ -103,6 +106,7 @@ makes_is t (c ∷ cs) =
 
 times_makes : (t : ℕ) (ds : List DeclarationForm) → makes t (map creation ds) ≡ times t (collected ds)
 times_makes t [] = refl
+times_makes t (creates_pool pool ∷ ds) = let h = times_makes t ds in omega (arith, h)
 times_makes t (collects access ∷ ds) = let h = times_makes t ds in omega (arith, h)
 times_makes t (declares x right ∷ ds) = let h = times_makes t ds in omega (arith, h)
 times_makes t (declares_record x u initial ∷ ds) = let h = times_makes t ds in omega (arith, h)
@@ -122,7 +126,7 @@ this_one : (cs : List Creation) (k i : ℕ) (types : List TypeForm) → has_coll
 this_one cs k i [] has is = absurd (cc)
 this_one cs k zero (record_of name parts components ∷ types) has is = absurd (cc)
 this_one cs k zero (object_of record_type ∷ types) has is = absurd (cc)
-this_one cs k zero (access_to name designated ∷ types) has is =
+this_one cs k zero (access_to name designated pool ∷ types) has is =
     let at_k : count_by (is_collection k) cs ≡ 1 = eqb-true (count_by (is_collection k) cs) 1 (and_left (count_by (is_collection k) cs == 1) (has_collections cs (k + 1) types) has) in
     let same : k + 0 ≡ k = omega arith in
     ap (λ n. count_by (is_collection n) cs) same ∙ at_k
@@ -132,7 +136,7 @@ this_one cs k (suc i) (record_of name parts components ∷ types) has is =
 this_one cs k (suc i) (object_of record_type ∷ types) has is =
     let same : k + suc i ≡ (k + 1) + i = omega arith in
     ap (λ n. count_by (is_collection n) cs) same ∙ this_one cs (k + 1) i types has is
-this_one cs k (suc i) (access_to name designated ∷ types) has is =
+this_one cs k (suc i) (access_to name designated pool ∷ types) has is =
     let same : k + suc i ≡ (k + 1) + i = omega arith in
     ap (λ n. count_by (is_collection n) cs) same ∙ this_one cs (k + 1) i types (and_right (count_by (is_collection k) cs == 1) (has_collections cs (k + 1) types) has) is
 
@@ -151,6 +155,7 @@ access_by types access t n false same is later le = later (omega (arith, le))
 
 collected_access : (types : List TypeForm) (ds : List DeclarationForm) (t : ℕ) → list_all (collection_fits types) ds ≡ true → 1 ≤ times t (collected ds) → is_access types t ≡ true
 collected_access types [] t fits le = absurd (omega (arith, le))
+collected_access types (creates_pool pool ∷ ds) t fits le = collected_access types ds t fits le
 collected_access types (declares x right ∷ ds) t fits le = collected_access types ds t fits le
 collected_access types (declares_record x u initial ∷ ds) t fits le = collected_access types ds t fits le
 collected_access types (collects access ∷ ds) t fits le =
@@ -171,6 +176,8 @@ once_by types ds t false is fits once = let none = times_none (collected ds) t i
 
 records_hold : (types : List TypeForm) (variables : List VariableForm) (there : List ℕ) (ds : List DeclarationForm) → list_all (variable_fits types) variables ≡ true → list_all (initial_fits types variables) ds ≡ true → list_all (record_nests types there) (record_objects ds) ≡ true → RecordsNest types there ds
 records_hold types variables there [] right initials nest = tt
+records_hold types variables there (creates_pool pool ∷ ds) right initials nest =
+    records_hold types variables there ds right (and_right (initial_fits types variables (creates_pool pool)) (list_all (initial_fits types variables) ds) initials) nest
 records_hold types variables there (collects access ∷ ds) right initials nest =
     records_hold types variables there ds right (and_right (initial_fits types variables (collects access)) (list_all (initial_fits types variables) ds) initials) nest
 records_hold types variables there (declares x value ∷ ds) right initials nest =

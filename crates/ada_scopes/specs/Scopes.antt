@@ -13,7 +13,7 @@ use Rattle.ada_meaning.specs.declared.state.Value.{Value}
 use Rattle.ada_meaning.specs.declared.state.Value.TheVariants.{Names}
 use Rattle.ada_meaning.specs.Frame.{Frame, is_master}
 use Rattle.ada_meaning.specs.Frame as frame
-use Rattle.ada_meaning.specs.State.{Owned, declared, collection, record_object, type_housed, Item, Master}
+use Rattle.ada_meaning.specs.State.{Owned, declared, collection, record_object, storage_pool, type_housed, pool_housed, Item, Master}
 use Rattle.ada_meaning.specs.Named.{Object, State, object_at}
 use Rattle.ada_meaning.specs.Run.{Event, Run, first_state}
 use Rattle.ada_meaning.specs.Law.{Differ, items_of}
@@ -31,8 +31,9 @@ WhereCollectionsNest P =
 -- The access type whose collection a master owns by an item, if that is what the item is (7.6.1).
 abbrev pub type_collected : Owned → Option ℕ
 type_collected (declared x) = None
-type_collected (collection access) = Some access
+type_collected (collection access pool) = Some access
 type_collected (record_object t) = None
+type_collected (storage_pool declaration number) = None
 
 -- Two items are not collections of one access type.
 abbrev pub CollectTwoTypes : Item → Item → Type 0
@@ -55,7 +56,7 @@ lasting n (m ∷ ms) = if is_number_of m.items n then m ∷ ms else lasting n ms
 
 -- One of these masters owns the collection of an access type.
 abbrev pub IsOpenIn : List Master → ℕ → Type 0
-IsOpenIn masters access = (i : Item) × Contains (items_of masters) i × (i.owned ≡ collection access)
+IsOpenIn masters access = (i : Item) × (pool : Option ℕ) × Contains (items_of masters) i × (i.owned ≡ collection access pool)
 
 -- Is the innermost master being left? The first frame that belongs to a master says so (7.6.1).
 abbrev pub is_leaving : List (Frame Value) → Bool
@@ -76,16 +77,18 @@ IsGoing s n = (is_leaving s.control ≡ true) × (is_innermost s.masters n ≡ t
 abbrev pub IsListed : List Object → Id → Object → Type 0
 IsListed heap o object = (object_at heap o ≡ Some object) × (object.listed ≡ true)
 
--- The home of an object is an item of a master that is entered: the collection of its own access type, or the record object that it is.
+-- The home of an object is an item of a master that is entered: the collection of its own access type, or the record object that it is; and it is from
+-- the pool of that item (13.11).
 abbrev pub IsInCollection : List Master → Object → Type 0
 IsInCollection masters object =
     (i : Item) × Contains (items_of masters) i × (i.number ≡ object.cell.home.item) × (type_housed i.owned ≡ Some object.cell.access)
+    × (pool_housed i.owned ≡ object.cell.home.pool)
 
 -- Each object that is in its collection has that one as its home.
 abbrev pub AreInCollections : State → Type 0
 AreInCollections s = (o : Id) (object : Object) → IsListed s.heap o object → IsInCollection s.masters object
 
--- Each object that is in its collection lies in one that is open, and that is of its own access type (7.6.1).
+-- Each object that is in its collection lies in one that is open, that is of its own access type, and whose pool is the object's (7.6.1, 13.11).
 abbrev pub ObjectsLieInCollections : Type 0
 ObjectsLieInCollections = WhereCollectionsNest (λ program. InItsRuns program AreInCollections)
 

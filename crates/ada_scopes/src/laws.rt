@@ -11,7 +11,7 @@ pub fn types_have_one_collection()
 {}
 
 /// The home of an object that is in its collection is an item of a master that is entered: the collection of its own
-/// access type (7.6.1).
+/// access type (7.6.1), whose pool is the one that the object is from (13.11), or the record object that it is.
 pub fn objects_lie_in_collections()
     ensures { ObjectsLieInCollections }
 {}

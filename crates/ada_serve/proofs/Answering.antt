@@ -15,16 +15,17 @@ use Rattle.ada_meaning.specs.Ending.{StatesGoOn}
 use Rattle.ada_verdict.specs.declared.fault.Verdict.{Verdict}
 use Rattle.ada_verdict.specs.declared.fault.Verdict.TheVariants as verdict
 use Rattle.ada_verdict.specs.First.{IsAccepted, IsFirst}
+use Rattle.ada_pools.specs.Runner.{Runner}
 use Rattle.ada_serve.specs.declared.settings.Options.{Options}
 use Rattle.ada_serve.specs.declared.serve.ServeFault.{ServeFault}
-use Rattle.ada_serve.specs.declared.serve.ServeFault.TheVariants.{BadInput, InputTooLong, ReadFailed, WriteFailed, NoMemory}
+use Rattle.ada_serve.specs.declared.serve.ServeFault.TheVariants.{BadInput, InputTooLong, ReadFailed, WriteFailed, NoSuchPool, NoMemory}
 use Rattle.ada_serve.specs.declared.serve.Status.{Status}
 use Rattle.ada_serve.specs.declared.serve.Status.TheVariants as status
 use Rattle.ada_serve.specs.declared.serve.TheConstants.{MOST_KEPT}
-use Rattle.ada_serve.specs.Runner.{RunnerRun, status_of, HasRun, ended, stopped}
+use Rattle.ada_serve.specs.Runner.{runner_before, RunnerRun, status_of, HasRun, ended, stopped}
 use Rattle.ada_serve.specs.Answer.{refused, accepted, IsRefusal, GivesNumbers, IsRunAnswer, IsProgramAnswer}
 use Rattle.ada_serve.specs.Calls.{IsRead, FaultReads, FaultWrites, OnlyWrites, WriterEnds, FaultEnds}
-use Rattle.ada_serve.specs.Served.{Serves, PromisesSafe, IsOfInput, FaultGives, InputTurns, SourceCut}
+use Rattle.ada_serve.specs.Served.{Serves, PromisesSafe, IsOfInput, FaultGives, InputTurns, SourceCut, HasPools, TellsPools, TellsSizes, unasked}
 use Rattle.ada_typed.specs.Stuck.{NeverStuck}
 use Rattle.ada_serve.specs.Written.{SaysFront}
 use Rattle.ada_serve.proofs.Reading.{fits}
@@ -57,14 +58,14 @@ first_of kept all v e f =
     elim (fits MOST_KEPT all) [ inl whole ↦ subst (λ (source : List ℕ). IsFirst source v) (e ∙ whole) f | inr cut ↦ first_cut kept all v (too_long kept all e cut.0) cut.1 f ]
 
 -- the answer to a program that is run is what its run on the numbers of its input says
-run_answers : (IsInput : List ℕ → Type 0) (program : Program) (numbers : List ℤ) (limit refuse : ℕ) (old new : Option (List ℕ)) (result : Result Status ServeFault) → GivesNumbers IsInput numbers → SaysFront (HasRun program numbers limit refuse) old new result → SaysFront (IsRunAnswer IsInput program limit refuse) old new result
-run_answers IsInput program numbers limit refuse old new (Ok ending) given s = record { text = s.text; is = record { numbers = numbers; given = given; run = s.is }; written = s.written }
-run_answers IsInput program numbers limit refuse old new (Err fault) given (inl nothing) = inl nothing
-run_answers IsInput program numbers limit refuse old new (Err fault) given (inr s) = inr (record { text = s.text; status = s.status; is = record { numbers = numbers; given = given; run = s.is }; written = s.written })
+run_answers : (IsInput : List ℕ → Type 0) (program : Program) (numbers : List ℤ) (limit : ℕ) (start : Runner) (old new : Option (List ℕ)) (result : Result Status ServeFault) → GivesNumbers IsInput numbers → SaysFront (HasRun program numbers limit start) old new result → SaysFront (IsRunAnswer IsInput program limit start) old new result
+run_answers IsInput program numbers limit start old new (Ok ending) given s = record { text = s.text; is = record { numbers = numbers; given = given; run = s.is }; written = s.written }
+run_answers IsInput program numbers limit start old new (Err fault) given (inl nothing) = inl nothing
+run_answers IsInput program numbers limit start old new (Err fault) given (inr s) = inr (record { text = s.text; status = s.status; is = record { numbers = numbers; given = given; run = s.is }; written = s.written })
 
-pub answers_run : (IsInput : List ℕ → Type 0) (program other : Program) (numbers : List ℤ) (run : Bool) (limit refuse : ℕ) (old new : Option (List ℕ)) (result : Result Status ServeFault) → run ≡ true → other ≡ program → GivesNumbers IsInput numbers → SaysFront (HasRun other numbers limit refuse) old new result → SaysFront (IsProgramAnswer IsInput program run limit refuse) old new result
-answers_run IsInput program other numbers run limit refuse old new result e same given h =
-    subst (λ (b : Bool). SaysFront (IsProgramAnswer IsInput program b limit refuse) old new result) (sym e) (run_answers IsInput program numbers limit refuse old new result given (subst (λ (p : Program). SaysFront (HasRun p numbers limit refuse) old new result) same h))
+pub answers_run : (IsInput : List ℕ → Type 0) (program other : Program) (numbers : List ℤ) (options : Options) (old new : Option (List ℕ)) (result : Result Status ServeFault) → options.run ≡ true → other ≡ program → GivesNumbers IsInput numbers → SaysFront (HasRun other numbers options.steps (runner_before other options)) old new result → SaysFront (IsProgramAnswer IsInput program options.run options.steps (runner_before program options)) old new result
+answers_run IsInput program other numbers options old new result e same given h =
+    subst (λ (b : Bool). SaysFront (IsProgramAnswer IsInput program b options.steps (runner_before program options)) old new result) (sym e) (run_answers IsInput program numbers options.steps (runner_before program options) old new result given (subst (λ (p : Program). SaysFront (HasRun p numbers options.steps (runner_before p options)) old new result) same h))
 
 -- what only writes has no fault of the input
 writes_alone : {W : Type 0} (P : Type 0) (writes : W → Option (List ℕ) → W → Type 0) (first last : W) (fault : ServeFault) → FaultWrites writes first last fault → IsOfInput fault → P
@@ -72,6 +73,7 @@ writes_alone P writes first last (BadInput place) o e = absurd o
 writes_alone P writes first last InputTooLong o e = absurd o
 writes_alone P writes first last ReadFailed o e = absurd o
 writes_alone P writes first last WriteFailed o e = absurd e
+writes_alone P writes first last NoSuchPool o e = absurd o
 writes_alone P writes first last NoMemory o e = absurd e
 
 pub never_asks : {W X : Type 0} (P : Type 0) (writes : W → Option (List ℕ) → W → Type 0) (first last : W) (result : Result X ServeFault) → OnlyWrites writes first last result → IfErr result (λ fault. IsOfInput fault → P)
@@ -89,6 +91,7 @@ only_ends writes first last (Err (BadInput place)) o = absurd o
 only_ends writes first last (Err InputTooLong) o = absurd o
 only_ends writes first last (Err ReadFailed) o = absurd o
 only_ends writes first last (Err WriteFailed) o = o
+only_ends writes first last (Err NoSuchPool) o = absurd o
 only_ends writes first last (Err NoMemory) o = o
 
 -- where a reader's fault is answered nothing was written
@@ -97,6 +100,7 @@ unwritten reads writes first last out (BadInput place) f = absurd f
 unwritten reads writes first last out InputTooLong f = absurd f
 unwritten reads writes first last out ReadFailed f = refl
 unwritten reads writes first last out WriteFailed f = absurd f
+unwritten reads writes first last out NoSuchPool f = absurd f
 unwritten reads writes first last out NoMemory f = idle writes out
 
 -- nor where a fault of the input's numbers is
@@ -105,6 +109,7 @@ input_unwritten remaining reads writes first last out (BadInput place) f = refl
 input_unwritten remaining reads writes first last out InputTooLong f = refl
 input_unwritten remaining reads writes first last out ReadFailed f = refl
 input_unwritten remaining reads writes first last out WriteFailed f = absurd f
+input_unwritten remaining reads writes first last out NoSuchPool f = absurd f
 input_unwritten remaining reads writes first last out NoMemory f = idle writes out
 
 -- the source's reading was cut
@@ -113,6 +118,7 @@ cut reads first last input (BadInput place) f = absurd f
 cut reads first last input InputTooLong f = absurd f
 cut reads first last input ReadFailed f = (f, refl)
 cut reads first last input WriteFailed f = absurd f
+cut reads first last input NoSuchPool f = absurd f
 cut reads first last input NoMemory f = (f, refl)
 
 -- the input's reading was cut, or it has no numbers
@@ -121,6 +127,7 @@ input_cut remaining reads first last (BadInput place) f = f
 input_cut remaining reads first last InputTooLong f = f
 input_cut remaining reads first last ReadFailed f = f
 input_cut remaining reads first last WriteFailed f = absurd f
+input_cut remaining reads first last NoSuchPool f = absurd f
 input_cut remaining reads first last NoMemory f = inr f
 
 -- a run is neither accepted nor refused
@@ -138,27 +145,28 @@ no_refused (halt.Erroneous why) e = cc
 no_refused halt.Stuck e = cc
 no_refused halt.Memory e = cc
 
-run_accepted : (program : Program) (numbers : List ℤ) (limit refuse : ℕ) (text : List ℕ) → HasRun program numbers limit refuse text status.Accepted → ⊥
-run_accepted program numbers limit refuse text (ended statements events until last halt within run halts is e) = no_accepted halt e
-run_accepted program numbers limit refuse text (stopped events until last run starts is e) = absurd (cc)
+run_accepted : (program : Program) (numbers : List ℤ) (limit : ℕ) (start : Runner) (text : List ℕ) → HasRun program numbers limit start text status.Accepted → ⊥
+run_accepted program numbers limit start text (ended statements events runner last halt within run halts is e) = no_accepted halt e
+run_accepted program numbers limit start text (stopped events runner last run starts is e) = absurd (cc)
 
-run_refused : (program : Program) (numbers : List ℤ) (limit refuse : ℕ) (text : List ℕ) → HasRun program numbers limit refuse text status.Refused → ⊥
-run_refused program numbers limit refuse text (ended statements events until last halt within run halts is e) = no_refused halt e
-run_refused program numbers limit refuse text (stopped events until last run starts is e) = absurd (cc)
+run_refused : (program : Program) (numbers : List ℤ) (limit : ℕ) (start : Runner) (text : List ℕ) → HasRun program numbers limit start text status.Refused → ⊥
+run_refused program numbers limit start text (ended statements events runner last halt within run halts is e) = no_refused halt e
+run_refused program numbers limit start text (stopped events runner last run starts is e) = absurd (cc)
 
 -- the input of a source that is run is read, and gives the numbers
-pub input_read : {I W : Type 0} (remaining : I → Option (List ℕ)) (reads : I → Option (List ℕ) → I → Type 0) (writes : W → Option (List ℕ) → W → Type 0) (first last : I) (before after : W) (program : Program) (numbers : List ℤ) (limit refuse : ℕ) (old new : Option (List ℕ)) (result : Result Status ServeFault) → GivesNumbers (IsRead remaining reads first last) numbers → SaysFront (HasRun program numbers limit refuse) old new result → OnlyWrites writes before after result → InputTurns remaining reads first last result
-input_read remaining reads writes first last before after program numbers limit refuse old new (Ok status.Accepted) g s o = absurd (run_accepted program numbers limit refuse s.text s.is)
-input_read remaining reads writes first last before after program numbers limit refuse old new (Ok status.Refused) g s o = absurd (run_refused program numbers limit refuse s.text s.is)
-input_read remaining reads writes first last before after program numbers limit refuse old new (Ok status.Finished) g s o = (numbers, g)
-input_read remaining reads writes first last before after program numbers limit refuse old new (Ok status.Unhandled) g s o = (numbers, g)
-input_read remaining reads writes first last before after program numbers limit refuse old new (Ok status.Stopped) g s o = (numbers, g)
-input_read remaining reads writes first last before after program numbers limit refuse old new (Ok status.Erroneous) g s o = (numbers, g)
-input_read remaining reads writes first last before after program numbers limit refuse old new (Err (BadInput place)) g s o = absurd o
-input_read remaining reads writes first last before after program numbers limit refuse old new (Err InputTooLong) g s o = absurd o
-input_read remaining reads writes first last before after program numbers limit refuse old new (Err ReadFailed) g s o = absurd o
-input_read remaining reads writes first last before after program numbers limit refuse old new (Err WriteFailed) g s o = inr (numbers, g)
-input_read remaining reads writes first last before after program numbers limit refuse old new (Err NoMemory) g s o = inr (inr (g.bytes, g.input))
+pub input_read : {I W : Type 0} (remaining : I → Option (List ℕ)) (reads : I → Option (List ℕ) → I → Type 0) (writes : W → Option (List ℕ) → W → Type 0) (first last : I) (before after : W) (program : Program) (numbers : List ℤ) (limit : ℕ) (start : Runner) (old new : Option (List ℕ)) (result : Result Status ServeFault) → GivesNumbers (IsRead remaining reads first last) numbers → SaysFront (HasRun program numbers limit start) old new result → OnlyWrites writes before after result → InputTurns remaining reads first last result
+input_read remaining reads writes first last before after program numbers limit start old new (Ok status.Accepted) g s o = absurd (run_accepted program numbers limit start s.text s.is)
+input_read remaining reads writes first last before after program numbers limit start old new (Ok status.Refused) g s o = absurd (run_refused program numbers limit start s.text s.is)
+input_read remaining reads writes first last before after program numbers limit start old new (Ok status.Finished) g s o = (numbers, g)
+input_read remaining reads writes first last before after program numbers limit start old new (Ok status.Unhandled) g s o = (numbers, g)
+input_read remaining reads writes first last before after program numbers limit start old new (Ok status.Stopped) g s o = (numbers, g)
+input_read remaining reads writes first last before after program numbers limit start old new (Ok status.Erroneous) g s o = (numbers, g)
+input_read remaining reads writes first last before after program numbers limit start old new (Err (BadInput place)) g s o = absurd o
+input_read remaining reads writes first last before after program numbers limit start old new (Err InputTooLong) g s o = absurd o
+input_read remaining reads writes first last before after program numbers limit start old new (Err ReadFailed) g s o = absurd o
+input_read remaining reads writes first last before after program numbers limit start old new (Err WriteFailed) g s o = inr (numbers, g)
+input_read remaining reads writes first last before after program numbers limit start old new (Err NoSuchPool) g s o = absurd o
+input_read remaining reads writes first last before after program numbers limit start old new (Err NoMemory) g s o = inr (inr (g.bytes, g.input))
 
 -- the input of a source that is refused is not called
 pub input_left : {I W : Type 0} (remaining : I → Option (List ℕ)) (reads : I → Option (List ℕ) → I → Type 0) (writes : W → Option (List ℕ) → W → Type 0) (input : I) (before after : W) (v : Verdict) (old new : Option (List ℕ)) (result : Result Status ServeFault) → SaysFront (IsRefusal v) old new result → OnlyWrites writes before after result → InputTurns remaining reads input input result
@@ -167,10 +175,11 @@ input_left remaining reads writes input before after v old new (Err (BadInput pl
 input_left remaining reads writes input before after v old new (Err InputTooLong) s o = absurd o
 input_left remaining reads writes input before after v old new (Err ReadFailed) s o = absurd o
 input_left remaining reads writes input before after v old new (Err WriteFailed) s o = inl refl
+input_left remaining reads writes input before after v old new (Err NoSuchPool) s o = absurd o
 input_left remaining reads writes input before after v old new (Err NoMemory) s o = inl refl
 
 -- the answer to a source that is accepted, and to one that is refused
-pub serves_accepted : (IsSource IsInput : List ℕ → Type 0) (bytes : List ℕ) (program : Program) (options : Options) (old new : Option (List ℕ)) (result : Result Status ServeFault) → IsSource bytes → IsAccepted bytes program → SaysFront (IsProgramAnswer IsInput program options.run options.steps options.refuse) old new result → Serves IsSource IsInput options old new result
+pub serves_accepted : (IsSource IsInput : List ℕ → Type 0) (bytes : List ℕ) (program : Program) (options : Options) (old new : Option (List ℕ)) (result : Result Status ServeFault) → IsSource bytes → IsAccepted bytes program → SaysFront (IsProgramAnswer IsInput program options.run options.steps (runner_before program options)) old new result → Serves IsSource IsInput options old new result
 serves_accepted IsSource IsInput bytes program options old new (Ok ending) r a s = (bytes, r, record { text = s.text; is = accepted program a s.is; written = s.written })
 serves_accepted IsSource IsInput bytes program options old new (Err fault) r a (inl nothing) = inl nothing
 serves_accepted IsSource IsInput bytes program options old new (Err fault) r a (inr s) = inr (bytes, r, record { text = s.text; status = s.status; is = accepted program a s.is; written = s.written })
@@ -181,7 +190,7 @@ serves_refused IsSource IsInput bytes v options old new (Err fault) r f (inl not
 serves_refused IsSource IsInput bytes v options old new (Err fault) r f (inr s) = inr (bytes, r, record { text = s.text; status = s.status; is = refused v f s.is; written = s.written })
 
 -- the runner's run is a run
-is_run : {program : Program} {refuse : ℕ} {first last : State} {statements until : ℕ} {events : List Event} → RunnerRun program refuse first statements events until last → Run program first events last
+is_run : {program : Program} {start : Runner} {first last : State} {statements : ℕ} {runner : Runner} {events : List Event} → RunnerRun program start first statements events runner last → Run program first events last
 is_run begun = here
 is_run {program = program} {first = first} {last = last} (goes_on before_it event mid before choice so_far run is step e count) = subst (λ (all : List Event). Run program first all last) (sym e) (run_more event choice last (is_run run) step)
 
@@ -193,17 +202,17 @@ halted goes program numbers events last (halt.Erroneous why) safe typed run ends
 halted goes program numbers events last halt.Stuck safe typed run ends e = typed numbers events last run ends
 halted goes program numbers events last halt.Memory safe typed run ends e = no_memory goes program last ends
 
-run_erroneous : StatesGoOn → (program : Program) (numbers : List ℤ) (limit refuse : ℕ) (text : List ℕ) → Safe program → NeverStuck program → HasRun program numbers limit refuse text status.Erroneous → ⊥
-run_erroneous goes program numbers limit refuse text safe typed (ended statements events until last halt within run halts is e) = halted goes program numbers events last halt safe typed (is_run run) halts e
-run_erroneous goes program numbers limit refuse text safe typed (stopped events until last run starts is e) = absurd (cc)
+run_erroneous : StatesGoOn → (program : Program) (numbers : List ℤ) (limit : ℕ) (start : Runner) (text : List ℕ) → Safe program → NeverStuck program → HasRun program numbers limit start text status.Erroneous → ⊥
+run_erroneous goes program numbers limit start text safe typed (ended statements events runner last halt within run halts is e) = halted goes program numbers events last halt safe typed (is_run run) halts e
+run_erroneous goes program numbers limit start text safe typed (stopped events runner last run starts is e) = absurd (cc)
 
-never_erroneous : StatesGoOn → (IsInput : List ℕ → Type 0) (program : Program) (run : Bool) (limit refuse : ℕ) (text : List ℕ) (ending : Status) → Safe program → NeverStuck program → IsProgramAnswer IsInput program run limit refuse text ending → ending ≢ status.Erroneous
-never_erroneous goes IsInput program false limit refuse text ending safe typed a e = let never : status.Accepted ≡ status.Erroneous = sym a.1 ∙ e in absurd (cc)
-never_erroneous goes IsInput program true limit refuse text ending safe typed a e = run_erroneous goes program a.numbers limit refuse text safe typed (subst (HasRun program a.numbers limit refuse text) e a.run)
+never_erroneous : StatesGoOn → (IsInput : List ℕ → Type 0) (program : Program) (run : Bool) (limit : ℕ) (start : Runner) (text : List ℕ) (ending : Status) → Safe program → NeverStuck program → IsProgramAnswer IsInput program run limit start text ending → ending ≢ status.Erroneous
+never_erroneous goes IsInput program false limit start text ending safe typed a e = let never : status.Accepted ≡ status.Erroneous = sym a.1 ∙ e in absurd (cc)
+never_erroneous goes IsInput program true limit start text ending safe typed a e = run_erroneous goes program a.numbers limit start text safe typed (subst (HasRun program a.numbers limit start text) e a.run)
 
-pub answer_not_erroneous : StatesGoOn → (IsInput : List ℕ → Type 0) (program : Program) (run : Bool) (limit refuse : ℕ) (old new : Option (List ℕ)) (result : Result Status ServeFault) → Safe program → NeverStuck program → SaysFront (IsProgramAnswer IsInput program run limit refuse) old new result → IfOk result (λ ending. ending ≢ status.Erroneous)
-answer_not_erroneous goes IsInput program run limit refuse old new (Ok ending) safe typed s = never_erroneous goes IsInput program run limit refuse s.text ending safe typed s.is
-answer_not_erroneous goes IsInput program run limit refuse old new (Err fault) safe typed s = tt
+pub answer_not_erroneous : StatesGoOn → (IsInput : List ℕ → Type 0) (program : Program) (run : Bool) (limit : ℕ) (start : Runner) (old new : Option (List ℕ)) (result : Result Status ServeFault) → Safe program → NeverStuck program → SaysFront (IsProgramAnswer IsInput program run limit start) old new result → IfOk result (λ ending. ending ≢ status.Erroneous)
+answer_not_erroneous goes IsInput program run limit start old new (Ok ending) safe typed s = never_erroneous goes IsInput program run limit start s.text ending safe typed s.is
+answer_not_erroneous goes IsInput program run limit start old new (Err fault) safe typed s = tt
 
 -- a source that is accepted is safe
 pub promises_accepted : (IsSource : List ℕ → Type 0) (bytes : List ℕ) (program : Program) (result : Result Status ServeFault) → IsSource bytes → IsAccepted bytes program → Safe program → PromisesSafe IsSource result
@@ -222,3 +231,35 @@ promises_refused IsSource v old new (Err fault) s = tt
 pub refusal_not_erroneous : (v : Verdict) (old new : Option (List ℕ)) (result : Result Status ServeFault) → SaysFront (IsRefusal v) old new result → IfOk result (λ ending. ending ≢ status.Erroneous)
 refusal_not_erroneous v old new (Ok ending) s = λ e. let never : status.Refused ≡ status.Erroneous = sym s.is.ends ∙ e in absurd (cc)
 refusal_not_erroneous v old new (Err fault) s = tt
+
+-- what only writes tells of no pool, and each size is for one
+pub tells_pools : {W : Type 0} (program : Program) (options : Options) (writes : W → Option (List ℕ) → W → Type 0) (first last : W) (result : Result Status ServeFault) → HasPools program options → OnlyWrites writes first last result → TellsPools program options result
+tells_pools program options writes first last (Ok status) has o = has
+tells_pools program options writes first last (Err (BadInput place)) has o = has
+tells_pools program options writes first last (Err InputTooLong) has o = has
+tells_pools program options writes first last (Err ReadFailed) has o = has
+tells_pools program options writes first last (Err WriteFailed) has o = has
+tells_pools program options writes first last (Err NoSuchPool) has o = absurd o
+tells_pools program options writes first last (Err NoMemory) has o = tt
+
+-- nor does a fault of reading the numbers
+pub pools_of_input : {I : Type 0} (program : Program) (options : Options) (remaining : I → Option (List ℕ)) (reads : I → Option (List ℕ) → I → Type 0) (first last : I) (fault : ServeFault) → HasPools program options → FaultGives remaining reads first last fault → TellsPools program options (Err fault)
+pools_of_input program options remaining reads first last (BadInput place) has f = has
+pools_of_input program options remaining reads first last InputTooLong has f = has
+pools_of_input program options remaining reads first last ReadFailed has f = has
+pools_of_input program options remaining reads first last WriteFailed has f = has
+pools_of_input program options remaining reads first last NoSuchPool has f = absurd f
+pools_of_input program options remaining reads first last NoMemory has f = tt
+
+-- a refusal is no missing pool
+not_written : {W : Type 0} (writes : W → Option (List ℕ) → W → Type 0) (first last : W) (result : Result Status ServeFault) → OnlyWrites writes first last result → result ≢ Err NoSuchPool
+not_written writes first last (Ok status) o e = absurd (cc e)
+not_written writes first last (Err (BadInput place)) o e = absurd o
+not_written writes first last (Err InputTooLong) o e = absurd o
+not_written writes first last (Err ReadFailed) o e = absurd o
+not_written writes first last (Err WriteFailed) o e = absurd (cc e)
+not_written writes first last (Err NoSuchPool) o e = absurd o
+not_written writes first last (Err NoMemory) o e = absurd (cc e)
+
+pub sizes_unasked : {W : Type 0} (bytes : List ℕ) (v : Verdict) (options : Options) (writes : W → Option (List ℕ) → W → Type 0) (first last : W) (result : Result Status ServeFault) → IsFirst bytes v → OnlyWrites writes first last result → TellsSizes bytes options result
+sizes_unasked bytes v options writes first last result f o = unasked v f (not_written writes first last result o)

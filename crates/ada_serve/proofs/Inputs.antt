@@ -5,7 +5,7 @@ use Rattle.ada_input.specs.declared.fault.InputFault.{InputFault}
 use Rattle.ada_input.specs.declared.fault.InputFault.TheVariants as input
 use Rattle.ada_input.specs.Input.{input_of, IsFaultOf}
 use Rattle.ada_serve.specs.declared.serve.ServeFault.{ServeFault}
-use Rattle.ada_serve.specs.declared.serve.ServeFault.TheVariants.{BadInput, InputTooLong, ReadFailed, WriteFailed, NoMemory}
+use Rattle.ada_serve.specs.declared.serve.ServeFault.TheVariants.{BadInput, InputTooLong, ReadFailed, WriteFailed, NoSuchPool, NoMemory}
 use Rattle.ada_serve.specs.declared.serve.TheConstants.{LONGEST_INPUT, MOST_KEPT}
 use Rattle.ada_serve.specs.Answer.{GivesNumbers, HasBadWord, IsTooLong}
 use Rattle.ada_serve.specs.Calls.{IsRead, IsKept, FaultReads}
@@ -61,4 +61,5 @@ reading_fault remaining reads first last (BadInput place) f = absurd f
 reading_fault remaining reads first last InputTooLong f = absurd f
 reading_fault remaining reads first last ReadFailed f = f
 reading_fault remaining reads first last WriteFailed f = absurd f
+reading_fault remaining reads first last NoSuchPool f = absurd f
 reading_fault remaining reads first last NoMemory f = inl f

@@ -4,8 +4,8 @@ pub mod Reading
 pub mod Writing
 -- the runner's run, step by step
 pub mod Steps
--- the number that a word gives, and the limit of statements
-pub mod Limits
+-- the number that a word gives
+pub mod Numbers
 -- from what is kept of an input to its numbers
 pub mod Inputs
 -- from the parts of an answer to the answer

@@ -4,7 +4,7 @@ use Rattle.std.proofs.Common.{◌≡◌, ◌≢◌, ℕ, ◌+◌, ◌≤◌, add
 use Rattle.std.proofs.lemmas.List.{length-take-le}
 use Rattle.std.specs.Io.KnownBytes.{Appends}
 use Rattle.ada_serve.specs.declared.serve.ServeFault.{ServeFault}
-use Rattle.ada_serve.specs.declared.serve.ServeFault.TheVariants.{BadInput, InputTooLong, ReadFailed, WriteFailed, NoMemory}
+use Rattle.ada_serve.specs.declared.serve.ServeFault.TheVariants.{BadInput, InputTooLong, ReadFailed, WriteFailed, NoSuchPool, NoMemory}
 use Rattle.ada_serve.specs.Calls.{InCalls, none, more, Works, FaultWrites, OnlyWrites}
 use Rattle.ada_serve.specs.Written.{AppendsFront}
 
@@ -55,6 +55,7 @@ writes_fault writes first mid last WriteFailed a b = record {
   took = calls_both a.calls b.calls (a.calls + b.calls) a.bytes b.bytes (a.bytes ++ b.bytes) a.moves b.took refl refl;
   fails = b.fails;
 }
+writes_fault writes first mid last NoSuchPool a b = absurd b
 writes_fault writes first mid last NoMemory a b = works_both writes first mid last a b
 
 -- calls, and then calls that end so

@@ -6,12 +6,13 @@ use Rattle.ada_program.specs.declared.program.Program.{Program}
 use Rattle.ada_verdict.specs.declared.fault.Verdict.{Verdict}
 use Rattle.ada_verdict.specs.First.{IsAccepted, IsFirst}
 use Rattle.ada_verdict.specs.Refusal.{Told, refusal_of}
+use Rattle.ada_pools.specs.Runner.{Runner}
 use Rattle.ada_serve.specs.declared.settings.Options.{Options}
 use Rattle.ada_serve.specs.declared.serve.TheConstants.{LONGEST_INPUT}
 use Rattle.ada_serve.specs.declared.serve.Status.{Status}
 use Rattle.ada_serve.specs.declared.serve.Status.TheVariants.{Accepted, Refused}
 use Rattle.ada_serve.specs.Texts.{refusal_text, accepted_text}
-use Rattle.ada_serve.specs.Runner.{HasRun}
+use Rattle.ada_serve.specs.Runner.{HasRun, runner_before}
 
 -- The line of a fault that has one: all but want of memory.
 pub record IsRefusal (verdict : Verdict) (text : List ℕ) (status : Status) : Type 0 where
@@ -41,21 +42,20 @@ pub record IsTooLong (IsInput : List ℕ → Type 0) : Type 0 where
   pub longer : LONGEST_INPUT < length bytes
 
 -- The answer to a program that is to be run: it runs on the numbers that its input gives.
-pub record IsRunAnswer (IsInput : List ℕ → Type 0) (program : Program) (limit refuse : ℕ) (text : List ℕ) (status : Status) : Type 0 where
+pub record IsRunAnswer (IsInput : List ℕ → Type 0) (program : Program) (limit : ℕ) (start : Runner) (text : List ℕ) (status : Status) : Type 0 where
   pub numbers : List ℤ
   pub given : GivesNumbers IsInput numbers
-  pub run : HasRun program numbers limit refuse text status
+  pub run : HasRun program numbers limit start text status
 
--- The answer to a program that is only checked, and to one that is to be run, may begin so many statements, and has one request refused.
--- Only a run looks at the input.
-abbrev pub IsProgramAnswer : (IsInput : List ℕ → Type 0) → Program → (run : Bool) → (limit refuse : ℕ) → List ℕ → Status → Type 0
-IsProgramAnswer IsInput program false limit refuse text status = (text ≡ accepted_text) × (status ≡ Accepted)
-IsProgramAnswer IsInput program true limit refuse text status = IsRunAnswer IsInput program limit refuse text status
+-- The answer to a program that is only checked, and to one that is to be run, and may begin so many statements. Only a run looks at the input.
+abbrev pub IsProgramAnswer : (IsInput : List ℕ → Type 0) → Program → (run : Bool) → (limit : ℕ) → Runner → List ℕ → Status → Type 0
+IsProgramAnswer IsInput program false limit start text status = (text ≡ accepted_text) × (status ≡ Accepted)
+IsProgramAnswer IsInput program true limit start text status = IsRunAnswer IsInput program limit start text status
 
 -- The answer to a source, with what is asked for: the refusal of its first fault; or its program is accepted: it is only checked, or it is
 -- run on the numbers of the input up to its end or to the limit of statements.
 pub data Answer (source : List ℕ) (IsInput : List ℕ → Type 0) (options : Options) (text : List ℕ) (status : Status) : Type 0 where
   refused : (verdict : Verdict) → IsFirst source verdict → IsRefusal verdict text status → Answer source IsInput options text status
   accepted : (program : Program) → IsAccepted source program
-      → IsProgramAnswer IsInput program options.run options.steps options.refuse text status
+      → IsProgramAnswer IsInput program options.run options.steps (runner_before program options) text status
       → Answer source IsInput options text status

@@ -2,7 +2,7 @@
 
 use Rattle.std.specs.Prelude.{◌≡◌, ◌≢◌, ◌⊎◌, ℕ, ◌+◌, ◌<◌, ◌≤◌, Bool, true, List, [], ◌++◌, take, Option, Some, None, Result, Ok, Err}
 use Rattle.ada_serve.specs.declared.serve.ServeFault.{ServeFault}
-use Rattle.ada_serve.specs.declared.serve.ServeFault.TheVariants.{BadInput, InputTooLong, ReadFailed, WriteFailed, NoMemory}
+use Rattle.ada_serve.specs.declared.serve.ServeFault.TheVariants.{BadInput, InputTooLong, ReadFailed, WriteFailed, NoSuchPool, NoMemory}
 use Rattle.ada_serve.specs.declared.serve.TheConstants.{MOST_CALLS, MOST_KEPT}
 
 -- The bytes that a call moved: the first n of these, or none at all where it failed.
@@ -86,6 +86,7 @@ FaultWrites writes first last (BadInput place) = ⊥
 FaultWrites writes first last InputTooLong = ⊥
 FaultWrites writes first last ReadFailed = ⊥
 FaultWrites writes first last WriteFailed = WriteFails writes first last
+FaultWrites writes first last NoSuchPool = ⊥
 FaultWrites writes first last NoMemory = Works writes first last
 
 -- A writer after a call that only writes, whatever the call answered.
@@ -94,12 +95,13 @@ abbrev pub OnlyWrites : {W X : Type 0} → (W → Option (List ℕ) → W → Ty
 OnlyWrites writes first last (Ok x) = Works writes first last
 OnlyWrites writes first last (Err fault) = FaultWrites writes first last fault
 
--- A writer after a fault of a call that also reads: where a read failed, or the input has no numbers, it was not called.
+-- A writer after a fault of a call that also reads: where a read failed, the input has no numbers, or a size is for no pool, it was not called.
 abbrev pub FaultEnds : {W : Type 0} → (W → Option (List ℕ) → W → Type 0) → W → W → ServeFault → Type 0
 FaultEnds writes first last (BadInput place) = last ≡ first
 FaultEnds writes first last InputTooLong = last ≡ first
 FaultEnds writes first last ReadFailed = last ≡ first
 FaultEnds writes first last WriteFailed = WriteFails writes first last
+FaultEnds writes first last NoSuchPool = last ≡ first
 FaultEnds writes first last NoMemory = Works writes first last
 
 -- A writer after a call that also reads, whatever the call answered.
@@ -128,4 +130,5 @@ FaultReads reads first last (BadInput place) = ⊥
 FaultReads reads first last InputTooLong = ⊥
 FaultReads reads first last ReadFailed = ReadFails reads first last
 FaultReads reads first last WriteFailed = ⊥
+FaultReads reads first last NoSuchPool = ⊥
 FaultReads reads first last NoMemory = ReadsOn reads first last

@@ -2,7 +2,7 @@
 
 use Rattle.std.specs.Prelude.{ℕ}
 use Rattle.ada_serve.specs.declared.serve.ServeFault.{ServeFault}
-use Rattle.ada_serve.specs.declared.serve.ServeFault.TheVariants.{BadInput, InputTooLong, ReadFailed, WriteFailed, NoMemory}
+use Rattle.ada_serve.specs.declared.serve.ServeFault.TheVariants.{BadInput, InputTooLong, ReadFailed, WriteFailed, NoSuchPool, NoMemory}
 use Rattle.ada_serve.specs.declared.serve.Status.{Status}
 use Rattle.ada_serve.specs.declared.serve.Status.TheVariants.{Accepted, Refused, Finished, Unhandled, Stopped, Erroneous}
 
@@ -21,4 +21,5 @@ fault_exit (BadInput place) = 5
 fault_exit InputTooLong = 5
 fault_exit ReadFailed = 5
 fault_exit WriteFailed = 5
+fault_exit NoSuchPool = 4
 fault_exit NoMemory = 6

@@ -1,15 +1,17 @@
 -- What a call of `serve` does: what it writes, and what becomes of its two readers.
 
-use Rattle.std.specs.Prelude.{◌≡◌, ◌⊎◌, ℕ, ℤ, Bool, true, List, [], Option, Result, Ok, Err, IfErr}
+use Rattle.std.specs.Prelude.{◌≡◌, ◌≢◌, ◌⊎◌, ℕ, ℤ, Bool, true, false, List, [], Option, Result, Ok, Err, IfErr}
 use Rattle.std.specs.Io.KnownBytes.{Appends}
 use Rattle.ada_input.specs.declared.fault.InputFault.{InputFault}
 use Rattle.ada_input.specs.declared.fault.InputFault.TheVariants as input
 use Rattle.ada_program.specs.declared.program.Program.{Program}
 use Rattle.ada_meaning.specs.Law.{Safe}
-use Rattle.ada_verdict.specs.First.{IsAccepted}
+use Rattle.ada_pools.specs.Sizes.{all_for_pools}
+use Rattle.ada_verdict.specs.declared.fault.Verdict.{Verdict}
+use Rattle.ada_verdict.specs.First.{IsAccepted, IsFirst}
 use Rattle.ada_serve.specs.declared.settings.Options.{Options}
 use Rattle.ada_serve.specs.declared.serve.ServeFault.{ServeFault}
-use Rattle.ada_serve.specs.declared.serve.ServeFault.TheVariants.{BadInput, InputTooLong, ReadFailed, WriteFailed, NoMemory}
+use Rattle.ada_serve.specs.declared.serve.ServeFault.TheVariants.{BadInput, InputTooLong, ReadFailed, WriteFailed, NoSuchPool, NoMemory}
 use Rattle.ada_serve.specs.declared.serve.Status.{Status}
 use Rattle.ada_serve.specs.declared.serve.Status.TheVariants.{Accepted, Refused, Finished, Unhandled, Stopped, Erroneous}
 use Rattle.ada_serve.specs.Calls.{ReadsOn, IsRead, ReadFails}
@@ -53,6 +55,7 @@ IsOfInput (BadInput place) = Unit {0}
 IsOfInput InputTooLong = Unit {0}
 IsOfInput ReadFailed = Unit {0}
 IsOfInput WriteFailed = ⊥
+IsOfInput NoSuchPool = ⊥
 IsOfInput NoMemory = ⊥
 
 -- The input was read to its end, and gives numbers.
@@ -74,6 +77,7 @@ FaultGives remaining reads first last (BadInput place) = HasBadWord (IsRead rema
 FaultGives remaining reads first last InputTooLong = IsTooLong (IsRead remaining reads first last)
 FaultGives remaining reads first last ReadFailed = ReadFails reads first last
 FaultGives remaining reads first last WriteFailed = ⊥
+FaultGives remaining reads first last NoSuchPool = ⊥
 FaultGives remaining reads first last NoMemory = InputWorks remaining reads first last
 
 -- The input is read to its end and gives numbers where a program has been run, and is not called otherwise.
@@ -93,6 +97,7 @@ FaultTurns remaining reads first last (BadInput place) = FaultGives remaining re
 FaultTurns remaining reads first last InputTooLong = FaultGives remaining reads first last InputTooLong
 FaultTurns remaining reads first last ReadFailed = FaultGives remaining reads first last ReadFailed
 FaultTurns remaining reads first last WriteFailed = (last ≡ first) ⊎ InputGives remaining reads first last
+FaultTurns remaining reads first last NoSuchPool = last ≡ first
 FaultTurns remaining reads first last NoMemory = (last ≡ first) ⊎ InputWorks remaining reads first last
 
 -- The input after a call that had read its source, whatever the call answered.
@@ -107,13 +112,37 @@ pub record IsToRun (source : List ℕ) (run : Bool) : Type 0 where
   pub accepted : IsAccepted source program
   pub runs : run ≡ true
 
+-- A run is asked for, and some size is for no pool of the program.
+abbrev pub LacksPool : Program → Options → Type 0
+LacksPool program options = (options.run ≡ true) × (all_for_pools program options.sizes.items ≡ false)
+
+-- No run is asked for, or each size is for a pool of the program.
+abbrev pub HasPools : Program → Options → Type 0
+HasPools program options = options.run ≡ true → all_for_pools program options.sizes.items ≡ true
+
+-- The answer for an accepted program, by the sizes that are given: that a pool is missing exactly where one is, unless memory ran out.
+abbrev pub TellsPools : Program → Options → Result Status ServeFault → Type 0
+TellsPools program options (Ok status) = HasPools program options
+TellsPools program options (Err (BadInput place)) = HasPools program options
+TellsPools program options (Err InputTooLong) = HasPools program options
+TellsPools program options (Err ReadFailed) = HasPools program options
+TellsPools program options (Err WriteFailed) = HasPools program options
+TellsPools program options (Err NoSuchPool) = LacksPool program options
+TellsPools program options (Err NoMemory) = Unit {0}
+
+-- The answer by the sizes that are given: the source is refused, and no size is looked at; or it is accepted, and the answer tells of a missing pool.
+pub data TellsSizes (source : List ℕ) (options : Options) (result : Result Status ServeFault) : Type 0 where
+  unasked : (verdict : Verdict) → IsFirst source verdict → result ≢ Err NoSuchPool → TellsSizes source options result
+  asked : (program : Program) → IsAccepted source program → TellsPools program options result → TellsSizes source options result
+
 -- The source was read to its end; then the input was read, if the source is accepted and a run is asked for.
 pub record SourceEnds {I : Type 0} (remaining : I → Option (List ℕ)) (reads : I → Option (List ℕ) → I → Type 0)
-    (IsSource : List ℕ → Type 0) (run : Bool) (first last : I) (result : Result Status ServeFault) : Type 0 where
+    (IsSource : List ℕ → Type 0) (options : Options) (first last : I) (result : Result Status ServeFault) : Type 0 where
   pub bytes : List ℕ
   pub source : IsSource bytes
   pub input : InputTurns remaining reads first last result
-  pub asked : IfErr result (λ fault. IsOfInput fault → IsToRun bytes run)
+  pub asked : IfErr result (λ fault. IsOfInput fault → IsToRun bytes options.run)
+  pub sizes : TellsSizes bytes options result
 
 -- The reading of the source broke off, for its own failure or for want of memory, and the input was not called.
 abbrev pub SourceCut : {S I : Type 0} → (S → Option (List ℕ) → S → Type 0) → S → S → I → I
@@ -123,12 +152,13 @@ SourceCut reads first last before after (Err (BadInput place)) = ⊥
 SourceCut reads first last before after (Err InputTooLong) = ⊥
 SourceCut reads first last before after (Err ReadFailed) = ReadFails reads first last × (after ≡ before)
 SourceCut reads first last before after (Err WriteFailed) = ⊥
+SourceCut reads first last before after (Err NoSuchPool) = ⊥
 SourceCut reads first last before after (Err NoMemory) = ReadsOn reads first last × (after ≡ before)
 
 -- Both readers after a call: the reading of the source broke off, or the source was read to its end and then the input.
 abbrev pub ReadersEnd : {S I : Type 0} → (S → Option (List ℕ)) → (S → Option (List ℕ) → S → Type 0) → S → S
     → (I → Option (List ℕ)) → (I → Option (List ℕ) → I → Type 0) → I → I
-    → Bool → Result Status ServeFault → Type 0
-ReadersEnd remaining reads first last input_remaining input_reads before after run result =
+    → Options → Result Status ServeFault → Type 0
+ReadersEnd remaining reads first last input_remaining input_reads before after options result =
     SourceCut reads first last before after result
-    ⊎ SourceEnds input_remaining input_reads (IsRead remaining reads first last) run before after result
+    ⊎ SourceEnds input_remaining input_reads (IsRead remaining reads first last) options before after result

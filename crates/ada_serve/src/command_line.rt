@@ -1,14 +1,16 @@
 //! The command line.
 
-ghost use Rattle.std.specs.Prelude.{◌≡◌, ◌≤◌, false, None, IfOk};
+ghost use Rattle.std.specs.Prelude.{◌≡◌, ◌≤◌, false, None, IfOk, IfSome};
 ghost use Rattle.std.specs.Char.{is_ascii_digit};
-ghost use Rattle.std.specs.List.{list_all};
-ghost use Rattle.ada_serve.specs.Settings.{HasDefaults, number_of, limit_of};
+ghost use Rattle.std.specs.List.{All, list_all};
+ghost use Rattle.std.specs.Option.{option_map};
+ghost use Rattle.ada_serve.specs.Settings.{HasDefaults, HasSize, number_of, words_of, size_in, shown_size};
 
-use crate::settings::{Options, Paths};
+use crate::settings::{MOST_WORDS, Options, Paths};
+use ada_pools::PoolSize;
 use clap::error::ErrorKind;
 use clap::{Arg, ArgAction, ArgMatches, Command, Error};
-use std::alloc::{AllocError, Global};
+use std::alloc::{AllocError, AllocFailed, Global};
 
 /// Why the words are no command.
 #[derive(Debug, Drop)]
@@ -28,6 +30,16 @@ impl From<AllocError> for UsageFault {
     }
 }
 
+impl<T: Drop> From<AllocFailed<T>> for UsageFault {
+    ghost use Rattle.ada_serve.specs.declared.command_line.UsageFault.TheVariants.{NoMemory};
+
+    ghost from_gives = { λ _ e. e ≡ NoMemory };
+
+    fn from(_failed: AllocFailed<T>) -> UsageFault {
+        UsageFault::NoMemory
+    }
+}
+
 /// Reads the words after the program's name.
 ///
 /// # Errors
@@ -35,6 +47,8 @@ impl From<AllocError> for UsageFault {
 pub fn options<'a>(alloc: Global, words: &'a [&'a str]) -> Result<(Options, Paths<'a>), UsageFault>
     ensures defaults { IfOk result (λ found. HasDefaults found.0) }
     ensures steps { IfOk result (λ found. 1 ≤ found.0.steps) }
+    ensures standard { IfOk result (λ found. found.0.standard ≤ MOST_WORDS) }
+    ensures sizes { IfOk result (λ found. All HasSize found.0.sizes.items) }
     // Only a run has an input.
     ensures input { IfOk result (λ found. found.0.run ≡ false → found.1.input ≡ None) }
 {
@@ -49,21 +63,7 @@ pub fn options<'a>(alloc: Global, words: &'a [&'a str]) -> Result<(Options, Path
         Some(given) => Some(given),
         None => matches.subcommand_matches("check"),
     };
-    let mut options = Options::new(run.is_some());
-    if let Some(word) = word_of(run, "steps") {
-        let Some(steps) = limit(word) else {
-            let error = no_number(alloc, &mut command, word, "--steps <N>", 1)?;
-            return Err(UsageFault::Usage(error));
-        };
-        options.steps = steps;
-    }
-    if let Some(word) = word_of(run, "refuse") {
-        let Some(refuse) = number(word) else {
-            let error = no_number(alloc, &mut command, word, "--refuse <K>", 0)?;
-            return Err(UsageFault::Usage(error));
-        };
-        options.refuse = refuse;
-    }
+    let options = options_of(alloc, &mut command, run)?;
     Ok((
         options,
         Paths {
@@ -71,6 +71,100 @@ pub fn options<'a>(alloc: Global, words: &'a [&'a str]) -> Result<(Options, Path
             input: word_of(run, "input"),
         },
     ))
+}
+
+/// An option whose word is a number from `least` to `most`.
+#[derive(Clone, Copy)]
+struct NumberOption {
+    shown: &'static str,
+    least: u32,
+    most: u32,
+}
+
+/// What is asked for: a run by these words, or a check where there are none.
+///
+/// # Errors
+/// Where a word is wrong, or memory ran out.
+fn options_of(
+    alloc: Global,
+    command: &mut Command<'_>,
+    run: Option<&ArgMatches<'_>>,
+) -> Result<Options, UsageFault>
+    ensures check { IfOk result (λ options. options.run ≡ false → run.entry ≡ None) }
+    ensures defaults { IfOk result HasDefaults }
+    ensures steps { IfOk result (λ options. 1 ≤ options.steps) }
+    ensures standard { IfOk result (λ options. options.standard ≤ MOST_WORDS) }
+    ensures sizes { IfOk result (λ options. All HasSize options.sizes.items) }
+{
+    let mut options = Options::new(alloc, run.is_some());
+    let Some(given) = run else {
+        return Ok(options);
+    };
+    let limit = NumberOption {
+        shown: "--steps <N>",
+        least: 1,
+        most: u32::MAX,
+    };
+    let refused = NumberOption {
+        shown: "--refuse <K>",
+        least: 0,
+        most: u32::MAX,
+    };
+    let size = NumberOption {
+        shown: "--standard <WORDS>",
+        least: 0,
+        most: MOST_WORDS,
+    };
+    options.steps = number_given(
+        alloc,
+        command,
+        given.get_str("steps"),
+        &limit,
+        options.steps,
+    )?;
+    options.refuse = number_given(
+        alloc,
+        command,
+        given.get_str("refuse"),
+        &refused,
+        options.refuse,
+    )?;
+    options.standard = number_given(
+        alloc,
+        command,
+        given.get_str("standard"),
+        &size,
+        options.standard,
+    )?;
+    if let Some(words) = given.get_strs("sizes") {
+        add_sizes(alloc, command, words, &mut options.sizes)?;
+    }
+    Ok(options)
+}
+
+/// The number that the word behind an option gives; or the default, where there is no word.
+///
+/// # Errors
+/// Where the word gives no number that the option takes, or memory ran out.
+fn number_given(
+    alloc: Global,
+    command: &mut Command<'_>,
+    word: Option<&str>,
+    option: &NumberOption,
+    default: u32,
+) -> Result<u32, UsageFault>
+    requires least { option.now.least ≤ default }
+    requires most { default ≤ option.now.most }
+    ensures least { IfOk result (λ number. option.now.least ≤ number) }
+    ensures most { IfOk result (λ number. number ≤ option.now.most) }
+{
+    let Some(word) = word else {
+        return Ok(default);
+    };
+    match number(word) {
+        Some(number) if option.least <= number && number <= option.most => Ok(number),
+        _ => Err(UsageFault::Usage(no_number(alloc, command, word, option)?)),
+    }
 }
 
 /// The word behind an option, if it is given.
@@ -83,12 +177,61 @@ fn word_of<'a>(given: Option<&ArgMatches<'a>>, option: &str) -> Option<&'a str>
     }
 }
 
-/// The limit of statements that a word gives: digits alone, of a number from 1 on.
-fn limit(word: &str) -> Option<u32>
-    ensures { result ≡ limit_of word.now }
+/// Adds the sizes that words give.
+///
+/// # Errors
+/// Where a word gives no size, or memory ran out.
+fn add_sizes(
+    alloc: Global,
+    command: &mut Command<'_>,
+    words: &[&str],
+    sizes: &mut Vec<PoolSize>,
+) -> Result<(), UsageFault>
+    requires { All HasSize sizes.old.items }
+    ensures { All HasSize sizes.new.items }
 {
-    let limit = number(word)?;
-    if limit == 0 { None } else { Some(limit) }
+    for word in words {
+        let Some(size) = pool_size(alloc, word)? else {
+            let error = no_size(alloc, command, word)?;
+            return Err(UsageFault::Usage(error));
+        };
+        sizes.push(size)?;
+    }
+    Ok(())
+}
+
+/// The size that a word gives for pools of a name: the name, `=`, and the size in words.
+///
+/// # Errors
+/// Where memory ran out.
+fn pool_size(alloc: Global, word: &str) -> Result<Option<PoolSize>, AllocError>
+    ensures gives { IfOk result (λ found. option_map shown_size found ≡ size_in word.now) }
+    ensures size { IfOk result (λ found. IfSome found HasSize) }
+{
+    let Some((name, digits)) = word.split_once('=') else {
+        return Ok(None);
+    };
+    if name.is_empty() {
+        return Ok(None);
+    }
+    let Some(words) = size_words(digits) else {
+        return Ok(None);
+    };
+    let name = String::from_str(alloc, name)?;
+    Ok(Some(PoolSize { name, words }))
+}
+
+/// The size in words that a word gives: digits alone, of a number up to 65,536.
+fn size_words(word: &str) -> Option<u32>
+    ensures gives { result ≡ words_of word.now }
+    ensures size { IfSome result (λ words. words ≤ MOST_WORDS) }
+{
+    let words = number(word)?;
+    if words > MOST_WORDS {
+        None
+    } else {
+        Some(words)
+    }
 }
 
 /// The number that a word gives: digits alone, and at least one.
@@ -116,16 +259,25 @@ fn no_number(
     alloc: Global,
     command: &mut Command<'_>,
     word: &str,
-    option: &str,
-    least: u32,
+    option: &NumberOption,
 ) -> Result<Error, AllocError> {
+    let NumberOption { shown, least, most } = option;
     let message = format!(in alloc;
-        "invalid value '{word}' for '{option}': not the digits of a number from {least} to 4294967295"
+        "invalid value '{word}' for '{shown}': not the digits of a number from {least} to {most}"
     )?;
     command.error(ErrorKind::ValueValidation, message.as_str())
 }
 
-/// `ada_run check [--source FILE]` and `ada_run run [--source FILE] [--input FILE] [--steps N] [--refuse K]`
+/// The error that a word gives no size of a pool.
+fn no_size(alloc: Global, command: &mut Command<'_>, word: &str) -> Result<Error, AllocError> {
+    let message = format!(in alloc;
+        "invalid value '{word}' for '[NAME=WORDS]...': not a name, '=' and the digits of a number from 0 to {MOST_WORDS}"
+    )?;
+    command.error(ErrorKind::ValueValidation, message.as_str())
+}
+
+/// `ada_run check [--source FILE]` and
+/// `ada_run run [--source FILE] [--input FILE] [--standard WORDS] [--steps N] [--refuse K] [NAME=WORDS]...`
 fn command<'a>(alloc: Global) -> Result<Command<'a>, AllocError> {
     let check = Command::new(alloc, "check")
         .about("Checks a source")
@@ -134,8 +286,10 @@ fn command<'a>(alloc: Global) -> Result<Command<'a>, AllocError> {
         .about("Runs a source that is accepted")
         .arg(source(alloc))?
         .arg(input(alloc))?
+        .arg(standard(alloc))?
         .arg(steps(alloc))?
-        .arg(refuse(alloc))?;
+        .arg(refuse(alloc))?
+        .arg(sizes(alloc))?;
     Command::new(alloc, "ada_run")
         .about("Checks and runs the use of storage in Ada programs")
         .no_binary_name(true)
@@ -162,6 +316,15 @@ fn input<'a>(alloc: Global) -> Arg<'a> {
         .action(ArgAction::Set)
 }
 
+/// `--standard WORDS`
+fn standard<'a>(alloc: Global) -> Arg<'a> {
+    Arg::new(alloc, "standard")
+        .long("standard")
+        .value_name("WORDS")
+        .help("The size of the standard pool in words, 0 to 65536; 65536 where no number is given")
+        .action(ArgAction::Set)
+}
+
 /// `--steps N`
 fn steps<'a>(alloc: Global) -> Arg<'a> {
     Arg::new(alloc, "steps")
@@ -182,4 +345,15 @@ fn refuse<'a>(alloc: Global) -> Arg<'a> {
             "The request for storage that is refused, 1 to 4294967295; none is where 0 or no number is given",
         )
         .action(ArgAction::Set)
+}
+
+/// `[NAME=WORDS]...`
+fn sizes<'a>(alloc: Global) -> Arg<'a> {
+    Arg::new(alloc, "sizes")
+        .value_name("NAME=WORDS")
+        .help(
+            "The size in words, 0 to 65536, of each pool of a name in place of the declared one; the last counts",
+        )
+        .num_args(..)
+        .action(ArgAction::Append)
 }

@@ -5,7 +5,7 @@ ghost use Rattle.ada_serve.specs.Exits.{exit_of, fault_exit};
 
 use crate::serve::{ServeFault, Status};
 
-/// The exit status where the words on the command line are no command.
+/// The exit status where the words on the command line are no command, or name a pool that the program lacks.
 pub const USAGE: u8 = 4;
 /// The exit status where memory ran out.
 pub const NO_MEMORY: u8 = 6;
@@ -31,6 +31,7 @@ pub fn fault_code(fault: ServeFault) -> u8
         | ServeFault::InputTooLong
         | ServeFault::ReadFailed
         | ServeFault::WriteFailed => 5,
+        ServeFault::NoSuchPool => USAGE,
         ServeFault::NoMemory => NO_MEMORY,
     }
 }

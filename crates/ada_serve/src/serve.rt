@@ -6,10 +6,11 @@ ghost use Rattle.ada_meaning.specs.declared.event.Halt.TheVariants.{Memory};
 ghost use Rattle.ada_meaning.specs.Event.{event_of};
 ghost use Rattle.ada_meaning.specs.Law.{Safe};
 ghost use Rattle.ada_meaning.specs.Run.{first_state};
+ghost use Rattle.ada_pools.specs.View.{runner_of};
 ghost use Rattle.ada_serve.specs.Answer.{IsRefusal, IsProgramAnswer, GivesNumbers};
 ghost use Rattle.ada_serve.specs.Calls.{IsRead, IsKept, FaultReads, OnlyWrites, WriterEnds};
-ghost use Rattle.ada_serve.specs.Runner.{end_text, status_of, event_text, TakesTurn, HasRun};
-ghost use Rattle.ada_serve.specs.Served.{PromisesSafe, IsOfInput, FaultGives, InputTurns, ReadersEnd, Serves};
+ghost use Rattle.ada_serve.specs.Runner.{runner_before, end_text, status_of, event_text, TakesTurn, HasRun};
+ghost use Rattle.ada_serve.specs.Served.{PromisesSafe, IsOfInput, FaultGives, InputTurns, ReadersEnd, Serves, TellsPools};
 ghost use Rattle.ada_serve.specs.Texts.{texts_of, exceptions_of, stopped_text};
 ghost use Rattle.ada_serve.specs.Written.{Writes, SaysFront};
 ghost use Rattle.ada_typed.specs.Stuck.{NeverStuck};
@@ -19,9 +20,10 @@ use crate::settings::Options;
 use crate::streams::{ByteReader, ByteWriter, Failed};
 use crate::texts::{put_line, put_refusal, put_stopped, put_unhandled};
 use ada_input::{InputFault, numbers};
-use ada_interpreter::{Machine, RefuseOne};
+use ada_interpreter::Machine;
 use ada_meaning::laws::{states_go_on, steps_make_lighter};
 use ada_meaning::{Event, Halt};
+use ada_pools::{PoolChoices, name_pools};
 use ada_program::Program;
 use ada_typed::laws::well_formed_programs_are_never_stuck;
 use ada_verdict::{Accepted, Verdict, check};
@@ -56,6 +58,9 @@ pub enum ServeFault {
     /// A write failed or took nothing. What was written is a front of the answer.
     #[error("F73 write-failed")]
     WriteFailed,
+    /// A size is given for a name that no pool of the program has. Nothing was written.
+    #[error("F74 no-such-pool")]
+    NoSuchPool,
     /// Memory ran out. What was written is a front of the answer.
     #[error("F90 no-memory")]
     NoMemory,
@@ -113,14 +118,15 @@ const MOST_KEPT: usize = 1_048_577;
 
 /// Writes the answer to a source: the line of its first fault, or `accepted`, or the lines of its run and how it ended.
 /// A run is stopped where it would begin one statement more than `options.steps`; its request for storage whose number
-/// is `options.refuse` is refused.
+/// is `options.refuse` is refused, and so is one for which its pool has no room.
 ///
 /// The input is read before the run begins, and each line is written as the run comes to it. A check, and a source that
 /// is refused, leave the input unread.
 ///
 /// # Errors
-/// Where reading, writing or memory failed, or the input is too long or has a word that is no number. Where a read
-/// failed, or the input has no numbers, nothing was written.
+/// Where a run is asked for and a size is for no pool of the program; where reading, writing or memory failed, or the
+/// input is too long or has a word that is no number. Where a pool is missing, a read failed, or the input has no
+/// numbers, nothing was written.
 pub fn serve<S: ByteReader, I: ByteReader, W: ByteWriter>(
     alloc: Global,
     source: &mut S,
@@ -136,8 +142,9 @@ pub fn serve<S: ByteReader, I: ByteReader, W: ByteWriter>(
     // A run never comes to an erroneous action.
     ensures status { IfOk result (λ status. status ≢ Status.Erroneous) }
     // A fault of reading is reported exactly where a read failed, one of the input's words exactly where it was read to
-    // its end and has it, and one of writing exactly where a write failed.
-    ensures readers { ReadersEnd S.remaining S.reads source.old source.new I.remaining I.reads input.old input.new options.now.run result }
+    // its end and has it, a missing pool exactly where a run would come to read its input and a size is for no pool, and
+    // a fault of writing exactly where a write failed.
+    ensures readers { ReadersEnd S.remaining S.reads source.old source.new I.remaining I.reads input.old input.new options.now result }
     ensures writer { WriterEnds W.writes out.old out.new result }
 {
     states_go_on();
@@ -157,17 +164,21 @@ fn answer<I: ByteReader, W: ByteWriter>(
     out: &mut W,
 ) -> Result<Status, ServeFault>
     ensures text { SaysFront (IsProgramAnswer (IsRead I.remaining I.reads input.old input.new)
-        accepted.now options.now.run options.now.steps options.now.refuse)
+        accepted.now options.now.run options.now.steps (runner_before accepted.now options.now))
         (W.contents out.old) (W.contents out.new) result }
     ensures writer { WriterEnds W.writes out.old out.new result }
     ensures input { InputTurns I.remaining I.reads input.old input.new result }
     ensures asked { IfErr result (λ fault. IsOfInput fault → options.now.run ≡ true) }
+    ensures sizes { TellsPools accepted.now options.now result }
     ensures safe { Safe accepted.now }
     ensures typed { NeverStuck accepted.now }
 {
     well_formed_programs_are_never_stuck();
     let program = accepted.program();
     if options.run {
+        if !name_pools(program, &options.sizes) {
+            return Err(ServeFault::NoSuchPool);
+        }
         let numbers = read_numbers(alloc, input)?;
         return run(alloc, program, numbers, options, out);
     }
@@ -231,8 +242,8 @@ fn refuse<W: ByteWriter>(
     Ok(Status::Refused)
 }
 
-/// Runs a program on these numbers, and writes its lines and how it ended. One request for storage is refused, or none,
-/// and so many statements may begin.
+/// Runs a program on these numbers, and writes its lines and how it ended. Its pools have the sizes that are asked for,
+/// one request for storage is refused, or none, and so many statements may begin.
 fn run<W: ByteWriter>(
     alloc: Global,
     program: &Program,
@@ -240,13 +251,17 @@ fn run<W: ByteWriter>(
     options: &Options,
     out: &mut W,
 ) -> Result<Status, ServeFault>
-    ensures text { SaysFront (HasRun program.now numbers.items options.now.steps options.now.refuse)
+    ensures text { SaysFront (HasRun program.now numbers.items options.now.steps (runner_before program.now options.now))
         (W.contents out.old) (W.contents out.new) result }
     ensures writer { OnlyWrites W.writes out.old out.new result }
 {
-    let choices = RefuseOne {
-        left: options.refuse,
-    };
+    let choices = PoolChoices::new(
+        alloc,
+        program,
+        options.standard,
+        &options.sizes,
+        options.refuse,
+    )?;
     let mut machine = Machine::new(alloc, program, numbers, choices)?;
     let mut page = Vec::new(alloc);
     take_turns(&mut machine, program, options, &mut page, out)
@@ -254,17 +269,16 @@ fn run<W: ByteWriter>(
 
 /// Takes the turns of a run that has just begun, up to its end or to the limit of statements.
 fn take_turns<W: ByteWriter>(
-    machine: &mut Machine<'_, RefuseOne>,
+    machine: &mut Machine<'_, PoolChoices>,
     program: &Program,
     options: &Options,
     page: &mut Vec<u8>,
     out: &mut W,
 ) -> Result<Status, ServeFault>
     requires first { state_in machine.old ≡ first_state program.now (state_in machine.old).input }
-    requires until { (choices_of machine.old).left ≡ options.now.refuse }
     requires runs { halt_of machine.old ≡ None }
     requires same { program_of machine.old ≡ program.now }
-    ensures text { SaysFront (HasRun program.now (state_in machine.old).input options.now.steps options.now.refuse)
+    ensures text { SaysFront (HasRun program.now (state_in machine.old).input options.now.steps (runner_of (choices_of machine.old)))
         (W.contents out.old) (W.contents out.new) result }
     ensures writer { OnlyWrites W.writes out.old out.new result }
 {
@@ -290,14 +304,14 @@ fn take_turns<W: ByteWriter>(
 
 /// Makes one step and writes its line; or writes how the run ended, and returns that status.
 fn take_turn<W: ByteWriter>(
-    machine: &mut Machine<'_, RefuseOne>,
+    machine: &mut Machine<'_, PoolChoices>,
     program: &Program,
     page: &mut Vec<u8>,
     out: &mut W,
 ) -> Result<Option<Status>, ServeFault>
     requires runs { halt_of machine.old ≡ None }
     requires same { program_of machine.old ≡ program.now }
-    ensures text { TakesTurn program.now (choices_of machine.old).left (choices_of machine.new).left (state_in machine.old) (state_in machine.new)
+    ensures text { TakesTurn program.now (runner_of (choices_of machine.old)) (runner_of (choices_of machine.new)) (state_in machine.old) (state_in machine.new)
         (W.contents out.old) (W.contents out.new) result }
     ensures writer { OnlyWrites W.writes out.old out.new result }
     ensures runs { IfOk result (λ ended. ended ≡ None → halt_of machine.new ≡ None) }

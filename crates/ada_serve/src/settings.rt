@@ -1,19 +1,23 @@
 //! What the program is asked to do.
 
-ghost use Rattle.std.specs.Prelude.{◌≡◌};
+ghost use Rattle.std.specs.Prelude.{◌≡◌, []};
 ghost use Rattle.ada_serve.specs.Settings.{HasDefaults};
+
+use ada_pools::PoolSize;
+use std::alloc::Global;
 
 /// The greatest size of a pool, in words, and that of the standard pool where no other is given.
 pub const MOST_WORDS: u32 = 65_536;
 
-/// What the program is asked to do. `standard` and `trace` have their defaults: no word on the command line sets them
-/// yet.
+/// What the program is asked to do. `trace` has its default: no word on the command line sets it yet.
 #[derive(Debug, Drop)]
 pub struct Options {
     /// Run the source if it is accepted, in place of only checking it.
     pub run: bool,
     /// The size of the standard pool, in words.
     pub standard: u32,
+    /// The sizes of pools that the program declares; of two for one name the last counts.
+    pub sizes: Vec<PoolSize>,
     /// How many statements a run may begin, at least one.
     pub steps: u32,
     /// The number of the request for storage that is refused, counted from 1 over the run; 0 refuses none.
@@ -23,9 +27,11 @@ pub struct Options {
 }
 
 impl Options {
-    /// The defaults, for a check or for a run.
-    pub fn new(run: bool) -> Options
+    /// The defaults, for a check or for a run. Takes no memory.
+    pub fn new(alloc: Global, run: bool) -> Options
         ensures run { result.run ≡ run }
+        ensures standard { result.standard ≡ 65_536 }
+        ensures sizes { result.sizes.items ≡ [] }
         ensures steps { result.steps ≡ 1_000_000 }
         ensures refuse { result.refuse ≡ 0 }
         ensures defaults { HasDefaults result }
@@ -33,6 +39,7 @@ impl Options {
         Options {
             run,
             standard: MOST_WORDS,
+            sizes: Vec::new(alloc),
             steps: 1_000_000,
             refuse: 0,
             trace: false,

@@ -53,7 +53,8 @@ exists_there : {heap : List Object} {masters : List Master} (o : Id) (x : Object
 exists_there {heap} {masters} o x access stored found listed of_type =
     let sane = stored.sane o x found in
     let exists = sane.listed_exists listed in
-    (x, found, exists, of_type, items.contains_item x.cell.home.item x.cell.access x.cell.home.pool (items_of masters) (sane.housed (exists_out o x found exists stored)))
+    let i = items.contains_item x.cell.home.item x.cell.access x.cell.home.pool (items_of masters) (sane.housed (exists_out o x found exists stored)) in
+    (x, found, exists, of_type, (i.0, i.1, i.2, i.3))
 
 exists_by : {heap : List Object} {masters : List Master} (access : Option ℕ) (o : Id) → Stored None heap masters → IsOf (access_at heap) access o → Exists heap masters access o
 exists_by None o stored of = absurd of

@@ -21,7 +21,7 @@ use Rattle.ada_meaning.specs.declared.state.Mode.TheVariants.{Running, Raising}
 use Rattle.ada_meaning.specs.Frame.{Computes, Fills, Copies, Creates, Stores, Declares, StoresIn, StoresRecord, DeclaresRecord}
 use Rattle.ada_meaning.specs.Event.{Quiet}
 use Rattle.ada_meaning.specs.Heap.{Cell}
-use Rattle.ada_meaning.specs.State.{Activation, home_of}
+use Rattle.ada_meaning.specs.State.{Destination, Activation, home_of}
 use Rattle.ada_meaning.specs.Step.{path_next, items_next, new_next, new_cell, answered, selected, first_in, record_holder_next}
 use Rattle.ada_meaning.specs.Named.{Object, State, object_at, new_object, create, created, store, named, inside}
 use Rattle.ada_typed.specs.Holding.{HaveKinds, cells_of}
@@ -178,9 +178,9 @@ module _ (known : Known) (k : Control) (a : Activation Value) (rest : List (Acti
       record_item p items (record_fits cs p items fits) w (record_kept w.holds p (next_keeps known s.heap a.places (item_of_record p) items k a.operands w.rooms w.holds w.rest))
 
   -- A new object is granted, or refused.
-  module _ (access count words item : ℕ) (home : home_of access s.masters ≡ Some item) (w : Working known s.heap a.places s.masters (Filling known s.heap a.places access count [] k a.operands)) (kinds : HaveKinds known.program.types (cells_of s.heap) w.rest.leads.components (reverse (take count a.operands))) where
+  module _ (access count words : ℕ) (home : Destination) (is_home : home_of access s.masters ≡ Some home) (w : Working known s.heap a.places s.masters (Filling known s.heap a.places access count [] k a.operands)) (kinds : HaveKinds known.program.types (cells_of s.heap) w.rest.leads.components (reverse (take count a.operands))) where
     cell : Cell Value
-    cell = new_cell named access count item (running k a rest s)
+    cell = new_cell named access count home (running k a rest s)
 
     -- What is known once the variables that the items move are lost.
     lost : Holds
@@ -204,7 +204,7 @@ module _ (known : Known) (k : Control) (a : Activation Value) (rest : List (Acti
 
     stored : Stored None (create s.heap words cell) s.masters
     unfolding cell
-    stored = stored_new cell (home_has access item s.masters home) w.stored
+    stored = stored_new cell (home_has access home s.masters is_home) w.stored
 
     -- A variable owns it then, or a component does.
     owned_by : (x : ℕ) (More : Rooms → Holds → Type 0) → w.rest.target ≡ None → variable_access known.program.variables x ≡ Some access → is_object known.program.variables x ≡ false → More w.rooms (slice_set lost x (hold.Own Whole)) → Working known (create s.heap words cell) (slice_set a.places x (created s.heap words)) s.masters More
@@ -251,14 +251,14 @@ module _ (known : Known) (k : Control) (a : Activation Value) (rest : List (Acti
     granted_ready (StoresIn o c ∷ k') operands room into to = stored_in o c k' (λ path is. rw is at into) to.0 to.1
     granted_ready (f ∷ k') operands room into to = absurd to
 
-    answered_fine : (granted : Bool) → Stepped known s.heap Quiet (answered named access count item words (running k a rest s) granted)
+    answered_fine : (granted : Bool) → Stepped known s.heap Quiet (answered named access count words home (running k a rest s) granted)
     unfolding cell lost
     answered_fine true = record { ready = (tt, granted_ready k (drop count a.operands) w.rest.leads.room w.rest.into w.rest.leads.to); alters = alters_new s.heap Quiet (new_object cell) refl; says = tt }
     answered_fine false = jumps_less known k a rest s (Raising StorageError) (at_work w (w.rest.leads.refused refl))
 
-  creates_by : (access count words : ℕ) (home : Option ℕ) → home_of access s.masters ≡ home → (w : Working known s.heap a.places s.masters (Filling known s.heap a.places access count [] k a.operands)) → HaveKinds known.program.types (cells_of s.heap) w.rest.leads.components (reverse (take count a.operands)) → Fine known s.heap s.masters (new_next named access count words home (running k a rest s))
+  creates_by : (access count words : ℕ) (home : Option Destination) → home_of access s.masters ≡ home → (w : Working known s.heap a.places s.masters (Filling known s.heap a.places access count [] k a.operands)) → HaveKinds known.program.types (cells_of s.heap) w.rest.leads.components (reverse (take count a.operands)) → Fine known s.heap s.masters (new_next named access count words home (running k a rest s))
   creates_by access count words None e w kinds = jumps_less known k a rest s (Raising StorageError) (at_work w (w.rest.leads.refused refl))
-  creates_by access count words (Some item) e w kinds = answered_fine access count words item e w kinds
+  creates_by access count words (Some home) e w kinds = answered_fine access count words home e w kinds
 
   pub creates_fine : (access count words : ℕ) (kinds : List OperandKind) → typed.Fits known.program (cells_of s.heap) kinds (Creates access count ∷ k) → AreComputed known.program.types (cells_of s.heap) kinds a.operands → Working known s.heap a.places s.masters (Filling known s.heap a.places access count [] k a.operands) → Fine known s.heap s.masters (new_next named access count words (home_of access s.masters) (running k a rest s))
   creates_fine access count words kinds fits computed w =

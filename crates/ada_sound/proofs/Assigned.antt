@@ -77,7 +77,7 @@ access_from types variables path t e =
     ap access_of (leads_from types path.of_record (variable_kind variables path.root) path.selectors h.0 h.1) ∙ h.2
 
 -- What is assigned is of the access type that it goes to.
-this_is : (t : ℕ) (access : Option ℕ) → is_this t access ≡ true → access ≡ Some t
+pub this_is : (t : ℕ) (access : Option ℕ) → is_this t access ≡ true → access ≡ Some t
 this_is t None is = absurd (cc is)
 this_is t (Some u) is = ap Some (eqb-true u t is)
 

@@ -8,8 +8,9 @@ use Rattle.ada_text.specs.declared.spot.Spot.{Spot}
 use Rattle.ada_program.specs.declared.program.Program.{Program}
 use Rattle.ada_program.specs.Form.{StmtsForm, HandlersForm, declaration_forms, stmt_forms, handler_forms}
 use Rattle.ada_program.specs.ProgramForm.{BodyForm, ProgramForm, main_body, body_forms, program_form}
-use Rattle.ada_program.specs.WellFormed.{type_fits, variable_fits, creations, creates_from, collections_first, collection_fits, has_collections, initial_fits, stmts_fit, handlers_fit, bodies_fit, all_creations, callable_in, IsWellFormed}
+use Rattle.ada_program.specs.WellFormed.{type_fits, variable_fits, creations, creates_from, collections_first, collection_fits, has_collections, pools_fit, initial_fits, stmts_fit, handlers_fit, bodies_fit, all_creations, callable_in, IsWellFormed}
 use Rattle.ada_program.specs.Nested.{collected, part_nests, statements_nest, handlers_nest, callees_of, CollectionsNest}
+use Rattle.ada_program.specs.Freed.{statements_free_own, handlers_free_own, body_frees_own, FreesItsOwn}
 use Rattle.ada_effects.specs.Effects.{effects_of}
 use Rattle.ada_flow.specs.declared.rule.Rule.{Rule}
 use Rattle.ada_flow.specs.Flow.{Holds, Outcome, Around, goes, faults, stmts_flow, handlers_flow, declarations_flow, keeping_of, body_around, types_of, variables_of, first_holds, flow_of, program_flow}
@@ -19,7 +20,7 @@ use Rattle.ada_meaning.specs.Event.{Quiet}
 use Rattle.ada_meaning.specs.Step.{halts, moves, tells, asks, picks}
 use Rattle.ada_meaning.specs.Named.{State, Next, next}
 use Rattle.ada_meaning.specs.Run.{Event, Choice, settled, grants, takes, Leads, Run, here, there, Halts, first_state}
-use Rattle.ada_sound.specs.Always.{IsChecked, Breaks, IsIllFormed, IsIllNested, InSomeRun, is_seen, IsFineAtEnds, HaltsAfter, HaltsSomewhere}
+use Rattle.ada_sound.specs.Always.{IsChecked, Breaks, IsIllFormed, IsIllNested, FreesOthers, InSomeRun, is_seen, IsFineAtEnds, HaltsAfter, HaltsSomewhere}
 
 -- Events, and the state that they lead to.
 abbrev pub Came : Type 0
@@ -124,23 +125,32 @@ around_with program bodies fs hs =
 abbrev pub flow_with : Program → List BodyForm → StmtsForm → HandlersForm → Outcome
 flow_with program bodies fs hs = flow_of (form_with program bodies fs hs)
 
--- Whether a program is well formed, and whether its collections nest.
+-- Whether a program is well formed, whether its collections nest, and whether it frees by the instances for what it frees.
 abbrev pub is_fine : ProgramForm → Bool
 is_fine p =
-    list_all (type_fits p.types) p.types && (list_all (variable_fits p.types) p.variables && (creates_from (length p.variables) 0 (creations p) &&
+    list_all (type_fits p.types) p.types && (pools_fit p && (list_all (variable_fits p.types) p.variables && (creates_from (length p.variables) 0 (creations p) &&
     (collections_first p.declarations && (list_all (collection_fits p.types) p.declarations && (has_collections (all_creations p) 0 p.types &&
     (list_all (initial_fits p.types p.variables) p.declarations && (stmts_fit p.types p.variables p.texts p.exceptions (callable_in p) false p.statements &&
-    (handlers_fit p.types p.variables p.texts p.exceptions (callable_in p) false p.handlers && bodies_fit p.types p.texts p.exceptions [] p.bodies))))))))
+    (handlers_fit p.types p.variables p.texts p.exceptions (callable_in p) false p.handlers && bodies_fit p.types p.texts p.exceptions [] p.bodies)))))))))
 
 abbrev pub is_nested : ProgramForm → Bool
 is_nested p =
     part_nests p.types [] p.declarations && (statements_nest p.types (callees_of p) (collected p.declarations) p.statements &&
     handlers_nest p.types (callees_of p) (collected p.declarations) p.handlers)
 
+abbrev pub is_own : ProgramForm → Bool
+is_own p =
+    statements_free_own p.types p.variables p.statements && (handlers_free_own p.types p.variables p.handlers && list_all (body_frees_own p.types) p.bodies)
+
+-- The last two of these.
+abbrev pub is_kept : ProgramForm → Bool
+is_kept p = is_nested p && is_own p
+
 fine_is : (p : ProgramForm) → is_fine p ≡ true → IsWellFormed p
 fine_is p e =
     let a = and_parts _ _ e in
-    let b = and_parts _ _ a.1 in
+    let z = and_parts _ _ a.1 in
+    let b = and_parts _ _ z.1 in
     let c = and_parts _ _ b.1 in
     let d = and_parts _ _ c.1 in
     let f = and_parts _ _ d.1 in
@@ -150,6 +160,7 @@ fine_is p e =
     let j = and_parts _ _ i.1 in
     record {
       types_fit = a.0;
+      pools_fit = z.0;
       variables_fit = b.0;
       creates_in_order = c.0;
       collections_first = d.0;
@@ -167,6 +178,12 @@ nested_is p e =
     let b = and_parts _ _ a.1 in
     record { declarations = a.0; statements = b.0; handlers = b.1 }
 
+own_is : (p : ProgramForm) → is_own p ≡ true → FreesItsOwn p
+own_is p e =
+    let a = and_parts _ _ e in
+    let b = and_parts _ _ a.1 in
+    record { statements = a.0; handlers = b.0; bodies = b.1 }
+
 -- Of programs whose procedures have these bodies, and which do these statements with these handlers.
 module _ (program : Program) (bodies : List BodyForm) (fs : StmtsForm) (hs : HandlersForm)
     (same : body_forms program ≡ bodies) (is : stmt_forms program ≡ fs) (has : handler_forms program ≡ hs) where
@@ -178,22 +195,39 @@ module _ (program : Program) (bodies : List BodyForm) (fs : StmtsForm) (hs : Han
   pub flow_in : (o : Outcome) → flow_with program bodies fs hs ≡ o → program_flow program ≡ o
   flow_in o e = ap flow_of form_is ∙ e
 
-  -- It is well formed, and its collections nest.
+  -- It is well formed, its collections nest, and it frees its own.
   fine_in : is_fine (form_with program bodies fs hs) ≡ true → IsWellFormed (program_form program)
   fine_in e = subst IsWellFormed (sym form_is) (fine_is (form_with program bodies fs hs) e)
 
   nested_in : is_nested (form_with program bodies fs hs) ≡ true → CollectionsNest (program_form program)
   nested_in e = subst CollectionsNest (sym form_is) (nested_is (form_with program bodies fs hs) e)
 
-  -- It is accepted, or refused for one thing alone.
-  pub accepted_in : (normal raising : Option Holds) → is_fine (form_with program bodies fs hs) ≡ true → is_nested (form_with program bodies fs hs) ≡ true
-      → flow_with program bodies fs hs ≡ goes normal raising → IsChecked program
-  accepted_in normal raising fine nested e =
-      record { well_formed = fine_in fine; nests = nested_in nested; obeys = (normal, raising, flow_in (goes normal raising) e) }
+  own_in : is_own (form_with program bodies fs hs) ≡ true → FreesItsOwn (program_form program)
+  own_in e = subst FreesItsOwn (sym form_is) (own_is (form_with program bodies fs hs) e)
 
-  pub breaks_in : (rule : Rule) (spot : Spot) → is_fine (form_with program bodies fs hs) ≡ true → is_nested (form_with program bodies fs hs) ≡ true
+  -- It is accepted, or refused for one thing alone.
+  pub accepted_in : (normal raising : Option Holds) → is_fine (form_with program bodies fs hs) ≡ true → is_kept (form_with program bodies fs hs) ≡ true
+      → flow_with program bodies fs hs ≡ goes normal raising → IsChecked program
+  accepted_in normal raising fine kept e =
+      let both = and_parts _ _ kept in
+      record {
+        well_formed = fine_in fine;
+        nests = nested_in both.0;
+        frees_own = own_in both.1;
+        obeys = (normal, raising, flow_in (goes normal raising) e);
+      }
+
+  pub breaks_in : (rule : Rule) (spot : Spot) → is_fine (form_with program bodies fs hs) ≡ true → is_kept (form_with program bodies fs hs) ≡ true
       → flow_with program bodies fs hs ≡ faults spot rule → Breaks rule program
-  breaks_in rule spot fine nested e = record { well_formed = fine_in fine; nests = nested_in nested; spot = spot; faults_there = flow_in (faults spot rule) e }
+  breaks_in rule spot fine kept e =
+      let both = and_parts _ _ kept in
+      record {
+        well_formed = fine_in fine;
+        nests = nested_in both.0;
+        frees_own = own_in both.1;
+        spot = spot;
+        faults_there = flow_in (faults spot rule) e;
+      }
 
   -- Its parts, where its handlers would be fine at the ends of its statements.
   pub fine_at_ends_in : (holds : Holds) (before within normal raising : Option Holds)
@@ -234,28 +268,41 @@ module _ (program : Program) (fs : StmtsForm) (hs : HandlersForm) (is : stmt_for
   whole = form_with program (body_forms program) fs hs
 
   -- It is accepted, or refused for one thing alone.
-  pub accepted_by : (normal raising : Option Holds) → is_fine whole ≡ true → is_nested whole ≡ true → flow_of whole ≡ goes normal raising → IsChecked program
-  accepted_by normal raising fine nested e = accepted_in program (body_forms program) fs hs refl is has normal raising fine nested e
+  pub accepted_by : (normal raising : Option Holds) → is_fine whole ≡ true → is_kept whole ≡ true → flow_of whole ≡ goes normal raising → IsChecked program
+  accepted_by normal raising fine kept e = accepted_in program (body_forms program) fs hs refl is has normal raising fine kept e
 
-  pub breaks_by : (rule : Rule) (spot : Spot) → is_fine whole ≡ true → is_nested whole ≡ true → flow_of whole ≡ faults spot rule → Breaks rule program
-  breaks_by rule spot fine nested e = breaks_in program (body_forms program) fs hs refl is has rule spot fine nested e
+  pub breaks_by : (rule : Rule) (spot : Spot) → is_fine whole ≡ true → is_kept whole ≡ true → flow_of whole ≡ faults spot rule → Breaks rule program
+  breaks_by rule spot fine kept e = breaks_in program (body_forms program) fs hs refl is has rule spot fine kept e
 
   pub ill_formed_by : (normal raising : Option Holds)
-      → stmts_fit whole.types whole.variables whole.texts whole.exceptions (callable_in whole) false fs ≡ false → is_nested whole ≡ true
+      → stmts_fit whole.types whole.variables whole.texts whole.exceptions (callable_in whole) false fs ≡ false → is_kept whole ≡ true
       → flow_of whole ≡ goes normal raising → IsIllFormed program
-  ill_formed_by normal raising unfit nested e = record {
+  ill_formed_by normal raising unfit kept e = record {
     ill_formed = λ w.
         let fits : stmts_fit whole.types whole.variables whole.texts whole.exceptions (callable_in whole) false fs ≡ true = rw is at (w.statements_fit) in
         cc (unfit, fits);
-    nests = nested_in program (body_forms program) fs hs refl is has nested;
+    nests = nested_in program (body_forms program) fs hs refl is has (and_parts _ _ kept).0;
+    frees_own = own_in program (body_forms program) fs hs refl is has (and_parts _ _ kept).1;
     obeys = (normal, raising, flow_in program (body_forms program) fs hs refl is has (goes normal raising) e);
   }
 
   pub ill_nested_by : (normal raising : Option Holds) → is_fine whole ≡ true → part_nests whole.types [] whole.declarations ≡ false
-      → flow_of whole ≡ goes normal raising → IsIllNested program
-  ill_nested_by normal raising fine unnested e = record {
+      → is_own whole ≡ true → flow_of whole ≡ goes normal raising → IsIllNested program
+  ill_nested_by normal raising fine unnested own e = record {
     well_formed = fine_in program (body_forms program) fs hs refl is has fine;
     ill_nested = λ w. cc (unnested, w.declarations);
+    frees_own = own_in program (body_forms program) fs hs refl is has own;
+    obeys = (normal, raising, flow_in program (body_forms program) fs hs refl is has (goes normal raising) e);
+  }
+
+  pub frees_others_by : (normal raising : Option Holds) → is_fine whole ≡ true → is_nested whole ≡ true
+      → statements_free_own whole.types whole.variables fs ≡ false → flow_of whole ≡ goes normal raising → FreesOthers program
+  frees_others_by normal raising fine nested other e = record {
+    well_formed = fine_in program (body_forms program) fs hs refl is has fine;
+    nests = nested_in program (body_forms program) fs hs refl is has nested;
+    frees_others = λ w.
+        let own : statements_free_own whole.types whole.variables fs ≡ true = rw is at (w.statements) in
+        cc (other, own);
     obeys = (normal, raising, flow_in program (body_forms program) fs hs refl is has (goes normal raising) e);
   }
 

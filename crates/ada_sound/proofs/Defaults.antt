@@ -100,7 +100,7 @@ Reaches known types =
 components_shown : (o : Option TypeDefinition) → components_in (option_map type_form o) ≡ components_by o
 components_shown None = refl
 components_shown (Some (definition.Record name parts components)) = refl
-components_shown (Some (definition.Access name designated)) = refl
+components_shown (Some (definition.Access name designated pool)) = refl
 components_shown (Some (definition.Object record_type)) = refl
 
 record_same : (types : List TypeDefinition) (t : ℕ) → record_components (map type_form types) t ≡ components_of types t

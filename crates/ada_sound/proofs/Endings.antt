@@ -16,7 +16,7 @@ use Rattle.ada_meaning.specs.declared.event.Cause.{Cause}
 use Rattle.ada_meaning.specs.declared.event.Cause.TheVariants.{Leaving, Freeing, Assigning, Undoing}
 use Rattle.ada_meaning.specs.Frame.{Leaves, Ends, GivesBack, Clears, ClearsIn}
 use Rattle.ada_meaning.specs.Event.{Back, Left, Quiet}
-use Rattle.ada_meaning.specs.State.{Owned, declared, collection, record_object, Item, Master, Activation}
+use Rattle.ada_meaning.specs.State.{Owned, declared, collection, record_object, storage_pool, Item, Master, Activation}
 use Rattle.ada_meaning.specs.Step.{same_pool, told_back, end_next, back_next, members_next, item_leave_next, master_leave_next, leave_next}
 use Rattle.ada_meaning.specs.Named.{Object, State, object_at, look, lent, members, named, parted, finished, returned, filled, store}
 use Rattle.ada_meaning.specs.Run.{Event}
@@ -75,12 +75,17 @@ same_one (Some n) (Some m) e = eq-eqb n m (cc e)
 -- What an item is the home of is of a type that it may own.
 among_by : (owned : Owned) (access : ℕ) (pool : Option ℕ) (types : List ℕ) → Houses owned access pool → OwnedAmong owned types → is_among types (Some access) ≡ true
 among_by (declared x) access pool types h among = absurd h
-among_by (collection t) access pool types h among = rw (h.0) at among
+among_by (collection t own) access pool types h among = rw (h.0) at among
 among_by (record_object t) access pool types h among = rw (h.0) at among
+among_by (storage_pool declaration number) access pool types h among = absurd h
 
 -- What is from its pool.
 abbrev HousesFrom : Owned → (pool : Option ℕ) → Type 0
-HousesFrom owned pool = (access : ℕ) (own : Option ℕ) → Houses owned access own → own ≡ pool
+HousesFrom owned pool = (access : ℕ) (own : Option ℕ) → Houses owned access own → pool ≡ own
+
+-- It is the home of no object.
+abbrev HousesNone : Owned → Type 0
+HousesNone owned = (access : ℕ) (own : Option ℕ) → Houses owned access own → ⊥
 
 module _ (known : Known) where
   -- What is behind an object under way stays so.
@@ -263,7 +268,7 @@ module _ (known : Known) where
               covered = tt;
               rest = (
                 refl,
-                sym (from x.cell.access x.cell.home.pool type),
+                from x.cell.access x.cell.home.pool type,
                 (
                   sym member.home,
                   record {
@@ -300,15 +305,14 @@ module _ (known : Known) where
       },
     ) tt
 
-    -- An object in a collection has a collection as its home.
-    declared_has_none : (item : Item) (items : List Item) (y : ℕ) → item.owned ≡ declared y → Left_with (item ∷ items) → (o : Id) (x : Object) → object_at s.heap o ≡ Some x → x.listed ≡ true → x.cell.home.item ≡ item.number → ⊥
+    -- A variable or a pool is the home of no object.
+    has_none : (item : Item) (items : List Item) → HousesNone item.owned → Left_with (item ∷ items) → (o : Id) (x : Object) → object_at s.heap o ≡ Some x → x.listed ≡ true → x.cell.home.item ≡ item.number → ⊥
     unfolding Left_with
-    declared_has_none item items y owns w o x found listed home =
+    has_none item items none w o x found listed home =
         let sane = w.stored.sane o x found in
         let exists = sane.listed_exists listed in
         let type = newest_is x.cell.home.item x.cell.access x.cell.home.pool item (items ++ items_of ms) home w.stored.counted (sane.housed (exists_out o x found exists w.stored)) in
-        let none : Houses (declared y) x.cell.access x.cell.home.pool = rw owns at type in
-        none
+        none x.cell.access x.cell.home.pool type
 
     members_fine : (item : Item) (items : List Item) (pool : Option ℕ) (vs : List Value) → HousesFrom item.owned pool → members s.heap item.number ≡ vs → Left_with (item ∷ items) → HeldIn s.heap (record { number = number; items = item ∷ items } ∷ ms) → NamedBelow (outers known) s.heap (record { number = number; items = item ∷ items } ∷ ms) → Fine known s.heap (record { number = number; items = item ∷ items } ∷ ms) (members_next named (Leaving number item.number) pool vs (left_with (item ∷ items)))
     unfolding left_with Left_with
@@ -317,8 +321,9 @@ module _ (known : Known) where
 
     item_fine : (item : Item) (items : List Item) (what : Owned) → item.owned ≡ what → Left_with (item ∷ items) → HeldIn s.heap (record { number = number; items = item ∷ items } ∷ ms) → NamedBelow (outers known) s.heap (record { number = number; items = item ∷ items } ∷ ms) → Fine known s.heap (record { number = number; items = item ∷ items } ∷ ms) (item_leave_next named number item what (left_with (item ∷ items)))
     unfolding left_with Left_with
-    item_fine item items (declared y) is w held low = shorter_fine item items (declared_has_none item items y is w) w
-    item_fine item items (collection access) is w held low = members_fine item items (Some 0) (members s.heap item.number) (λ t own h. (let houses : Houses (collection access) t own = rw is at h in houses.1)) refl w held low
+    item_fine item items (declared y) is w held low = shorter_fine item items (has_none item items (λ t own h. rw is at h) w) w
+    item_fine item items (storage_pool declaration pool) is w held low = shorter_fine item items (has_none item items (λ t own h. rw is at h) w) w
+    item_fine item items (collection access pool) is w held low = members_fine item items pool (members s.heap item.number) (λ t own h. (let houses : Houses (collection access pool) t own = rw is at h in houses.1)) refl w held low
     item_fine item items (record_object t) is w held low = members_fine item items None (members s.heap item.number) (λ u own h. (let houses : Houses (record_object t) u own = rw is at h in houses.1)) refl w held low
 
     -- The master is left.

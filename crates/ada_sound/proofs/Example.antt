@@ -57,7 +57,7 @@ spot = record { line = 1; column = 1 }
 
 -- type Cell is record Value : Integer; end record; type Link is access Cell;
 abbrev pub types : List TypeDefinition
-types = definition.Record no_name (vec [] (omega arith)) (vec (component.Integer (pos 0) ∷ []) (omega arith)) ∷ definition.Access no_name (record { 0 = 0 }) ∷ []
+types = definition.Record no_name (vec [] (omega arith)) (vec (component.Integer (pos 0) ∷ []) (omega arith)) ∷ definition.Access no_name (record { 0 = 0 }) None ∷ []
 
 -- X, Y : Link;
 abbrev pub link : Variable
@@ -73,6 +73,7 @@ exceptions = no_name ∷ []
 abbrev pub handled_program_of : (statements : List Stmt) → length statements ≤ 8 → (handlers : List Handler) → length handlers ≤ 8 → Program
 handled_program_of statements le handlers few = record {
   types = vec types (omega arith);
+  pools = vec [] (omega arith);
   procedures = vec [] (omega arith);
   variables = vec (link ∷ link ∷ []) (omega arith);
   texts = vec [] (omega arith);
@@ -222,6 +223,7 @@ n_declared = declaration.Variable (record { 0 = 2 }) (Some (right.Value (Integer
 abbrev counting_program_of : (statements : List Stmt) → length statements ≤ 8 → Program
 counting_program_of statements le = record {
   types = vec types (omega arith);
+  pools = vec [] (omega arith);
   procedures = vec [] (omega arith);
   variables = vec (link ∷ link ∷ record { name = no_name; spot = spot; kind = variable.Integer; borrows = false } ∷ []) (omega arith);
   texts = vec [] (omega arith);

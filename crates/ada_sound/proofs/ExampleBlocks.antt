@@ -81,7 +81,7 @@ handles = halts_after handling handling_stmts handling_handlers handling_form ha
 
 -- type Inner is access Cell;
 abbrev two_access_types : List TypeDefinition
-two_access_types = types ++ definition.Access no_name (record { 0 = 0 }) ∷ []
+two_access_types = types ++ definition.Access no_name (record { 0 = 0 }) None ∷ []
 
 -- X : Link; Y : Inner;
 abbrev inner_link : Variable
@@ -90,6 +90,7 @@ inner_link = record { name = no_name; spot = spot; kind = variable.Access (recor
 abbrev unwinding_program_of : (declarations : List Declaration) → length declarations ≤ 8 → (statements : List Stmt) → length statements ≤ 8 → (handlers : List Handler) → length handlers ≤ 8 → Program
 unwinding_program_of declarations few statements le handlers fewer = record {
   types = vec two_access_types (omega arith);
+  pools = vec [] (omega arith);
   procedures = vec [] (omega arith);
   variables = vec (link ∷ inner_link ∷ []) (omega arith);
   texts = vec [] (omega arith);
@@ -184,6 +185,7 @@ an_integer = record { name = no_name; spot = spot; kind = variable.Integer; borr
 abbrev reading_program_of : (parameters : List Variable) → length parameters ≤ 5 → (statements : List Stmt) → length statements ≤ 8 → (handlers : List Handler) → length handlers ≤ 8 → Program
 reading_program_of parameters less statements le handlers few = record {
   types = vec types (omega arith);
+  pools = vec [] (omega arith);
   procedures = vec [] (omega arith);
   variables = vec (link ∷ link ∷ an_integer ∷ parameters) (omega (arith, less));
   texts = vec [] (omega arith);

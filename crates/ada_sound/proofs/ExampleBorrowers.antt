@@ -39,6 +39,7 @@ borrower_declarations = declarations ++ declaration.Variable (record { 0 = 2 }) 
 abbrev pub program_with : (statements : List Stmt) → length statements ≤ 9 → Program
 program_with statements le = record {
   types = vec node_types (omega arith);
+  pools = vec [] (omega arith);
   procedures = vec [] (omega arith);
   variables = vec (link ∷ link ∷ borrower ∷ []) (omega arith);
   texts = vec [] (omega arith);

@@ -109,6 +109,7 @@ abbrev program_with : (procedures : List Procedure) → length procedures ≤ 8 
     → length handlers ≤ 8 → Program
 program_with procedures less statements le handlers few = record {
   types = vec types (omega arith);
+  pools = vec [] (omega arith);
   procedures = vec procedures less;
   variables = vec (link ∷ link ∷ []) (omega arith);
   texts = vec [] (omega arith);
@@ -161,6 +162,7 @@ relending_all = x_is_seven ∷ b_is_x ∷ calls 0 (Integer (pos 1)) ∷ b_is_x �
 abbrev pub relending : Program
 relending = record {
   types = vec types (omega arith);
+  pools = vec [] (omega arith);
   procedures = vec (showing ∷ []) (omega arith);
   variables = vec (link ∷ link ∷ borrower ∷ []) (omega arith);
   texts = vec [] (omega arith);
@@ -227,6 +229,7 @@ writing_handler = record {
 abbrev pub giving : Program
 giving = record {
   types = vec types (omega arith);
+  pools = vec [] (omega arith);
   procedures = vec (incrementing ∷ failing ∷ []) (omega arith);
   variables = vec (link ∷ link ∷ an_integer ∷ []) (omega arith);
   texts = vec [] (omega arith);
@@ -629,6 +632,7 @@ r_declared t = declaration.Collection (record { 0 = 1 }) ∷ declaration.Record 
 abbrev pub trimming : Program
 trimming = record {
   types = vec pair_types (omega arith);
+  pools = vec [] (omega arith);
   procedures = vec (show_node ∷ trim ∷ []) (omega arith);
   variables = vec (of_object_type 5 ∷ []) (omega arith);
   texts = vec [] (omega arith);
@@ -687,6 +691,7 @@ replacing_main =
 abbrev program_of_nodes : (rest : Variable) → Procedure → (statements : List Stmt) → length statements ≤ 8 → Program
 program_of_nodes rest procedure statements le = record {
   types = vec node_and_object (omega arith);
+  pools = vec [] (omega arith);
   procedures = vec (procedure ∷ []) (omega arith);
   variables = vec (link ∷ rest ∷ borrower ∷ []) (omega arith);
   texts = vec [] (omega arith);
@@ -797,6 +802,7 @@ stripping_main =
 abbrev pub stripping : Program
 stripping = record {
   types = vec node_and_object (omega arith);
+  pools = vec [] (omega arith);
   procedures = vec (spoil ∷ []) (omega arith);
   variables = vec (of_object_type 2 ∷ []) (omega arith);
   texts = vec [] (omega arith);

@@ -31,7 +31,7 @@ use Rattle.ada_sound.proofs.ExampleOwners.{record_of, access_to, an_integer, an_
 use Rattle.ada_sound.proofs.ExampleBorrowers.{program_with, b_is_head, walking_loop}
 
 -- P := new T'(..);
-abbrev news : Path → (access : ℕ) → (items : List Item) → length items ≤ 8 → Stmt
+abbrev pub news : Path → (access : ℕ) → (items : List Item) → length items ≤ 8 → Stmt
 news p access items le = stmt.Assign p (right.Allocator (record { 0 = access }) (vec items le))
 
 -- Free (P);
@@ -90,6 +90,7 @@ freeing_all =
 abbrev pub freeing : Program
 freeing = record {
   types = vec leaf_types (omega arith);
+  pools = vec [] (omega arith);
   procedures = vec [] (omega arith);
   variables = vec (of_access 3 ∷ of_access 1 ∷ []) (omega arith);
   texts = vec [] (omega arith);

@@ -36,7 +36,7 @@ abbrev pub record_of : (components : List ComponentKind) → length components �
 record_of components le = definition.Record no_name (vec [] (omega arith)) (vec components le)
 
 abbrev pub access_to : ℕ → TypeDefinition
-access_to designated = definition.Access no_name (record { 0 = designated })
+access_to designated = definition.Access no_name (record { 0 = designated }) None
 
 abbrev pub an_integer : ComponentKind
 an_integer = component.Integer (pos 0)
@@ -48,6 +48,7 @@ an_access access = component.Access (record { 0 = access })
 abbrev program_with : (types : List TypeDefinition) → length types ≤ 8 → (statements : List Stmt) → length statements ≤ 8 → Program
 program_with types few statements le = record {
   types = vec types few;
+  pools = vec [] (omega arith);
   procedures = vec [] (omega arith);
   variables = vec (link ∷ link ∷ []) (omega arith);
   texts = vec [] (omega arith);
@@ -189,6 +190,7 @@ outlasting_all = outlasting_block ∷ stmt.PutImage (Reads (path 0 (record { 0 =
 abbrev pub outlasting : Program
 outlasting = record {
   types = vec outlasting_types (omega arith);
+  pools = vec [] (omega arith);
   procedures = vec [] (omega arith);
   variables = vec (of_access 2 ∷ of_access 3 ∷ []) (omega arith);
   texts = vec [] (omega arith);
@@ -203,7 +205,7 @@ outlasting_form = simp (statement_rules, expression_rules)
 
 pub outlasting_ill_nested : IsIllNested outlasting
 unfolding expression_form uses_in
-outlasting_ill_nested = ill_nested_by outlasting outlasting_stmts no_handlers outlasting_form refl _ _ refl refl refl
+outlasting_ill_nested = ill_nested_by outlasting outlasting_stmts no_handlers outlasting_form refl _ _ refl refl refl refl
 
 -- What is behind the block follows the component of the node that stays.
 pub outlasts : HaltsAfter outlasting_events (Erroneous FollowsGone) outlasting
@@ -261,6 +263,7 @@ record_all = default_news (of_r 1) ∷ moves (whole 1) (of_r 1) ∷ clears (of_r
 abbrev pub recording : Program
 recording = record {
   types = vec record_types (omega arith);
+  pools = vec [] (omega arith);
   procedures = vec [] (omega arith);
   variables = vec record_variables (omega arith);
   texts = vec [] (omega arith);

@@ -77,6 +77,7 @@ copying_all =
 abbrev pub copying : Program
 copying = record {
   types = vec point_types (omega arith);
+  pools = vec [] (omega arith);
   procedures = vec [] (omega arith);
   variables = vec (of_object_type 2 ∷ of_object_type 3 ∷ link ∷ []) (omega arith);
   texts = vec [] (omega arith);
@@ -125,6 +126,7 @@ duplicating_all =
 abbrev pub duplicating : Program
 duplicating = record {
   types = vec node_object_types (omega arith);
+  pools = vec [] (omega arith);
   procedures = vec [] (omega arith);
   variables = vec (of_object_type 2 ∷ of_object_type 3 ∷ []) (omega arith);
   texts = vec [] (omega arith);

@@ -1,6 +1,6 @@
 -- Free (X).
 
-use Rattle.std.proofs.Common.{subst, ◌≡◌, ℕ, true, false, List, ◌∷◌, refl, sym, inl}
+use Rattle.std.proofs.Common.{subst, ◌≡◌, ℕ, true, false, List, ◌∷◌, refl, sym, ◌∙◌, inl}
 use Rattle.std.specs.Prelude.{Some, None}
 use Rattle.ada_text.specs.declared.spot.Spot.{Spot}
 use Rattle.ada_program.specs.Form.{StmtsForm}
@@ -17,10 +17,11 @@ use Rattle.ada_meaning.specs.Step.{free_next}
 use Rattle.ada_meaning.specs.Named.{State, look, named, parted}
 use Rattle.ada_sound.proofs.Fits.{NoOuterAlias, is_object, IsOwn, IsSaid, place_at, null_fit, behind_fit, freed_unnamed, part_fit}
 use Rattle.ada_sound.proofs.Objects.{set_here}
+use Rattle.ada_sound.proofs.Homes.{HaveHomes, freed_home}
 use Rattle.ada_sound.proofs.Stored.{stored_part}
 use Rattle.ada_sound.proofs.Alters.{alters_set}
 use Rattle.ada_sound.proofs.Taken.{root_access}
-use Rattle.ada_sound.proofs.Invariant.{CoveredIn, outers, Pooled, Known, Control, Rooms, Goes, RunsOn, Working, Stepped, Fine}
+use Rattle.ada_sound.proofs.Invariant.{CoveredIn, outers, Known, Control, Rooms, Goes, RunsOn, Working, Stepped, Fine}
 use Rattle.ada_sound.proofs.Ready.{running, runs_on}
 
 -- An owner is not lost.
@@ -31,7 +32,7 @@ own_kept (hold.Own r) spot own = refl
 own_kept (hold.Alias r) spot own = absurd own
 own_kept hold.Lost spot own = absurd own
 
-module _ (known : Known) (a : Activation Value) (rest : List (Activation Value)) (s : State) (access x : ℕ) (none : is_object known.program.variables x ≡ false) (spot : Spot) (fs : StmtsForm) (k : Control) (raised : Rooms → Holds → Type 0) (pooled : Pooled known.program.types s.heap) (own_type : ℕ) (of_type : variable_access known.program.variables x ≡ Some own_type) (is_type : is_access known.program.types own_type ≡ true) (spares : NoOuterAlias known.program.types (outers known) own_type × CoveredIn known.program own_type) (w : Working known s.heap a.places s.masters (λ rooms holds. Goes (released known.program.variables x spot holds (hold_at holds x)) (RunsOn known (Does fs ∷ k) rooms) (raised rooms))) where
+module _ (known : Known) (a : Activation Value) (rest : List (Activation Value)) (s : State) (access x : ℕ) (none : is_object known.program.variables x ≡ false) (spot : Spot) (fs : StmtsForm) (k : Control) (raised : Rooms → Holds → Type 0) (homes : HaveHomes known.program.types s.heap s.masters) (own_type : ℕ) (by_own : own_type ≡ access) (of_type : variable_access known.program.variables x ≡ Some own_type) (is_type : is_access known.program.types own_type ≡ true) (spares : NoOuterAlias known.program.types (outers known) own_type × CoveredIn known.program own_type) (w : Working known s.heap a.places s.masters (λ rooms holds. Goes (released known.program.variables x spot holds (hold_at holds x)) (RunsOn known (Does fs ∷ k) rooms) (raised rooms))) where
   -- X is null: nothing happens.
   free_null : place_at a.places x ≡ Null → RunsOn known (Does fs ∷ k) w.rooms (freed known.program.variables x w.holds) → Stepped known s.heap Quiet (running (Does fs ∷ k) a rest s)
   free_null is more = runs_on known (Does fs ∷ k) a rest s (record { rooms = w.rooms; holds = freed known.program.variables x w.holds; stored = w.stored; roomed = w.roomed; fit = null_fit x none is (behind_fit (variable_access known.program.variables x) w.fit); rest = more }) Quiet tt
@@ -58,7 +59,7 @@ module _ (known : Known) (a : Activation Value) (rest : List (Activation Value))
             covered = subst (λ (u : ℕ). CoveredIn known.program u) one spares.1;
             rest = (
               refl,
-              sym (pooled o there.0 found (rw (← one) is_type)),
+              freed_home access o there.0 homes w.stored found exists (rw (← one) is_type) (sym one ∙ by_own),
               record {
                 rooms = w.rooms;
                 holds = freed known.program.variables x w.holds;

@@ -12,8 +12,9 @@ use Rattle.ada_meaning.specs.Named.{State}
 use Rattle.ada_meaning.specs.Run.{Event, Run, first_state}
 use Rattle.ada_meaning.specs.Law.{BackTwoObjects, FinalizedTwoValues, FollowedBeforeBack, InReverseOrder, IsBackHome, items_of, Falls, MastersFall, Safe}
 use Rattle.ada_sound.specs.Agreement.{Turning, Comes, here, behind, in_branches, in_body, in_count, in_enclosed, ComesBy, in_others, in_this, in_next, ComesTo, to_this, to_next, ComesInside, in_statements, in_handlers, Place, OneFlow}
-use Rattle.ada_sound.specs.Always.{IsChecked, InEveryRun, NeverErroneous, AgreesWithFlow, BacksAreTold, OutsAreHoused, EndsClean}
+use Rattle.ada_sound.specs.Always.{IsChecked, InEveryRun, NeverErroneous, AgreesWithFlow, BacksAreTold, OutsAreHoused, OutsHavePools, PoolNumbersDiffer, EndsClean}
 use Rattle.ada_sound.proofs.Items as items
+use Rattle.ada_sound.proofs.Pools.{pool_exists}
 use Rattle.ada_sound.proofs.Starts.{Sound, sound_first}
 use Rattle.ada_sound.proofs.Runs as runs
 use Rattle.ada_sound.proofs.Order as order
@@ -22,7 +23,7 @@ use Rattle.ada_sound.proofs.Agreeing.{agrees_at}
 -- Every run of a program that is accepted keeps the invariant.
 module _ (program : Program) (accepted : IsChecked program) where
   first : (input : List ℤ) → Sound program (first_state program input)
-  first input = sound_first program input accepted.well_formed accepted.nests accepted.obeys
+  first input = sound_first program input accepted.well_formed accepted.nests accepted.frees_own accepted.obeys
 
   sound_last : (input : List ℤ) (events : List Event) (last : State) → Run program (first_state program input) events last → Sound program last
   sound_last input events last run = runs.sound_run run (first input)
@@ -63,7 +64,15 @@ module _ (program : Program) (accepted : IsChecked program) where
   housed input events last run o x found out =
       let stored = runs.stored_in program last (sound_last input events last run) in
       let i = items.contains_item x.cell.home.item x.cell.access x.cell.home.pool (items_of last.masters) ((stored.1.sane o x found).housed out) in
-      (i.0, i.1, i.2)
+      (i.0, i.1, i.2, i.4)
+
+  pub pooled : InEveryRun program OutsHavePools
+  pooled input events last run o x found out =
+      let stored = runs.stored_in program last (sound_last input events last run) in
+      pool_exists program.types.items (items_of last.masters) x.cell.home.item x.cell.access x.cell.home.pool (order.pools_last program input events last run) ((stored.1.sane o x found).housed out)
+
+  pub pools_differ : InEveryRun program PoolNumbersDiffer
+  pools_differ input events last run = order.pools_differ program input events last run
 
   pub ends_clean : EndsClean program
   ends_clean input events last halt run halted ended = runs.ends_clean program last halt (sound_last input events last run) halted ended
@@ -81,6 +90,8 @@ module _ (program : Program) (accepted : IsChecked program) where
       items_fall = items_fall input events last run;
       masters_fall = masters_fall input events last run;
       housed = housed input events last run;
+      pooled = pooled input events last run;
+      pools_differ = pools_differ input events last run;
     };
     ends = ends_clean;
     inner_first = order.inner_first program;

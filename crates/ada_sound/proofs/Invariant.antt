@@ -30,7 +30,7 @@ use Rattle.ada_meaning.specs.declared.event.Halt.{Halt}
 use Rattle.ada_meaning.specs.declared.event.Halt.TheVariants.{Finished, Unhandled, Erroneous, Stuck, Memory}
 use Rattle.ada_meaning.specs.Frame.{Frame, Elaborates, Does, Decides, Repeats, Turns, Ranges, Counts, Exits, Handles, Closes, Leaves, Calls, Returns, Evaluates, Computes, Follows, TestsNull, Refers, RefersIn, Opens, OpensIn, Continues, Applies, AppliesAlone, Fills, Copies, Creates, Stores, Targets, StoresIn, TargetsRecord, StoresRecord, Receives, FreesIn, Declares, DeclaresRecord, Writes, Ends, GivesBack, Clears, ClearsIn}
 use Rattle.ada_meaning.specs.Event.{Born, Finalized, Back, Followed, Left, Line, Quiet}
-use Rattle.ada_meaning.specs.State.{Activation, Owned, declared, collection, record_object, Item, Master, height}
+use Rattle.ada_meaning.specs.State.{Activation, Owned, declared, collection, record_object, storage_pool, Item, Master, height}
 use Rattle.ada_meaning.specs.Heap.{Home, finds}
 use Rattle.ada_meaning.specs.Step.{halts, moves, tells, asks, picks, first_or, older, in_front, before_last, last_of, selected, first_in, places, operands}
 use Rattle.ada_meaning.specs.Named.{Object, State, Next, object_at, named, store, whole, inside}
@@ -56,8 +56,9 @@ Rooms = List GoneWith
 
 abbrev pub OwnedAmong : Owned → List ℕ → Type 0
 OwnedAmong (declared x) types = Unit {0}
-OwnedAmong (collection access) types = is_among types (Some access) ≡ true
+OwnedAmong (collection access pool) types = is_among types (Some access) ≡ true
 OwnedAmong (record_object t) types = is_among types (Some t) ≡ true
+OwnedAmong (storage_pool declaration number) types = Unit {0}
 
 abbrev pub ItemsAmong : List Item → List ℕ → Type 0
 ItemsAmong [] types = Unit {0}
@@ -643,18 +644,15 @@ abbrev pub PassesNone : List TypeForm → Option VariableKind → List ℕ → O
 PassesNone types kind cs None = Unit {0}
 PassesNone types kind cs (Some t) = passes_type types kind cs t ≡ false
 
--- An object of an access type is from the standard pool.
-abbrev pub Pooled : List TypeForm → List Object → Type 0
-Pooled types heap = (o : Id) (object : Object) → object_at heap o ≡ Some object → is_access types object.cell.access ≡ true → object.cell.home.pool ≡ Some 0
-
--- A component is to be freed (13.11.2) to which these selectors lead, and this one behind them: no value on the way is of its access type, whose
--- aliases are lost then, and where an exception is raised.
-pub record Releasing (known : Known) (heap : List Object) (v : Value) (cs : List ℕ) (c : ℕ) (k : Control) (rooms : Rooms) (holds : Holds) : Type 0 where
+-- A component is to be freed (13.11.2), by the instance for its own access type, to which these selectors lead, and this one behind them: no value on the
+-- way is of that type, whose aliases are lost then, and where an exception is raised.
+pub record Releasing (known : Known) (heap : List Object) (v : Value) (cs : List ℕ) (instance c : ℕ) (k : Control) (rooms : Rooms) (holds : Holds) : Type 0 where
   pub from : Option VariableKind
   pub access : Option ℕ
   pub is_from : OfKind heap v from
   pub passes : PassesNone known.program.types from (cs ++ c ∷ []) access
   pub of_type : access_of (selectors_kind known.program.types from (cs ++ c ∷ [])) ≡ access
+  pub frees_own : access ≡ Some instance
   pub own : (t : ℕ) → access ≡ Some t → is_access known.program.types t ≡ true
   pub spares : (t : ℕ) → access ≡ Some t → NoOuterAlias known.program.types (outers known) t
   pub covered : (t : ℕ) → access ≡ Some t → CoveredIn known.program t
@@ -969,7 +967,7 @@ FindsFor known heap places w below cs (Copies first t ∷ k) rooms holds =
     RaisesAt known w cs k rooms holds × CopiesTo known heap places t below k rooms holds
 FindsFor known heap places w below cs (Receives c ∷ k) rooms holds =
     RaisesAt known w cs k rooms holds × MayRaise known true EndError k rooms holds × RunsOn known k rooms holds
-FindsFor known heap places w below cs (FreesIn access c ∷ k) rooms holds = Releasing known heap w cs c k rooms holds
+FindsFor known heap places w below cs (FreesIn access c ∷ k) rooms holds = Releasing known heap w cs access c k rooms holds
 FindsFor known heap places w below cs (RefersIn first t ∷ k) rooms holds =
     RaisesAt known w cs k rooms holds × ((o : Id) → walk heap w cs ≡ finds (Names o) → PassesTo known heap places (Part o first ∷ below) k rooms holds)
 FindsFor known heap places w below cs (OpensIn c ∷ k) rooms holds =
@@ -1051,7 +1049,7 @@ ReadyBy known (StoresRecord o first count) k heap places operands masters =
     Working known heap places masters (λ rooms holds. IsPlainIn known heap o first count × RunsOn known k rooms holds)
 ReadyBy known (Receives c) k heap places operands masters = Working known heap places masters (Receiving known heap (first_or Null operands) k)
 ReadyBy known (FreesIn access c) k heap places operands masters =
-    Working known heap places masters (λ rooms holds. MayFollow heap (first_or Null operands) × Releasing known heap (first_or Null operands) [] c k rooms holds)
+    Working known heap places masters (λ rooms holds. MayFollow heap (first_or Null operands) × Releasing known heap (first_or Null operands) [] access c k rooms holds)
 ReadyBy known (Declares x) k heap places operands masters =
     Working known heap (slice_set places x (first_or Null operands)) masters (λ rooms holds. HasRoom rooms × RunsOn known k rooms holds)
 ReadyBy known (DeclaresRecord x t) k heap places operands masters = Working known heap places masters (Recording known x t k)

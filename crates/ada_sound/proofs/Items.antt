@@ -6,7 +6,7 @@ use Rattle.std.specs.Prelude.{Option, Some, None, if◌then◌else◌, ◌==◌}
 use Rattle.std.specs.List.{All, AllPairs, Contains}
 use Rattle.std.proofs.lemmas.List.Elements.{All-nil, All-cons}
 use Rattle.std.proofs.lemmas.List.Kept.{AllPairs-cons}
-use Rattle.ada_meaning.specs.State.{Owned, declared, collection, record_object, type_housed, Item, Master, height, collection_in, home_among, home_of}
+use Rattle.ada_meaning.specs.State.{Owned, declared, collection, record_object, storage_pool, type_housed, pool_housed, Item, Master, Destination, destination, height, collection_in, home_among, home_of}
 use Rattle.ada_meaning.specs.Step.{owning}
 use Rattle.ada_meaning.specs.Law.{items_of, Falls}
 
@@ -22,13 +22,21 @@ NoMaster (m ∷ ms) = ⊥
 -- An item that owns this is the home of objects of this type, and they are from this pool: a collection, or a record object.
 abbrev pub Houses : Owned → (access : ℕ) → (pool : Option ℕ) → Type 0
 Houses (declared x) access pool = ⊥
-Houses (collection t) access pool = (t ≡ access) × (pool ≡ Some 0)
-Houses (record_object t) access pool = (t ≡ access) × (pool ≡ None)
+Houses (collection t own) access pool = (t ≡ access) × (own ≡ pool)
+Houses (record_object t) access pool = (t ≡ access) × (None ≡ pool)
+Houses (storage_pool declaration number) access pool = ⊥
 
 pub houses_type : (owned : Owned) (access : ℕ) (pool : Option ℕ) → Houses owned access pool → type_housed owned ≡ Some access
 houses_type (declared x) access pool h = absurd h
-houses_type (collection t) access pool h = ap Some h.0
+houses_type (collection t own) access pool h = ap Some h.0
 houses_type (record_object t) access pool h = ap Some h.0
+houses_type (storage_pool declaration number) access pool h = absurd h
+
+pub houses_pool : (owned : Owned) (access : ℕ) (pool : Option ℕ) → Houses owned access pool → pool_housed owned ≡ pool
+houses_pool (declared x) access pool h = absurd h
+houses_pool (collection t own) access pool h = h.1
+houses_pool (record_object t) access pool h = h.1
+houses_pool (storage_pool declaration number) access pool h = absurd h
 
 -- The item of this number is among these, and is the home of such objects.
 abbrev pub HasItem : (n access : ℕ) (pool : Option ℕ) → List Item → Type 0
@@ -53,27 +61,29 @@ pub has_owning : (n access : ℕ) (pool : Option ℕ) (item : Item) (ms : List M
 has_owning n access pool item [] h = h
 has_owning n access pool item (m ∷ ms) h = inr h
 
--- The collection that an access type denotes is an item, and is of that type.
-HasSome : ℕ → Option ℕ → List Item → Type 0
+-- The collection that an access type denotes is an item, is of that type, and has that pool.
+HasSome : ℕ → Option Destination → List Item → Type 0
 HasSome access None is = Unit {0}
-HasSome access (Some n) is = HasItem n access (Some 0) is
+HasSome access (Some home) is = HasItem home.item access (Some home.pool) is
 
-has_one : (access : ℕ) (b : Bool) (n : ℕ) (is : List Item) (outer : Option ℕ) → (b ≡ true → HasItem n access (Some 0) is) → HasSome access outer is → HasSome access (if b then Some n else outer) is
+has_one : (access : ℕ) (b : Bool) (n : ℕ) (own : Option ℕ) (is : List Item) (outer : Option Destination) → (b ≡ true → (pool : ℕ) → own ≡ Some pool → HasItem n access (Some pool) is) → HasSome access outer is → HasSome access (if b then destination n own else outer) is
 unfolding HasSome
-has_one access true n is outer h o = h refl
-has_one access false n is outer h o = o
+has_one access true n None is outer h o = tt
+has_one access true n (Some pool) is outer h o = h refl pool refl
+has_one access false n own is outer h o = o
 
-some_more : (access : ℕ) (i : Item) (is : List Item) (outer : Option ℕ) → HasSome access outer is → HasSome access outer (i ∷ is)
+some_more : (access : ℕ) (i : Item) (is : List Item) (outer : Option Destination) → HasSome access outer is → HasSome access outer (i ∷ is)
 unfolding HasSome
 some_more access i is None h = h
-some_more access i is (Some n) h = inr h
+some_more access i is (Some home) h = inr h
 
-collection_has : (access : ℕ) (i : Item) (owned : Owned) → i.owned ≡ owned → (is : List Item) (outer : Option ℕ) → HasSome access outer (i ∷ is) → HasSome access (collection_in access i owned outer) (i ∷ is)
+collection_has : (access : ℕ) (i : Item) (owned : Owned) → i.owned ≡ owned → (is : List Item) (outer : Option Destination) → HasSome access outer (i ∷ is) → HasSome access (collection_in access i owned outer) (i ∷ is)
 collection_has access i (declared x) e is outer o = o
-collection_has access i (collection t) e is outer o = has_one access (access == t) i.number (i ∷ is) outer (λ same. inl (refl, rw e (sym (eqb-true access t same), refl))) o
+collection_has access i (collection t own) e is outer o = has_one access (access == t) i.number own (i ∷ is) outer (λ same pool at. inl (refl, rw e (sym (eqb-true access t same), at))) o
 collection_has access i (record_object t) e is outer o = o
+collection_has access i (storage_pool declaration number) e is outer o = o
 
-among_has : (access : ℕ) (is js : List Item) (outer : Option ℕ) → HasSome access outer js → HasSome access (home_among access is outer) (is ++ js)
+among_has : (access : ℕ) (is js : List Item) (outer : Option Destination) → HasSome access outer js → HasSome access (home_among access is outer) (is ++ js)
 among_has access [] js outer o = o
 among_has access (i ∷ is) js outer o = collection_has access i i.owned refl (is ++ js) (home_among access is outer) (some_more access i (is ++ js) (home_among access is outer) (among_has access is js outer o))
 
@@ -82,9 +92,9 @@ unfolding HasSome
 of_has access [] = tt
 of_has access (m ∷ ms) = among_has access m.items (items_of ms) (home_of access ms) (of_has access ms)
 
-pub home_has : (access item : ℕ) (ms : List Master) → home_of access ms ≡ Some item → HasItem item access (Some 0) (items_of ms)
+pub home_has : (access : ℕ) (home : Destination) (ms : List Master) → home_of access ms ≡ Some home → HasItem home.item access (Some home.pool) (items_of ms)
 unfolding HasSome
-home_has access item ms e = rw e at (of_has access ms)
+home_has access home ms e = rw e at (of_has access ms)
 
 -- Numbers are below the count of items, and fall.
 pub item_below : (n access : ℕ) (pool : Option ℕ) (is : List Item) → Counted is → HasItem n access pool is → n < length is
@@ -108,9 +118,9 @@ pub items_fall : (is : List Item) → Counted is → AllPairs Falls is
 items_fall [] c = λ i j d lt short. absurd (omega (arith, short))
 items_fall (i ∷ is) c = AllPairs-cons Falls i is (below_number i is c.0 c.1) (items_fall is c.1)
 
-pub contains_item : (n access : ℕ) (pool : Option ℕ) (is : List Item) → HasItem n access pool is → (i : Item) × Contains is i × (i.number ≡ n) × (type_housed i.owned ≡ Some access)
+pub contains_item : (n access : ℕ) (pool : Option ℕ) (is : List Item) → HasItem n access pool is → (i : Item) × Contains is i × (i.number ≡ n) × (type_housed i.owned ≡ Some access) × (pool_housed i.owned ≡ pool)
 contains_item n access pool [] h = absurd h
-contains_item n access pool (i ∷ is) (inl e) = (i, (zero, omega arith, refl), e.0, houses_type i.owned access pool e.1)
+contains_item n access pool (i ∷ is) (inl e) = (i, (zero, omega arith, refl), e.0, houses_type i.owned access pool e.1, houses_pool i.owned access pool e.1)
 contains_item n access pool (i ∷ is) (inr h) =
     let j = contains_item n access pool is h in
-    (j.0, (suc j.1.0, omega (arith, j.1.1), j.1.2), j.2, j.3)
+    (j.0, (suc j.1.0, omega (arith, j.1.1), j.1.2), j.2, j.3, j.4)

@@ -12,6 +12,10 @@ pub mod Bodies
 pub mod Keepings
 -- objects and their homes
 pub mod Stored
+-- where a Free gives words back to
+pub mod Homes
+-- pools that exist
+pub mod Pools
 -- back from a heap in which a component was written
 pub mod Back
 -- values and holds
@@ -140,6 +144,8 @@ pub mod ExampleFrees
 pub mod ExampleRecords
 -- the same with procedures
 pub mod ExampleCalls
+-- and those that declare pools
+pub mod ExamplePools
 -- where a statement begins
 pub mod Agreeing
 -- what effects cover

@@ -1,10 +1,11 @@
 -- Laws of order, of any run of any program, as they are used here.
 
-use Rattle.std.specs.Prelude.{ℤ, List, AllPairs}
+use Rattle.std.specs.Prelude.{ℤ, List, All, AllPairs}
 use Rattle.ada_program.specs.declared.program.Program.{Program}
 use Rattle.ada_meaning.specs.Named.{State}
 use Rattle.ada_meaning.specs.Run.{Event, Choice, Step, Run, first_state}
-use Rattle.ada_meaning.specs.Law.{InReverseOrder, MastersFall, LeavesInnermost}
+use Rattle.ada_meaning.specs.Law.{InReverseOrder, items_of, MastersFall, OwnTwoPools, IsDeclaredPool, LeavesInnermost}
+use Rattle.ada_order.specs.Masters.{HaveTheirPools}
 use Rattle.ada_order.proofs.Orders as orders
 
 -- At the leaving of a master items go in reverse order of their creation.
@@ -18,3 +19,11 @@ inner_first program input events before choice event after run step = orders.inn
 -- Numbers fall along the masters that are entered.
 pub masters_fall : (program : Program) (input : List ℤ) (events : List Event) (last : State) → Run program (first_state program input) events last → AllPairs MastersFall last.masters
 masters_fall program input events last run = orders.masters_fall program input events last run
+
+-- Each open collection has the pool of its access type, which was created before it.
+pub pools_last : (program : Program) (input : List ℤ) (events : List Event) (last : State) → Run program (first_state program input) events last → HaveTheirPools program.types.items (items_of last.masters)
+pools_last program input events last run = orders.pools_last program input events last run
+
+-- No two pools that exist have one number, and none has that of the standard pool.
+pub pools_differ : (program : Program) (input : List ℤ) (events : List Event) (last : State) → Run program (first_state program input) events last → AllPairs OwnTwoPools (items_of last.masters) × All IsDeclaredPool (items_of last.masters)
+pools_differ program input events last run = orders.pools_differ program input events last run

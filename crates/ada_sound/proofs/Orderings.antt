@@ -3,7 +3,7 @@
 use Rattle.std.proofs.Common.{◌≡◌, ◌≢◌, ℕ, zero, suc, Bool, true, false, ◌&&◌, List, [], ◌∷◌, refl, ◌⊎◌, inl, inr}
 use Rattle.std.specs.Prelude.{Option, Some, None}
 use Rattle.std.specs.List.{slice_set}
-use Rattle.ada_program.specs.Form.{ActualForm, in_value, in_null, in_access, in_record, in_out_path, in_out_access, in_out_component, in_out_record, DeclarationForm, collects, declares, declares_record, StmtForm, skips, assigns, assigns_record, frees, gets, writes, writes_text, chooses, repeats, counts, exits, calls, returns, raises, encloses, StmtsForm, no_stmts, a_stmt, BranchesForm, otherwise, a_branch, HandlersForm, no_handlers, a_handler}
+use Rattle.ada_program.specs.Form.{ActualForm, in_value, in_null, in_access, in_record, in_out_path, in_out_access, in_out_component, in_out_record, DeclarationForm, creates_pool, collects, declares, declares_record, StmtForm, skips, assigns, assigns_record, frees, gets, writes, writes_text, chooses, repeats, counts, exits, calls, returns, raises, encloses, StmtsForm, no_stmts, a_stmt, BranchesForm, otherwise, a_branch, HandlersForm, no_handlers, a_handler}
 use Rattle.ada_program.specs.ProgramForm.{VariableForm}
 use Rattle.ada_program.specs.WellFormed.{access_of, is_borrower, names_borrower}
 use Rattle.ada_effects.specs.Effects.{Effect}
@@ -214,6 +214,7 @@ all_touched_good (x ∷ xs) holds = as_good_then holds (touched x holds) (all_to
 
 parts_good : (variables : List VariableForm) (ds : List DeclarationForm) (holds : Holds) → AsGood holds (touched_by_all variables ds holds)
 parts_good variables [] holds = as_good holds
+parts_good variables (creates_pool pool ∷ ds) holds = parts_good variables ds holds
 parts_good variables (collects access ∷ ds) holds = parts_good variables ds holds
 parts_good variables (declares x right ∷ ds) holds =
     let here = all_touched (moved_by_right (is_borrower variables x) right) holds in

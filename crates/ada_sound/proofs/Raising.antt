@@ -15,7 +15,7 @@ use Rattle.ada_values.specs.declared.fault.OperatorFault.TheVariants.{Overflow, 
 use Rattle.ada_values.specs.Outcome.{outcome_of, outcome_of_integers, outcome_of_booleans, unary_outcome_of}
 use Rattle.ada_program.specs.declared.program.Exception.{Exception}
 use Rattle.ada_program.specs.declared.program.Exception.TheVariants.{ConstraintError, ProgramError, StorageError, EndError, Declared}
-use Rattle.ada_program.specs.Form.{RightForm, nothing, value_of, allocates, allocates_default, computes, DeclarationForm, collects, declares, declares_record, StmtForm, skips, assigns, assigns_record, frees, gets, writes, writes_text, chooses, repeats, counts, exits, calls, returns, raises, encloses, StmtsForm, no_stmts, a_stmt, BranchesForm, otherwise, a_branch, HandlersForm, no_handlers, a_handler}
+use Rattle.ada_program.specs.Form.{RightForm, nothing, value_of, allocates, allocates_default, computes, DeclarationForm, creates_pool, collects, declares, declares_record, StmtForm, skips, assigns, assigns_record, frees, gets, writes, writes_text, chooses, repeats, counts, exits, calls, returns, raises, encloses, StmtsForm, no_stmts, a_stmt, BranchesForm, otherwise, a_branch, HandlersForm, no_handlers, a_handler}
 use Rattle.ada_program.specs.Handling.{is_same, handler_of, is_taken}
 use Rattle.ada_program.specs.ProgramForm.{TypeForm, BodyForm, ProgramForm}
 use Rattle.ada_effects.specs.Effects.{Effect, effect_of, effects_from, effects_of, call_raises, actuals_raise, expression_raises, condition_raises, items_raise, path_raises, record_path_raises, initial_raises, untaken, unary_raises, binary_raises, right_raises, declaration_raises, declarations_raise, stmt_raises, stmts_raise, branches_raise, handlers_raise}
@@ -86,6 +86,7 @@ declarations_more among more m (d ∷ ds) is =
     or_map (declaration_raises among d) (declarations_raise among ds) (declaration_raises more d) (declarations_raise more ds) (one d) (declarations_more among more m ds) is
   where
     one : (d : DeclarationForm) → declaration_raises among d ≡ true → declaration_raises more d ≡ true
+    one (creates_pool pool) i = i
     one (collects access) i = i
     one (declares x right) i = right_more among more m right i
     one (declares_record x t initial) i = and_first (among ConstraintError) (initial_raises initial) (more ConstraintError) (m ConstraintError) i

@@ -32,8 +32,9 @@ use Rattle.ada_sound.proofs.Fits.{Outsiders, IsReferred, NoOuterAlias, MayFollow
 use Rattle.ada_sound.proofs.Objects.{set_here}
 use Rattle.ada_sound.proofs.Stored.{stored_part}
 use Rattle.ada_sound.proofs.Alters.{alters_set}
-use Rattle.ada_sound.proofs.Assigned.{freed_at}
-use Rattle.ada_sound.proofs.Invariant.{Spares, CoveredIn, begun, outers, Pooled, Known, Control, Goes, Raised, RunsOn, PassesNone, Releasing, Working, Stepped, Fine, ways}
+use Rattle.ada_sound.proofs.Assigned.{this_is, freed_at}
+use Rattle.ada_sound.proofs.Homes.{HaveHomes, freed_home}
+use Rattle.ada_sound.proofs.Invariant.{Spares, CoveredIn, begun, outers, Known, Control, Goes, Raised, RunsOn, PassesNone, Releasing, Working, Stepped, Fine, ways}
 use Rattle.ada_sound.proofs.Ready.{running, at_work, stays, runs_ready, jumps_less}
 use Rattle.ada_sound.proofs.Outcomes.{ends_goes}
 use Rattle.ada_sound.proofs.Roots.{access_leads, root_object, object_there, front_raises}
@@ -107,8 +108,8 @@ passes_root types outer heap kind v b c cs to (Some t) leads spares passes = by 
 
 module _ (known : Known) (a : Activation Value) (rest : List (Activation Value)) (s : State) where
   -- A Free of a component begins: its object is found first.
-  pub free_begins : (c : ℕ) (cs : List ℕ) (access : ℕ) (path : PathForm) (fs : StmtsForm) (k : Control) (among : Exception → Bool) → (path_raises path ≡ true → among ConstraintError ≡ true) → is_freed_by known.program.types access (path_access known.program.types known.program.variables path) ≡ true → Spares known (λ t. is_this t (path_access known.program.types known.program.variables path)) → path.selectors ≡ c ∷ cs → Working known s.heap a.places s.masters (λ rooms holds. Goes (frees_path known.program.types known.program.variables (c ∷ cs) path holds) (RunsOn known (Does fs ∷ k) rooms) (Raised among (ways known k rooms))) → Fine known s.heap s.masters (path_next named (before_last (inside (place_at a.places path.root) c) cs) (begun a.places path) (running (FreesIn access (last_of (inside (place_at a.places path.root) c) cs) ∷ Does fs ∷ k) a rest s))
-  free_begins c cs access path fs k among may freed spares is w =
+  pub free_begins : (c : ℕ) (cs : List ℕ) (access : ℕ) (path : PathForm) (fs : StmtsForm) (k : Control) (among : Exception → Bool) → (path_raises path ≡ true → among ConstraintError ≡ true) → is_freed_by known.program.types access (path_access known.program.types known.program.variables path) ≡ true → is_this access (path_access known.program.types known.program.variables path) ≡ true → Spares known (λ t. is_this t (path_access known.program.types known.program.variables path)) → path.selectors ≡ c ∷ cs → Working known s.heap a.places s.masters (λ rooms holds. Goes (frees_path known.program.types known.program.variables (c ∷ cs) path holds) (RunsOn known (Does fs ∷ k) rooms) (Raised among (ways known k rooms))) → Fine known s.heap s.masters (path_next named (before_last (inside (place_at a.places path.root) c) cs) (begun a.places path) (running (FreesIn access (last_of (inside (place_at a.places path.root) c) cs) ∷ Does fs ∷ k) a rest s))
+  free_begins c cs access path fs k among may freed by_own spares is w =
       let types = known.program.types in
       let variables = known.program.variables in
       let own = path_access types variables path in
@@ -131,6 +132,7 @@ module _ (known : Known) (a : Activation Value) (rest : List (Activation Value))
         is_from = λ o object names found. root_access b o object names found;
         passes = let here : PassesNone types b.from (before_last (inside v c) cs ++ last_of (inside v c) cs ∷ []) own = rw (front_last (inside v c) cs) (passes_root types (outers known) s.heap (variable_kind variables path.root) v b c cs to.0 own from_kind (λ t same. (is_own t same, spares_own t same)) (passes_none types variables path (c ∷ cs) own is kept.1)) in here;
         of_type = rw (front_last (inside v c) cs) (ap access_of from_here ∙ named_type);
+        frees_own = this_is access own by_own;
         own = is_own;
         spares = spares_own;
         covered = λ t same. (spares t (ap (is_this t) same ∙ eq-eqb t t refl)).1;
@@ -141,16 +143,16 @@ module _ (known : Known) (a : Activation Value) (rest : List (Activation Value))
       }))
       (root_follows path.root path.spot kept.0 w.fit)
 
-  module _ (access c : ℕ) (k : Control) (below : List Value) (pooled : Pooled known.program.types s.heap) where
+  module _ (access c : ℕ) (k : Control) (below : List Value) (homes : HaveHomes known.program.types s.heap s.masters) where
     -- The component is null: nothing happens.
-    null_freed : (o : Id) → IsThere s.heap o → Working known s.heap a.places s.masters (Releasing known s.heap (Names o) [] c k) → Stepped known s.heap (Followed (Names o)) (running k (record a { operands = below }) rest s)
+    null_freed : (o : Id) → IsThere s.heap o → Working known s.heap a.places s.masters (Releasing known s.heap (Names o) [] access c k) → Stepped known s.heap (Followed (Names o)) (running k (record a { operands = below }) rest s)
     null_freed o there w =
         stays known (Followed (Names o)) (running k (record a { operands = below }) rest s)
         (tt, runs_ready known k s.heap a.places below s.masters (record { rooms = w.rooms; holds = behind_end known.program.variables w.rest.access w.holds; stored = w.stored; roomed = w.roomed; fit = behind_fit w.rest.access w.fit; rest = w.rest.runs }))
         (followed o there w.stored)
 
     -- What the component names has the component's access type, and is another object than its own.
-    named_type : (o : Id) (object : Object) (p : Id) → object_at s.heap o ≡ Some object → object.listed ≡ true → slice_get object.cell.values c ≡ Some (Names p) → (w : Working known s.heap a.places s.masters (Releasing known s.heap (Names o) [] c k)) → IsOf (access_at s.heap) w.rest.access p
+    named_type : (o : Id) (object : Object) (p : Id) → object_at s.heap o ≡ Some object → object.listed ≡ true → slice_get object.cell.values c ≡ Some (Names p) → (w : Working known s.heap a.places s.masters (Releasing known s.heap (Names o) [] access c k)) → IsOf (access_at s.heap) w.rest.access p
     named_type o object p found listed at w =
         let here = w.rest.is_from o object refl found in
         let same : component_access known.program.types object c ≡ w.rest.access = sym (selected_access known.program.types w.rest.from object c here) ∙ w.rest.of_type in
@@ -161,7 +163,7 @@ module _ (known : Known) (a : Activation Value) (rest : List (Activation Value))
         let one : is_this t (Some u) ≡ true = eq-eqb u t same in
         cc (rw here at passes, one)
 
-    ends_next : (o : Id) (object : Object) (p : Id) (t : ℕ) → object_at s.heap o ≡ Some object → object.listed ≡ true → slice_get object.cell.values c ≡ Some (Names p) → (w : Working known s.heap a.places s.masters (Releasing known s.heap (Names o) [] c k)) → w.rest.access ≡ Some t → access_at s.heap p ≡ Some t → Fine known s.heap s.masters (freed_next named access (Names o) c (Names p) (look s.heap (Names p)) (running k (record a { operands = below }) rest s))
+    ends_next : (o : Id) (object : Object) (p : Id) (t : ℕ) → object_at s.heap o ≡ Some object → object.listed ≡ true → slice_get object.cell.values c ≡ Some (Names p) → (w : Working known s.heap a.places s.masters (Releasing known s.heap (Names o) [] access c k)) → w.rest.access ≡ Some t → access_at s.heap p ≡ Some t → Fine known s.heap s.masters (freed_next named access (Names o) c (Names p) (look s.heap (Names p)) (running k (record a { operands = below }) rest s))
     ends_next o object p t found listed at w is_t of_t =
         let there = listed_at s.heap p t of_t in
         let exists = (w.stored.sane p there.object there.found).listed_exists there.listed in
@@ -173,6 +175,7 @@ module _ (known : Known) (a : Activation Value) (rest : List (Activation Value))
         let elsewhere = stored_elsewhere s.heap o object c p there.object (parted there.object) found there.found apart in
         let after = part_fit p there.object elsewhere.1 unnamed.1 unnamed.2 unnamed.0 in
         let runs = rw is_t at w.rest.runs in
+        let by_own : t ≡ access = let own = w.rest.frees_own in cc (is_t, own) in
         rw (there.found, exists) (rw there.found (record {
           ready = (
             tt,
@@ -185,7 +188,7 @@ module _ (known : Known) (a : Activation Value) (rest : List (Activation Value))
               covered = subst (λ (u : ℕ). CoveredIn known.program u) (sym there.access) (w.rest.covered t is_t);
               rest = (
                 refl,
-                sym (pooled p there.object there.found (rw there.access (w.rest.own t is_t))),
+                freed_home access p there.object homes w.stored there.found exists (rw there.access (w.rest.own t is_t)) (there.access ∙ by_own),
                 (
                   (object, elsewhere.0, listed),
                   record {
@@ -203,14 +206,14 @@ module _ (known : Known) (a : Activation Value) (rest : List (Activation Value))
           says = followed o (object, found, listed) w.stored;
         }))
 
-    object_freed : (o : Id) (object : Object) (p : Id) → object_at s.heap o ≡ Some object → object.listed ≡ true → slice_get object.cell.values c ≡ Some (Names p) → (w : Working known s.heap a.places s.masters (Releasing known s.heap (Names o) [] c k)) → Fine known s.heap s.masters (freed_next named access (Names o) c (Names p) (look s.heap (Names p)) (running k (record a { operands = below }) rest s))
+    object_freed : (o : Id) (object : Object) (p : Id) → object_at s.heap o ≡ Some object → object.listed ≡ true → slice_get object.cell.values c ≡ Some (Names p) → (w : Working known s.heap a.places s.masters (Releasing known s.heap (Names o) [] access c k)) → Fine known s.heap s.masters (freed_next named access (Names o) c (Names p) (look s.heap (Names p)) (running k (record a { operands = below }) rest s))
     object_freed o object p found listed at w = by w.rest.access refl (named_type o object p found listed at w)
       where
         by : (kind : Option ℕ) → w.rest.access ≡ kind → IsOf (access_at s.heap) kind p → Fine known s.heap s.masters (freed_next named access (Names o) c (Names p) (look s.heap (Names p)) (running k (record a { operands = below }) rest s))
         by None is of = absurd of
         by (Some t) is of = ends_next o object p t found listed at w is of
 
-    component_freed : (o : Id) (object : Object) (held : Option Value) → slice_get object.cell.values c ≡ held → object_at s.heap o ≡ Some object → object.listed ≡ true → Working known s.heap a.places s.masters (Releasing known s.heap (Names o) [] c k) → Fine known s.heap s.masters (free_component_next named access (Names o) c held (running k (record a { operands = below }) rest s))
+    component_freed : (o : Id) (object : Object) (held : Option Value) → slice_get object.cell.values c ≡ held → object_at s.heap o ≡ Some object → object.listed ≡ true → Working known s.heap a.places s.masters (Releasing known s.heap (Names o) [] access c k) → Fine known s.heap s.masters (free_component_next named access (Names o) c held (running k (record a { operands = below }) rest s))
     component_freed o object None at found listed w = tt
     component_freed o object (Some Null) at found listed w = null_freed o (object, found, listed) w
     component_freed o object (Some (Names p)) at found listed w = object_freed o object p found listed at w
@@ -218,7 +221,7 @@ module _ (known : Known) (a : Activation Value) (rest : List (Activation Value))
     component_freed o object (Some (Part object_id base)) at found listed w = tt
 
     -- The object of the component is there, or null raises Constraint_Error.
-    pub free_in_fine : (v : Value) → (w : Working known s.heap a.places s.masters (λ rooms holds. MayFollow s.heap v × Releasing known s.heap v [] c k rooms holds)) → Fine known s.heap s.masters (free_in_next named access v c (look s.heap v) (running k (record a { operands = below }) rest s))
+    pub free_in_fine : (v : Value) → (w : Working known s.heap a.places s.masters (λ rooms holds. MayFollow s.heap v × Releasing known s.heap v [] access c k rooms holds)) → Fine known s.heap s.masters (free_in_next named access v c (look s.heap v) (running k (record a { operands = below }) rest s))
     free_in_fine Null w = jumps_less known k (record a { operands = below }) rest s (Raising ConstraintError) (at_work w (raises_less known k w.rooms w.holds w.rest.1.access (w.rest.1.raises refl)))
     free_in_fine (Names o) w =
         let there : IsThere s.heap o = w.rest.0 in

@@ -36,12 +36,12 @@ use Rattle.ada_typed.proofs.Values.{AreFilled, filled_at, active_placed}
 use Rattle.ada_sound.proofs.GivenBack.{ArePlaced}
 use Rattle.ada_typed.proofs.Control as typed
 use Rattle.ada_typed.proofs.Evaluations as typing
-use Rattle.ada_typed.proofs.Bodies.{seen_fits, sees}
+use Rattle.ada_typed.proofs.Bodies.{seen_fits, sees, own_bodies}
 use Rattle.ada_typed.proofs.Kept.{crosses, Keeps, Each}
 use Rattle.ada_typed.proofs.KeptSteps.{frame_keeps, pass_keeps}
 use Rattle.ada_typed.proofs.Runs.{step_typed}
 use Rattle.ada_scopes.specs.Scopes.{InnermostHeldInside}
-use Rattle.ada_scopes.proofs.Components.{AreOfKinds, held_outside, held_inside}
+use Rattle.ada_scopes.proofs.Components.{AreOfKinds, collect_two, held_outside, held_inside}
 use Rattle.ada_scopes.proofs.Runs.{step_nested}
 use Rattle.ada_sound.proofs.Defaults.{reached_same, Reaches}
 use Rattle.ada_sound.proofs.Items.{NoMaster, items_fall}
@@ -314,7 +314,7 @@ unfolding next
 ordinary program s sound inner n is same =
     let known = known_in program (running_procedure s) sound.suspensions in
     fine_in program s sound.suspensions sound.stands n same
-    (subst (λ (coming : Next). Fine known s.heap s.masters coming) is (inside.fine known program.types.items (reaches_in program (running_procedure s) sound.suspensions) (body_forms program) (may_call program (running_procedure s) sound.suspensions sound.well) s inner sound.typed.inside (held_inside_it program s sound)
+    (subst (λ (coming : Next). Fine known s.heap s.masters coming) is (inside.fine known program.types.items (reaches_in program (running_procedure s) sound.suspensions) (body_forms program) (may_call program (running_procedure s) sound.suspensions sound.well) s inner sound.typed.inside (own_bodies (program_form program) sound.frees_own (running_procedure s)) (collect_two (program_form program) s sound.nested) (held_inside_it program s sound)
     (λ left behind runs at_leaving. named_below known s.heap sound.stands.standing.waiting sound.stands.standing.low left behind s.masters (rw (runs, at_leaving) at (sound.ready.1)))
     sound.ready))
 
@@ -408,6 +408,7 @@ sound_step program s choice e after r step =
     let c = crossed program s choice e after r step in
     record {
       well = r.well;
+      frees_own = r.frees_own;
       obeys = r.obeys;
       suspensions = c.suspensions;
       ready = c.stepped.ready;

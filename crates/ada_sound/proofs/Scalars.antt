@@ -8,7 +8,7 @@ use Rattle.ada_text.specs.declared.spot.Spot.{Spot}
 use Rattle.ada_program.specs.declared.program.Program.{Program}
 use Rattle.ada_program.specs.declared.program.VariableKind.{VariableKind}
 use Rattle.ada_program.specs.declared.program.VariableKind.TheVariants as variable
-use Rattle.ada_program.specs.Form.{PathForm, ExpressionForm, RightForm, computes, DeclarationForm, collects, declares, declares_record, StmtForm, skips, assigns, assigns_record, frees, gets, writes, writes_text, chooses, repeats, counts, exits, calls, returns, raises, encloses, StmtsForm, no_stmts, a_stmt, BranchesForm, otherwise, a_branch, HandlersForm, no_handlers, a_handler, ActualForm, in_value, in_null, in_access, in_record, in_out_path, in_out_access, in_out_component, in_out_record}
+use Rattle.ada_program.specs.Form.{PathForm, ExpressionForm, RightForm, computes, DeclarationForm, creates_pool, collects, declares, declares_record, StmtForm, skips, assigns, assigns_record, frees, gets, writes, writes_text, chooses, repeats, counts, exits, calls, returns, raises, encloses, StmtsForm, no_stmts, a_stmt, BranchesForm, otherwise, a_branch, HandlersForm, no_handlers, a_handler, ActualForm, in_value, in_null, in_access, in_record, in_out_path, in_out_access, in_out_component, in_out_record}
 use Rattle.ada_program.specs.ProgramForm.{TypeForm, VariableForm, program_form, seen_in}
 use Rattle.ada_program.specs.WellFormed.{access_of, variable_kind, is_borrower, selectors_kind, path_access, right_fits, initial_fits, is_freed_by, statement_fits, stmts_fit, branches_fit, handlers_fit, Profile, callable_in, value_access, root_kind, is_record_object, names_borrower, actual_fits, actuals_fit, suits_profile}
 use Rattle.ada_effects.specs.Effects.{expression_raises, path_raises, record_path_raises, items_raise, actuals_raise, initial_raises, Effect, call_raises, passes, call_frees}
@@ -252,6 +252,7 @@ module _ (types : List TypeForm) (variables : List VariableForm) (texts exceptio
 
   parts_keep : (ds : List DeclarationForm) (holds : Holds) → Scalars holds → Scalars (touched_by_all variables ds holds)
   parts_keep [] holds s = s
+  parts_keep (creates_pool pool ∷ ds) holds s = parts_keep ds holds s
   parts_keep (collects access ∷ ds) holds s = parts_keep ds holds s
   parts_keep (declares y right ∷ ds) holds s =
       let moved = moved_by_right (is_borrower variables y) right in
@@ -364,6 +365,7 @@ module _ (types : List TypeForm) (variables : List VariableForm) (texts exceptio
       then_keeps (declaration_flow types variables d holds) (declarations_flow types variables ds) (one d parts.0) (λ hs k. declarations_keep ds hs parts.1 k)
     where
       one : (d : DeclarationForm) → initial_fits types variables d ≡ true → Keeps (declaration_flow types variables d holds)
+      one (creates_pool pool) e = (s, tt)
       one (collects access) e = (s, tt)
       one (declares x right) e = gives_keeps (declared_at variables x) false x right holds (and_parts _ _ (and_parts _ _ e).0).1 s
       one (declares_record x t initial) e =

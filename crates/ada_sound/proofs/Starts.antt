@@ -1,4 +1,5 @@
--- The first state of a program that is well formed, whose collections nest, and that obeys the rules keeps the invariant.
+-- The first state of a program that is well formed, whose collections nest, that frees by the instances for what it frees, and that obeys the rules keeps
+-- the invariant.
 
 use Rattle.std.proofs.Common.{◌≡◌, ℕ, zero, suc, false, List, [], ◌∷◌, refl, sym, subst}
 use Rattle.std.specs.Prelude.{ℤ, Option, None}
@@ -6,6 +7,7 @@ use Rattle.ada_program.specs.declared.program.Program.{Program}
 use Rattle.ada_program.specs.ProgramForm.{TypeForm, VariableForm, program_form, main_body, seen_in}
 use Rattle.ada_program.specs.WellFormed.{IsWellFormed}
 use Rattle.ada_program.specs.Nested.{CollectionsNest}
+use Rattle.ada_program.specs.Freed.{FreesItsOwn}
 use Rattle.ada_effects.specs.Effects.{effects_of}
 use Rattle.ada_flow.specs.declared.rule.Hold.TheVariants as hold
 use Rattle.ada_flow.specs.Flow.{hold_at, keeping_of, body_flow, first_holds, gone_with, have_exit, handlers_have_exit, ObeysRules}
@@ -29,6 +31,7 @@ use Rattle.ada_sound.proofs.Returns.{same_types}
 -- collections nest.
 pub record Sound (program : Program) (s : State) : Type 0 where
   pub well : IsWellFormed (program_form program)
+  pub frees_own : FreesItsOwn (program_form program)
   pub obeys : ObeysRules program
   pub suspensions : List Suspension
   pub ready : Ready (known_in program (running_procedure s) suspensions) s
@@ -73,9 +76,10 @@ ready_first program input well obeys =
       },
     )
 
-pub sound_first : (program : Program) (input : List ℤ) → IsWellFormed (program_form program) → CollectionsNest (program_form program) → ObeysRules program → Sound program (first_state program input)
-sound_first program input well nest obeys = record {
+pub sound_first : (program : Program) (input : List ℤ) → IsWellFormed (program_form program) → CollectionsNest (program_form program) → FreesItsOwn (program_form program) → ObeysRules program → Sound program (first_state program input)
+sound_first program input well nest own obeys = record {
   well = well;
+  frees_own = own;
   obeys = obeys;
   suspensions = [];
   ready = ready_first program input well obeys;

@@ -1,6 +1,6 @@
 -- Declarations and statements begin.
 
-use Rattle.std.proofs.Common.{◌≡◌, ◌≢◌, ℕ, Bool, true, false, ◌&&◌, ◌||◌, not, List, [], ◌∷◌, refl, sym, ap, ◌∙◌, inl, inr}
+use Rattle.std.proofs.Common.{◌≡◌, ◌≢◌, ℕ, ◌+◌, Bool, true, false, ◌&&◌, ◌||◌, not, List, [], ◌∷◌, refl, sym, ap, ◌∙◌, inl, inr}
 use Rattle.std.specs.Prelude.{ℤ, pos, ◌+ℤ◌, int_le, ◌==◌, if◌then◌else◌, Option, Some, None}
 use Rattle.std.specs.List.{slice_set, list_all}
 use Rattle.std.proofs.lemmas.Bool.{eq-eqb, and_parts}
@@ -8,8 +8,10 @@ use Rattle.ada_program.specs.declared.program.TypeDefinition.{TypeDefinition}
 use Rattle.ada_program.specs.WellFormed.{callable_in, is_this, access_of, selectors_kind, variable_kind, path_kind, path_access, reached_components, right_fits, lends_to, names_borrower, is_freed_by, is_record_object, record_initial_fits, initial_fits, statement_fits, stmts_fit}
 use Rattle.ada_program.specs.declared.program.Exception.{Exception}
 use Rattle.ada_program.specs.declared.program.Exception.TheVariants.{ConstraintError, EndError}
-use Rattle.ada_program.specs.Form.{PathForm, ExpressionForm, RightForm, nothing, value_of, allocates, allocates_default, computes, StmtForm, skips, assigns, assigns_record, frees, gets, writes, writes_text, chooses, repeats, counts, exits, calls, returns, raises, encloses, StmtsForm, no_stmts, a_stmt, BranchesForm, otherwise, a_branch, HandlersForm, DeclarationForm, collects, declares, declares_record}
+use Rattle.ada_program.specs.Form.{PathForm, ExpressionForm, RightForm, nothing, value_of, allocates, allocates_default, computes, StmtForm, skips, assigns, assigns_record, frees, gets, writes, writes_text, chooses, repeats, counts, exits, calls, returns, raises, encloses, StmtsForm, no_stmts, a_stmt, BranchesForm, otherwise, a_branch, HandlersForm, DeclarationForm, creates_pool, collects, declares, declares_record}
 use Rattle.ada_program.specs.Handling.{is_same}
+use Rattle.ada_program.specs.Freed.{statement_frees_own, statements_free_own}
+use Rattle.ada_program.specs.Typed.{pool_named}
 use Rattle.ada_program.specs.ProgramForm.{BodyForm}
 use Rattle.ada_effects.specs.Effects.{effects_of, stmt_raises, expression_raises, path_raises, condition_raises, right_raises}
 use Rattle.ada_flow.specs.Flow.{Holds, uses_in_target, ends_with, bounds_flow, gives, gives_path, gets_path, frees_path, leaves_path, clears, begins_pair, exit_of, declared_at, collected, gone_with, computed}
@@ -17,7 +19,7 @@ use Rattle.ada_meaning.specs.declared.state.Value.{Value}
 use Rattle.ada_meaning.specs.declared.state.Mode.TheVariants.{Raising, Exiting, Returning}
 use Rattle.ada_meaning.specs.Frame.{Elaborates, Does, Decides, Repeats, Turns, Ranges, Counts, Exits, Handles, Closes, Evaluates, Computes, Stores, Declares, Writes}
 use Rattle.ada_meaning.specs.Event.{Line, Quiet}
-use Rattle.ada_meaning.specs.State.{collection, Activation, Master}
+use Rattle.ada_meaning.specs.State.{collection, storage_pool, Activation, Master, pools_in, pool_for}
 use Rattle.ada_meaning.specs.Step.{moves, owning, assign_next, frees_next, gets_next, branches_next, decided_next, turn_next, repeats_next, turned_next, count_turn_next, counts_next, ranges_next, exit_next, exited_next, stmt_next, stmts_next, declaration_next, declarations_next}
 use Rattle.ada_meaning.specs.Named.{Object, State, named}
 use Rattle.ada_sound.proofs.Stored.{stored_owning, stored_entered}
@@ -25,12 +27,13 @@ use Rattle.ada_typed.specs.Holding.{cells_of}
 use Rattle.ada_typed.proofs.Values.{AreHeld}
 use Rattle.ada_sound.proofs.Fits.{is_object, weaker_fit, put_lost}
 use Rattle.ada_sound.proofs.Orderings.{good_losing}
-use Rattle.ada_sound.proofs.Assigned.{freed_at}
+use Rattle.ada_sound.proofs.Assigned.{this_is, freed_at}
+use Rattle.ada_sound.proofs.Homes.{HaveHomes}
 use Rattle.ada_sound.proofs.Roots.{root_object, value_root, right_leads, integer_leads}
 use Rattle.ada_sound.proofs.Copied.{record_there}
 use Rattle.ada_sound.proofs.Records.{has_place, record_fine}
 use Rattle.ada_sound.proofs.Wholes.{record_begins}
-use Rattle.ada_sound.proofs.Invariant.{Spares, owed_in, Pooled, Known, Where, below, Control, Rooms, Roomed, Goes, Raised, Doing, Choosing, TurnsTo, condition_among, component_among, Counting, Elaborating, Handled, Outside, RunsOn, Deciding, TurningOn, ExitingTo, Computing, IsOne, Pairs, Takes, Working, Resumes, EvaluatesTo, Fine, ways}
+use Rattle.ada_sound.proofs.Invariant.{Spares, owed_in, Known, Where, below, Control, Rooms, Roomed, Goes, Raised, Doing, Choosing, TurnsTo, condition_among, component_among, Counting, Elaborating, Handled, Outside, RunsOn, Deciding, TurningOn, ExitingTo, Computing, IsOne, Pairs, Takes, Working, Resumes, EvaluatesTo, Fine, ways}
 use Rattle.ada_sound.proofs.Ready.{running, at_work, with_less, at_less, stays, lost_stored, ready_on, runs_on, jumps, jumps_less}
 use Rattle.ada_sound.proofs.Nestings.{Starting, starts, others_do, branch_does, chooses_from, repeats_from, turn_runs, counts_from, count_runs, exit_parts, encloses_from}
 use Rattle.ada_sound.proofs.Outcomes.{return_goes, goes_map, to_before, raised_before, raised_less, then_goes, using_goes, computed_goes}
@@ -83,15 +86,24 @@ pairs_component c cs target (allocates_default access) fs k is = tt
 pairs_component c cs target (computes e) fs k is = tt
 
 module _ (known : Known) where
-  roomed_collects : (item access : ℕ) (ds : List DeclarationForm) (fs : StmtsForm) (hs : HandlersForm) (k : Control) (holds : Holds) (ms : List Master) (rooms : Rooms) → Roomed (below known) ms rooms → RunsOn known (Elaborates (collects access ∷ ds) fs hs ∷ k) rooms holds → Roomed (below known) (owning (record { number = item; owned = collection access }) ms) rooms
-  roomed_collects item access ds fs hs k holds ms [] r e = absurd e
-  roomed_collects item access ds fs hs k holds [] (gone ∷ rooms) r e = absurd r
-  roomed_collects item access ds fs hs k holds (m ∷ ms) (gone ∷ rooms) r e = ((e.0.0, r.0), r.1)
+  roomed_collects : (item access : ℕ) (pool : Option ℕ) (ds : List DeclarationForm) (fs : StmtsForm) (hs : HandlersForm) (k : Control) (holds : Holds) (ms : List Master) (rooms : Rooms) → Roomed (below known) ms rooms → RunsOn known (Elaborates (collects access ∷ ds) fs hs ∷ k) rooms holds → Roomed (below known) (owning (record { number = item; owned = collection access pool }) ms) rooms
+  roomed_collects item access pool ds fs hs k holds ms [] r e = absurd e
+  roomed_collects item access pool ds fs hs k holds [] (gone ∷ rooms) r e = absurd r
+  roomed_collects item access pool ds fs hs k holds (m ∷ ms) (gone ∷ rooms) r e = ((e.0.0, r.0), r.1)
+
+  roomed_pool : (item p number : ℕ) (ds : List DeclarationForm) (fs : StmtsForm) (hs : HandlersForm) (k : Control) (holds : Holds) (ms : List Master) (rooms : Rooms) → Roomed (below known) ms rooms → RunsOn known (Elaborates (creates_pool p ∷ ds) fs hs ∷ k) rooms holds → Roomed (below known) (owning (record { number = item; owned = storage_pool p number }) ms) rooms
+  roomed_pool item p number ds fs hs k holds ms [] r e = absurd e
+  roomed_pool item p number ds fs hs k holds [] (gone ∷ rooms) r e = absurd r
+  roomed_pool item p number ds fs hs k holds (m ∷ ms) (gone ∷ rooms) r e = ((tt, r.0), r.1)
 
   -- What declarations go on with.
   collects_more : (access : ℕ) (ds : List DeclarationForm) (fs : StmtsForm) (hs : HandlersForm) (k : Control) (holds : Holds) (rooms : Rooms) → RunsOn known (Elaborates (collects access ∷ ds) fs hs ∷ k) rooms holds → RunsOn known (Elaborates ds fs hs ∷ k) rooms holds
   collects_more access ds fs hs k holds [] e = absurd e
   collects_more access ds fs hs k holds (gone ∷ rooms) e = (e.0.1, e.1.0)
+
+  pools_more : (p : ℕ) (ds : List DeclarationForm) (fs : StmtsForm) (hs : HandlersForm) (k : Control) (holds : Holds) (rooms : Rooms) → RunsOn known (Elaborates (creates_pool p ∷ ds) fs hs ∷ k) rooms holds → RunsOn known (Elaborates ds fs hs ∷ k) rooms holds
+  pools_more p ds fs hs k holds [] e = absurd e
+  pools_more p ds fs hs k holds (gone ∷ rooms) e = (e.0, e.1.0)
 
   declares_more : (heap : List Object) (places : List Value) (x : ℕ) (right : RightForm) (ds : List DeclarationForm) (fs : StmtsForm) (hs : HandlersForm) (k : Control) (holds : Holds) (rooms : Rooms) → RunsOn known (Elaborates (declares x right ∷ ds) fs hs ∷ k) rooms holds → Takes known heap places right (Declares x ∷ Elaborates ds fs hs ∷ k) rooms holds
   declares_more heap places x right ds fs hs k holds [] e = absurd e
@@ -131,14 +143,26 @@ module _ (known : Known) where
     -- Declarations.
     module _ (fs : StmtsForm) (hs : HandlersForm) (k : Control) where
       declaration_fine : (types : List TypeDefinition) (d : DeclarationForm) (ds : List DeclarationForm) → AreHeld known.program.types (cells_of s.heap) known.program.variables a.places → initial_fits known.program.types known.program.variables d ≡ true → Working known s.heap a.places s.masters (RunsOn known (Elaborates (d ∷ ds) fs hs ∷ k)) → Fine known s.heap s.masters (declaration_next named types d (running (Elaborates ds fs hs ∷ k) a rest s))
+      declaration_fine types (creates_pool p) ds held fits w =
+          stays known Quiet _ (
+            tt,
+            record {
+              rooms = w.rooms;
+              holds = w.holds;
+              stored = stored_owning (storage_pool p (pools_in s.masters + 1)) w.stored;
+              roomed = roomed_pool _ p (pools_in s.masters + 1) ds fs hs k w.holds s.masters w.rooms w.roomed w.rest;
+              fit = w.fit;
+              rest = pools_more p ds fs hs k w.holds w.rooms w.rest;
+            },
+          ) tt
       declaration_fine types (collects access) ds held fits w =
           stays known Quiet _ (
             tt,
             record {
               rooms = w.rooms;
               holds = w.holds;
-              stored = stored_owning (collection access) w.stored;
-              roomed = roomed_collects _ access ds fs hs k w.holds s.masters w.rooms w.roomed w.rest;
+              stored = stored_owning (collection access (pool_for (pool_named types access) s.masters)) w.stored;
+              roomed = roomed_collects _ access (pool_for (pool_named types access) s.masters) ds fs hs k w.holds s.masters w.rooms w.roomed w.rest;
               fit = w.fit;
               rest = collects_more access ds fs hs k w.holds w.rooms w.rest;
             },
@@ -175,11 +199,13 @@ module _ (known : Known) where
         let cleared = begins_pair (assigns target right) fs in
         component_begins known a rest s cleared c cs target right fs k is whole (at_work w (w.rest, pairs_component c cs target right fs k is))
 
-    frees_fine : (cs : List ℕ) (access : ℕ) (path : PathForm) (fs : StmtsForm) (k : Control) → Pooled known.program.types s.heap → is_freed_by known.program.types access (path_access known.program.types known.program.variables path) ≡ true → Spares known (λ t. is_this t (path_access known.program.types known.program.variables path)) → path.selectors ≡ cs → Working known s.heap a.places s.masters (λ rooms holds. Goes (frees_path known.program.types known.program.variables cs path holds) (RunsOn known (Does fs ∷ k) rooms) (Raised (free_among path) (ways known k rooms))) → Fine known s.heap s.masters (frees_next named cs access path.root (running (Does fs ∷ k) a rest s))
-    frees_fine [] access path fs k pooled freed spares is w =
+    frees_fine : (cs : List ℕ) (access : ℕ) (path : PathForm) (fs : StmtsForm) (k : Control) → HaveHomes known.program.types s.heap s.masters → is_freed_by known.program.types access (path_access known.program.types known.program.variables path) ≡ true → is_this access (path_access known.program.types known.program.variables path) ≡ true → Spares known (λ t. is_this t (path_access known.program.types known.program.variables path)) → path.selectors ≡ cs → Working known s.heap a.places s.masters (λ rooms holds. Goes (frees_path known.program.types known.program.variables cs path holds) (RunsOn known (Does fs ∷ k) rooms) (Raised (free_among path) (ways known k rooms))) → Fine known s.heap s.masters (frees_next named cs access path.root (running (Does fs ∷ k) a rest s))
+    frees_fine [] access path fs k homes freed by_own spares is w =
         let own = freed_at known.program.types known.program.variables access path freed in
-        free_fine known a rest s access path.root (value_root known.program.types known.program.variables path own.0 is own.1) path.spot fs k (λ rooms. Raised (free_among path) (ways known k rooms)) pooled own.0 (sym (ap (λ (cs : List ℕ). access_of (selectors_kind known.program.types (variable_kind known.program.variables path.root) cs)) is) ∙ own.2) own.3 (spares own.0 (ap (is_this own.0) own.1 ∙ eq-eqb own.0 own.0 refl)) w
-    frees_fine (c ∷ cs) access path fs k pooled freed spares is w = free_begins known a rest s c cs access path fs k (free_among path) (λ may. may) freed spares is w
+        let at : path_access known.program.types known.program.variables path ≡ Some access = this_is access (path_access known.program.types known.program.variables path) by_own in
+        let one : own.0 ≡ access = let other = own.1 in cc (at, other) in
+        free_fine known a rest s access path.root (value_root known.program.types known.program.variables path own.0 is own.1) path.spot fs k (λ rooms. Raised (free_among path) (ways known k rooms)) homes own.0 one (sym (ap (λ (cs : List ℕ). access_of (selectors_kind known.program.types (variable_kind known.program.variables path.root) cs)) is) ∙ own.2) own.3 (spares own.0 (ap (is_this own.0) own.1 ∙ eq-eqb own.0 own.0 refl)) w
+    frees_fine (c ∷ cs) access path fs k homes freed by_own spares is w = free_begins known a rest s c cs access path fs k (free_among path) (λ may. may) freed by_own spares is w
 
     gets_fine : (cs : List ℕ) (target : PathForm) (input : List ℤ) (fs : StmtsForm) (k : Control) → target.selectors ≡ cs → (target.of_record ≡ true → is_object known.program.variables target.root ≡ true) → Working known s.heap a.places s.masters (λ rooms holds. Goes (gets_path cs target holds) (RunsOn known (Does fs ∷ k) rooms) (Raised (get_among target) (ways known k rooms))) → Fine known s.heap s.masters (gets_next named cs target.root input (running (Does fs ∷ k) a rest s))
     gets_fine (c ∷ cs) target input fs k is whole w =
@@ -274,39 +300,39 @@ module _ (known : Known) where
         (first.0, (λ may. first.2 may ConstraintError (or_left (expression_raises low) (expression_raises high) may)), (second.0, (λ may. second.2 may ConstraintError (or_right (expression_raises low) (expression_raises high) may)), (λ v. second.1)))
 
     -- Statements.
-    stmt_fine : (bodies : List BodyForm) → MayCall known bodies → (inside : Bool) (here : Where) (f : StmtForm) (fs : StmtsForm) (k : Control) → Pooled known.program.types s.heap → statement_fits known.program.types known.program.variables known.program.texts known.program.exceptions (callable_in known.program) inside f ≡ true → Working known s.heap a.places s.masters (λ rooms holds. Starting known here f fs k (ways known k rooms) holds) → Fine known s.heap s.masters (stmt_next named bodies f (running (Does fs ∷ k) a rest s))
-    stmt_fine bodies calling inside here skips fs k pooled fits w = runs_on known (Does fs ∷ k) a rest s (at_work w w.rest.1.0) Quiet tt
-    stmt_fine bodies calling inside here (assigns target right) fs k pooled fits w =
+    stmt_fine : (bodies : List BodyForm) → MayCall known bodies → (inside : Bool) (here : Where) (f : StmtForm) (fs : StmtsForm) (k : Control) → HaveHomes known.program.types s.heap s.masters → statement_fits known.program.types known.program.variables known.program.texts known.program.exceptions (callable_in known.program) inside f ≡ true → statement_frees_own known.program.types known.program.variables f ≡ true → Working known s.heap a.places s.masters (λ rooms holds. Starting known here f fs k (ways known k rooms) holds) → Fine known s.heap s.masters (stmt_next named bodies f (running (Does fs ∷ k) a rest s))
+    stmt_fine bodies calling inside here skips fs k homes fits own w = runs_on known (Does fs ∷ k) a rest s (at_work w w.rest.1.0) Quiet tt
+    stmt_fine bodies calling inside here (assigns target right) fs k homes fits own w =
         let types = known.program.types in
         let variables = known.program.variables in
         let leads = right_leads types variables (path_kind types variables target) right (and_parts (right_fits types variables (path_kind types variables target) right) (lends_to variables (names_borrower variables target) right) fits).0 in
         assign_fine target.selectors target right fs k refl (root_object types variables target leads.0 leads.1) (at_work w w.rest.1)
-    stmt_fine bodies calling inside here (assigns_record target items) fs k pooled fits w =
+    stmt_fine bodies calling inside here (assigns_record target items) fs k homes fits own w =
         let there = record_there known.program.types known.program.variables target (and_parts _ _ fits).0 in
         record_begins known a rest s target items fs k there (at_work w w.rest.1)
-    stmt_fine bodies calling inside here (frees access path) fs k pooled fits w = frees_fine path.selectors access path fs k pooled (and_parts _ _ fits).0 w.rest.4 refl (at_work w w.rest.1)
-    stmt_fine bodies calling inside here (gets target) fs k pooled fits w = (
+    stmt_fine bodies calling inside here (frees access path) fs k homes fits own w = frees_fine path.selectors access path fs k homes (and_parts _ _ fits).0 own w.rest.4 refl (at_work w w.rest.1)
+    stmt_fine bodies calling inside here (gets target) fs k homes fits own w = (
         let types = known.program.types in
         let variables = known.program.variables in
         let leads = integer_leads (path_kind types variables target) fits in
         gets_fine target.selectors target s.input fs k refl (root_object types variables target leads.0 leads.1) (at_work w w.rest.1)
         )
-    stmt_fine bodies calling inside here (writes e) fs k pooled fits w =
+    stmt_fine bodies calling inside here (writes e) fs k homes fits own w =
         let h = computed_goes e w.holds (RunsOn known (Does fs ∷ k) w.rooms) (Raised (λ x. is_same x ConstraintError && expression_raises e) (ways known k w.rooms)) w.rest.1 in
         ready_on known (Computes e ∷ Writes ∷ Does fs ∷ k) a rest s a.operands (at_work w (h.0, (λ may. h.2 may ConstraintError may), h.1))
-    stmt_fine bodies calling inside here (writes_text text) fs k pooled fits w = runs_on known (Does fs ∷ k) a rest s (at_work w w.rest.1.0) (Line _) tt
-    stmt_fine bodies calling inside here (chooses branches) fs k pooled fits w = branches_fine branches (Does fs ∷ k) (at_work w (chooses_from known here branches fs k (ways known k w.rooms) w.holds w.rest))
-    stmt_fine bodies calling inside here (repeats condition body end_spot) fs k pooled fits w =
+    stmt_fine bodies calling inside here (writes_text text) fs k homes fits own w = runs_on known (Does fs ∷ k) a rest s (at_work w w.rest.1.0) (Line _) tt
+    stmt_fine bodies calling inside here (chooses branches) fs k homes fits own w = branches_fine branches (Does fs ∷ k) (at_work w (chooses_from known here branches fs k (ways known k w.rooms) w.holds w.rest))
+    stmt_fine bodies calling inside here (repeats condition body end_spot) fs k homes fits own w =
         runs_on known (Repeats condition body ∷ Does fs ∷ k) a rest s (at_work w (repeats_from known here condition body end_spot fs k (ways known k w.rooms) w.holds w.rest)) Quiet tt
-    stmt_fine bodies calling inside here (counts x low high body end_spot) fs k pooled fits w =
+    stmt_fine bodies calling inside here (counts x low high body end_spot) fs k homes fits own w =
         ready_on known (Computes low ∷ Computes high ∷ Ranges x body ∷ Does fs ∷ k) a rest s a.operands
         (at_work w (bounds_fine x low high body fs k w.rooms w.holds (counts_from known here x low high body end_spot fs k (ways known k w.rooms) w.holds w.rest)))
-    stmt_fine bodies calling inside here (exits condition spot) fs k pooled fits w =
+    stmt_fine bodies calling inside here (exits condition spot) fs k homes fits own w =
         exit_fine condition (Does fs ∷ k) (at_work w (exit_parts known here.start here.inside condition spot w.holds (RunsOn known (Does fs ∷ k) w.rooms) (Raised (λ e. is_same e ConstraintError && condition_raises condition) (ways known k w.rooms)) (ways known k w.rooms).exited w.rest.1 (w.rest.2 refl)))
-    stmt_fine bodies calling inside here (calls procedure actuals) fs k pooled fits w = call_begins known bodies calling here procedure actuals fs k a rest s fits w
-    stmt_fine bodies calling inside here (returns spot) fs k pooled fits w = jumps known (Does fs ∷ k) a rest s Returning (at_work w (w.rest.3 w.holds (return_goes known.program.variables (owed_in known.program) here.within spot w.holds (Doing known fs k (ways known k w.rooms)) (Raised (λ e. stmt_raises (effects_of known.program) (is_same e) (returns spot)) (ways known k w.rooms)) w.rest.1)))
-    stmt_fine bodies calling inside here (raises e) fs k pooled fits w = jumps_less known (Does fs ∷ k) a rest s (Raising e) (at_work w (w.rest.1.1 e (same_here e)))
-    stmt_fine bodies calling inside here (encloses ds body hs) fs k pooled fits w =
+    stmt_fine bodies calling inside here (calls procedure actuals) fs k homes fits own w = call_begins known bodies calling here procedure actuals fs k a rest s fits w
+    stmt_fine bodies calling inside here (returns spot) fs k homes fits own w = jumps known (Does fs ∷ k) a rest s Returning (at_work w (w.rest.3 w.holds (return_goes known.program.variables (owed_in known.program) here.within spot w.holds (Doing known fs k (ways known k w.rooms)) (Raised (λ e. stmt_raises (effects_of known.program) (is_same e) (returns spot)) (ways known k w.rooms)) w.rest.1)))
+    stmt_fine bodies calling inside here (raises e) fs k homes fits own w = jumps_less known (Does fs ∷ k) a rest s (Raising e) (at_work w (w.rest.1.1 e (same_here e)))
+    stmt_fine bodies calling inside here (encloses ds body hs) fs k homes fits own w =
         stays known Quiet _ (
           tt,
           record {
@@ -319,7 +345,7 @@ module _ (known : Known) where
           },
         ) tt
 
-    pub stmts_fine : (bodies : List BodyForm) → MayCall known bodies → (inside : Bool) (fs : StmtsForm) (k : Control) → Pooled known.program.types s.heap → stmts_fit known.program.types known.program.variables known.program.texts known.program.exceptions (callable_in known.program) inside fs ≡ true → Resumes known s.heap a.places s.masters (Does fs ∷ k) → Fine known s.heap s.masters (stmts_next named bodies fs (running k a rest s))
-    stmts_fine bodies calling inside fs k pooled fits (inr h) = half_begins known a rest s bodies fs k h
-    stmts_fine bodies calling inside no_stmts k pooled fits (inl w) = runs_on known k a rest s (at_less w w.rest.2.0) Quiet tt
-    stmts_fine bodies calling inside (a_stmt f fs) k pooled fits (inl w) = stmt_fine bodies calling inside w.rest.0 f fs k pooled (and_parts _ _ fits).0 (at_work w (starts known f fs k (ways known k w.rooms) w.holds w.rest))
+    pub stmts_fine : (bodies : List BodyForm) → MayCall known bodies → (inside : Bool) (fs : StmtsForm) (k : Control) → HaveHomes known.program.types s.heap s.masters → stmts_fit known.program.types known.program.variables known.program.texts known.program.exceptions (callable_in known.program) inside fs ≡ true → statements_free_own known.program.types known.program.variables fs ≡ true → Resumes known s.heap a.places s.masters (Does fs ∷ k) → Fine known s.heap s.masters (stmts_next named bodies fs (running k a rest s))
+    stmts_fine bodies calling inside fs k homes fits own (inr h) = half_begins known a rest s bodies fs k h
+    stmts_fine bodies calling inside no_stmts k homes fits own (inl w) = runs_on known k a rest s (at_less w w.rest.2.0) Quiet tt
+    stmts_fine bodies calling inside (a_stmt f fs) k homes fits own (inl w) = stmt_fine bodies calling inside w.rest.0 f fs k homes (and_parts _ _ fits).0 (and_parts _ _ own).0 (at_work w (starts known f fs k (ways known k w.rooms) w.holds w.rest))

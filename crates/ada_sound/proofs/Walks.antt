@@ -189,6 +189,7 @@ module _ (known : Known) (heap : List Object) (places : List Value) where
         is_from = λ p x names there. selected_access types f.from object c here ∙ of_access heap (component_access types object c) p x (component_is o object c w p refl found listed at names fit) there;
         passes = passes_behind types f.from c (cs ++ d ∷ []) f.access f.passes;
         of_type = f.of_type;
+        frees_own = f.frees_own;
         own = f.own;
         spares = f.spares;
         covered = f.covered;

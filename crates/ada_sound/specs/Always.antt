@@ -9,6 +9,7 @@ use Rattle.ada_program.specs.Form.{declaration_forms, stmt_forms, handler_forms}
 use Rattle.ada_program.specs.ProgramForm.{main_body, program_form, seen_in}
 use Rattle.ada_program.specs.WellFormed.{IsWellFormed}
 use Rattle.ada_program.specs.Nested.{CollectionsNest}
+use Rattle.ada_program.specs.Freed.{FreesItsOwn}
 use Rattle.ada_effects.specs.Effects.{effects_of}
 use Rattle.ada_flow.specs.Flow.{Holds, goes, faults, Around, body_around, keeping_of, declarations_flow, stmts_flow, handlers_flow, first_holds, program_flow, types_of, variables_of, ObeysRules}
 use Rattle.ada_meaning.specs.declared.state.Id.{Id}
@@ -19,7 +20,7 @@ use Rattle.ada_meaning.specs.Event.{Quiet}
 use Rattle.ada_meaning.specs.Beginning.{BeginsStatement}
 use Rattle.ada_meaning.specs.Named.{Object, State, object_at}
 use Rattle.ada_meaning.specs.Run.{Event, Run, Halts, first_state}
-use Rattle.ada_meaning.specs.Law.{IsBackHome, items_of, Falls, MastersFall, GivesBackOf, Happened, IsHoused, IsBack, HasEnded}
+use Rattle.ada_meaning.specs.Law.{IsBackHome, items_of, Falls, MastersFall, GivesBackOf, Happened, IsHoused, HasPool, OwnTwoPools, IsDeclaredPool, IsBack, HasEnded}
 use Rattle.ada_sound.specs.Agreement.{Agrees, Place, Turning, IsFlowAt, IsBehind, running_procedure}
 
 -- Of the events of each run, and the state that it comes to.
@@ -32,6 +33,8 @@ pub record IsChecked (program : Program) : Type 0 where
   pub well_formed : IsWellFormed (program_form program)
   -- no object lies in a collection that lasts longer than one in which its components' objects lie (3.10.2, 7.6.1)
   pub nests : CollectionsNest (program_form program)
+  -- what is freed is freed by the instance for its own access type (13.11.2)
+  pub frees_own : FreesItsOwn (program_form program)
   -- the flow of values breaks no rule
   pub obeys : ObeysRules program
 
@@ -80,6 +83,15 @@ abbrev pub OutsAreHoused : List Event → State → Type 0
 OutsAreHoused events last =
     (o : Id) (object : Object) → object_at last.heap o ≡ Some object → object.out ≡ true → IsHoused last.masters object
 
+-- The pool of each object whose words are out exists.
+abbrev pub OutsHavePools : List Event → State → Type 0
+OutsHavePools events last =
+    (o : Id) (object : Object) → object_at last.heap o ≡ Some object → object.out ≡ true → HasPool last.masters object
+
+-- No two pools that exist have one number, and none has that of the standard pool.
+abbrev pub PoolNumbersDiffer : List Event → State → Type 0
+PoolNumbersDiffer events last = AllPairs OwnTwoPools (items_of last.masters) × All IsDeclaredPool (items_of last.masters)
+
 -- Where a run has come to its end, no master is left over, and the words of each object are back.
 abbrev pub EndsClean : Program → Type 0
 EndsClean program =
@@ -107,23 +119,33 @@ HaltsAfter seen halt program = InSomeRun program (λ events last. Halts program 
 abbrev pub FinishesAfter : List Event → Program → Type 0
 FinishesAfter seen program = HaltsAfter seen Finished program
 
--- The program is well formed and its collections nest, but flow refuses it, first by this rule.
+-- The program is well formed, its collections nest, and it frees by the instances for what it frees, but flow refuses it, first by this rule.
 pub record Breaks (rule : Rule) (program : Program) : Type 0 where
   pub well_formed : IsWellFormed (program_form program)
   pub nests : CollectionsNest (program_form program)
+  pub frees_own : FreesItsOwn (program_form program)
   pub spot : Spot
   pub faults_there : program_flow program ≡ faults spot rule
 
--- The program obeys the rules and its collections nest, but it is not well formed.
+-- The program obeys the rules, its collections nest, and it frees by the instances for what it frees, but it is not well formed.
 pub record IsIllFormed (program : Program) : Type 0 where
   pub ill_formed : IsWellFormed (program_form program) → ⊥
   pub nests : CollectionsNest (program_form program)
+  pub frees_own : FreesItsOwn (program_form program)
   pub obeys : ObeysRules program
 
--- The program is well formed and obeys the rules, but its collections do not nest.
+-- The program is well formed, obeys the rules, and frees by the instances for what it frees, but its collections do not nest.
 pub record IsIllNested (program : Program) : Type 0 where
   pub well_formed : IsWellFormed (program_form program)
   pub ill_nested : CollectionsNest (program_form program) → ⊥
+  pub frees_own : FreesItsOwn (program_form program)
+  pub obeys : ObeysRules program
+
+-- The program is well formed, its collections nest, and it obeys the rules, but it frees by an instance for another access type.
+pub record FreesOthers (program : Program) : Type 0 where
+  pub well_formed : IsWellFormed (program_form program)
+  pub nests : CollectionsNest (program_form program)
+  pub frees_others : FreesItsOwn (program_form program) → ⊥
   pub obeys : ObeysRules program
 
 -- Where the statements of the main procedure stand.

@@ -16,6 +16,8 @@ pub mod FreeExamples
 pub mod RecordExamples
 -- the same where procedures are called
 pub mod CallExamples
+-- the same where pools are declared
+pub mod PoolExamples
 -- what the rules let through
 pub mod Owners
 -- what they say of calls

@@ -8,7 +8,7 @@ ghost use Rattle.ada_flow.specs.declared.rule.Hold.TheVariants.{Null};
 ghost use Rattle.ada_flow.specs.declared.rule.Rule.TheVariants.{LostValue, AliasMoved, TakePair, LoopState, UnsafePath, FormalNotOwned, RecordCopied};
 ghost use Rattle.ada_program.specs.declared.program.Exception.TheVariants.{ConstraintError};
 ghost use Rattle.ada_meaning.specs.declared.event.Halt.TheVariants.{Unhandled, Erroneous};
-ghost use Rattle.ada_meaning.specs.declared.event.Why.TheVariants.{FollowsGone, EndsTwice};
+ghost use Rattle.ada_meaning.specs.declared.event.Why.TheVariants.{FollowsGone, EndsTwice, GivesElsewhere};
 ghost use Rattle.ada_sound.specs.Always as always;
 ghost use Rattle.ada_sound.specs.Always.{IsChecked, ReachesStatement, FinishesAfter, HaltsSomewhere};
 ghost use Rattle.ada_sound.specs.Examples as examples;
@@ -17,6 +17,7 @@ ghost use Rattle.ada_sound.specs.FreeExamples as free_examples;
 ghost use Rattle.ada_sound.specs.OwnerExamples as owner_examples;
 ghost use Rattle.ada_sound.specs.RecordExamples as record_examples;
 ghost use Rattle.ada_sound.specs.CallExamples as call_examples;
+ghost use Rattle.ada_sound.specs.PoolExamples as pool_examples;
 
 /// The laws are not empty: a program is accepted and comes to a statement; it finishes after it has followed an access
 /// value, written a line, freed an object, and left its main procedure, with which another object went. And one is
@@ -50,7 +51,9 @@ ghost use Rattle.ada_sound.specs.CallExamples as call_examples;
 /// values and in formal parameters: a procedure reads a component, and another one changes one and frees what a second one
 /// owns, and the main procedure sees both changes. And one that gives a component for a formal parameter of mode `in out`,
 /// while the procedure puts another object in the place of that in which the component lies: the value goes back to the
-/// component of the object that was named before the call.
+/// component of the object that was named before the call. And one with two declared pools and an access type for each:
+/// an object is allocated in each pool; one is freed, and goes back to the older pool, and the other one goes with its
+/// collection to the newer pool, which goes after that.
 pub fn premises_are_met()
     ensures begins { (program : Program) × IsChecked program × ReachesStatement program }
     ensures finishes { (program : Program) × IsChecked program × FinishesAfter examples.example_events program }
@@ -122,27 +125,31 @@ pub fn premises_are_met()
     ensures gives_back_there { (program : Program) × (body_forms program ≡ call_examples.replacing_bodies)
         × (stmt_forms program ≡ call_examples.replacing_stmts) × borrower_examples.HasBorrower program
         × IsChecked program × FinishesAfter call_examples.replacing_events program }
+    ensures has_pools { (program : Program) × (declaration_forms program ≡ pool_examples.pool_declarations)
+        × pool_examples.HasTwoPools program × (stmt_forms program ≡ pool_examples.pooling_stmts)
+        × IsChecked program × FinishesAfter pool_examples.pooling_events program }
 {}
 
-/// The rules are needed. Of programs that are well formed and whose collections nest, one that breaks the rules follows
-/// an access value whose object is gone, and one ends an object twice. So is the rule of loops: of a program that breaks
-/// it at the end of a loop's body, an object is freed in one turn and followed in the next one; of a program that breaks
-/// it at an exit, it is followed behind the loop. A handler begins with what is known where the exception is raised: by
-/// what is known where its statements begin, or where they end, a program's handler would be fine, yet it follows what
-/// is gone. It would follow it, too, if what an operator may raise did not count: `-` raises, of the first Integer
-/// (4.5); or if what the body of a procedure may raise did not count where it is called (6.4, 11.4). Behind a block its
-/// collections are gone, also where an exit leaves it: of a program whose outer variable names an object of one of
-/// them, that object is followed there. To assign to a component follows the value before it (4.1, 5.2): a lost one
-/// would reach into an object that is gone. A value is moved out of a component by a take pair: else both name an
-/// object that only one of them frees. And two items of an allocator move two paths: else two components name one
-/// object, which ends twice. Behind Free a borrower of the same access type is lost: else it follows the object that is
-/// gone. And the target of a take pair is not on the way to what is taken: else the statement that is to clear the
-/// component clears another one, and a borrower that still names the object takes the value out of it once more. The
-/// path of a component to be freed does not pass the component's own access type: else it may free the object in which
-/// that component lies, which is gone where the component is to become null. And of components an item moves the one
-/// alone that the new object goes to: else two of them name one object, which one gives to a variable that frees it,
-/// and the other one is followed. And a record with a component of an access type is not copied: else a component of
-/// the copy names the same object, which is freed by way of one record and followed by way of the other.
+/// The rules are needed. Of programs that are well formed, whose collections nest, and where each Free is by the
+/// instance for the access type of what it frees, one that breaks the rules follows an access value whose object is
+/// gone, and one ends an object twice. So is the rule of loops: of a program that breaks it at the end of a loop's
+/// body, an object is freed in one turn and followed in the next one; of a program that breaks it at an exit, it is
+/// followed behind the loop. A handler begins with what is known where the exception is raised: by what is known where
+/// its statements begin, or where they end, a program's handler would be fine, yet it follows what is gone. It would
+/// follow it, too, if what an operator may raise did not count: `-` raises, of the first Integer (4.5); or if what the
+/// body of a procedure may raise did not count where it is called (6.4, 11.4). Behind a block its collections are gone,
+/// also where an exit leaves it: of a program whose outer variable names an object of one of them, that object is
+/// followed there. To assign to a component follows the value before it (4.1, 5.2): a lost one would reach into an
+/// object that is gone. A value is moved out of a component by a take pair: else both name an object that only one of
+/// them frees. And two items of an allocator move two paths: else two components name one object, which ends twice.
+/// Behind Free a borrower of the same access type is lost: else it follows the object that is gone. And the target of a
+/// take pair is not on the way to what is taken: else the statement that is to clear the component clears another one,
+/// and a borrower that still names the object takes the value out of it once more. The path of a component to be freed
+/// does not pass the component's own access type: else it may free the object in which that component lies, which is
+/// gone where the component is to become null. And of components an item moves the one alone that the new object goes
+/// to: else two of them name one object, which one gives to a variable that frees it, and the other one is followed.
+/// And a record with a component of an access type is not copied: else a component of the copy names the same object,
+/// which is freed by way of one record and followed by way of the other.
 ///
 /// So are the rules of calls. At a normal end of its body a procedure gives back only what its formal parameters own:
 /// else two variables get one object back, and each of them frees it. It does not move what is only lent to it: else it
@@ -155,7 +162,9 @@ pub fn premises_are_met()
 ///
 /// So are the other premises. A variable relies on values of its own access type alone: of a program that is not well
 /// formed, one of another type names what goes with a block. And components name what lasts as long as their objects: of
-/// a program whose collections do not nest, an object outlasts what its component names.
+/// a program whose collections do not nest, an object outlasts what its component names. And a Free is by the instance for
+/// the access type of what it frees (13.11.2): of a program with two declared pools where it is by that for another access
+/// type, the words of an object are to go back to the pool of the other one.
 pub fn rules_are_needed()
     ensures follows { (program : Program) × always.Breaks LostValue program × HaltsSomewhere (Erroneous FollowsGone) program }
     ensures ends { (program : Program) × always.Breaks LostValue program × HaltsSomewhere (Erroneous EndsTwice) program }
@@ -237,4 +246,7 @@ pub fn rules_are_needed()
         × always.HaltsAfter call_examples.stripping_events (Erroneous FollowsGone) program }
     ensures nests { (program : Program) × (stmt_forms program ≡ owner_examples.outlasting_stmts)
         × always.IsIllNested program × always.HaltsAfter owner_examples.outlasting_events (Erroneous FollowsGone) program }
+    ensures misplaces { (program : Program) × pool_examples.HasTwoPools program
+        × (stmt_forms program ≡ pool_examples.misplacing_stmts)
+        × always.FreesOthers program × always.HaltsAfter [] (Erroneous GivesElsewhere) program }
 {}

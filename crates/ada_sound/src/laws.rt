@@ -31,13 +31,14 @@ pub fn never_ends_twice()
     ensures { (program : Program) → IsChecked program → NeverErroneous EndsTwice program }
 {}
 
-/// No words go back to another pool than the object's own (13.11.2). While there is one pool alone, none could.
+/// No words go back to another pool than the object's own (13.11.2): what is freed goes back to the pool of the
+/// collection in which it was allocated, also where a program declares pools.
 pub fn never_gives_elsewhere()
     ensures { (program : Program) → IsChecked program → NeverErroneous GivesElsewhere program }
 {}
 
-/// No run comes to an erroneous action of any kind. Two kinds cannot occur yet in any program: words go back to another
-/// pool only where there are two pools, and a controlled value is finalized twice only where there are controlled types.
+/// No run comes to an erroneous action of any kind. One kind cannot occur yet in any program: a controlled value is
+/// finalized twice only where there are controlled types.
 pub fn never_erroneous()
     ensures { (program : Program) → IsChecked program → (why : Why) → NeverErroneous why program }
 {}
@@ -80,9 +81,20 @@ pub fn numbers_fall()
 {}
 
 /// As long as the words of an object are out, its home is an item of a master that is entered (7.6.1): so they are back
-/// once that one has been left.
+/// once that one has been left. And the object is from the pool of that item (13.11).
 pub fn objects_are_housed()
     ensures { always.InEveryCheckedRun always.OutsAreHoused }
+{}
+
+/// As long as the words of an object are out, its pool exists (13.11): so a declared pool is gone only once the words of
+/// all its objects are back.
+pub fn pools_outlast_their_objects()
+    ensures { always.InEveryCheckedRun always.OutsHavePools }
+{}
+
+/// No two pools that exist have one number, and none of those that are declared has that of the standard pool (13.11).
+pub fn pools_differ()
+    ensures { always.InEveryCheckedRun always.PoolNumbersDiffer }
 {}
 
 /// Where a run has come to its end, finished or by an exception that left the main procedure, no master is left over,

@@ -91,7 +91,7 @@ fn answer_to(alloc: Global, source: &str) -> Result<String, Fail> {
         alloc,
         &mut reader,
         &mut input,
-        &Options::new(true),
+        &Options::new(alloc, true),
         &mut out,
     )?;
     Ok(String::from_utf8(out.bytes).ok().ok_or("no text")?)

@@ -138,7 +138,7 @@ fn served(alloc: Global, row: &Row) -> Result<(Result<Status, ServeFault>, Vec<u
         alloc,
         &mut source,
         &mut input,
-        &Options::new(row.run),
+        &Options::new(alloc, row.run),
         &mut out,
     );
     Ok((found, out.bytes))

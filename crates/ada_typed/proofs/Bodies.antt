@@ -1,11 +1,13 @@
 -- Bodies: what a well-formed program says of the program as each of its bodies sees it.
 
-use Rattle.std.proofs.Common.{◌≡◌, ℕ, zero, suc, true, false, List, [], ◌∷◌, ◌++◌, length, map, take, Option, Some, None, ◌&&◌, refl, sym, ap, subst}
+use Rattle.std.proofs.Common.{◌≡◌, ℕ, zero, suc, true, false, List, [], ◌∷◌, ◌++◌, length, map, take, Option, Some, None, ◌&&◌, refl, sym, ap, ◌∙◌, subst}
 use Rattle.std.proofs.lemmas.List.{append-nil, append_assoc}
 use Rattle.std.specs.List.{slice_get, list_all}
+use Rattle.ada_program.specs.Freed.{statements_free_own, handlers_free_own, body_frees_own, FreesItsOwn}
 use Rattle.ada_program.specs.ProgramForm.{TypeForm, BodyForm, ProgramForm, seen_by, seen_at, seen_in}
 use Rattle.ada_program.specs.WellFormed.{IsWellFormed, type_fits, variable_fits, collections_first, collection_fits, initial_fits, declarations_fit, stmts_fit, handlers_fit, Profile, profile_of, callable_in, created_in, creates_from, body_fits, bodies_fit}
 use Rattle.ada_typed.proofs.Operators.{and_left, and_right}
+use Rattle.ada_typed.proofs.Control.{OwnBody}
 
 -- What holds of a well-formed program as one of its bodies sees it (6.3).
 pub record SeenFits (own : ProgramForm) : Type 0 where
@@ -105,3 +107,23 @@ types_seen p (Some number) = types_at p number (slice_get p.bodies number)
 
 pub seen_as : (p : ProgramForm) (number : ℕ) (b : BodyForm) → slice_get p.bodies number ≡ Some b → seen_in (Some number) p ≡ seen_by number b p
 seen_as p number b is = ap (λ (found : Option BodyForm). seen_at number found p) is
+
+-- Each body of a program frees by the instances for what it frees, where the program does (13.11.2).
+own_body : (types : List TypeForm) (bs : List BodyForm) (number : ℕ) (b : BodyForm) → list_all (body_frees_own types) bs ≡ true → slice_get bs number ≡ Some b → body_frees_own types b ≡ true
+own_body types [] number b own is = absurd (cc)
+own_body types (c ∷ bs) zero b own is =
+    let one : c ≡ b = cc in
+    ap (body_frees_own types) (sym one) ∙ and_left (body_frees_own types c) (list_all (body_frees_own types) bs) own
+own_body types (c ∷ bs) (suc number) b own is = own_body types bs number b (and_right (body_frees_own types c) (list_all (body_frees_own types) bs) own) is
+
+own_at : (p : ProgramForm) → FreesItsOwn p → (number : ℕ) (found : Option BodyForm) → slice_get p.bodies number ≡ found → OwnBody (seen_at number found p)
+own_at p own number None is = (own.statements, own.handlers)
+own_at p own number (Some b) is =
+    let whole = own_body p.types p.bodies number b own.bodies is in
+    let statements = statements_free_own p.types b.variables b.statements in
+    let handled = handlers_free_own p.types b.variables b.handlers in
+    (and_left statements handled whole, and_right statements handled whole)
+
+pub own_bodies : (p : ProgramForm) → FreesItsOwn p → (procedure : Option ℕ) → OwnBody (seen_in procedure p)
+own_bodies p own None = (own.statements, own.handlers)
+own_bodies p own (Some number) = own_at p own number (slice_get p.bodies number) refl

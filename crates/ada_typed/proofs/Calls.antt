@@ -133,7 +133,7 @@ module _ (p : ProgramForm) (well : IsWellFormed p) where
       let after = begun named number b actuals operands (record s { activations = a ∷ suspended }) in
       let inside : TypedIn (seen_by number b p) after =
       running [] (record { filled = same_filled p a.procedure cells ready.filled; active = (held, tt); runs = ready.runs; deep = omega (arith, ready.deep) })
-      (refl, false, body.initials_fit, body.statements_fit, body.handlers_fit, tt, refl) in
+      (refl, false, body.initials_fit, (body.statements_fit, λ whole. whole.0), (body.handlers_fit, λ whole. whole.1), tt, refl) in
       record {
         inside = subst (λ (own : ProgramForm). TypedIn own after) (sym same) inside;
         waiting = (record { no_operands = refl; held = ready.active.0; suits = suits; referred = referred; fits = fits.3 }, waiting);

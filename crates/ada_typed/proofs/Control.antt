@@ -9,9 +9,10 @@ use Rattle.ada_program.specs.declared.program.ScalarType.{ScalarType}
 use Rattle.ada_program.specs.declared.program.TypeNo.{TypeNo}
 use Rattle.ada_program.specs.declared.program.VariableKind.{VariableKind}
 use Rattle.ada_program.specs.declared.program.VariableKind.TheVariants as variable
-use Rattle.ada_program.specs.Form.{ActualForm, in_value, in_null, in_access, in_record, in_out_path, in_out_access, in_out_component, in_out_record, HandlersForm}
+use Rattle.ada_program.specs.Form.{ActualForm, in_value, in_null, in_access, in_record, in_out_path, in_out_access, in_out_component, in_out_record, StmtForm, StmtsForm, BranchesForm, HandlersForm}
 use Rattle.ada_program.specs.ProgramForm.{TypeForm, BodyForm, ProgramForm, seen_in}
-use Rattle.ada_program.specs.WellFormed.{is_access, reached_components, record_components, held_kind, variable_kind, selected_kind, selectors_kind, path_kind, names_record, stands_alone, unary_type, binary_type, type_of, chain_type, has_record_at, items_fit, kind_takes, initial_fits, condition_fits, has_statement, stmts_fit, branches_fit, handlers_fit, actuals_fit, formal_kinds, callable_in}
+use Rattle.ada_program.specs.Freed.{statement_frees_own, statements_free_own, branches_free_own, handlers_free_own}
+use Rattle.ada_program.specs.WellFormed.{is_access, reached_components, record_components, held_kind, variable_kind, selected_kind, selectors_kind, path_kind, names_record, stands_alone, unary_type, binary_type, type_of, chain_type, has_record_at, items_fit, kind_takes, initial_fits, condition_fits, has_statement, statement_fits, stmts_fit, branches_fit, handlers_fit, actuals_fit, formal_kinds, callable_in}
 use Rattle.ada_meaning.specs.declared.state.Value.{Value}
 use Rattle.ada_meaning.specs.declared.state.Value.TheVariants.{Null, Names, Scalar, Part}
 use Rattle.ada_meaning.specs.declared.state.Mode.{Mode}
@@ -90,6 +91,30 @@ abbrev pub WhereInside : (inside : Bool) → Type 0 → Type 0
 WhereInside true lands = lands
 WhereInside false lands = Unit {0}
 
+-- The statements of the body that a program stands for free by the instances for what they free (13.11.2), and so do those of its handlers.
+abbrev pub OwnBody : ProgramForm → Type 0
+OwnBody p = (statements_free_own p.types p.variables p.statements ≡ true) × (handlers_free_own p.types p.variables p.handlers ≡ true)
+
+-- A statement of a body fits, and frees by the instance for what it frees, where the body does.
+abbrev pub FitStmt : ProgramForm → (inside : Bool) → StmtForm → Type 0
+FitStmt p inside f =
+    (statement_fits p.types p.variables p.texts p.exceptions (callable_in p) inside f ≡ true) × (OwnBody p → statement_frees_own p.types p.variables f ≡ true)
+
+-- Statements of a body fit, and free by the instances for what they free, where the body does.
+abbrev pub FitStmts : ProgramForm → (inside : Bool) → StmtsForm → Type 0
+FitStmts p inside fs =
+    (stmts_fit p.types p.variables p.texts p.exceptions (callable_in p) inside fs ≡ true) × (OwnBody p → statements_free_own p.types p.variables fs ≡ true)
+
+-- So do those of branches.
+abbrev pub FitBranches : ProgramForm → (inside : Bool) → BranchesForm → Type 0
+FitBranches p inside branches =
+    (branches_fit p.types p.variables p.texts p.exceptions (callable_in p) inside branches ≡ true) × (OwnBody p → branches_free_own p.types p.variables branches ≡ true)
+
+-- So do those of handlers.
+abbrev pub FitHandlers : ProgramForm → (inside : Bool) → HandlersForm → Type 0
+FitHandlers p inside hs =
+    (handlers_fit p.types p.variables p.texts p.exceptions (callable_in p) inside hs ≡ true) × (OwnBody p → handlers_free_own p.types p.variables hs ≡ true)
+
 -- The handlers that an exception comes to at a frame (11.4).
 abbrev pub handlers_in : Frame Value → Option HandlersForm
 handlers_in (frame.Handles hs) = Some hs
@@ -98,7 +123,7 @@ handlers_in f = None
 -- What is left to do behind a frame to which an exception comes (11.4): where there are handlers, they fit, and what is behind them does.
 abbrev pub AtHandlers : ProgramForm → Option HandlersForm → (lands behind further : Type 0) → Type 0
 AtHandlers p None lands behind further = further
-AtHandlers p (Some hs) lands behind further = (inside : Bool) × (handlers_fit p.types p.variables p.texts p.exceptions (callable_in p) inside hs ≡ true) × WhereInside inside lands × behind
+AtHandlers p (Some hs) lands behind further = (inside : Bool) × FitHandlers p inside hs × WhereInside inside lands × behind
 
 -- How it goes on behind a master that is left: what is behind it fits; or an exception comes to handlers that fit, and an exit to a loop.
 abbrev pub FitsBehind : Mode → (behind lands catches : Type 0) → Type 0
@@ -111,15 +136,15 @@ abbrev mutual
   -- Operands of these kinds are there; what is left of the running body fits them. Where statements begin, no operand is there.
   pub Fits : ProgramForm → Cells → List OperandKind → List (Frame Value) → Type 0
   Fits p cells kinds [] = Unit {0}
-  Fits p cells kinds (frame.Elaborates ds fs hs ∷ k) = (kinds ≡ []) × (inside : Bool) × (list_all (initial_fits p.types p.variables) ds ≡ true) × (stmts_fit p.types p.variables p.texts p.exceptions (callable_in p) inside fs ≡ true) × (handlers_fit p.types p.variables p.texts p.exceptions (callable_in p) inside hs ≡ true) × WhereInside inside (Lands p cells k) × Fits p cells [] k
-  Fits p cells kinds (frame.Does fs ∷ k) = (kinds ≡ []) × (inside : Bool) × (stmts_fit p.types p.variables p.texts p.exceptions (callable_in p) inside fs ≡ true) × WhereInside inside (Lands p cells k) × Fits p cells [] k
-  Fits p cells kinds (frame.Decides fs branches ∷ k) = (kinds ≡ of_kind variable.Boolean ∷ []) × (inside : Bool) × (stmts_fit p.types p.variables p.texts p.exceptions (callable_in p) inside fs ≡ true) × (branches_fit p.types p.variables p.texts p.exceptions (callable_in p) inside branches ≡ true) × WhereInside inside (Lands p cells k) × Fits p cells [] k
-  Fits p cells kinds (frame.Repeats condition fs ∷ k) = (kinds ≡ []) × (condition_fits p.types p.variables condition ≡ true) × (has_statement fs ≡ true) × (stmts_fit p.types p.variables p.texts p.exceptions (callable_in p) true fs ≡ true) × Fits p cells [] k
-  Fits p cells kinds (frame.Turns e fs ∷ k) = (kinds ≡ of_kind variable.Boolean ∷ []) × (condition_fits p.types p.variables (Some e) ≡ true) × (has_statement fs ≡ true) × (stmts_fit p.types p.variables p.texts p.exceptions (callable_in p) true fs ≡ true) × Fits p cells [] k
-  Fits p cells kinds (frame.Ranges x fs ∷ k) = (kinds ≡ of_kind variable.Integer ∷ of_kind variable.Integer ∷ []) × (variable_kind p.variables x ≡ Some variable.Integer) × (has_statement fs ≡ true) × (stmts_fit p.types p.variables p.texts p.exceptions (callable_in p) true fs ≡ true) × Fits p cells [] k
-  Fits p cells kinds (frame.Counts x value last fs ∷ k) = (kinds ≡ []) × (variable_kind p.variables x ≡ Some variable.Integer) × (has_statement fs ≡ true) × (stmts_fit p.types p.variables p.texts p.exceptions (callable_in p) true fs ≡ true) × Fits p cells [] k
+  Fits p cells kinds (frame.Elaborates ds fs hs ∷ k) = (kinds ≡ []) × (inside : Bool) × (list_all (initial_fits p.types p.variables) ds ≡ true) × FitStmts p inside fs × FitHandlers p inside hs × WhereInside inside (Lands p cells k) × Fits p cells [] k
+  Fits p cells kinds (frame.Does fs ∷ k) = (kinds ≡ []) × (inside : Bool) × FitStmts p inside fs × WhereInside inside (Lands p cells k) × Fits p cells [] k
+  Fits p cells kinds (frame.Decides fs branches ∷ k) = (kinds ≡ of_kind variable.Boolean ∷ []) × (inside : Bool) × FitStmts p inside fs × FitBranches p inside branches × WhereInside inside (Lands p cells k) × Fits p cells [] k
+  Fits p cells kinds (frame.Repeats condition fs ∷ k) = (kinds ≡ []) × (condition_fits p.types p.variables condition ≡ true) × (has_statement fs ≡ true) × FitStmts p true fs × Fits p cells [] k
+  Fits p cells kinds (frame.Turns e fs ∷ k) = (kinds ≡ of_kind variable.Boolean ∷ []) × (condition_fits p.types p.variables (Some e) ≡ true) × (has_statement fs ≡ true) × FitStmts p true fs × Fits p cells [] k
+  Fits p cells kinds (frame.Ranges x fs ∷ k) = (kinds ≡ of_kind variable.Integer ∷ of_kind variable.Integer ∷ []) × (variable_kind p.variables x ≡ Some variable.Integer) × (has_statement fs ≡ true) × FitStmts p true fs × Fits p cells [] k
+  Fits p cells kinds (frame.Counts x value last fs ∷ k) = (kinds ≡ []) × (variable_kind p.variables x ≡ Some variable.Integer) × (has_statement fs ≡ true) × FitStmts p true fs × Fits p cells [] k
   Fits p cells kinds (frame.Exits ∷ k) = (kinds ≡ of_kind variable.Boolean ∷ []) × Lands p cells k × Fits p cells [] k
-  Fits p cells kinds (frame.Handles hs ∷ k) = (kinds ≡ []) × (inside : Bool) × (handlers_fit p.types p.variables p.texts p.exceptions (callable_in p) inside hs ≡ true) × WhereInside inside (Lands p cells k) × Fits p cells [] k
+  Fits p cells kinds (frame.Handles hs ∷ k) = (kinds ≡ []) × (inside : Bool) × FitHandlers p inside hs × WhereInside inside (Lands p cells k) × Fits p cells [] k
   Fits p cells kinds (frame.Closes ∷ k) = Fits p cells kinds k
   Fits p cells kinds (frame.Leaves mode ∷ k) = FitsBehind mode (Fits p cells kinds k) (Lands p cells k) (Catches p cells k)
   Fits p cells kinds (frame.Calls procedure b actuals ∷ k) = (slice_get p.bodies procedure ≡ Some b) × (kinds ≡ in_front (operand_kinds (formal_kinds b) actuals) []) × (actuals_fit p.types p.variables (formal_kinds b) actuals ≡ true) × Fits p cells [] k
@@ -144,7 +169,7 @@ abbrev mutual
   Fits p cells kinds (frame.TargetsRecord first t items ∷ k) = (ks : List OperandKind) × (access : TypeNo) × (rs : List ComponentKind) × (kinds ≡ of_kind (variable.Access access) ∷ ks) × (record_components p.types t ≡ Some rs) × (has_record_at (reached_components p.types access.0) first (Some rs) ≡ true) × (items_fit p.types p.variables rs items ≡ true) × Fits p cells ks k
   Fits p cells kinds (frame.StoresRecord object first count ∷ k) = (ks : List OperandKind) × (access : TypeNo) × (rs : List ComponentKind) × (kinds ≡ onto rs ks) × (count ≡ length rs) × IsName object × IsAccess cells access.0 object × (has_record_at (reached_components p.types access.0) first (Some rs) ≡ true) × Fits p cells ks k
   Fits p cells kinds (frame.Receives c ∷ k) = (ks : List OperandKind) × (access : TypeNo) × (kinds ≡ of_kind (variable.Access access) ∷ ks) × (selected_kind p.types (Some (variable.Access access)) c ≡ Some variable.Integer) × Fits p cells ks k
-  Fits p cells kinds (frame.FreesIn access c ∷ k) = (ks : List OperandKind) × (holder : TypeNo) × (own : TypeNo) × (kinds ≡ of_kind (variable.Access holder) ∷ ks) × (selected_kind p.types (Some (variable.Access holder)) c ≡ Some (variable.Access own)) × Fits p cells ks k
+  Fits p cells kinds (frame.FreesIn access c ∷ k) = (ks : List OperandKind) × (holder : TypeNo) × (own : TypeNo) × (kinds ≡ of_kind (variable.Access holder) ∷ ks) × (selected_kind p.types (Some (variable.Access holder)) c ≡ Some (variable.Access own)) × (OwnBody p → own.0 ≡ access) × Fits p cells ks k
   Fits p cells kinds (frame.Declares x ∷ k) = (ks : List OperandKind) × (kind : VariableKind) × (kinds ≡ of_kind kind ∷ ks) × (variable_kind p.variables x ≡ Some kind) × Fits p cells ks k
   Fits p cells kinds (frame.DeclaresRecord x t ∷ k) = (ks : List OperandKind) × (object : TypeNo) × (cs : List ComponentKind) × (kinds ≡ onto cs ks) × (variable_kind p.variables x ≡ Some (variable.Record object)) × (t ≡ object.0) × (reached_components p.types t ≡ Some cs) × (is_access p.types t ≡ false) × Fits p cells ks k
   Fits p cells kinds (frame.Writes ∷ k) = (ks : List OperandKind) × (kinds ≡ of_kind variable.Integer ∷ ks) × Fits p cells ks k
@@ -364,7 +389,7 @@ module _ (p : ProgramForm) where
   catches cells (frame.TargetsRecord first t items ∷ k) kinds fits = catches cells k fits.0 fits.7
   catches cells (frame.StoresRecord object first count ∷ k) kinds fits = catches cells k fits.0 fits.8
   catches cells (frame.Receives c ∷ k) kinds fits = catches cells k fits.0 fits.4
-  catches cells (frame.FreesIn access c ∷ k) kinds fits = catches cells k fits.0 fits.5
+  catches cells (frame.FreesIn access c ∷ k) kinds fits = catches cells k fits.0 fits.6
   catches cells (frame.Declares x ∷ k) kinds fits = catches cells k fits.0 fits.4
   catches cells (frame.DeclaresRecord x t ∷ k) kinds fits = catches cells k fits.0 fits.8
   catches cells (frame.Writes ∷ k) kinds fits = catches cells k fits.0 fits.2

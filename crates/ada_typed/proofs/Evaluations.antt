@@ -33,7 +33,7 @@ use Rattle.ada_program.specs.declared.program.Exception.{Exception}
 use Rattle.ada_program.specs.declared.program.Exception.TheVariants.{ConstraintError, StorageError}
 use Rattle.ada_meaning.specs.Frame.{Frame, is_master}
 use Rattle.ada_meaning.specs.Frame as frame
-use Rattle.ada_meaning.specs.State.{Activation, Owned, record_object, Item, Master, height}
+use Rattle.ada_meaning.specs.State.{Activation, Owned, record_object, Item, Master, Destination, height}
 use Rattle.ada_meaning.specs.Heap.{Cell}
 use Rattle.ada_meaning.specs.Step.{halts, moves, tells, asks, picks, at, owning, owned, shorter, computed, popped, jumping, raised, put, held, newest, operands, operands_of, with_operands, reading, component_next, follow_next, path_next, selected, named_next, holder_next, record_holder_next, first_in, before_last, last_of, expression_next, null_test_next, is_decided, link_next, links_next, outcome_next, item_next, items_next, answered, new_next, new_cell, initial_value, initial_values, initialized, right_next, record_cell, made}
 use Rattle.ada_meaning.specs.Named.{Object, State, Next, named, look, seen, existing, changed, on_object, new_object, reads_boolean, reads_null, whole, inside}
@@ -572,23 +572,23 @@ module _ (p : ProgramForm) where
       let more : IsActive p.types (cells ++ cell ∷ []) p.variables ks (record a { operands = drop (length cs) a.operands } ∷ suspended) = active_later p.types cells (cells ++ cell ∷ []) (designated_more cells cell) p.variables ks (record a { operands = drop (length cs) a.operands } ∷ suspended) (active.0, (split p.types cells cs ks a.operands active.1).1) in
       (more.0, ((cell, ap (slice_get (cells ++ cell ∷ [])) is ∙ newest_name cells cell, own), more.1))
 
-  answered_fine : (access item words : ℕ) (s : State) (ks : List OperandKind) (cs : List ComponentKind) → Ready p (onto cs ks) s → reached_components p.types access ≡ Some cs → Fits p (cells_of s.heap) (of_kind (variable.Access (record { 0 = access })) ∷ ks) s.control → (granted : Bool) → TypedIn p (answered named access (length cs) item words s granted)
-  answered_fine access item words s ks cs ready reached fits true =
-      let cell = new_cell named access (length cs) item s in
+  answered_fine : (access words : ℕ) (home : Destination) (s : State) (ks : List OperandKind) (cs : List ComponentKind) → Ready p (onto cs ks) s → reached_components p.types access ≡ Some cs → Fits p (cells_of s.heap) (of_kind (variable.Access (record { 0 = access })) ∷ ks) s.control → (granted : Bool) → TypedIn p (answered named access (length cs) words home s granted)
+  answered_fine access words home s ks cs ready reached fits true =
+      let cell = new_cell named access (length cs) home s in
       let same : cells_of (s.heap ++ new_object cell ∷ []) ≡ cells_of s.heap ++ cell ∷ [] = cells_more s.heap (new_object cell) in
       running (of_kind (variable.Access (record { 0 = access })) ∷ ks) (record {
-        filled = subst (λ (xs : Cells). AreFilled p.types xs xs) (sym same) (filled_new p.types (cells_of s.heap) cell cs ready.filled reached (active_values (cells_of s.heap) cs ks s.activations ready.active) (λ is. refl));
+        filled = subst (λ (xs : Cells). AreFilled p.types xs xs) (sym same) (filled_new p.types (cells_of s.heap) cell cs ready.filled reached (active_values (cells_of s.heap) cs ks s.activations ready.active) (λ is. (home.pool, refl)));
         active = subst (λ (xs : Cells). IsActive p.types xs p.variables (of_kind (variable.Access (record { 0 = access })) ∷ ks) (with_operands (Names (record { 0 = length s.heap }) ∷ drop (length cs) (operands s)) s.activations)) (sym same)
             (active_new (cells_of s.heap) cell cs ks (record { 0 = access }) s.activations (length s.heap) refl (sym (length_cells s.heap)) ready.active);
         runs = ready.runs;
         deep = ready.deep;
       }) (subst (λ (xs : Cells). Fits p xs (of_kind (variable.Access (record { 0 = access })) ∷ ks) s.control) (sym same)
       (fits_later p (cells_of s.heap) (cells_of s.heap ++ cell ∷ []) (designated_more (cells_of s.heap) cell) s.control (of_kind (variable.Access (record { 0 = access })) ∷ ks) fits))
-  answered_fine access item words s ks cs ready reached fits false = raises (onto cs ks) (of_kind (variable.Access (record { 0 = access })) ∷ ks) StorageError s ready fits
+  answered_fine access words home s ks cs ready reached fits false = raises (onto cs ks) (of_kind (variable.Access (record { 0 = access })) ∷ ks) StorageError s ready fits
 
-  pub new_fine : (home : Option ℕ) (access words : ℕ) (s : State) (ks : List OperandKind) (cs : List ComponentKind) → Ready p (onto cs ks) s → reached_components p.types access ≡ Some cs → Fits p (cells_of s.heap) (of_kind (variable.Access (record { 0 = access })) ∷ ks) s.control → Fine p (new_next named access (length cs) words home s)
+  pub new_fine : (home : Option Destination) (access words : ℕ) (s : State) (ks : List OperandKind) (cs : List ComponentKind) → Ready p (onto cs ks) s → reached_components p.types access ≡ Some cs → Fits p (cells_of s.heap) (of_kind (variable.Access (record { 0 = access })) ∷ ks) s.control → Fine p (new_next named access (length cs) words home s)
   new_fine None access words s ks cs ready reached fits = raises (onto cs ks) (of_kind (variable.Access (record { 0 = access })) ∷ ks) StorageError s ready fits
-  new_fine (Some item) access words s ks cs ready reached fits = answered_fine access item words s ks cs ready reached fits
+  new_fine (Some home) access words s ks cs ready reached fits = answered_fine access words home s ks cs ready reached fits
 
   -- What is assigned.
   pub filled_items : (o : Option (List ComponentKind)) (vs : List VariableForm) (items : List ItemForm) → is_filled p.types vs o items ≡ true → (cs : List ComponentKind) × (o ≡ Some cs) × (items_fit p.types vs cs items ≡ true)

@@ -1,7 +1,8 @@
 -- A well-formed program and a run of it to its end; and programs that are not well formed, which get stuck.
 
 use Rattle.std.proofs.Common.{◌<◌, ◌≤◌, ℤ, Bool, true, false, List, [], ◌∷◌, ◌++◌, length, map, refl, sym, ap, ◌∙◌, subst, ◌≡◌, arith}
-use Rattle.std.specs.Prelude.{Some, None, pos, String}
+use Rattle.std.specs.Prelude.{Some, None, pos, String, ◌&&◌}
+use Rattle.std.specs.List.{list_all}
 use Rattle.std.specs.Global.{Vec, Global}
 use Rattle.ada_text.specs.declared.spot.Spot.{Spot}
 use Rattle.ada_program.specs.declared.program.Expression.{Expression, Integer, Boolean, Path as Reads, NullTest}
@@ -15,6 +16,7 @@ use Rattle.ada_program.specs.declared.program.Stmt as stmt
 use Rattle.ada_program.specs.declared.program.Stmt.{Stmt}
 use Rattle.ada_program.specs.declared.program.ComponentKind.TheVariants as kind
 use Rattle.ada_program.specs.declared.program.Part.{Part}
+use Rattle.ada_program.specs.declared.program.Pool.{Pool}
 use Rattle.ada_program.specs.declared.program.PartKind.TheVariants as part
 use Rattle.ada_program.specs.declared.program.TypeDefinition.{TypeDefinition}
 use Rattle.ada_program.specs.declared.program.TypeDefinition.TheVariants as definition
@@ -30,7 +32,7 @@ use Rattle.ada_program.specs.declared.program.Exception.TheVariants.{ProgramErro
 use Rattle.ada_program.specs.declared.program.Handler.{Handler}
 use Rattle.ada_program.specs.Form.{expression_form, stmt_form, path_form, record_path_form, item_of_record, in_null, in_out_path, in_out_access, in_out_component, in_out_record, integer, reads, is_null, StmtsForm, no_stmts, a_stmt, assigns, assigns_record, allocates_default, computes, gets, writes, frees, chooses, repeats, counts, exits, calls, returns, raises, encloses, otherwise, a_branch, HandlersForm, no_handlers, a_handler, declaration_forms, stmt_forms, handler_forms, statement_rules, expression_rules}
 use Rattle.ada_program.specs.ProgramForm.{BodyForm, body_form, body_forms, program_form}
-use Rattle.ada_program.specs.WellFormed.{Creation, creation, created_by_all, created_by_handlers, created_in_all, creates_from, has_collections, IsWellFormed, stmts_fit, bodies_fit, callable_in}
+use Rattle.ada_program.specs.WellFormed.{Creation, creation, created_by_all, created_by_handlers, created_in_all, creates_from, has_collections, has_known_pool, creates_known_pool, IsWellFormed, stmts_fit, bodies_fit, callable_in}
 use Rattle.ada_meaning.specs.declared.event.Halt.TheVariants.{Finished}
 use Rattle.ada_meaning.specs.Frame as frame
 use Rattle.ada_meaning.specs.Named.{State, next}
@@ -38,20 +40,20 @@ use Rattle.ada_meaning.specs.Run.{Event, Run, Halts, first_state, settled, grant
 use Rattle.ada_typed.specs.Stuck.{Finishes, GetsStuck, HasEmptyHandler}
 use denote.RawPtr.{null_ptr}
 
-abbrev heap : Global
+abbrev pub heap : Global
 heap = record { memory = record { seal = tt } }
 
-abbrev vec : {X : Type 0} (items : List X) → length items ≤ 8 → Vec X
+abbrev pub vec : {X : Type 0} (items : List X) → length items ≤ 8 → Vec X
 vec items le = record { ptr = null_ptr; len = length items; cap = length items; alloc = heap; items = items; ok = (refl, omega arith); small = omega (arith, le) }
 
-abbrev no_name : String Global
+abbrev pub no_name : String Global
 no_name = record { bytes = vec [] (omega arith); ok = ∣ ([], (refl, refl)) ∣₁ }
 
-abbrev spot : Spot
+abbrev pub spot : Spot
 spot = record { line = 1; column = 1 }
 
 -- X; X.Value; N; R; I
-abbrev x_path : Path
+abbrev pub x_path : Path
 x_path = record { root = record { 0 = 0 }; selectors = vec [] (omega arith); of_record = false; spot = spot }
 
 abbrev value_path : Path
@@ -73,13 +75,17 @@ x_all = record { object = x_path; first = record { 0 = 0 }; «record» = record 
 abbrev r_all : RecordPath
 r_all = record { object = r_path; first = record { 0 = 0 }; «record» = record { 0 = 0 } }
 
--- type Cell is record Value : Integer; end record; type Link is access Cell;
-abbrev parts : List Part
+-- type Cell is record Value : Integer; end record; type Link is access Cell; for Link'Storage_Pool use P;
+abbrev pub parts : List Part
 parts = record { name = no_name; kind = part.Elementary (kind.Integer (pos 0)); first = record { 0 = 0 } } ∷ []
 
 abbrev types : List TypeDefinition
-types = definition.Record no_name (vec parts (omega arith)) (vec (kind.Integer (pos 0) ∷ []) (omega arith)) ∷ definition.Access no_name (record { 0 = 0 }) ∷ definition.Object (record { 0 = 0 })
+types = definition.Record no_name (vec parts (omega arith)) (vec (kind.Integer (pos 0) ∷ []) (omega arith)) ∷ definition.Access no_name (record { 0 = 0 }) (Some (record { 0 = 0 })) ∷ definition.Object (record { 0 = 0 })
     ∷ definition.Object (record { 0 = 0 }) ∷ []
+
+-- P : First_Fit_Pool (8);
+abbrev pools : List Pool
+pools = record { name = no_name; words = 8 } ∷ []
 
 -- X : Link := new Cell'(Value => 7); N : Integer := X.Value; R : Cell := (Value => 3); and the parameter I
 abbrev variables : List Variable
@@ -92,7 +98,8 @@ variables =
 
 abbrev declarations : List Declaration
 declarations =
-    declaration.Collection (record { 0 = 1 })
+    declaration.Pool (record { 0 = 0 })
+    ∷ declaration.Collection (record { 0 = 1 })
     ∷ declaration.Variable (record { 0 = 0 }) (Some (right.Allocator (record { 0 = 1 }) (vec (item.Value (Integer (pos 7)) ∷ []) (omega arith))))
     ∷ declaration.Variable (record { 0 = 1 }) (Some (right.Value (Reads value_path)))
     ∷ declaration.Record (record { 0 = 2 }) (record { 0 = 2 }) (Some (vec (item.Value (Integer (pos 3)) ∷ []) (omega arith)))
@@ -192,6 +199,7 @@ swap = record {
 abbrev pub program : Program
 program = record {
   types = vec types (omega arith);
+  pools = vec pools (omega arith);
   procedures = vec (show ∷ swap ∷ []) (omega arith);
   variables = vec variables (omega arith);
   texts = vec [] (omega arith);
@@ -255,10 +263,17 @@ bodies_are = ap (λ (fs : StmtsForm). with_forms fs (body_form swap).statements)
 abbrev creations_with : StmtsForm → List Creation
 creations_with fs = map creation (declaration_forms program) ++ created_by_all fs ++ created_by_handlers (handler_forms program)
 
+-- Whether the pools of its types, and those that are created, are its own.
+abbrev are_pools : List Creation → Bool
+are_pools creations = list_all (has_known_pool 1) (program_form program).types && list_all (creates_known_pool 1) creations
+
 pub well_formed : IsWellFormed (program_form program)
 unfolding expression_form
 well_formed = record {
   types_fit = refl;
+  pools_fit =
+      ap (λ (bs : List BodyForm). are_pools (created_in_all bs ++ creations_with (stmt_forms program))) bodies_are ∙
+      ap (λ (fs : StmtsForm). are_pools (created_in_all shown ++ creations_with fs)) statements_are;
   variables_fit = refl;
   creates_in_order = ap (λ (fs : StmtsForm). creates_from 4 0 (creations_with fs)) statements_are;
   collections_first = refl;
@@ -286,7 +301,7 @@ some_member = omega arith
 
 finishes_from : FinishesFrom forms
 unfolding next expression_form stmt_form
-finishes_from = (_, _, there settled _ (refl, refl) (there settled _ (refl, refl) (there settled _ (refl, refl) (there settled _ (refl, refl) (there settled _ (refl, refl) (there settled _ (refl, refl) (there (grants true) _ (refl, refl) (there settled _ (refl, refl) (there settled _ (refl, refl) (there settled _ (refl, refl) (there settled _ (refl, refl) (there settled _ (refl, refl) (there settled _ (refl, refl) (there settled _ (refl, refl) (there settled _ (refl, refl) (there settled _ (refl, refl) (there settled _ (refl, refl) (there settled _ (refl, refl) (there settled _ (refl, refl) (there settled _ (refl, refl) (there settled _ (refl, refl) (there settled _ (refl, refl) (there settled _ (refl, refl) (there settled _ (refl, refl) (there settled _ (refl, refl) (there settled _ (refl, refl) (there settled _ (refl, refl) (there settled _ (refl, refl) (there settled _ (refl, refl) (there settled _ (refl, refl) (there settled _ (refl, refl) (there settled _ (refl, refl) (there settled _ (refl, refl) (there settled _ (refl, refl) (there settled _ (refl, refl) (there settled _ (refl, refl) (there settled _ (refl, refl) (there settled _ (refl, refl) (there settled _ (refl, refl) (there settled _ (refl, refl) (there settled _ (refl, refl) (there settled _ (refl, refl) (there settled _ (refl, refl) (there settled _ (refl, refl) (there settled _ (refl, refl) (there settled _ (refl, refl) (there settled _ (refl, refl) (there settled _ (refl, refl) (there settled _ (refl, refl) (there settled _ (refl, refl) (there settled _ (refl, refl) (there settled _ (refl, refl) (there settled _ (refl, refl) (there settled _ (refl, refl) (there settled _ (refl, refl) (there settled _ (refl, refl) (there settled _ (refl, refl) (there settled _ (refl, refl) (there settled _ (refl, refl) (there settled _ (refl, refl) (there settled _ (refl, refl) (there settled _ (refl, refl) (there settled _ (refl, refl) (there settled _ (refl, refl) (there settled _ (refl, refl) (there settled _ (refl, refl) (there settled _ (refl, refl) (there settled _ (refl, refl) (there settled _ (refl, refl) (there settled _ (refl, refl) (there settled _ (refl, refl) (there (grants true) _ (refl, refl) (there settled _ (refl, refl) (there settled _ (refl, refl) (there settled _ (refl, refl) (there settled _ (refl, refl) (there settled _ (refl, refl) (there settled _ (refl, refl) (there settled _ (refl, refl) (there settled _ (refl, refl) (there settled _ (refl, refl) (there settled _ (refl, refl) (there settled _ (refl, refl) (there settled _ (refl, refl) (there settled _ (refl, refl) (there settled _ (refl, refl) (there settled _ (refl, refl) (there settled _ (refl, refl) (there settled _ (refl, refl) (there settled _ (refl, refl) (there settled _ (refl, refl) (there settled _ (refl, refl) (there settled _ (refl, refl) (there settled _ (refl, refl) (there settled _ (refl, refl) (there settled _ (refl, refl) (there settled _ (refl, refl) (there settled _ (refl, refl) (there settled _ (refl, refl) (there settled _ (refl, refl) (there settled _ (refl, refl) (there settled _ (refl, refl) (there settled _ (refl, refl) (there settled _ (refl, refl) (there settled _ (refl, refl) (there settled _ (refl, refl) (there settled _ (refl, refl) (there settled _ (refl, refl) (there settled _ (refl, refl) (there settled _ (refl, refl) (there settled _ (refl, refl) (there settled _ (refl, refl) (there settled _ (refl, refl) (there settled _ (refl, refl) (there settled _ (refl, refl) (there settled _ (refl, refl) (there settled _ (refl, refl) (there settled _ (refl, refl) (there settled _ (refl, refl) (there settled _ (refl, refl) (there settled _ (refl, refl) (there settled _ (refl, refl) (there (takes 0) _ (some_member, refl, refl) (there settled _ (refl, refl) (there settled _ (refl, refl) (there settled _ (refl, refl) (there settled _ (refl, refl) (there settled _ (refl, refl) (there settled _ (refl, refl) (there settled _ (refl, refl) here))))))))))))))))))))))))))))))))))))))))))))))))))))))))))))))))))))))))))))))))))))))))))))))))))))))))))))))))))))))))))))))))), refl)
+finishes_from = (_, _, there settled _ (refl, refl) (there settled _ (refl, refl) (there settled _ (refl, refl) (there settled _ (refl, refl) (there settled _ (refl, refl) (there settled _ (refl, refl) (there settled _ (refl, refl) (there (grants true) _ (refl, refl) (there settled _ (refl, refl) (there settled _ (refl, refl) (there settled _ (refl, refl) (there settled _ (refl, refl) (there settled _ (refl, refl) (there settled _ (refl, refl) (there settled _ (refl, refl) (there settled _ (refl, refl) (there settled _ (refl, refl) (there settled _ (refl, refl) (there settled _ (refl, refl) (there settled _ (refl, refl) (there settled _ (refl, refl) (there settled _ (refl, refl) (there settled _ (refl, refl) (there settled _ (refl, refl) (there settled _ (refl, refl) (there settled _ (refl, refl) (there settled _ (refl, refl) (there settled _ (refl, refl) (there settled _ (refl, refl) (there settled _ (refl, refl) (there settled _ (refl, refl) (there settled _ (refl, refl) (there settled _ (refl, refl) (there settled _ (refl, refl) (there settled _ (refl, refl) (there settled _ (refl, refl) (there settled _ (refl, refl) (there settled _ (refl, refl) (there settled _ (refl, refl) (there settled _ (refl, refl) (there settled _ (refl, refl) (there settled _ (refl, refl) (there settled _ (refl, refl) (there settled _ (refl, refl) (there settled _ (refl, refl) (there settled _ (refl, refl) (there settled _ (refl, refl) (there settled _ (refl, refl) (there settled _ (refl, refl) (there settled _ (refl, refl) (there settled _ (refl, refl) (there settled _ (refl, refl) (there settled _ (refl, refl) (there settled _ (refl, refl) (there settled _ (refl, refl) (there settled _ (refl, refl) (there settled _ (refl, refl) (there settled _ (refl, refl) (there settled _ (refl, refl) (there settled _ (refl, refl) (there settled _ (refl, refl) (there settled _ (refl, refl) (there settled _ (refl, refl) (there settled _ (refl, refl) (there settled _ (refl, refl) (there settled _ (refl, refl) (there settled _ (refl, refl) (there settled _ (refl, refl) (there settled _ (refl, refl) (there settled _ (refl, refl) (there settled _ (refl, refl) (there settled _ (refl, refl) (there (grants true) _ (refl, refl) (there settled _ (refl, refl) (there settled _ (refl, refl) (there settled _ (refl, refl) (there settled _ (refl, refl) (there settled _ (refl, refl) (there settled _ (refl, refl) (there settled _ (refl, refl) (there settled _ (refl, refl) (there settled _ (refl, refl) (there settled _ (refl, refl) (there settled _ (refl, refl) (there settled _ (refl, refl) (there settled _ (refl, refl) (there settled _ (refl, refl) (there settled _ (refl, refl) (there settled _ (refl, refl) (there settled _ (refl, refl) (there settled _ (refl, refl) (there settled _ (refl, refl) (there settled _ (refl, refl) (there settled _ (refl, refl) (there settled _ (refl, refl) (there settled _ (refl, refl) (there settled _ (refl, refl) (there settled _ (refl, refl) (there settled _ (refl, refl) (there settled _ (refl, refl) (there settled _ (refl, refl) (there settled _ (refl, refl) (there settled _ (refl, refl) (there settled _ (refl, refl) (there settled _ (refl, refl) (there settled _ (refl, refl) (there settled _ (refl, refl) (there settled _ (refl, refl) (there settled _ (refl, refl) (there settled _ (refl, refl) (there settled _ (refl, refl) (there settled _ (refl, refl) (there settled _ (refl, refl) (there settled _ (refl, refl) (there settled _ (refl, refl) (there settled _ (refl, refl) (there settled _ (refl, refl) (there settled _ (refl, refl) (there settled _ (refl, refl) (there settled _ (refl, refl) (there settled _ (refl, refl) (there settled _ (refl, refl) (there settled _ (refl, refl) (there (takes 0) _ (some_member, refl, refl) (there settled _ (refl, refl) (there settled _ (refl, refl) (there settled _ (refl, refl) (there settled _ (refl, refl) (there settled _ (refl, refl) (there settled _ (refl, refl) (there settled _ (refl, refl) (there settled _ (refl, refl) here))))))))))))))))))))))))))))))))))))))))))))))))))))))))))))))))))))))))))))))))))))))))))))))))))))))))))))))))))))))))))))))))))), refl)
 
 pub finishes : Finishes program
 finishes =
@@ -295,7 +310,7 @@ finishes =
 
 -- Put_Line (Integer'Image (True));
 abbrev pub ill_typed : Program
-ill_typed = record { types = vec [] (omega arith); procedures = vec [] (omega arith); variables = vec [] (omega arith); texts = vec [] (omega arith); exceptions = vec [] (omega arith); declarations = vec [] (omega arith); statements = vec (stmt.PutImage (Boolean true) ∷ []) (omega arith); handlers = vec [] (omega arith) }
+ill_typed = record { types = vec [] (omega arith); pools = vec [] (omega arith); procedures = vec [] (omega arith); variables = vec [] (omega arith); texts = vec [] (omega arith); exceptions = vec [] (omega arith); declarations = vec [] (omega arith); statements = vec (stmt.PutImage (Boolean true) ∷ []) (omega arith); handlers = vec [] (omega arith) }
 
 pub gets_stuck : GetsStuck ill_typed
 unfolding next expression_form stmt_form
@@ -305,6 +320,7 @@ gets_stuck = ([], _, _, there settled _ (refl, refl) (there settled _ (refl, ref
 abbrev pub unhandling : Program
 unhandling = record {
   types = vec [] (omega arith);
+  pools = vec [] (omega arith);
   procedures = vec [] (omega arith);
   variables = vec [] (omega arith);
   texts = vec [] (omega arith);

@@ -7,6 +7,7 @@ use Rattle.std.specs.List.{list_all}
 use Rattle.ada_program.specs.Form.{StmtsForm, no_stmts, a_stmt, HandlersForm, no_handlers, a_handler}
 use Rattle.ada_program.specs.Handling.{some_takes, handler_of}
 use Rattle.ada_program.specs.ProgramForm.{ProgramForm}
+use Rattle.ada_program.specs.Freed.{statements_free_own, handlers_free_own}
 use Rattle.ada_program.specs.WellFormed.{has_statement, choice_fits, stmts_fit, handlers_fit, callable_in}
 use Rattle.ada_meaning.specs.declared.state.Value.{Value}
 use Rattle.ada_meaning.specs.declared.state.Mode.{Mode}
@@ -18,7 +19,7 @@ use Rattle.ada_meaning.specs.Step.{landed, pass_next, end_of}
 use Rattle.ada_meaning.specs.Named.{State, named}
 use Rattle.ada_typed.proofs.Evaluations.{Fine}
 use Rattle.ada_typed.proofs.Operators.{and_left, and_right}
-use Rattle.ada_typed.proofs.Control.{AtReturn, AtLoop, handlers_in, AtHandlers, FitsBehind, Fits, Lands, Catches, depth, Jumps, Goes, running, on_jump, catches, catches_behind}
+use Rattle.ada_typed.proofs.Control.{FitStmts, FitHandlers, AtReturn, AtLoop, handlers_in, AtHandlers, FitsBehind, Fits, Lands, Catches, depth, Jumps, Goes, running, on_jump, catches, catches_behind}
 
 module _ (p : ProgramForm) where
   -- Jumps pass what is left to do (5.7, 6.5, 11.4).
@@ -138,22 +139,24 @@ module _ (p : ProgramForm) where
 
   -- The first handler that takes an exception has a statement, and fits (11.2, 11.4).
   abbrev IsAble : Bool → StmtsForm → Type 0
-  IsAble inside fs = (has_statement fs ≡ true) × (stmts_fit p.types p.variables p.texts p.exceptions (callable_in p) inside fs ≡ true)
+  IsAble inside fs = (has_statement fs ≡ true) × FitStmts p inside fs
 
   able_here : (here inside : Bool) (gs : StmtsForm) (later : Option StmtsForm) (fs : StmtsForm) → IsAble inside gs → (later ≡ Some fs → IsAble inside fs) → (if here then Some gs else later) ≡ Some fs → IsAble inside fs
   able_here true inside gs later fs able others is = let same : gs ≡ fs = cc in subst (λ (ss : StmtsForm). IsAble inside ss) same able
   able_here false inside gs later fs able others is = others is
 
-  handler_able : (inside : Bool) (hs : HandlersForm) (e : Exception) (fs : StmtsForm) → handlers_fit p.types p.variables p.texts p.exceptions (callable_in p) inside hs ≡ true → handler_of e hs ≡ Some fs → IsAble inside fs
+  handler_able : (inside : Bool) (hs : HandlersForm) (e : Exception) (fs : StmtsForm) → FitHandlers p inside hs → handler_of e hs ≡ Some fs → IsAble inside fs
   handler_able inside no_handlers e fs own is = absurd (cc)
   handler_able inside (a_handler choices gs hs) e fs own is =
       let chosen = list_all (choice_fits p.exceptions) choices in
       let some = has_statement gs in
       let inner = stmts_fit p.types p.variables p.texts p.exceptions (callable_in p) inside gs in
       let others = handlers_fit p.types p.variables p.texts p.exceptions (callable_in p) inside hs in
-      let former = and_left (chosen && some && inner) others own in
-      able_here (some_takes e choices) inside gs (handler_of e hs) fs (and_right chosen some (and_left (chosen && some) inner former), and_right (chosen && some) inner former)
-      (λ later. handler_able inside hs e fs (and_right (chosen && some && inner) others own) later) is
+      let former = and_left (chosen && some && inner) others own.0 in
+      let by_own = statements_free_own p.types p.variables gs in
+      let later = handlers_free_own p.types p.variables hs in
+      able_here (some_takes e choices) inside gs (handler_of e hs) fs (and_right chosen some (and_left (chosen && some) inner former), (and_right (chosen && some) inner former, λ body. and_left by_own later (own.1 body)))
+      (λ takes. handler_able inside hs e fs (and_right (chosen && some && inner) others own.0, λ body. and_right by_own later (own.1 body)) takes) is
 
   -- An exception comes to handlers.
   handler_fine : (o : Option StmtsForm) (e : Exception) (hs : HandlersForm) (s : State) → handler_of e hs ≡ o → AtHandlers p (Some hs) (Lands p (cells_of s.heap) s.control) (Fits p (cells_of s.heap) [] s.control) (Catches p (cells_of s.heap) s.control) → Jumps p (Raising e) s → Fine p (landed named (handler_landing o) s)

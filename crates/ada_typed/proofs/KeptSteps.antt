@@ -4,7 +4,7 @@ use Rattle.std.proofs.Common.{◌≡◌, ℕ, ℤ, int_le, not, if◌then◌else
 use Rattle.std.specs.List.{slice_get, slice_index_or, slice_set}
 use Rattle.ada_program.specs.declared.program.Exception.TheVariants.{ConstraintError, StorageError, EndError}
 use Rattle.ada_program.specs.declared.program.TypeDefinition.{TypeDefinition}
-use Rattle.ada_program.specs.Form.{RecordPathForm, ActualForm, in_value, in_null, in_access, in_record, in_out_path, in_out_access, in_out_component, in_out_record, ExpressionForm, integer, boolean, reads, is_null, applied_to, chained, LinksForm, no_more_links, a_link, ItemForm, null_item, item_of_path, item_of_value, item_of_record, RightForm, nothing, value_of, allocates, allocates_default, computes, StmtForm, skips, assigns, assigns_record, frees, gets, writes, writes_text, chooses, repeats, counts, exits, calls, returns, raises as raises_it, encloses, StmtsForm, no_stmts, a_stmt, BranchesForm, otherwise, a_branch, HandlersForm, DeclarationForm, collects, declares, declares_record}
+use Rattle.ada_program.specs.Form.{RecordPathForm, ActualForm, in_value, in_null, in_access, in_record, in_out_path, in_out_access, in_out_component, in_out_record, ExpressionForm, integer, boolean, reads, is_null, applied_to, chained, LinksForm, no_more_links, a_link, ItemForm, null_item, item_of_path, item_of_value, item_of_record, RightForm, nothing, value_of, allocates, allocates_default, computes, StmtForm, skips, assigns, assigns_record, frees, gets, writes, writes_text, chooses, repeats, counts, exits, calls, returns, raises as raises_it, encloses, StmtsForm, no_stmts, a_stmt, BranchesForm, otherwise, a_branch, HandlersForm, DeclarationForm, creates_pool, collects, declares, declares_record}
 use Rattle.ada_program.specs.ProgramForm.{BodyForm}
 use Rattle.ada_program.specs.Typed.{reached_of, words_of, width_of}
 use Rattle.ada_values.specs.declared.operator.BinaryOperator.{BinaryOperator}
@@ -19,7 +19,7 @@ use Rattle.ada_meaning.specs.declared.event.Cause.TheVariants.{Leaving}
 use Rattle.ada_meaning.specs.Event.{Event, Quiet}
 use Rattle.ada_meaning.specs.Frame.{Frame, is_return, Landing, passes_on, goes_behind, goes_in}
 use Rattle.ada_meaning.specs.Frame as frame
-use Rattle.ada_meaning.specs.State.{Owned, declared, collection, record_object, Item, Master, height, home_of, pool_of}
+use Rattle.ada_meaning.specs.State.{Owned, declared, collection, record_object, storage_pool, Item, Master, Destination, height, home_of}
 use Rattle.ada_meaning.specs.Heap.{Cell, Found, on_null, on_gone, on_other, finds}
 use Rattle.ada_meaning.specs.Step.{moves, at, operands, places, popped, owned, put, before_last, last_of, in_front, record_in, held, newest, reading, component_next, follow_next, path_next, selected, named_next, holder_next, record_holder_next, first_in, computed, referred_next, refers_next, open_next, opened_next, opens_next, expression_next, null_test_next, is_decided, link_next, links_next, outcome_next, item_next, items_next, copied_next, copies_next, newest_ones, without_newest, new_cell, answered, new_next, initial_values, right_next, freeing, free_next, end_next, same_pool, told_back, given_back, back_next, assign_next, target_next, stored_next, store_next, record_target_next, record_stored_next, store_record_next, frees_next, freed_next, free_component_next, free_in_next, branches_next, decided_next, turn_next, repeats_next, turned_next, count_turn_next, ranges_next, gets_next, received_next, receive_next, exit_next, exited_next, computing, call_next, stmt_next, stmts_next, line_next, record_cell, made, record_next, declaration_next, declarations_next, members_next, item_leave_next, master_leave_next, leave_next, frame_next, landed, pass_next}
 use Rattle.ada_meaning.specs.Named.{State, Next, named, refer, whole, inside, look, lent, on_object, parted, finished, returned, new_object, members, reads_integer, reads_boolean, reads_null, unary_given, binary_given}
@@ -138,18 +138,18 @@ copies_keeps o first count on_gone s = tt
 copies_keeps o first count on_other s = tt
 copies_keeps o first count (finds cell) s = copied_keeps o (record_in cell.values first count) s
 
-answered_keeps : (access count item words : ℕ) (s : State) (granted : Bool) → Keeps s (answered named access count item words s granted)
-answered_keeps access count item words s true = record {
-  stay = stay_more s.heap (new_object (new_cell named access count item s));
+answered_keeps : (access count words : ℕ) (home : Destination) (s : State) (granted : Bool) → Keeps s (answered named access count words home s granted)
+answered_keeps access count words home s true = record {
+  stay = stay_more s.heap (new_object (new_cell named access count home s));
   procedure = procedure_operands (Names (record { 0 = length s.heap }) ∷ drop count (operands s)) s.activations;
   suspended = older_operands (Names (record { 0 = length s.heap }) ∷ drop count (operands s)) s.activations;
   behind = refl;
 }
-answered_keeps access count item words s false = jumping_keeps (Raising StorageError) s
+answered_keeps access count words home s false = jumping_keeps (Raising StorageError) s
 
-new_keeps : (access count words : ℕ) (home : Option ℕ) (s : State) → Each (Keeps s) (new_next named access count words home s)
+new_keeps : (access count words : ℕ) (home : Option Destination) (s : State) → Each (Keeps s) (new_next named access count words home s)
 new_keeps access count words None s = jumping_keeps (Raising StorageError) s
-new_keeps access count words (Some item) s = answered_keeps access count item words s
+new_keeps access count words (Some home) s = answered_keeps access count words home s
 
 right_keeps : (types : List TypeDefinition) (right : RightForm) (s : State) → Each (Keeps s) (right_next named types right s)
 right_keeps types nothing s = operated (Null ∷ operands s) refl refl refl
@@ -368,6 +368,7 @@ record_keeps types x t None s = made_keeps types x t (initial_values named (reac
 record_keeps types x t (Some items) s = still refl refl refl
 
 declaration_keeps : (types : List TypeDefinition) (d : DeclarationForm) (s : State) → Each (Keeps s) (declaration_next named types d s)
+declaration_keeps types (creates_pool pool) s = still refl refl refl
 declaration_keeps types (collects access) s = still refl refl refl
 declaration_keeps types (declares x right) s = still refl refl refl
 declaration_keeps types (declares_record x t initial) s = record_keeps types x t initial s
@@ -385,8 +386,9 @@ members_keeps cause pool (v ∷ vs) s = λ i lt. altered (stay_on parted s.heap 
 
 item_leave_keeps : (m : ℕ) (item : Item) (what : Owned) (s : State) → Each (Keeps s) (item_leave_next named m item what s)
 item_leave_keeps m item (declared x) s = still refl refl refl
-item_leave_keeps m item (collection access) s = members_keeps (Leaving m item.number) (Some (pool_of access)) (members s.heap item.number) s
+item_leave_keeps m item (collection access pool) s = members_keeps (Leaving m item.number) pool (members s.heap item.number) s
 item_leave_keeps m item (record_object t) s = members_keeps (Leaving m item.number) None (members s.heap item.number) s
+item_leave_keeps m item (storage_pool declaration number) s = still refl refl refl
 
 master_leave_keeps : (mode : Mode) (m : ℕ) (items : List Item) (s : State) → Each (Keeps s) (master_leave_next named mode m items s)
 master_leave_keeps mode m [] s = still refl refl refl

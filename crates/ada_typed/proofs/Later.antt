@@ -71,7 +71,7 @@ module _ (p : ProgramForm) (cells after : Cells) (stay : StayDesignated cells af
     fits_later (frame.TargetsRecord first t items ∷ k) kinds h = (h.0, h.1, h.2, h.3, h.4, h.5, h.6, fits_later k h.0 h.7)
     fits_later (frame.StoresRecord object first count ∷ k) kinds h = (h.0, h.1, h.2, h.3, h.4, h.5, access_later cells after stay h.1.0 object h.6, h.7, fits_later k h.0 h.8)
     fits_later (frame.Receives c ∷ k) kinds h = (h.0, h.1, h.2, h.3, fits_later k h.0 h.4)
-    fits_later (frame.FreesIn access c ∷ k) kinds h = (h.0, h.1, h.2, h.3, h.4, fits_later k h.0 h.5)
+    fits_later (frame.FreesIn access c ∷ k) kinds h = (h.0, h.1, h.2, h.3, h.4, h.5, fits_later k h.0 h.6)
     fits_later (frame.Declares x ∷ k) kinds h = (h.0, h.1, h.2, h.3, fits_later k h.0 h.4)
     fits_later (frame.DeclaresRecord x t ∷ k) kinds h = (h.0, h.1, h.2, h.3, h.4, h.5, h.6, h.7, fits_later k h.0 h.8)
     fits_later (frame.Writes ∷ k) kinds h = (h.0, h.1, fits_later k h.0 h.2)

@@ -36,5 +36,9 @@ pub mod Jumps
 pub mod Calls
 -- so no run is stuck
 pub mod Runs
+-- and what is freed is freed by the instance for its type
+pub mod Freeing
 -- a program that is well formed, and one that is not
 pub mod Example
+-- a program that frees an object, by either instance
+pub mod ExampleFreeing

@@ -25,7 +25,7 @@ kind_there types (y ∷ xs) (suc x) kind fit is = kind_there types xs x kind (an
 pub object_designates : (o : Option TypeForm) → is_some (object_in o) ≡ true → designated_in o ≡ None
 object_designates None h = refl
 object_designates (Some (record_of name parts components)) h = refl
-object_designates (Some (access_to name designated)) h = absurd (cc)
+object_designates (Some (access_to name designated pool)) h = absurd (cc)
 object_designates (Some (object_of record_type)) h = refl
 
 type_there : (types ts : List TypeForm) (t : ℕ) (type : TypeForm) → list_all (type_fits types) ts ≡ true → slice_get ts t ≡ Some type → type_fits types type ≡ true
@@ -36,7 +36,7 @@ type_there types (u ∷ ts) (suc t) type fit is = type_there types ts t type (an
 reached_at : (types : List TypeForm) (o : Option TypeForm) → ((type : TypeForm) → o ≡ Some type → type_fits types type ≡ true) → is_some (object_in o) ≡ true → (cs : List ComponentKind) × (components_reached types (named_in o) ≡ Some cs)
 reached_at types None fit h = absurd (cc)
 reached_at types (Some (record_of name parts components)) fit h = absurd (cc)
-reached_at types (Some (access_to name designated)) fit h = absurd (cc)
+reached_at types (Some (access_to name designated pool)) fit h = absurd (cc)
 reached_at types (Some (object_of record_type)) fit h = there_is (record_components types record_type) (fit (object_of record_type) refl)
 
 pub object_reached : (types : List TypeForm) (t : ℕ) → list_all (type_fits types) types ≡ true → is_object_type types t ≡ true → (cs : List ComponentKind) × (reached_components types t ≡ Some cs)

@@ -22,7 +22,7 @@ pub first_typed : (program : Program) (input : List ℤ) → IsWellFormed (progr
 first_typed program input well = record {
   inside =
       running [] (record { filled = tt; active = (held_blank (map type_form program.types.items) [] (map variable_form program.variables.items), tt); runs = refl; deep = omega arith })
-      (refl, false, well.initials_fit, well.statements_fit, well.handlers_fit, tt, tt);
+      (refl, false, well.initials_fit, (well.statements_fit, λ whole. whole.0), (well.handlers_fit, λ whole. whole.1), tt, tt);
   waiting = refl;
 }
 

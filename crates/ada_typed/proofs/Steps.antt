@@ -10,9 +10,10 @@ use Rattle.ada_program.specs.declared.program.TypeDefinition.{TypeDefinition}
 use Rattle.ada_program.specs.declared.program.TypeNo.{TypeNo}
 use Rattle.ada_program.specs.declared.program.VariableKind.{VariableKind}
 use Rattle.ada_program.specs.declared.program.VariableKind.TheVariants as variable
-use Rattle.ada_program.specs.Form.{ExpressionForm, ItemForm, RightForm, StmtForm, skips, assigns, assigns_record, frees, gets, writes, writes_text, chooses, repeats, counts, exits, calls, returns, raises as raises_it, encloses, StmtsForm, no_stmts, a_stmt, BranchesForm, otherwise, a_branch, HandlersForm, DeclarationForm, collects, declares, declares_record}
+use Rattle.ada_program.specs.Form.{ExpressionForm, ItemForm, RightForm, StmtForm, skips, assigns, assigns_record, frees, gets, writes, writes_text, chooses, repeats, counts, exits, calls, returns, raises as raises_it, encloses, StmtsForm, no_stmts, a_stmt, BranchesForm, otherwise, a_branch, HandlersForm, DeclarationForm, creates_pool, collects, declares, declares_record}
 use Rattle.ada_program.specs.ProgramForm.{TypeForm, record_of, access_to, object_of, VariableForm, BodyForm, ProgramForm, type_form}
-use Rattle.ada_program.specs.Typed.{reached_of, words_of}
+use Rattle.ada_program.specs.Typed.{reached_of, words_of, pool_named}
+use Rattle.ada_program.specs.Freed.{statement_frees_own, statements_free_own, branches_free_own, handlers_free_own}
 use Rattle.ada_program.specs.WellFormed.{named_in, object_in, components_reached, is_this, stands_alone, reached_components, record_components, is_access, is_object_type, value_access, root_kind, selectors_kind, variable_kind, path_access, scalar_of, is_type, type_of, kind_takes, right_fits, names_borrower, lends_to, is_borrower, item_owns, item_before, is_filled, is_record_path, is_record_object, record_fits, record_initial_fits, path_kind, is_freed_by, collections_first, collection_fits, initial_fits, declarations_fit, has_type, condition_fits, has_statement, statement_fits, stmts_fit, branches_fit, handlers_fit, names_before, formal_kinds, callable_in}
 use Rattle.ada_values.specs.declared.value.Value.TheVariants as scalar
 use Rattle.ada_meaning.specs.declared.state.Id.{Id}
@@ -30,7 +31,7 @@ use Rattle.ada_meaning.specs.Event.{Back, Quiet}
 use Rattle.ada_meaning.specs.declared.event.Why.TheVariants.{GivesElsewhere}
 use Rattle.ada_meaning.specs.Frame.{Frame, is_master, is_loop, is_return, Landing, passes_on, goes_behind, handler_landing, exception_landing, landing}
 use Rattle.ada_meaning.specs.Frame as frame
-use Rattle.ada_meaning.specs.State.{Owned, declared, collection, record_object, Item, Master, height, home_of, pool_of}
+use Rattle.ada_meaning.specs.State.{Owned, declared, collection, record_object, storage_pool, Item, Master, height, home_of, pools_in, pool_for}
 use Rattle.ada_meaning.specs.Heap.{Cell, on_gone, finds}
 use Rattle.ada_meaning.specs.Step.{halts, moves, at, older, shorter, popped, jumping, put, held, newest, new_next, end_next, same_pool, told_back, given_back, back_next, initial_values, copies_next, refers_next, open_next, newest_ones, without_newest, record_target_next, store_record_next, record_cell, made, record_next, assign_next, frees_next, branches_next, decided_next, turn_next, repeats_next, turned_next, count_turn_next, ranges_next, gets_next, exit_next, exited_next, computing, call_next, stmt_next, stmts_next, line_next, declarations_next, members_next, item_leave_next, master_leave_next, leave_next, frame_next}
 use Rattle.ada_meaning.specs.Named.{an_integer, Object, State, named, look, lent, lent_by, seen, existing, on_object, parted, finished, returned, reads_integer, reads_boolean, unary_given, binary_given, members, members_of}
@@ -44,7 +45,7 @@ use Rattle.ada_typed.proofs.Frees.{free_fine, free_in_fine}
 use Rattle.ada_typed.proofs.Bodies.{SeenFits, Sees}
 use Rattle.ada_typed.proofs.Actuals.{profile_found, depth_computing, computing_fits}
 use Rattle.ada_typed.proofs.Kept.{crosses}
-use Rattle.ada_typed.proofs.Control.{onto, IsName, WhereInside, Fits, Lands, depth, Ready, Jumps, TypedIn, running, on_jump, catches}
+use Rattle.ada_typed.proofs.Control.{onto, IsName, OwnBody, FitStmt, FitStmts, FitBranches, WhereInside, Fits, Lands, depth, Ready, Jumps, TypedIn, running, on_jump, catches}
 
 -- What is picked of a collection is a name.
 picked_name : (ids : List Id) (i : ℕ) → i < length (map Names ids) → IsName (slice_index_or (map Names ids) i Null)
@@ -127,11 +128,15 @@ module _ (p : ProgramForm) (fit : SeenFits p) (bodies : List BodyForm) (sees : S
       let there : variable_kind p.variables x ≡ Some own.0 = root_same of_record (variable_kind p.variables x) own.0 own.1 in
       running kinds (ready_at p kinds s (frame.Evaluates right ∷ frame.Stores x ∷ s.control) ready ready.deep) (own.0, own.2, (kinds, own.0, refl, there, fits))
 
-  frees_fine : (of_record : Bool) (cs : List ℕ) (access x : ℕ) (s : State) (kinds : List OperandKind) → Ready p kinds s → is_freed_by p.types access (value_access (selectors_kind p.types (root_kind of_record (variable_kind p.variables x)) cs)) ≡ true → Fits p (cells_of s.heap) kinds s.control → Fine p (frees_next named cs access x s)
-  frees_fine of_record (c ∷ cs) access x s kinds ready is fits =
+  -- An instance for what it frees is for its access type (13.11.2).
+  freed_own : (o : Option VariableKind) (access : ℕ) (own : TypeNo) → o ≡ Some (variable.Access own) → is_this access (value_access o) ≡ true → own.0 ≡ access
+  freed_own o access own is by_own = eqb-true own.0 access (ap (λ (kind : Option VariableKind). is_this access (value_access kind)) (sym is) ∙ by_own)
+
+  frees_fine : (of_record : Bool) (cs : List ℕ) (access x : ℕ) (s : State) (kinds : List OperandKind) → Ready p kinds s → is_freed_by p.types access (value_access (selectors_kind p.types (root_kind of_record (variable_kind p.variables x)) cs)) ≡ true → (OwnBody p → is_this access (value_access (selectors_kind p.types (root_kind of_record (variable_kind p.variables x)) cs)) ≡ true) → Fits p (cells_of s.heap) kinds s.control → Fine p (frees_next named cs access x s)
+  frees_fine of_record (c ∷ cs) access x s kinds ready is by_own fits =
       let own = freed_kind (selectors_kind p.types (root_kind of_record (variable_kind p.variables x)) (c ∷ cs)) access is in
-      holder_fine p of_record c cs x (variable.Access own.0) (λ last. frame.FreesIn access last) s kinds ready own.1 (λ last. ready.deep) (λ holder last leads. (kinds, holder, own.0, refl, leads, fits))
-  frees_fine of_record [] access x s kinds ready is fits =
+      holder_fine p of_record c cs x (variable.Access own.0) (λ last. frame.FreesIn access last) s kinds ready own.1 (λ last. ready.deep) (λ holder last leads. (kinds, holder, own.0, refl, leads, (λ body. freed_own (selectors_kind p.types (root_kind of_record (variable_kind p.variables x)) (c ∷ cs)) access own.0 own.1 (by_own body)), fits))
+  frees_fine of_record [] access x s kinds ready is by_own fits =
       let own = freed_kind (root_kind of_record (variable_kind p.variables x)) access is in
       let there : variable_kind p.variables x ≡ Some (variable.Access own.0) = root_same of_record (variable_kind p.variables x) (variable.Access own.0) own.1 in
       free_fine p (held named s x) access x own.0 s kinds ready (held_of p kinds s x (variable.Access own.0) ready there) there fits
@@ -146,21 +151,33 @@ module _ (p : ProgramForm) (fit : SeenFits p) (bodies : List BodyForm) (sees : S
   object_named : (o : Option TypeForm) (t : ℕ) → is_this t (object_in o) ≡ true → named_in o ≡ Some t
   object_named None t is = absurd (cc)
   object_named (Some (record_of name parts components)) t is = absurd (cc)
-  object_named (Some (access_to name designated)) t is = absurd (cc)
+  object_named (Some (access_to name designated pool)) t is = absurd (cc)
   object_named (Some (object_of record_type)) t is = ap Some (eqb-true record_type t is)
 
   -- Branches (5.3).
-  branches_fine : (branches : BranchesForm) (inside : Bool) (s : State) → Ready p [] s → branches_fit p.types p.variables p.texts p.exceptions (callable_in p) inside branches ≡ true → WhereInside inside (Lands p (cells_of s.heap) s.control) → Fits p (cells_of s.heap) [] s.control → Fine p (branches_next named branches s)
+  branches_fine : (branches : BranchesForm) (inside : Bool) (s : State) → Ready p [] s → FitBranches p inside branches → WhereInside inside (Lands p (cells_of s.heap) s.control) → Fits p (cells_of s.heap) [] s.control → Fine p (branches_next named branches s)
   branches_fine (otherwise fs) inside s ready is lands fits = running [] (ready_at p [] s (frame.Does fs ∷ s.control) ready ready.deep) (refl, inside, is, lands, fits)
   branches_fine (a_branch e fs branches) inside s ready is lands fits =
       let own = has_type p.types p.variables Boolean e in
       let inner = stmts_fit p.types p.variables p.texts p.exceptions (callable_in p) inside fs in
       let others = branches_fit p.types p.variables p.texts p.exceptions (callable_in p) inside branches in
-      let former = and_left (own && inner) others is in
-      running [] (ready_at p [] s (frame.Computes e ∷ frame.Decides fs branches ∷ s.control) ready ready.deep)
-      (Boolean, typed Boolean (type_of p.types p.variables e) (and_left own inner former), (refl, inside, and_right own inner former, and_right (own && inner) others is, lands, fits))
+      let former = and_left (own && inner) others is.0 in
+      let by_own = statements_free_own p.types p.variables fs in
+      let later = branches_free_own p.types p.variables branches in
+      running [] (ready_at p [] s (frame.Computes e ∷ frame.Decides fs branches ∷ s.control) ready ready.deep) (
+        Boolean,
+        typed Boolean (type_of p.types p.variables e) (and_left own inner former),
+        (
+          refl,
+          inside,
+          (and_right own inner former, λ body. and_left by_own later (is.1 body)),
+          (and_right (own && inner) others is.0, λ body. and_right by_own later (is.1 body)),
+          lands,
+          fits,
+        ),
+      )
 
-  decided_fine : (fs : StmtsForm) (branches : BranchesForm) (v : Value) (inside : Bool) (s : State) (cells : Cells) → HasKind p.types cells variable.Boolean v → Ready p [] s → stmts_fit p.types p.variables p.texts p.exceptions (callable_in p) inside fs ≡ true → branches_fit p.types p.variables p.texts p.exceptions (callable_in p) inside branches ≡ true → WhereInside inside (Lands p (cells_of s.heap) s.control) → Fits p (cells_of s.heap) [] s.control → Fine p (decided_next named fs branches (reads_boolean v) s)
+  decided_fine : (fs : StmtsForm) (branches : BranchesForm) (v : Value) (inside : Bool) (s : State) (cells : Cells) → HasKind p.types cells variable.Boolean v → Ready p [] s → FitStmts p inside fs → FitBranches p inside branches → WhereInside inside (Lands p (cells_of s.heap) s.control) → Fits p (cells_of s.heap) [] s.control → Fine p (decided_next named fs branches (reads_boolean v) s)
   decided_fine fs branches Null inside s cells has ready is others lands fits = absurd has
   decided_fine fs branches (Names o) inside s cells has ready is others lands fits = absurd has
   decided_fine fs branches (Part o first) inside s cells has ready is others lands fits = absurd has
@@ -169,17 +186,17 @@ module _ (p : ProgramForm) (fit : SeenFits p) (bodies : List BodyForm) (sees : S
   decided_fine fs branches (Scalar (scalar.Boolean false)) inside s cells has ready is others lands fits = branches_fine branches inside s ready others lands fits
 
   -- Loops (5.5).
-  turn_fine : (condition : Option ExpressionForm) (fs : StmtsForm) (s : State) → Ready p [] s → condition_fits p.types p.variables condition ≡ true → has_statement fs ≡ true → stmts_fit p.types p.variables p.texts p.exceptions (callable_in p) true fs ≡ true → Fits p (cells_of s.heap) [] s.control → Fine p (turn_next named condition fs s)
+  turn_fine : (condition : Option ExpressionForm) (fs : StmtsForm) (s : State) → Ready p [] s → condition_fits p.types p.variables condition ≡ true → has_statement fs ≡ true → FitStmts p true fs → Fits p (cells_of s.heap) [] s.control → Fine p (turn_next named condition fs s)
   turn_fine condition no_stmts s ready is some own fits = absurd (cc)
   turn_fine condition (a_stmt f fs) s ready is some own fits =
       running [] (ready_at p [] s (frame.Does (a_stmt f fs) ∷ frame.Repeats condition (a_stmt f fs) ∷ s.control) ready ready.deep) (refl, true, own, fits, (refl, is, refl, own, fits))
 
-  repeats_fine : (condition : Option ExpressionForm) (fs : StmtsForm) (s : State) → Ready p [] s → condition_fits p.types p.variables condition ≡ true → has_statement fs ≡ true → stmts_fit p.types p.variables p.texts p.exceptions (callable_in p) true fs ≡ true → Fits p (cells_of s.heap) [] s.control → Fine p (repeats_next named condition fs s)
+  repeats_fine : (condition : Option ExpressionForm) (fs : StmtsForm) (s : State) → Ready p [] s → condition_fits p.types p.variables condition ≡ true → has_statement fs ≡ true → FitStmts p true fs → Fits p (cells_of s.heap) [] s.control → Fine p (repeats_next named condition fs s)
   repeats_fine None fs s ready is some own fits = turn_fine None fs s ready is some own fits
   repeats_fine (Some e) fs s ready is some own fits =
       running [] (ready_at p [] s (frame.Computes e ∷ frame.Turns e fs ∷ s.control) ready ready.deep) (Boolean, typed Boolean (type_of p.types p.variables e) is, (refl, is, some, own, fits))
 
-  turned_fine : (e : ExpressionForm) (fs : StmtsForm) (v : Value) (s : State) (cells : Cells) → HasKind p.types cells variable.Boolean v → Ready p [] s → condition_fits p.types p.variables (Some e) ≡ true → has_statement fs ≡ true → stmts_fit p.types p.variables p.texts p.exceptions (callable_in p) true fs ≡ true → Fits p (cells_of s.heap) [] s.control → Fine p (turned_next named e fs (reads_boolean v) s)
+  turned_fine : (e : ExpressionForm) (fs : StmtsForm) (v : Value) (s : State) (cells : Cells) → HasKind p.types cells variable.Boolean v → Ready p [] s → condition_fits p.types p.variables (Some e) ≡ true → has_statement fs ≡ true → FitStmts p true fs → Fits p (cells_of s.heap) [] s.control → Fine p (turned_next named e fs (reads_boolean v) s)
   turned_fine e fs Null s cells has ready is some own fits = absurd has
   turned_fine e fs (Names o) s cells has ready is some own fits = absurd has
   turned_fine e fs (Part o first) s cells has ready is some own fits = absurd has
@@ -213,24 +230,24 @@ module _ (p : ProgramForm) (fit : SeenFits p) (bodies : List BodyForm) (sees : S
   integer_kind (Some (variable.Access access)) h = absurd (cc)
   integer_kind (Some (variable.Record object)) h = absurd (cc)
 
-  count_turn_fine : (x : ℕ) (value last : ℤ) (fs : StmtsForm) (s : State) → Ready p [] s → variable_kind p.variables x ≡ Some variable.Integer → has_statement fs ≡ true → stmts_fit p.types p.variables p.texts p.exceptions (callable_in p) true fs ≡ true → Fits p (cells_of s.heap) [] s.control → Fine p (count_turn_next named x value last fs s)
+  count_turn_fine : (x : ℕ) (value last : ℤ) (fs : StmtsForm) (s : State) → Ready p [] s → variable_kind p.variables x ≡ Some variable.Integer → has_statement fs ≡ true → FitStmts p true fs → Fits p (cells_of s.heap) [] s.control → Fine p (count_turn_next named x value last fs s)
   count_turn_fine x value last no_stmts s ready is some own fits = absurd (cc)
   count_turn_fine x value last (a_stmt f fs) s ready is some own fits =
       running [] (ready_at p [] (put x (an_integer value) s) (frame.Does (a_stmt f fs) ∷ frame.Counts x (value +ℤ pos 1) last (a_stmt f fs) ∷ s.control) (put_in p [] s x variable.Integer (an_integer value) ready is tt) ready.deep)
       (refl, true, own, fits, (refl, is, refl, own, fits))
 
-  counts_fine : (again : Bool) (x : ℕ) (value last : ℤ) (fs : StmtsForm) (s : State) → Ready p [] s → variable_kind p.variables x ≡ Some variable.Integer → has_statement fs ≡ true → stmts_fit p.types p.variables p.texts p.exceptions (callable_in p) true fs ≡ true → Fits p (cells_of s.heap) [] s.control → Fine p (if again then count_turn_next named x value last fs s else moves Quiet s)
+  counts_fine : (again : Bool) (x : ℕ) (value last : ℤ) (fs : StmtsForm) (s : State) → Ready p [] s → variable_kind p.variables x ≡ Some variable.Integer → has_statement fs ≡ true → FitStmts p true fs → Fits p (cells_of s.heap) [] s.control → Fine p (if again then count_turn_next named x value last fs s else moves Quiet s)
   counts_fine true x value last fs s ready is some own fits = count_turn_fine x value last fs s ready is some own fits
   counts_fine false x value last fs s ready is some own fits = running [] ready fits
 
-  high_fine : (x : ℕ) (fs : StmtsForm) (low : ℤ) (high : Value) (s : State) (cells : Cells) → HasKind p.types cells variable.Integer high → Ready p [] s → variable_kind p.variables x ≡ Some variable.Integer → has_statement fs ≡ true → stmts_fit p.types p.variables p.texts p.exceptions (callable_in p) true fs ≡ true → Fits p (cells_of s.heap) [] s.control → Fine p (ranges_next named x fs (Some low) (reads_integer high) s)
+  high_fine : (x : ℕ) (fs : StmtsForm) (low : ℤ) (high : Value) (s : State) (cells : Cells) → HasKind p.types cells variable.Integer high → Ready p [] s → variable_kind p.variables x ≡ Some variable.Integer → has_statement fs ≡ true → FitStmts p true fs → Fits p (cells_of s.heap) [] s.control → Fine p (ranges_next named x fs (Some low) (reads_integer high) s)
   high_fine x fs low Null s cells has ready is some own fits = absurd has
   high_fine x fs low (Names o) s cells has ready is some own fits = absurd has
   high_fine x fs low (Part o first) s cells has ready is some own fits = absurd has
   high_fine x fs low (Scalar (scalar.Integer high)) s cells has ready is some own fits = counts_fine (int_le low high) x low high fs s ready is some own fits
   high_fine x fs low (Scalar (scalar.Boolean b)) s cells has ready is some own fits = absurd has
 
-  ranges_fine : (x : ℕ) (fs : StmtsForm) (low high : Value) (s : State) (cells : Cells) → HasKind p.types cells variable.Integer low → HasKind p.types cells variable.Integer high → Ready p [] s → variable_kind p.variables x ≡ Some variable.Integer → has_statement fs ≡ true → stmts_fit p.types p.variables p.texts p.exceptions (callable_in p) true fs ≡ true → Fits p (cells_of s.heap) [] s.control → Fine p (ranges_next named x fs (reads_integer low) (reads_integer high) s)
+  ranges_fine : (x : ℕ) (fs : StmtsForm) (low high : Value) (s : State) (cells : Cells) → HasKind p.types cells variable.Integer low → HasKind p.types cells variable.Integer high → Ready p [] s → variable_kind p.variables x ≡ Some variable.Integer → has_statement fs ≡ true → FitStmts p true fs → Fits p (cells_of s.heap) [] s.control → Fine p (ranges_next named x fs (reads_integer low) (reads_integer high) s)
   ranges_fine x fs Null high s cells has too ready is some own fits = absurd has
   ranges_fine x fs (Names o) high s cells has too ready is some own fits = absurd has
   ranges_fine x fs (Part o first) high s cells has too ready is some own fits = absurd has
@@ -248,42 +265,42 @@ module _ (p : ProgramForm) (fit : SeenFits p) (bodies : List BodyForm) (sees : S
       let stored = put_in p [] s x variable.Integer (an_integer i) ready there tt in
       running [] (record { filled = stored.filled; active = stored.active; runs = stored.runs; deep = stored.deep }) fits
 
-  stmt_fine : (f : StmtForm) (inside : Bool) (s : State) → Ready p [] s → statement_fits p.types p.variables p.texts p.exceptions (callable_in p) inside f ≡ true → WhereInside inside (Lands p (cells_of s.heap) s.control) → Fits p (cells_of s.heap) [] s.control → Fine p (stmt_next named bodies f s)
+  stmt_fine : (f : StmtForm) (inside : Bool) (s : State) → Ready p [] s → FitStmt p inside f → WhereInside inside (Lands p (cells_of s.heap) s.control) → Fits p (cells_of s.heap) [] s.control → Fine p (stmt_next named bodies f s)
   stmt_fine skips inside s ready is lands fits = running [] ready fits
   stmt_fine (assigns target right) inside s ready is lands fits =
       let fitting = right_fits p.types p.variables (path_kind p.types p.variables target) right in
       let lending = lends_to p.variables (names_borrower p.variables target) right in
-      assign_fine target.of_record target.selectors target.root right s [] ready (and_left fitting lending is) fits
+      assign_fine target.of_record target.selectors target.root right s [] ready (and_left fitting lending is.0) fits
   stmt_fine (assigns_record target items) inside s ready is lands fits =
       let leads = is_record_path p.types p.variables target in
       let filled = is_filled p.types p.variables (record_components p.types target.record_type) items in
       let others = record_fits p.types p.variables (record_components p.types target.record_type) items in
-      let filling = and_left filled (list_all (item_owns p.variables) items) (and_right leads others is) in
-      record_holder_fine p target (λ first. frame.TargetsRecord first target.record_type items) s [] ready (and_left leads others is) (λ first. ready.deep)
+      let filling = and_left filled (list_all (item_owns p.variables) items) (and_right leads others is.0) in
+      record_holder_fine p target (λ first. frame.TargetsRecord first target.record_type items) s [] ready (and_left leads others is.0) (λ first. ready.deep)
       (λ access first rs recorded lies. ([], access, rs, refl, recorded, lies, ap (λ (o : Option (List ComponentKind)). is_filled p.types p.variables o items) (sym recorded) ∙ filling, fits))
   stmt_fine (frees access path) inside s ready is lands fits =
       let freed = is_freed_by p.types access (path_access p.types p.variables path) in
-      frees_fine path.of_record path.selectors access path.root s [] ready (and_left freed (not (names_borrower p.variables path)) is) fits
+      frees_fine path.of_record path.selectors access path.root s [] ready (and_left freed (not (names_borrower p.variables path)) is.0) is.1 fits
   stmt_fine (gets target) inside s ready is lands fits =
-      gets_fine target.of_record target.selectors target.root s.input s ready is fits
+      gets_fine target.of_record target.selectors target.root s.input s ready is.0 fits
   stmt_fine (writes e) inside s ready is lands fits =
-      running [] (ready_at p [] s (frame.Computes e ∷ frame.Writes ∷ s.control) ready ready.deep) (Integer, typed Integer (type_of p.types p.variables e) is, ([], refl, fits))
+      running [] (ready_at p [] s (frame.Computes e ∷ frame.Writes ∷ s.control) ready ready.deep) (Integer, typed Integer (type_of p.types p.variables e) is.0, ([], refl, fits))
   stmt_fine (writes_text text) inside s ready is lands fits = running [] ready fits
   stmt_fine (chooses branches) inside s ready is lands fits = branches_fine branches inside s ready is lands fits
   stmt_fine (repeats condition fs end_spot) inside s ready is lands fits =
       let own = condition_fits p.types p.variables condition in
       let inner = stmts_fit p.types p.variables p.texts p.exceptions (callable_in p) true fs in
-      let former = and_left (own && has_statement fs) inner is in
+      let former = and_left (own && has_statement fs) inner is.0 in
       running [] (ready_at p [] s (frame.Repeats condition fs ∷ s.control) ready ready.deep)
-      (refl, and_left own (has_statement fs) former, and_right own (has_statement fs) former, and_right (own && has_statement fs) inner is, fits)
-  stmt_fine (exits condition spot) inside s ready is lands fits = exit_fine inside condition s ready is lands fits
+      (refl, and_left own (has_statement fs) former, and_right own (has_statement fs) former, (and_right (own && has_statement fs) inner is.0, is.1), fits)
+  stmt_fine (exits condition spot) inside s ready is lands fits = exit_fine inside condition s ready is.0 lands fits
   stmt_fine (counts x low high fs end_spot) inside s ready is lands fits =
       let kind = is_type Integer (scalar_of (variable_kind p.variables x)) in
       let first = has_type p.types p.variables Integer low in
       let last = has_type p.types p.variables Integer high in
       let some = has_statement fs in
       let inner = stmts_fit p.types p.variables p.texts p.exceptions (callable_in p) true fs in
-      let four = and_left (kind && first && last && some) inner is in
+      let four = and_left (kind && first && last && some) inner is.0 in
       let three = and_left (kind && first && last) some four in
       let two = and_left (kind && first) last three in
       running [] (ready_at p [] s (frame.Computes low ∷ frame.Computes high ∷ frame.Ranges x fs ∷ s.control) ready ready.deep) (
@@ -292,11 +309,17 @@ module _ (p : ProgramForm) (fit : SeenFits p) (bodies : List BodyForm) (sees : S
         (
           Integer,
           typed Integer (type_of p.types p.variables high) (and_right (kind && first) last three),
-          (refl, integer_kind (variable_kind p.variables x) (and_left kind first two), and_right (kind && first && last) some four, and_right (kind && first && last && some) inner is, fits),
+          (
+            refl,
+            integer_kind (variable_kind p.variables x) (and_left kind first two),
+            and_right (kind && first && last) some four,
+            (and_right (kind && first && last && some) inner is.0, is.1),
+            fits,
+          ),
         ),
       )
   stmt_fine (calls procedure actuals) inside s ready is lands fits =
-      let found = profile_found p.types p.variables p.bodies procedure actuals is in
+      let found = profile_found p.types p.variables p.bodies procedure actuals is.0 in
       let behind = frame.Calls procedure found.0 actuals ∷ s.control in
       let deep : depth (computing named actuals behind) ≤ length s.masters = omega (arith, ready.deep, depth_computing actuals behind) in
       subst (λ (o : Option BodyForm). Fine p (call_next named procedure actuals o s)) (sym (sees procedure found.0 found.1))
@@ -308,18 +331,30 @@ module _ (p : ProgramForm) (fit : SeenFits p) (bodies : List BodyForm) (sees : S
       let own = declarations_fit p.types p.variables ds in
       let inner = stmts_fit p.types p.variables p.texts p.exceptions (callable_in p) inside fs in
       let handled = handlers_fit p.types p.variables p.texts p.exceptions (callable_in p) inside hs in
-      let former = and_left (own && inner) handled is in
+      let former = and_left (own && inner) handled is.0 in
+      let by_own = statements_free_own p.types p.variables fs in
+      let later = handlers_free_own p.types p.variables hs in
       let initials = and_right (collections_first ds && list_all (collection_fits p.types) ds) (list_all (initial_fits p.types p.variables) ds) (and_left own inner former) in
-      running [] (record { filled = ready.filled; active = ready.active; runs = ready.runs; deep = omega (arith, ready.deep) })
-      (refl, inside, initials, and_right own inner former, and_right (own && inner) handled is, lands, fits)
+      running [] (record { filled = ready.filled; active = ready.active; runs = ready.runs; deep = omega (arith, ready.deep) }) (
+        refl,
+        inside,
+        initials,
+        (and_right own inner former, λ body. and_left by_own later (is.1 body)),
+        (and_right (own && inner) handled is.0, λ body. and_right by_own later (is.1 body)),
+        lands,
+        fits,
+      )
 
-  stmts_fine : (fs : StmtsForm) (inside : Bool) (s : State) → Ready p [] s → stmts_fit p.types p.variables p.texts p.exceptions (callable_in p) inside fs ≡ true → WhereInside inside (Lands p (cells_of s.heap) s.control) → Fits p (cells_of s.heap) [] s.control → Fine p (stmts_next named bodies fs s)
+  stmts_fine : (fs : StmtsForm) (inside : Bool) (s : State) → Ready p [] s → FitStmts p inside fs → WhereInside inside (Lands p (cells_of s.heap) s.control) → Fits p (cells_of s.heap) [] s.control → Fine p (stmts_next named bodies fs s)
   stmts_fine no_stmts inside s ready is lands fits = running [] ready fits
   stmts_fine (a_stmt f fs) inside s ready is lands fits =
       let own = statement_fits p.types p.variables p.texts p.exceptions (callable_in p) inside f in
       let others = stmts_fit p.types p.variables p.texts p.exceptions (callable_in p) inside fs in
+      let by_own = statement_frees_own p.types p.variables f in
+      let later = statements_free_own p.types p.variables fs in
       stmt_fine f inside (at (frame.Does fs ∷ s.control) s) (ready_at p [] s (frame.Does fs ∷ s.control) ready ready.deep)
-      (and_left own others is) lands (refl, inside, and_right own others is, lands, fits)
+      (and_left own others is.0, λ body. and_left by_own later (is.1 body)) lands
+      (refl, inside, (and_right own others is.0, λ body. and_right by_own later (is.1 body)), lands, fits)
 
   line_fine : (v : Value) (s : State) (kinds : List OperandKind) (cells : Cells) → HasKind p.types cells variable.Integer v → Ready p kinds s → Fits p (cells_of s.heap) kinds s.control → Fine p (line_next named (reads_integer v) s)
   line_fine Null s kinds cells has ready fits = absurd has
@@ -359,8 +394,11 @@ module _ (p : ProgramForm) (fit : SeenFits p) (bodies : List BodyForm) (sees : S
   declarations_fine types shown [] fs hs s ready deep fits =
       running [] (ready_at p [] s (frame.Does fs ∷ frame.Handles hs ∷ frame.Closes ∷ s.control) ready deep)
       (refl, fits.1, fits.3, fits.5, (refl, fits.1, fits.4, fits.5, fits.6))
+  declarations_fine types shown (creates_pool pool ∷ ds) fs hs s ready deep fits =
+      running [] (ready_owning p [] (at (frame.Elaborates ds fs hs ∷ s.control) s) (storage_pool pool (pools_in s.masters + 1)) (ready_at p [] s (frame.Elaborates ds fs hs ∷ s.control) ready deep))
+      (refl, fits.1, and_right (initial_fits p.types p.variables (creates_pool pool)) (list_all (initial_fits p.types p.variables) ds) fits.2, fits.3, fits.4, fits.5, fits.6)
   declarations_fine types shown (collects access ∷ ds) fs hs s ready deep fits =
-      running [] (ready_owning p [] (at (frame.Elaborates ds fs hs ∷ s.control) s) (collection access) (ready_at p [] s (frame.Elaborates ds fs hs ∷ s.control) ready deep))
+      running [] (ready_owning p [] (at (frame.Elaborates ds fs hs ∷ s.control) s) (collection access (pool_for (pool_named types access) s.masters)) (ready_at p [] s (frame.Elaborates ds fs hs ∷ s.control) ready deep))
       (refl, fits.1, and_right (initial_fits p.types p.variables (collects access)) (list_all (initial_fits p.types p.variables) ds) fits.2, fits.3, fits.4, fits.5, fits.6)
   declarations_fine types shown (declares_record x t initial ∷ ds) fs hs s ready deep fits =
       let fitting = initial_fits p.types p.variables (declares_record x t initial) in
@@ -393,8 +431,9 @@ module _ (p : ProgramForm) (fit : SeenFits p) (bodies : List BodyForm) (sees : S
 
   item_leave_fine : (m : ℕ) (item : Item) (what : Owned) (s : State) (kinds : List OperandKind) → Ready p kinds s → Fits p (cells_of s.heap) kinds s.control → Fine p (item_leave_next named m item what s)
   item_leave_fine m item (declared x) s kinds ready fits = running kinds (ready_shorter kinds s ready) fits
-  item_leave_fine m item (collection access) s kinds ready fits = members_fine (Leaving m item.number) (Some (pool_of access)) (members_of s.heap item.number) (members s.heap item.number) s kinds refl ready fits
+  item_leave_fine m item (collection access pool) s kinds ready fits = members_fine (Leaving m item.number) pool (members_of s.heap item.number) (members s.heap item.number) s kinds refl ready fits
   item_leave_fine m item (record_object t) s kinds ready fits = members_fine (Leaving m item.number) None (members_of s.heap item.number) (members s.heap item.number) s kinds refl ready fits
+  item_leave_fine m item (storage_pool declaration number) s kinds ready fits = running kinds (ready_shorter kinds s ready) fits
 
   left_jumps : (mode : Mode) (s : State) (kinds : List OperandKind) (ms : List Master) → Ready p kinds s → depth s.control ≤ length ms → Jumps p mode (record s { masters = ms; mode = mode })
   left_jumps mode s kinds ms ready deep = record { filled = ready.filled; active = active_none p.types (cells_of s.heap) p.variables kinds s.activations ready.active; jumps = refl; deep = deep }
@@ -508,7 +547,7 @@ module _ (p : ProgramForm) (fit : SeenFits p) (bodies : List BodyForm) (sees : S
       receive_fine p (newest named s) fits.1 c (popped s) fits.0 (ready_pop p (variable.Access fits.1) fits.0 s taken) (newest_of p (variable.Access fits.1) fits.0 s taken) fits.3 fits.4
   frame_fine types shown (frame.FreesIn access c) stays s kinds ready deep fits =
       let taken = ready_kinds p kinds (of_kind (variable.Access fits.1) ∷ fits.0) s fits.3 ready in
-      free_in_fine p (newest named s) access fits.1 fits.2 c (popped s) fits.0 (ready_pop p (variable.Access fits.1) fits.0 s taken) (newest_of p (variable.Access fits.1) fits.0 s taken) fits.4 fits.5
+      free_in_fine p (newest named s) access fits.1 fits.2 c (popped s) fits.0 (ready_pop p (variable.Access fits.1) fits.0 s taken) (newest_of p (variable.Access fits.1) fits.0 s taken) fits.4 fits.6
   frame_fine types shown (frame.Declares x) stays s kinds ready deep fits =
       let taken = ready_kinds p kinds (of_kind fits.1 ∷ fits.0) s fits.2 ready in
       running fits.0 (ready_owning p fits.0 (put x (newest named s) (popped s)) (declared x) (put_in p fits.0 (popped s) x fits.1 (newest named s) (ready_pop p fits.1 fits.0 s taken) fits.3 (newest_of p fits.1 fits.0 s taken))) fits.4

@@ -12,7 +12,6 @@ use Rattle.ada_values.specs.declared.value.Value.TheVariants as scalar
 use Rattle.ada_meaning.specs.declared.state.Id.{Id}
 use Rattle.ada_meaning.specs.declared.state.Value.{Value}
 use Rattle.ada_meaning.specs.declared.state.Value.TheVariants.{Null, Names, Scalar, Part}
-use Rattle.ada_meaning.specs.State.{pool_of}
 use Rattle.ada_meaning.specs.Heap.{Cell}
 use Rattle.ada_meaning.specs.Step.{procedure_of, places, held}
 use Rattle.ada_meaning.specs.Named.{Object, State, named, object_at}
@@ -77,11 +76,11 @@ HaveKinds types cells [] (v ∷ vs) = ⊥
 HaveKinds types cells (c ∷ cs) [] = ⊥
 HaveKinds types cells (c ∷ cs) (v ∷ vs) = HasKind types cells (held_kind c) v × HaveKinds types cells cs vs
 
--- An object of an access type is from that type's pool (13.11).
+-- An object of an access type is from a pool (13.11).
 abbrev pub IsPooled : List TypeForm → Cell Value → Type 0
-IsPooled types cell = is_access types cell.access ≡ true → cell.home.pool ≡ Some (pool_of cell.access)
+IsPooled types cell = is_access types cell.access ≡ true → (pool : ℕ) × (cell.home.pool ≡ Some pool)
 
--- What lies in an object is what the record type has that its access type designates, or that it is of; and it is from that type's pool.
+-- What lies in an object is what the record type has that its access type designates, or that it is of; and it is from a pool, where it is allocated.
 abbrev pub IsFilled : List TypeForm → Cells → Cell Value → Type 0
 IsFilled types cells cell =
     (components : List ComponentKind) × (reached_components types cell.access ≡ Some components) × HaveKinds types cells components cell.values

@@ -40,9 +40,9 @@ Finishes program = (input : List ℤ) × (events : List Event) × (last : State)
 abbrev pub GetsStuck : Program → Type 0
 GetsStuck program = (input : List ℤ) × (events : List Event) × (last : State) × Run program (first_state program input) events last × Halts program last Stuck
 
--- The premise is met: a well-formed program declares, allocates with items and without, follows, assigns, copies a record, repeats, counts, compares
--- with null, chooses, reads, writes, frees, exits, raises an exception in a block and handles it, calls a procedure with formal parameters, also of an access
--- type, which returns, and one with a record and a component for its formal parameters, and comes to its end.
+-- The premise is met: a well-formed program declares, also a pool, from which it allocates with items and without, follows, assigns, copies a record,
+-- repeats, counts, compares with null, chooses, reads, writes, frees, exits, raises an exception in a block and handles it, calls a procedure with formal
+-- parameters, also of an access type, which returns, and one with a record and a component for its formal parameters, and comes to its end.
 abbrev pub AWellFormedProgramFinishes : Type 0
 AWellFormedProgramFinishes = (program : Program) × IsWellFormed (program_form program) × Finishes program
 

@@ -1,5 +1,6 @@
 //! What types promise about runs, by the definitions alone.
 
+ghost use Rattle.ada_typed.specs.Freeing.{ObjectsAreFreedByTheirTypes, AProgramFreesItsOwn, AProgramFreesAnother};
 ghost use Rattle.ada_typed.specs.Holding.{ObjectsHaveTheirKinds, VariablesHaveTheirKinds};
 ghost use Rattle.ada_typed.specs.Stuck.{WellFormedProgramsAreNeverStuck, WellFormedProgramsEndByTheLanguage, AWellFormedProgramFinishes, AnIllTypedProgramGetsStuck, AnEmptyHandlerGetsStuck};
 
@@ -26,10 +27,28 @@ pub fn variables_have_their_kinds()
     ensures { VariablesHaveTheirKinds }
 {}
 
-/// The premise is met: a well-formed program declares, allocates with items and without, follows, assigns, copies a
-/// record, repeats, counts, compares with null, chooses, reads, writes, frees, exits, raises an exception in a block and
-/// handles it, calls a procedure with formal parameters, also of an access type, which returns, and one with a record and
-/// a component for its formal parameters, and comes to its end.
+/// Where each Free of a well-formed program is by the instance for the access type of what it frees, each object that one
+/// of its runs is about to free is of the access type that the instance is for (13.11.2): what a variable names, and what
+/// a component does.
+pub fn objects_are_freed_by_their_types()
+    ensures { ObjectsAreFreedByTheirTypes }
+{}
+
+/// The premises are met: such a program comes to a Free that finds an object.
+pub fn a_program_frees_its_own()
+    ensures { AProgramFreesItsOwn }
+{}
+
+/// The second premise is needed: a well-formed program frees an object by the instance for another access type to the
+/// same record type.
+pub fn a_program_frees_another()
+    ensures { AProgramFreesAnother }
+{}
+
+/// The premise is met: a well-formed program declares, also a pool, from which it allocates with items and without,
+/// follows, assigns, copies a record, repeats, counts, compares with null, chooses, reads, writes, frees, exits, raises an
+/// exception in a block and handles it, calls a procedure with formal parameters, also of an access type, which returns,
+/// and one with a record and a component for its formal parameters, and comes to its end.
 pub fn a_well_formed_program_finishes()
     ensures { AWellFormedProgramFinishes }
 {}

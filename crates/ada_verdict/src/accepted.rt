@@ -3,6 +3,7 @@
 ghost use Rattle.std.specs.Prelude.{◌≡◌, IfOk, IfErr};
 ghost use Rattle.ada_flow.specs.Flow.{ObeysRules};
 ghost use Rattle.ada_meaning.specs.Law.{Safe};
+ghost use Rattle.ada_program.specs.Freed.{FreesItsOwn};
 ghost use Rattle.ada_program.specs.Nested.{CollectionsNest};
 ghost use Rattle.ada_program.specs.ProgramForm.{program_form};
 ghost use Rattle.ada_program.specs.WellFormed.{IsWellFormed};
@@ -97,6 +98,7 @@ fn program_of(alloc: Global, source: &[u8]) -> Result<Program, Verdict>
     ensures meant { IfOk result (λ program. IsProgramOf source.now program) }
     ensures formed { IfOk result (λ program. IsWellFormed (program_form program)) }
     ensures nests { IfOk result (λ program. CollectionsNest (program_form program)) }
+    ensures frees_own { IfOk result (λ program. FreesItsOwn (program_form program)) }
     ensures refused { IfErr result (λ verdict. IsFirst source.now verdict) }
 {
     let tokens = ada_text::tokens(alloc, source)?;
@@ -113,6 +115,7 @@ fn meaning(alloc: Global, source: &[u8], unit: &Unit<'_>) -> Result<Program, Ver
     ensures meant { IfOk result (λ program. IsProgramOf source.now program) }
     ensures formed { IfOk result (λ program. IsWellFormed (program_form program)) }
     ensures nests { IfOk result (λ program. CollectionsNest (program_form program)) }
+    ensures frees_own { IfOk result (λ program. FreesItsOwn (program_form program)) }
     ensures refused { IfErr result (λ verdict. IsFirst source.now verdict) }
 {
     Ok(resolve(alloc, unit)?)

@@ -19,7 +19,7 @@ use Rattle.ada_resolve.proofs.Standing.{Sound, Complete}
 use Rattle.ada_resolve.proofs.WellFormed.Counts.{count, count_known}
 use Rattle.ada_resolve.proofs.WellFormed.Created.{accesses, collect_later, due}
 use Rattle.ada_resolve.proofs.WellFormed.Elaborated.{Late, ended_here}
-use Rattle.ada_resolve.proofs.WellFormed.Growing.{AreIn}
+use Rattle.ada_resolve.proofs.WellFormed.Forms.{AreIn, forms, access_stays, object_stays, record_stays}
 use Rattle.ada_resolve.proofs.WellFormed.Names.{EntityFits}
 use Rattle.ada_resolve.proofs.WellFormed.Tables.{both_parts, first_part, second_part, all_get, get_within}
 
@@ -73,13 +73,13 @@ collected_own m l f a e g =
     due_is_one (is_collected a m.here.elaborated) (nat_le m.here.first_type a) (fits.is_access m.types a) (one_each m l f a) e g
 
 -- an access type is there
-access_there : (types : List TypeForm) (a : ℕ) → fits.is_access types a ≡ true → (name : List ℕ) × (d : ℕ) × (slice_get types a ≡ Some (access_to name d))
+access_there : (types : List TypeForm) (a : ℕ) → fits.is_access types a ≡ true → (name : List ℕ) × (d : ℕ) × (pool : Option ℕ) × (slice_get types a ≡ Some (access_to name d pool))
 access_there types a e = by_form (slice_get types a) refl e
   where
-    by_form : (o : Option TypeForm) → slice_get types a ≡ o → is_some (fits.designated_in o) ≡ true → (name : List ℕ) × (d : ℕ) × (slice_get types a ≡ Some (access_to name d))
+    by_form : (o : Option TypeForm) → slice_get types a ≡ o → is_some (fits.designated_in o) ≡ true → (name : List ℕ) × (d : ℕ) × (pool : Option ℕ) × (slice_get types a ≡ Some (access_to name d pool))
     by_form None is e = absurd (cc e)
     by_form (Some (record_of name ps cs)) is e = absurd (cc e)
-    by_form (Some (access_to name d)) is e = (name, d, is)
+    by_form (Some (access_to name d pool)) is e = (name, d, pool, is)
     by_form (Some (object_of r)) is e = absurd (cc e)
 
 record_there : (types : List TypeForm) (d : ℕ) → fits.is_record types d ≡ true → (name : List ℕ) × (ps : List PartForm) × (cs : List ComponentKind) × (slice_get types d ≡ Some (record_of name ps cs))
@@ -88,7 +88,7 @@ record_there types d e = by_form (slice_get types d) refl e
     by_form : (o : Option TypeForm) → slice_get types d ≡ o → is_some (fits.components_in o) ≡ true → (name : List ℕ) × (ps : List PartForm) × (cs : List ComponentKind) × (slice_get types d ≡ Some (record_of name ps cs))
     by_form None is e = absurd (cc e)
     by_form (Some (record_of name ps cs)) is e = (name, ps, cs, is)
-    by_form (Some (access_to name d)) is e = absurd (cc e)
+    by_form (Some (access_to name d pool)) is e = absurd (cc e)
     by_form (Some (object_of r)) is e = absurd (cc e)
 
 module _ (around : List ℕ) (m : Known) (s : Sound m) (l : Late m) (f : IsFresh m) (w : OpenAround around m) where
@@ -135,28 +135,28 @@ module _ (around : List ℕ) (m : Known) (s : Sound m) (l : Late m) (f : IsFresh
       by_test true on = let less = w.before a on in absurd (omega (arith, less, behind))
       by_test false off = refl
 
-  access_nests : (types : List TypeForm) → AreIn m.types types → (a : ℕ) → is_one_of (collected m.here.elaborated) a ≡ true → collection_nests types around there a ≡ true
+  access_nests : (types : List TypeForm) → AreIn (forms m.types) (forms types) → (a : ℕ) → is_one_of (collected m.here.elaborated) a ≡ true → collection_nests types around there a ≡ true
   access_nests types g a e =
       let own = own_collected m l f a e in
       let is = access_there m.types a own.1 in
-      let record_is = all_get (fits.type_fits m.types) m.types a (access_to is.0 is.1) s.types_fit is.2 in
-      let r = record_designated is.1 (w.forms a (access_to is.0 is.1) own.0 is.2) record_is in
-      let access_later = g a (access_to is.0 is.1) is.2 in
-      let record_later = g is.1 (record_of r.0 r.1 r.2) r.3 in
-      both_parts (not (is_one_of around a)) (are_open there (fits.reached_components types a)) (not_around a own.0) (rw (access_later, record_later) r.4)
+      let record_is = all_get (fits.type_fits m.types) m.types a (access_to is.0 is.1 is.2) s.types_fit is.3 in
+      let r = record_designated is.1 (w.forms a (access_to is.0 is.1 is.2) own.0 is.3) record_is in
+      let access_later = access_stays m.types types g a is.0 is.1 is.2 is.3 in
+      let record_later = record_stays m.types types g is.1 r.0 r.1 r.2 r.3 in
+      both_parts (not (is_one_of around a)) (are_open there (fits.reached_components types a)) (not_around a own.0) (rw (access_later.1, record_later) r.4)
 
   -- the record objects of the part
-  object_nests : (types : List TypeForm) → AreIn m.types types → (o : ℕ) → is_one_of (record_objects m.here.elaborated) o ≡ true → record_nests types there o ≡ true
+  object_nests : (types : List TypeForm) → AreIn (forms m.types) (forms types) → (o : ℕ) → is_one_of (record_objects m.here.elaborated) o ≡ true → record_nests types there o ≡ true
   object_nests types g o e =
       let own = w.objects o e in
       let record_is = all_get (fits.type_fits m.types) m.types o (object_of own.1) s.types_fit own.2 in
       let r = record_designated own.1 (w.forms o (object_of own.1) own.0 own.2) record_is in
-      let object_later = g o (object_of own.1) own.2 in
-      let record_later = g own.1 (record_of r.0 r.1 r.2) r.3 in
+      let object_later = object_stays m.types types g o own.1 own.2 in
+      let record_later = record_stays m.types types g own.1 r.0 r.1 r.2 r.3 in
       rw (object_later, record_later) r.4
 
   -- the collections and the record objects of the part nest, whatever types are declared behind it
-  pub own_nests : (types : List TypeForm) → AreIn m.types types → part_nests types around m.here.elaborated ≡ true
+  pub own_nests : (types : List TypeForm) → AreIn (forms m.types) (forms types) → part_nests types around m.here.elaborated ≡ true
   own_nests types g =
       both_parts (list_all (collection_nests types around there) (collected m.here.elaborated)) (list_all (record_nests types there) (record_objects m.here.elaborated))
       (all_of (collection_nests types around there) (collected m.here.elaborated) (access_nests types g))
@@ -178,11 +178,11 @@ module _ (around : List ℕ) (m : Known) (s : Sound m) (l : Late m) (f : IsFresh
   entity_own : Complete m → (text : List ℕ) (e : Entity) → named text m.here.names ≡ Some e → IsOwnType m.here.first_type e → EntityFits m.types m.variables text e → EntityOpen there m.types e
   entity_own c text (entity.Incomplete t) is own fit = c text t is
   entity_own c text (entity.Record t size) is own fit = record_own t.0 text fit.0 fit.1 own fit.2
-  entity_own c text (entity.Access t) is own fit = own_there t.0 (λ less. absurd (omega (arith, less, own))) (rw fit.1 refl)
+  entity_own c text (entity.Access t) is own fit = own_there t.0 (λ less. absurd (omega (arith, less, own))) (rw fit.2 refl)
   entity_own c text e is own fit = tt
 
   collected_before : (a : ℕ) (b c : Bool) → is_one_of (collected m.here.elaborated) a ≡ b → is_one_of around a ≡ c → (b || c) ≡ true → a < length m.types
-  collected_before a true c own out e = let is = access_there m.types a (own_collected m l f a own).1 in get_within m.types a (access_to is.0 is.1) is.2
+  collected_before a true c own out e = let is = access_there m.types a (own_collected m l f a own).1 in get_within m.types a (access_to is.0 is.1 is.2) is.3
   collected_before a false true own out e = let less = w.before a out in let first = s.bounds.first in omega (arith, less, first)
   collected_before a false false own out e = absurd (cc e)
 

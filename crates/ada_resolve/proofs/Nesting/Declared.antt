@@ -4,27 +4,31 @@ use Rattle.std.proofs.Common.{◌≡◌, ℕ, ◌+◌, ◌<◌, ◌≤◌, Bool,
 use Rattle.std.specs.Prelude.{Option, Some, None, ◌||◌, nat_le}
 use Rattle.std.specs.List.{list_all, slice_get, slice_set}
 use Rattle.std.proofs.lemmas.Bool.{leb-true, leb-false}
+use Rattle.ada_tree.specs.Declarations.{SizeTree}
 use Rattle.ada_tree.specs.Names.{Ident, NameTree}
 use Rattle.ada_tree.specs.Records.{StaticTree, ComponentTree, RecordTree}
-use Rattle.ada_tree.specs.Statements.{DeclarationTree, exception_declaration, constant_declaration, incomplete_type, access_type, record_type, instance, object_declaration, borrower_declaration}
+use Rattle.ada_tree.specs.Statements.{DeclarationTree, exception_declaration, constant_declaration, pool_declaration, attribute_clause, incomplete_type, access_type, record_type, instance, object_declaration, borrower_declaration}
 use Rattle.ada_program.specs.declared.program.ComponentKind.{ComponentKind}
 use Rattle.ada_program.specs.declared.program.ComponentKind.TheVariants as component
 use Rattle.ada_program.specs.declared.program.Exception.TheVariants as exception
+use Rattle.ada_program.specs.declared.program.PoolNo.{PoolNo}
 use Rattle.ada_program.specs.declared.program.TypeNo.{TypeNo}
 use Rattle.ada_program.specs.declared.program.VariableKind.{VariableKind}
 use Rattle.ada_program.specs.declared.program.VariableKind.TheVariants as variable
-use Rattle.ada_program.specs.Form.{ItemForm, PathForm, RightForm, value_of, DeclarationForm, collects, declares, declares_record}
+use Rattle.ada_program.specs.Form.{ItemForm, PathForm, RightForm, value_of, DeclarationForm, creates_pool, collects, declares, declares_record}
 use Rattle.ada_program.specs.Nested.{is_one_of, kind_is_open, record_objects}
-use Rattle.ada_program.specs.ProgramForm.{TypeForm, record_of, access_to, object_of}
+use Rattle.ada_program.specs.ProgramForm.{TypeForm, record_of, access_to, object_of, pool_number}
 use Rattle.ada_resolve.specs.declared.scope.Entity.{Entity}
 use Rattle.ada_resolve.specs.declared.scope.Entity.TheVariants as entity
 use Rattle.ada_resolve.specs.Borrowers.{borrower_created, lender_found}
 use Rattle.ada_resolve.specs.Exceptions.{next_exception}
-use Rattle.ada_resolve.specs.Instances.{freed_found, instance_of, is_collected}
+use Rattle.ada_resolve.specs.Clauses.{placed, with_placed, placed_if, clause_pool}
+use Rattle.ada_resolve.specs.Instances.{access_type_in, freed_found, instance_of, is_collected}
 use Rattle.ada_resolve.specs.Known.{Known, Named, Part, named, entered, declared, visible, is_empty, next_variable, parts, types_go_on}
 use Rattle.ada_resolve.specs.Library.{is_library_root}
 use Rattle.ada_resolve.specs.Objects.{type_in, object_type_found, held_of, kind_of, initial_items_in, initial_value_in, initial_found, collections_of, own_types, missing_collections, ends_types, after_types, initial_source, variable_created, object_created, next_record, record_created, created_of}
 use Rattle.ada_resolve.specs.Paths.{elementary_in, elementary_of}
+use Rattle.ada_resolve.specs.Pools.{aspect_found, next_pool, pool_known}
 use Rattle.ada_resolve.specs.Rights.{Assigned}
 use Rattle.ada_resolve.specs.Records.{Composition, no_components, kind_in, kind_of_component, kinds_within, composed_with, composed, composition_of, components_written, record_type_known}
 use Rattle.ada_resolve.specs.Resolution.{known_at, declaration_remark, declaration_known}
@@ -32,13 +36,15 @@ use Rattle.ada_resolve.specs.Statics.{static_value}
 use Rattle.ada_resolve.specs.Types.{completed_type, record_in, record_found, defined, number_of, incomplete_known, access_defined}
 use Rattle.ada_resolve.proofs.Nesting.Open.{RecordOpen, EntityOpen, PartsOpen, KindLies, ComponentsLie, FormLies, ObjectsLie, IsOwnType, OpenAround, EntityLies, visible_lies, visible_open, record_later, right_or}
 use Rattle.ada_resolve.proofs.Standing.{IsBefore, PartsBefore, Sound, Keeps, object_settled, outer_settled, ended_sound, IsSlot, slot_of, declaration_keeps}
+use Rattle.ada_resolve.proofs.WellFormed.Forms.{bare, forms, forms_in, get_form, object_stays, object_there}
 use Rattle.ada_resolve.proofs.WellFormed.Names.{all_entered}
+use Rattle.ada_resolve.proofs.WellFormed.Placed.{each_was, grown, placed_forms}
 use Rattle.ada_resolve.proofs.WellFormed.Remarks.{Quiet}
 use Rattle.ada_resolve.proofs.WellFormed.Tables.{first_part, second_part, get_more, get_last}
 
--- a type of the parts around stays
+-- a type of the parts around stays, but for its pool
 abbrev StaysBefore : ℕ → List TypeForm → List TypeForm → Type 0
-StaysBefore n types more = (t : ℕ) (form : TypeForm) → t < n → slice_get types t ≡ Some form → slice_get more t ≡ Some form
+StaysBefore n types more = (t : ℕ) (form : TypeForm) → t < n → slice_get (forms types) t ≡ Some form → slice_get (forms more) t ≡ Some form
 
 before_stays : (k m : Known) → Sound k → Keeps k m → StaysBefore k.here.first_type k.types m.types
 before_stays k m s g t form less is = (g.types t form is (outer_settled k t s less)).0
@@ -57,16 +63,20 @@ parts_later around n types more g (p ∷ ps) b w =
 
 form_later : (around : List ℕ) (n : ℕ) (types more : List TypeForm) → StaysBefore n types more → (form : TypeForm) → FormLies around n types form → FormLies around n more form
 form_later around n types more g (record_of name ps cs) w = w
-form_later around n types more g (access_to name d) w = λ less. record_later around types more d (λ form is. g d form less is) (w less)
+form_later around n types more g (access_to name d pool) w = λ less. record_later around types more d (λ form is. g d form less is) (w less)
 form_later around n types more g (object_of r) w = λ less. record_later around types more r (λ form is. g r form less is) (w less)
 
 -- the record objects of a part lie in it still where a type is declared or completed
 objects_stay : (k m : Known) → Sound k → Keeps k m → ObjectsLie k.here.first_type k.types k.here.elaborated → ObjectsLie k.here.first_type m.types k.here.elaborated
-objects_stay k m s g w o e = let own = w o e in (own.0, own.1, (g.types o (object_of own.1) own.2 (object_settled k o own.1 s own.2)).0)
+objects_stay k m s g w o e =
+    let own = w o e in
+    let later = g.types o (object_of own.1) (get_form k.types o (object_of own.1) own.2) (object_settled k o own.1 s own.2) in
+    (own.0, own.1, object_there m.types o own.1 later.0)
 
 -- those of what is elaborated next too
 objects_both : (n : ℕ) (types : List TypeForm) (es ds : List DeclarationForm) → ObjectsLie n types es → ObjectsLie n types ds → ObjectsLie n types (es ++ ds)
 objects_both n types [] ds old new = new
+objects_both n types (creates_pool p ∷ es) ds old new = objects_both n types es ds old new
 objects_both n types (collects t ∷ es) ds old new = objects_both n types es ds old new
 objects_both n types (declares x value ∷ es) ds old new = objects_both n types es ds old new
 objects_both n types (declares_record x object initial ∷ es) ds old new =
@@ -82,7 +92,7 @@ no_objects : (n t : ℕ) (types ts : List TypeForm) (es : List DeclarationForm) 
 no_objects n t types [] es = λ o e. absurd (cc e)
 no_objects n t types (record_of name ps cs ∷ ts) es = no_objects n (t + 1) types ts es
 no_objects n t types (object_of r ∷ ts) es = no_objects n (t + 1) types ts es
-no_objects n t types (access_to name d ∷ ts) es = by_test (is_collected t es) (no_objects n (t + 1) types ts es)
+no_objects n t types (access_to name d pool ∷ ts) es = by_test (is_collected t es) (no_objects n (t + 1) types ts es)
   where
     by_test : (b : Bool) → ObjectsLie n types (collections_of (t + 1) ts es) → ObjectsLie n types (cond b (collections_of (t + 1) ts es) (collects t ∷ collections_of (t + 1) ts es))
     by_test true rest = rest
@@ -154,10 +164,10 @@ unfolding record_found
 designated_open around k designated d w is =
     found_open around k.here.first_type k.types (visible k designated.text) d (visible_lies around k w designated.text) is
 
-access_open_at : (around : List ℕ) (k : Known) (name : Ident) (c o : Option TypeNo) → Sound k → OpenAround around k → IsSlot k name.text c → Keeps k (access_defined k name c o) → ((d : TypeNo) → o ≡ Some d → d.0 < k.here.first_type → RecordOpen around k.types d.0) → OpenAround around (access_defined k name c o)
-access_open_at around k name c None s w slot g lies = w
-access_open_at around k name c (Some d) s w slot g lies =
-    type_open around k name.text (entity.Access (number_of c k.types)) c (access_to name.text d.0) s w g (own_number k name.text c s slot) (lies d refl)
+access_open_at : (around : List ℕ) (k : Known) (name : Ident) (c o : Option TypeNo) (pool : Option PoolNo) → Sound k → OpenAround around k → IsSlot k name.text c → Keeps k (access_defined k name c o pool) → ((d : TypeNo) → o ≡ Some d → d.0 < k.here.first_type → RecordOpen around k.types d.0) → OpenAround around (access_defined k name c o pool)
+access_open_at around k name c None pool s w slot g lies = w
+access_open_at around k name c (Some d) pool s w slot g lies =
+    type_open around k name.text (entity.Access (number_of c k.types)) c (access_to name.text d.0 (pool_number pool)) s w g (own_number k name.text c s slot) (lies d refl)
 
 -- `type T is record .. end record;`
 both_lie : (around : List ℕ) (n : ℕ) (own others : List ComponentKind) → ComponentsLie around n own → ComponentsLie around n others → ComponentsLie around n (own ++ others)
@@ -185,7 +195,7 @@ record_lies around k w t lies = by_place (nat_le k.here.first_type t) refl
     own : n ≤ t → (o : Option TypeForm) → slice_get k.types t ≡ o → ComponentsLie around n (elementary_in o)
     own behind None is = tt
     own behind (Some (record_of name ps cs)) is = w.forms t (record_of name ps cs) behind is
-    own behind (Some (access_to name d)) is = tt
+    own behind (Some (access_to name d pool)) is = tt
     own behind (Some (object_of r)) is = tt
 
     by_place : (b : Bool) → nat_le n t ≡ b → ComponentsLie around n (elementary_in (slice_get k.types t))
@@ -228,6 +238,49 @@ instance_open around k name (Some t) w = record {
   objects = objects_both k.here.first_type k.types k.here.elaborated (collects t.0 ∷ []) w.objects (λ o e. absurd (cc e));
 }
 
+-- `P : Profile_Pools.First_Fit_Pool (64);`
+pool_open : (around : List ℕ) (k : Known) (name : Ident) (size : SizeTree) → OpenAround around k → OpenAround around (pool_known k name size)
+pool_open around k name size w = record {
+  before = w.before;
+  outer = w.outer;
+  own = own_entered k.here.first_type k.here.names name.text (entity.Pool (next_pool k)) tt w.own;
+  forms = w.forms;
+  objects = objects_both k.here.first_type k.types k.here.elaborated (creates_pool (length k.pools) ∷ []) w.objects (λ o e. absurd (cc e));
+}
+
+-- `for A'Storage_Pool use P;`
+form_bare : (around : List ℕ) (n : ℕ) (types : List TypeForm) (x : TypeForm) → FormLies around n types x → FormLies around n types (bare x)
+form_bare around n types (record_of name ps cs) w = w
+form_bare around n types (access_to name d pool) w = w
+form_bare around n types (object_of r) w = w
+
+bare_form : (around : List ℕ) (n : ℕ) (types : List TypeForm) (x : TypeForm) → FormLies around n types (bare x) → FormLies around n types x
+bare_form around n types (record_of name ps cs) w = w
+bare_form around n types (access_to name d pool) w = w
+bare_form around n types (object_of r) w = w
+
+placed_open : (around : List ℕ) (k : Known) (access : TypeNo) (pool : PoolNo) → Sound k → OpenAround around k → OpenAround around (with_placed access pool k)
+placed_open around k access pool s w =
+    let n = k.here.first_type in
+    let more = placed pool.0 k.types access.0 in
+    let same = placed_forms pool.0 k.types access.0 in
+    let stays : StaysBefore n k.types more = λ t form less is. grown k.types more same t form is in
+    record {
+      before = w.before;
+      outer = parts_later around n k.types more stays k.outer s.bounds.outer_before w.outer;
+      own = w.own;
+      forms = λ t x le is.
+          let was = each_was k.types more same t x is in
+          bare_form around n more x (subst (λ (y : TypeForm). FormLies around n more y) was.2
+          (form_bare around n more was.0 (form_later around n k.types more stays was.0 (w.forms t was.0 le was.1))));
+      objects = λ o e. let own = w.objects o e in (own.0, own.1, object_stays k.types more (grown k.types more same) o own.1 own.2);
+    }
+
+clause_open : (around : List ℕ) (k : Known) (access : Option TypeNo) (pool : Option PoolNo) → Sound k → OpenAround around k → OpenAround around (placed_if access pool k)
+clause_open around k (Some access) (Some pool) s w = placed_open around k access pool s w
+clause_open around k (Some access) None s w = w
+clause_open around k None pool s w = w
+
 -- a variable
 made_open : (around : List ℕ) (k : Known) (name : Ident) (borrows : Bool) (kind : VariableKind) (value : RightForm) → OpenAround around k → OpenAround around (variable_created k name borrows kind value)
 made_open around k name borrows kind value w = record {
@@ -250,7 +303,7 @@ record_open around k name t initial s w lies =
     let form = object_of t.0 in
     let more = k.types ++ form ∷ [] in
     let made = declares_record (length k.variables) (length k.types) initial in
-    let stays : StaysBefore n k.types more = λ u x less is. get_more k.types form u x is in
+    let stays : StaysBefore n k.types more = λ u x less is. forms_in k.types more (λ t y there. get_more k.types form t y there) u x is in
     let old : ObjectsLie n more k.here.elaborated = λ o e. let own = w.objects o e in (own.0, own.1, get_more k.types form o (object_of own.1) own.2) in
     record {
       before = w.before;
@@ -329,7 +382,7 @@ ended_open around k w = ends_open around (types_go_on k) k w
 pub declaration_open : (around : List ℕ) (k : Known) (d : DeclarationTree) → Sound k → OpenAround around k → Quiet (declaration_remark (known_at k d) d) → OpenAround around (declaration_known (known_at k d) d)
 declaration_open around k (incomplete_type spot name) s w q = incomplete_open around k name s w (declaration_keeps k (incomplete_type spot name) s q)
 declaration_open around k (access_type spot name designated aspect) s w q =
-    access_open_at around k name (completed_type k name) (record_found k designated) s w (slot_of k name spot q.1.1.0)
+    access_open_at around k name (completed_type k name) (record_found k designated) (aspect_found k aspect) s w (slot_of k name spot q.1.1.0)
     (declaration_keeps k (access_type spot name designated aspect) s q) (λ d is. designated_open around k designated d w is)
 declaration_open around k (record_type spot name definition) s w q =
     record_type_open around k name definition s w (slot_of k name spot q.1.0) (declaration_keeps k (record_type spot name definition) s q)
@@ -342,6 +395,8 @@ declaration_open around k (exception_declaration name) s w q = record {
   forms = w.forms;
   objects = w.objects;
 }
+declaration_open around k (pool_declaration name type_name label size) s w q = pool_open around k name size w
+declaration_open around k (attribute_clause spot name attribute value) s w q = clause_open around k (access_type_in (visible k name.text)) (clause_pool k value) s w
 declaration_open around k (object_declaration name type_name initial) s w q =
     let m = after_types k in
     let o : OpenAround around m = ended_open around k w in

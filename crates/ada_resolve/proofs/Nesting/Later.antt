@@ -6,19 +6,22 @@ use Rattle.std.specs.List.{list_all}
 use Rattle.ada_text.specs.declared.spot.Spot.{Spot}
 use Rattle.ada_tree.specs.Declarations.{HeadTree}
 use Rattle.ada_tree.specs.Names.{Ident}
-use Rattle.ada_tree.specs.Statements.{DeclarationTree, exception_declaration, constant_declaration, incomplete_type, access_type, record_type, instance}
+use Rattle.ada_tree.specs.Statements.{DeclarationTree, exception_declaration, constant_declaration, pool_declaration, attribute_clause, incomplete_type, access_type, record_type, instance}
+use Rattle.ada_program.specs.declared.program.PoolNo.{PoolNo}
 use Rattle.ada_program.specs.declared.program.TypeNo.{TypeNo}
 use Rattle.ada_program.specs.declared.program.VariableKind.{VariableKind}
 use Rattle.ada_program.specs.declared.program.VariableKind.TheVariants as variable
-use Rattle.ada_program.specs.Form.{ItemForm, PathForm, RightForm, value_of, DeclarationForm, collects, declares, declares_record, StmtsForm, HandlersForm}
+use Rattle.ada_program.specs.Form.{ItemForm, PathForm, RightForm, value_of, DeclarationForm, creates_pool, collects, declares, declares_record, StmtsForm, HandlersForm}
 use Rattle.ada_program.specs.Nested.{collected, record_objects, collection_nests, record_nests, part_nests, body_nests, callees_from}
 use Rattle.ada_program.specs.ProgramForm.{TypeForm, record_of, object_of}
 use Rattle.ada_resolve.specs.declared.scope.Entity.{Entity}
 use Rattle.ada_resolve.specs.declared.scope.Entity.TheVariants as entity
 use Rattle.ada_resolve.specs.Borrowers.{borrower_created}
-use Rattle.ada_resolve.specs.Instances.{freed_found, instance_of}
-use Rattle.ada_resolve.specs.Known.{Known, Named, Part, declared, entered, named, next_procedure, next_variable, parts, types_go_on}
+use Rattle.ada_resolve.specs.Clauses.{placed_if, clause_pool}
+use Rattle.ada_resolve.specs.Instances.{access_type_in, freed_found, instance_of}
+use Rattle.ada_resolve.specs.Known.{Known, Named, Part, declared, entered, named, next_procedure, next_variable, parts, types_go_on, visible}
 use Rattle.ada_resolve.specs.Objects.{after_types, ends_types, initial_source, kind_of, initial_value_in, initial_items_in, variable_created, object_created, record_created, created_of, next_record}
+use Rattle.ada_resolve.specs.Pools.{aspect_found}
 use Rattle.ada_resolve.specs.Procedures.{body_of}
 use Rattle.ada_resolve.specs.Rights.{Assigned}
 use Rattle.ada_resolve.specs.Resolution.{known_at, declaration_known}
@@ -29,21 +32,21 @@ use Rattle.ada_resolve.proofs.Nesting.Callees.{IsAway, wider_same}
 use Rattle.ada_resolve.proofs.Nesting.Collected.{IsFresh, own_nests, own_wider, open_behind}
 use Rattle.ada_resolve.proofs.Nesting.Declared.{ended_open}
 use Rattle.ada_resolve.proofs.Nesting.Open.{RecordOpen, EntityOpen, NamesOpen, PartsOpen, OpenAt, OpenAround, EntityLies, record_later}
-use Rattle.ada_resolve.proofs.Standing.{Sound, Complete, longer, ended_sound, ended_keeps, around_body, InBody, left_body}
+use Rattle.ada_resolve.proofs.Standing.{Sound, Complete, longer_types, ended_sound, ended_keeps, around_body, InBody, left_body}
 use Rattle.ada_resolve.proofs.WellFormed.Alike.{after_alike}
 use Rattle.ada_resolve.proofs.WellFormed.Elaborated.{InOrder, after_late}
-use Rattle.ada_resolve.proofs.WellFormed.Growing.{AreIn}
+use Rattle.ada_resolve.proofs.WellFormed.Forms.{AreIn, forms, forms_in, object_stays, record_stays}
 use Rattle.ada_resolve.proofs.WellFormed.Names.{all_entered}
 use Rattle.ada_resolve.proofs.WellFormed.Tables.{all_more, both_parts, first_part, second_part, get_more, get_last}
 
 -- behind more types the same collections are open
-entity_later : (around : List ℕ) (types more : List TypeForm) → AreIn types more → (e : Entity) → EntityOpen around types e → EntityOpen around more e
+entity_later : (around : List ℕ) (types more : List TypeForm) → AreIn (forms types) (forms more) → (e : Entity) → EntityOpen around types e → EntityOpen around more e
 entity_later around types more g (entity.Incomplete t) w = w
 entity_later around types more g (entity.Record t size) w = record_later around types more t.0 (g t.0) w
 entity_later around types more g (entity.Access t) w = w
 entity_later around types more g e w = tt
 
-pub parts_later : (around : List ℕ) (types more : List TypeForm) → AreIn types more → (ps : List Part) → PartsOpen around types ps → PartsOpen around more ps
+pub parts_later : (around : List ℕ) (types more : List TypeForm) → AreIn (forms types) (forms more) → (ps : List Part) → PartsOpen around types ps → PartsOpen around more ps
 parts_later around types more g [] w = tt
 parts_later around types more g (p ∷ ps) w = (λ text e is. entity_later around types more g e (w.0 text e is), parts_later around types more g ps w.1)
 
@@ -53,24 +56,28 @@ names_entered around types ns text e own old = all_entered (λ t x. EntityOpen a
 -- an object creates no collection
 collected_value : (es : List DeclarationForm) (x : ℕ) (v : RightForm) → collected (es ++ declares x v ∷ []) ≡ collected es
 collected_value [] x v = refl
+collected_value (creates_pool p ∷ es) x v = collected_value es x v
 collected_value (collects t ∷ es) x v = ap (λ ts. t ∷ ts) (collected_value es x v)
 collected_value (declares y w ∷ es) x v = collected_value es x v
 collected_value (declares_record y o i ∷ es) x v = collected_value es x v
 
 objects_value : (es : List DeclarationForm) (x : ℕ) (v : RightForm) → record_objects (es ++ declares x v ∷ []) ≡ record_objects es
 objects_value [] x v = refl
+objects_value (creates_pool p ∷ es) x v = objects_value es x v
 objects_value (collects t ∷ es) x v = objects_value es x v
 objects_value (declares y w ∷ es) x v = objects_value es x v
 objects_value (declares_record y o i ∷ es) x v = ap (λ ts. o ∷ ts) (objects_value es x v)
 
 collected_record : (es : List DeclarationForm) (x o : ℕ) (i : Option (List ItemForm)) → collected (es ++ declares_record x o i ∷ []) ≡ collected es
 collected_record [] x o i = refl
+collected_record (creates_pool p ∷ es) x o i = collected_record es x o i
 collected_record (collects t ∷ es) x o i = ap (λ ts. t ∷ ts) (collected_record es x o i)
 collected_record (declares y w ∷ es) x o i = collected_record es x o i
 collected_record (declares_record y p j ∷ es) x o i = collected_record es x o i
 
 objects_record : (es : List DeclarationForm) (x o : ℕ) (i : Option (List ItemForm)) → record_objects (es ++ declares_record x o i ∷ []) ≡ record_objects es ++ o ∷ []
 objects_record [] x o i = refl
+objects_record (creates_pool p ∷ es) x o i = objects_record es x o i
 objects_record (collects t ∷ es) x o i = objects_record es x o i
 objects_record (declares y w ∷ es) x o i = objects_record es x o i
 objects_record (declares_record y p j ∷ es) x o i = ap (λ ts. p ∷ ts) (objects_record es x o i)
@@ -88,7 +95,7 @@ module _ (types : List TypeForm) where
   -- in a part whose types have ended
   pub record LateOpen (around : List ℕ) (k : Known) : Type 0 where
     pub place : Place (collected k.here.elaborated ++ around) k
-    pub nests : AreIn k.types types → part_nests types around k.here.elaborated ≡ true
+    pub nests : AreIn (forms k.types) (forms types) → part_nests types around k.here.elaborated ≡ true
 
   -- in a part whose types may go on
   pub record EarlyOpen (around : List ℕ) (k : Known) : Type 0 where
@@ -152,10 +159,11 @@ module _ (types : List TypeForm) where
   late_created around k name (Some kind) value w = late_value around k name false kind (initial_source value) w
 
   -- a record object
-  object_nests : (us : List ℕ) (k : Known) (t : ℕ) → RecordOpen us k.types t → AreIn (k.types ++ object_of t ∷ []) types → record_nests types us (length k.types) ≡ true
+  object_nests : (us : List ℕ) (k : Known) (t : ℕ) → RecordOpen us k.types t → AreIn (forms (k.types ++ object_of t ∷ [])) (forms types) → record_nests types us (length k.types) ≡ true
   object_nests us k t r g =
-      let object_later = g (length k.types) (object_of t) (get_last k.types (object_of t)) in
-      let record_is = g t (record_of r.0 r.1 r.2) (get_more k.types (object_of t) t (record_of r.0 r.1 r.2) r.3) in
+      let more = k.types ++ object_of t ∷ [] in
+      let object_later = object_stays more types g (length k.types) t (get_last k.types (object_of t)) in
+      let record_is = record_stays more types g t r.0 r.1 r.2 (get_more k.types (object_of t) t (record_of r.0 r.1 r.2) r.3) in
       rw (object_later, record_is) r.4
 
   late_record : (around : List ℕ) (k : Known) (name : Ident) (t : TypeNo) (initial : Option (List ItemForm)) → RecordOpen (collected k.here.elaborated ++ around) k.types t.0 → LateOpen around k → LateOpen around (record_created k name t initial)
@@ -167,7 +175,7 @@ module _ (types : List TypeForm) where
       let e = entity.Variable (next_variable k) (next_record k) in
       let more = k.types ++ object_of t.0 ∷ [] in
       let m = record_created k name t initial in
-      let stays : AreIn k.types more = λ i y is. get_more k.types (object_of t.0) i y is in
+      let stays : AreIn (forms k.types) (forms more) = forms_in k.types more (λ i y is. get_more k.types (object_of t.0) i y is) in
       let old = parts_later us k.types more stays (parts k) w.place.open_at.names in
       let longer_by = length-append k.types (object_of t.0 ∷ []) in
       let place : Place us m = record {
@@ -209,8 +217,8 @@ module _ (types : List TypeForm) where
       let e = entity.Callable (next_procedure z) in
       let all = z.bodies ++ b ∷ [] in
       let grows : AreIn k.bodies all = λ i x is. get_more z.bodies b i x (f.bodies i x is) in
-      let types_in : AreIn k.types z.types = λ i x is. f.types i x is in
-      let more = longer k.types z.types types_in in
+      let types_in : AreIn (forms k.types) (forms z.types) = λ i x is. f.types i x is in
+      let more = longer_types k.types z.types types_in in
       let old = parts_later us k.types z.types types_in (parts k) w.place.open_at.names in
       let called = calls_on types k.bodies all us us grows (wider_same k.bodies us) (parts k) w.place.calls in
       let own = callee_more types z.bodies us b h in
@@ -229,13 +237,18 @@ module _ (types : List TypeForm) where
       }
 
   -- among the types: a declaration names no procedure
-  access_calls : (us : List ℕ) (k : Known) (name : Ident) (c o : Option TypeNo) → PartsCall types k.bodies us (parts k) → PartsCall types (access_defined k name c o).bodies us (parts (access_defined k name c o))
-  access_calls us k name c None w = w
-  access_calls us k name c (Some d) w = (calls_entered types k.bodies us k.here.names name.text _ tt w.0, w.1)
+  access_calls : (us : List ℕ) (k : Known) (name : Ident) (c o : Option TypeNo) (pool : Option PoolNo) → PartsCall types k.bodies us (parts k) → PartsCall types (access_defined k name c o pool).bodies us (parts (access_defined k name c o pool))
+  access_calls us k name c None pool w = w
+  access_calls us k name c (Some d) pool w = (calls_entered types k.bodies us k.here.names name.text _ tt w.0, w.1)
 
   instance_calls : (us : List ℕ) (k : Known) (name : Ident) (o : Option TypeNo) → PartsCall types k.bodies us (parts k) → PartsCall types (instance_of k name o).bodies us (parts (instance_of k name o))
   instance_calls us k name None w = w
   instance_calls us k name (Some t) w = (calls_entered types k.bodies us k.here.names name.text (entity.Instance t) tt w.0, w.1)
+
+  clause_calls : (us : List ℕ) (k : Known) (access : Option TypeNo) (pool : Option PoolNo) → PartsCall types k.bodies us (parts k) → PartsCall types (placed_if access pool k).bodies us (parts (placed_if access pool k))
+  clause_calls us k (Some access) (Some pool) w = w
+  clause_calls us k (Some access) None w = w
+  clause_calls us k None pool w = w
 
   -- declarations among the types
   abbrev pub IsEarly : DeclarationTree → Type 0
@@ -245,13 +258,17 @@ module _ (types : List TypeForm) where
   IsEarly (instance spot name generic object access) = Unit {0}
   IsEarly (constant_declaration name value) = Unit {0}
   IsEarly (exception_declaration name) = Unit {0}
+  IsEarly (pool_declaration name type_name label size) = Unit {0}
+  IsEarly (attribute_clause spot name attribute value) = Unit {0}
   IsEarly d = ⊥
 
   pub declaration_calls : (us : List ℕ) (k : Known) (d : DeclarationTree) → IsEarly d → PartsCall types k.bodies us (parts k) → PartsCall types (declaration_known (known_at k d) d).bodies us (parts (declaration_known (known_at k d) d))
   declaration_calls us k (incomplete_type spot name) is w = (calls_entered types k.bodies us k.here.names name.text _ tt w.0, w.1)
-  declaration_calls us k (access_type spot name designated aspect) is w = access_calls us k name (completed_type k name) (record_found k designated) w
+  declaration_calls us k (access_type spot name designated aspect) is w = access_calls us k name (completed_type k name) (record_found k designated) (aspect_found k aspect) w
   declaration_calls us k (record_type spot name definition) is w = (calls_entered types k.bodies us k.here.names name.text _ tt w.0, w.1)
   declaration_calls us k (instance spot name generic object access) is w = instance_calls us k name (freed_found k access (record_found k object)) w
   declaration_calls us k (constant_declaration name value) is w = (calls_entered types k.bodies us k.here.names name.text _ tt w.0, w.1)
   declaration_calls us k (exception_declaration name) is w = (calls_entered types k.bodies us k.here.names name.text _ tt w.0, w.1)
+  declaration_calls us k (pool_declaration name type_name label size) is w = (calls_entered types k.bodies us k.here.names name.text _ tt w.0, w.1)
+  declaration_calls us k (attribute_clause spot name attribute value) is w = clause_calls us k (access_type_in (visible k name.text)) (clause_pool k value) w
   declaration_calls us k d is w = absurd is

@@ -7,7 +7,7 @@ use Rattle.std.specs.List.{list_all, slice_get}
 use Rattle.ada_program.specs.declared.program.ComponentKind.{ComponentKind}
 use Rattle.ada_program.specs.declared.program.ComponentKind.TheVariants as component
 use Rattle.ada_program.specs.declared.program.Exception.TheVariants.{ConstraintError, ProgramError, StorageError}
-use Rattle.ada_program.specs.Form.{DeclarationForm, collects, declares, declares_record}
+use Rattle.ada_program.specs.Form.{DeclarationForm, creates_pool, collects, declares, declares_record}
 use Rattle.ada_program.specs.Nested.{collected, is_one_of, kind_is_open, record_objects}
 use Rattle.ada_program.specs.ProgramForm.{PartForm, TypeForm, record_of, access_to, object_of}
 use Rattle.ada_resolve.specs.declared.library.Withs.{Withs}
@@ -16,6 +16,7 @@ use Rattle.ada_resolve.specs.declared.scope.Entity.TheVariants as entity
 use Rattle.ada_resolve.specs.Instances.{is_collected}
 use Rattle.ada_resolve.specs.Known.{Known, Named, Part, named, from_part, named_in, inner_first, outermost, unit_named, visible, parts}
 use Rattle.ada_resolve.specs.Library.{predefined}
+use Rattle.ada_resolve.proofs.WellFormed.Forms.{forms, get_form, record_there}
 use Rattle.ada_resolve.proofs.WellFormed.Names.{first_of_two, within_of, unit_only}
 use Rattle.ada_resolve.proofs.WellFormed.Tables.{all_weaker, both_parts, first_part, second_part}
 
@@ -60,7 +61,7 @@ ComponentsLie around n (kind ∷ kinds) = KindLies around n kind × ComponentsLi
 -- that is open around it
 abbrev pub FormLies : (around : List ℕ) → ℕ → List TypeForm → TypeForm → Type 0
 FormLies around n types (record_of name ps cs) = ComponentsLie around n cs
-FormLies around n types (access_to name d) = d < n → RecordOpen around types d
+FormLies around n types (access_to name d pool) = d < n → RecordOpen around types d
 FormLies around n types (object_of r) = r < n → RecordOpen around types r
 
 -- so each type of the part
@@ -194,13 +195,15 @@ pub parts_opener : (us vs : List ℕ) (types : List TypeForm) (ps : List Part) �
 parts_opener us vs types [] w = tt
 parts_opener us vs types (p ∷ ps) w = (λ text e is. entity_opener us vs types e (w.0 text e is), parts_opener us vs types ps w.1)
 
--- where types stay, records stay open
-pub record_later : (around : List ℕ) (types more : List TypeForm) (t : ℕ) → ((form : TypeForm) → slice_get types t ≡ Some form → slice_get more t ≡ Some form) → RecordOpen around types t → RecordOpen around more t
-record_later around types more t g w = (w.0, w.1, w.2, g (record_of w.0 w.1 w.2) w.3, w.4)
+-- where types stay, but for their pools, records stay open
+pub record_later : (around : List ℕ) (types more : List TypeForm) (t : ℕ) → ((form : TypeForm) → slice_get (forms types) t ≡ Some form → slice_get (forms more) t ≡ Some form) → RecordOpen around types t → RecordOpen around more t
+record_later around types more t g w =
+    let form = record_of w.0 w.1 w.2 in (w.0, w.1, w.2, record_there more t w.0 w.1 w.2 (g form (get_form types t form w.3)), w.4)
 
 -- the collections that declarations create are those that are collected
 pub collected_is : (es : List DeclarationForm) (a : ℕ) → is_one_of (collected es) a ≡ is_collected a es
 collected_is [] a = refl
+collected_is (creates_pool p ∷ es) a = collected_is es a
 collected_is (collects t ∷ es) a = ap (λ b. eqb t a || b) (collected_is es a)
 collected_is (declares x source ∷ es) a = collected_is es a
 collected_is (declares_record x object initial ∷ es) a = collected_is es a

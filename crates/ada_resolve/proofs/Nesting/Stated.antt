@@ -6,7 +6,7 @@ use Rattle.std.specs.Prelude.{◌&&◌}
 use Rattle.ada_text.specs.declared.spot.Spot.{Spot}
 use Rattle.ada_tree.specs.Declarations.{HeadTree}
 use Rattle.ada_tree.specs.Names.{Ident}
-use Rattle.ada_tree.specs.Statements.{DeclarationTree, exception_declaration, constant_declaration, incomplete_type, access_type, record_type, instance, object_declaration, borrower_declaration, body_declaration, SchemeTree, endless, while_scheme, for_scheme, StatementTree, if_statement, loop_statement, block, declare_block, DeclarationsTree, no_declarations, a_declaration, StatementsTree, no_statements, a_statement, BranchesTree, no_branches, a_branch, HandlersTree, no_handlers, a_handler, SequenceTree, a_sequence}
+use Rattle.ada_tree.specs.Statements.{DeclarationTree, exception_declaration, constant_declaration, pool_declaration, attribute_clause, incomplete_type, access_type, record_type, instance, object_declaration, borrower_declaration, body_declaration, SchemeTree, endless, while_scheme, for_scheme, StatementTree, if_statement, loop_statement, block, declare_block, DeclarationsTree, no_declarations, a_declaration, StatementsTree, no_statements, a_statement, BranchesTree, no_branches, a_branch, HandlersTree, no_handlers, a_handler, SequenceTree, a_sequence}
 use Rattle.ada_program.specs.declared.program.VariableKind.TheVariants as variable
 use Rattle.ada_program.specs.Form.{StmtForm, chooses, repeats, counts, encloses, StmtsForm, no_stmts, a_stmt, BranchesForm, otherwise, HandlersForm}
 use Rattle.ada_program.specs.Form as form
@@ -32,7 +32,7 @@ use Rattle.ada_resolve.proofs.WellFormed.Alike.{body_early, after_follows, decla
 use Rattle.ada_resolve.proofs.WellFormed.Bodies.{body_begins}
 use Rattle.ada_resolve.proofs.WellFormed.Doing.{parameter_follows, part_follows}
 use Rattle.ada_resolve.proofs.WellFormed.Elaborated.{InOrder, part_early}
-use Rattle.ada_resolve.proofs.WellFormed.Growing.{AreIn}
+use Rattle.ada_resolve.proofs.WellFormed.Forms.{AreIn, forms, forms_in}
 use Rattle.ada_resolve.proofs.WellFormed.Lasting.{Ended}
 use Rattle.ada_resolve.proofs.WellFormed.Names.{all_entered}
 use Rattle.ada_resolve.proofs.WellFormed.Remarks.{Quiet}
@@ -123,7 +123,7 @@ module _ (types : List TypeForm) where
       let own = (with_formals k head.formals no_formals).types in
       let more = k.types ++ own in
       let longer = length-append k.types own in
-      let open_later = parts_later us k.types more (λ t form is. get_front k.types own t form is) (parts k) w.open_at.names in
+      let open_later = parts_later us k.types more (forms_in k.types more (λ t form is. get_front k.types own t form is)) (parts k) w.open_at.names in
       early (record {
         lies = record {
           before = λ a e. let less = w.open_at.before a e in omega (arith, less, longer);
@@ -179,7 +179,7 @@ module _ (types : List TypeForm) where
 
   -- the statements behind branches
   abbrev TailNests : (us : List ℕ) → Others → Type 0
-  TailNests us tail = (at : At) (done : StmtsForm × At) → Sound at.0 → Complete at.0 → Ended at.0 → Place types us at.0 → AreIn done.1.0.types types → tail at ≡ gives done → AllNest us done.1.0 done.0
+  TailNests us tail = (at : At) (done : StmtsForm × At) → Sound at.0 → Complete at.0 → Ended at.0 → Place types us at.0 → AreIn (forms done.1.0.types) (forms types) → tail at ≡ gives done → AllNest us done.1.0 done.0
 
   done_nests : {m m2 : Known} {f f2 : StmtForm} (us : List ℕ) → m2 ≡ m → f2 ≡ f → DoneNests us m f → DoneNests us m2 f2
   done_nests us ms fs h = rw (ms, fs) h
@@ -196,8 +196,8 @@ module _ (types : List TypeForm) where
   sequence_is : {z z2 : Known} {b b2 : SequenceForm} (us : List ℕ) → z2 ≡ z → b2 ≡ b → SequenceNests us z b → SequenceNests us z2 b2
   sequence_is us zs bs h = rw (zs, bs) h
 
-  types_of : (m m2 : Known) → m2 ≡ m → AreIn m2.types types → AreIn m.types types
-  types_of m m2 is g = subst (λ (v : Known). AreIn v.types types) is g
+  types_of : (m m2 : Known) → m2 ≡ m → AreIn (forms m2.types) (forms types) → AreIn (forms m.types) (forms types)
+  types_of m m2 is g = subst (λ (v : Known). AreIn (forms v.types) (forms types)) is g
 
   -- a statement with no others in it
   simple_nests : (inside : Bool) (s : StatementTree) (us : List ℕ) (at : At) (done : StmtForm × At) → Place types us at.0 → simple_told inside s at ≡ gives done → DoneNests us done.1.0 done.0
@@ -240,21 +240,23 @@ module _ (types : List TypeForm) where
   early_state us k (instance spot name generic object access) is s (behind off w) q = absurd (no_types k spot off q.0)
   early_state us k (constant_declaration name value) is s (behind off w) q = absurd (no_types k name.spot off q.0)
   early_state us k (exception_declaration name) is s (behind off w) q = absurd (no_types k name.spot off q.0)
+  early_state us k (pool_declaration name type_name label size) is s (behind off w) q = absurd (no_types k name.spot off q.0)
+  early_state us k (attribute_clause spot name attribute value) is s (behind off w) q = absurd (no_types k spot off q.0)
   early_state us k d is s (behind off w) q = absurd is
 
   -- a part, with its declarations, given what these and its statements do
-  part_by : (inside : Bool) (ds : DeclarationsTree) (body : SequenceTree) (us : List ℕ) (at after : At) (done : SequenceForm × At) → Sound at.0 → InOrder at.0 → Ended at.0 → AreIn done.1.0.types types → declarations_told ds at ≡ gives after → sequence_told inside body after ≡ gives done → (Complete after.0 → AreIn after.0.types types → State types us after.0) → (Sound after.0 → InOrder after.0 → Ended after.0 → State types us after.0 → SequenceNests us done.1.0 done.0) → SequenceNests us done.1.0 done.0
+  part_by : (inside : Bool) (ds : DeclarationsTree) (body : SequenceTree) (us : List ℕ) (at after : At) (done : SequenceForm × At) → Sound at.0 → InOrder at.0 → Ended at.0 → AreIn (forms done.1.0.types) (forms types) → declarations_told ds at ≡ gives after → sequence_told inside body after ≡ gives done → (Complete after.0 → AreIn (forms after.0.types) (forms types) → State types us after.0) → (Sound after.0 → InOrder after.0 → Ended after.0 → State types us after.0 → SequenceNests us done.1.0 done.0) → SequenceNests us done.1.0 done.0
   part_by inside ds body us at after done s o b g declared told f h =
       let sound = declarations_sound ds at after s declared in
       let ordered = declarations_ordered ds at after s o declared in
       let stays = sequence_stays inside body after done sound told in
       let grows = complete_grows after.0 (after_types after.0) stays.complete (ended_keeps after.0) in
-      let ts : AreIn after.0.types types = λ i x is. g i x (stays.stays.grows.types i x (grows.types i x is)) in
+      let ts : AreIn (forms after.0.types) (forms types) = λ i x is. g i x (stays.stays.grows.types i x (grows.types i x is)) in
       h sound ordered.order (ordered.follows.ended b) (f stays.complete ts)
 
   -- the statements, with those in them
   mutual
-    pub statement_nested : (inside : Bool) (s : StatementTree) (us : List ℕ) (at : At) (done : StmtForm × At) → Sound at.0 → Complete at.0 → Ended at.0 → Place types us at.0 → AreIn done.1.0.types types → statement_told inside s at ≡ gives done → DoneNests us done.1.0 done.0
+    pub statement_nested : (inside : Bool) (s : StatementTree) (us : List ℕ) (at : At) (done : StmtForm × At) → Sound at.0 → Complete at.0 → Ended at.0 → Place types us at.0 → AreIn (forms done.1.0.types) (forms types) → statement_told inside s at ≡ gives done → DoneNests us done.1.0 done.0
     statement_nested inside (if_statement spot branches others last) us at done w c b a g e =
         let d = if_done inside spot branches others last at done e in
         let tail : Others = λ behind. statements_told inside others behind in
@@ -267,8 +269,8 @@ module _ (types : List TypeForm) where
     statement_nested inside (loop_statement spot scheme ss last) us at done w c b a g e =
         let d = loop_done inside spot scheme ss last at done e in
         let k = d.head.1.0 in
-        let ts : AreIn d.own.1.0.types types =
-        subst (λ (xs : List TypeForm). AreIn xs types) (loop_types d.head.0 d.own.1.0) (types_of (behind_loop d.head.0 d.own.1.0) done.1.0 d.known g) in
+        let ts : AreIn (forms d.own.1.0.types) (forms types) =
+        subst (λ (xs : List TypeForm). AreIn (forms xs) (forms types)) (loop_types d.head.0 d.own.1.0) (types_of (behind_loop d.head.0 d.own.1.0) done.1.0 d.known g) in
         let own = statements_nested true ss us d.head.1 d.own (head_sound spot scheme at.0 d.head.0 k w c d.head_so.is)
         (head_complete spot scheme at.0 d.head.0 k c d.head_so.is) (head_ended spot scheme at.0 d.head.0 k b d.head_so.is)
         (head_place us spot scheme at.0 d.head.0 k a d.head_so.is) ts d.told in
@@ -278,7 +280,7 @@ module _ (types : List TypeForm) where
     statement_nested inside (block body) us at done w c b a g e =
         let d = block_done inside body at done e in
         let z = d.body_done.1.0 in
-        let ts : AreIn z.types types = subst (λ (xs : List TypeForm). AreIn xs types) (left_types z z.outer) (types_of (left_to z.outer z) done.1.0 d.known g) in
+        let ts : AreIn (forms z.types) (forms types) = subst (λ (xs : List TypeForm). AreIn (forms xs) (forms types)) (left_types z z.outer) (types_of (left_to z.outer z) done.1.0 d.known g) in
         let h = sequence_nested inside body us d.inner d.body_done (subst Sound (sym d.inner_known) (part_sound at.0 w c)) (subst InOrder (sym d.inner_known) (part_early at.0))
         (subst Ended (sym d.inner_known) ((part_follows at.0).ended b)) (subst (λ v. State types us v) (sym d.inner_known) (begun_part us at.0 b a)) ts d.told in
         done_nests us d.known d.form
@@ -286,7 +288,7 @@ module _ (types : List TypeForm) where
     statement_nested inside (declare_block spot ds body) us at done w c b a g e =
         let d = declare_done inside spot ds body at done e in
         let z = d.body_done.1.0 in
-        let ts : AreIn z.types types = subst (λ (xs : List TypeForm). AreIn xs types) (left_types z z.outer) (types_of (left_to z.outer z) done.1.0 d.known g) in
+        let ts : AreIn (forms z.types) (forms types) = subst (λ (xs : List TypeForm). AreIn (forms xs) (forms types)) (left_types z z.outer) (types_of (left_to z.outer z) done.1.0 d.known g) in
         let sound : Sound d.inner.0 = subst Sound (sym d.inner_known) (part_sound at.0 w c) in
         let order : InOrder d.inner.0 = subst InOrder (sym d.inner_known) (part_early at.0) in
         let ended : Ended d.inner.0 = subst Ended (sym d.inner_known) ((part_follows at.0).ended b) in
@@ -298,7 +300,7 @@ module _ (types : List TypeForm) where
         (same_bodies us z (left_to z.outer z) (encloses z.here.elaborated d.body_done.0.0 d.body_done.0.1) (left_bodies z z.outer) (block_nests us z d.body_done.0 h))
     statement_nested inside s us at done w c b a g e = simple_nests inside s us at done a e
 
-    pub sequence_nested : (inside : Bool) (body : SequenceTree) (us : List ℕ) (at : At) (done : SequenceForm × At) → Sound at.0 → InOrder at.0 → Ended at.0 → State types us at.0 → AreIn done.1.0.types types → sequence_told inside body at ≡ gives done → SequenceNests us done.1.0 done.0
+    pub sequence_nested : (inside : Bool) (body : SequenceTree) (us : List ℕ) (at : At) (done : SequenceForm × At) → Sound at.0 → InOrder at.0 → Ended at.0 → State types us at.0 → AreIn (forms done.1.0.types) (forms types) → sequence_told inside body at ≡ gives done → SequenceNests us done.1.0 done.0
     sequence_nested inside (a_sequence start ss hs last) us at done s o b w g e =
         let d = sequence_done inside start ss hs last at done e in
         let m = d.ready.0 in
@@ -309,9 +311,9 @@ module _ (types : List TypeForm) where
         let late : LateOpen types us m = subst (λ v. LateOpen types us v) (sym d.ready_known) (ready types us at.0 s o w (begin_open at.0 start d.quiet)) in
         let own_stays = statements_stay inside ss d.ready d.own sound complete d.told in
         let handled_stays = handlers_stay inside hs d.own.1 d.handled own_stays.sound own_stays.complete d.handlers_so in
-        let gz : AreIn z.types types = types_of z done.1.0 d.known g in
-        let go : AreIn d.own.1.0.types types = λ i x is. gz i x (handled_stays.grows.types i x is) in
-        let gm : AreIn m.types types = λ i x is. go i x (own_stays.grows.types i x is) in
+        let gz : AreIn (forms z.types) (forms types) = types_of z done.1.0 d.known g in
+        let go : AreIn (forms d.own.1.0.types) (forms types) = λ i x is. gz i x (handled_stays.grows.types i x is) in
+        let gm : AreIn (forms m.types) (forms types) = λ i x is. go i x (own_stays.grows.types i x is) in
         let vs = collected m.here.elaborated ++ us in
         let own_ended : Ended d.own.1.0 = (statements_fit inside ss d.ready d.own sound complete d.told).2.ended ended in
         let own = statements_nested inside ss vs d.ready d.own sound complete ended late.place go d.told in
@@ -325,7 +327,7 @@ module _ (types : List TypeForm) where
         )
 
     -- a declaration
-    told_nested : (d : DeclarationTree) (us : List ℕ) (at next : At) → Sound at.0 → InOrder at.0 → Ended at.0 → State types us at.0 → (types_go_on next.0 ≡ false → Complete next.0) → (types_go_on next.0 ≡ false → AreIn next.0.types types) → declaration_told d at ≡ gives next → State types us next.0
+    told_nested : (d : DeclarationTree) (us : List ℕ) (at next : At) → Sound at.0 → InOrder at.0 → Ended at.0 → State types us at.0 → (types_go_on next.0 ≡ false → Complete next.0) → (types_go_on next.0 ≡ false → AreIn (forms next.0.types) (forms types)) → declaration_told d at ≡ gives next → State types us next.0
     told_nested (body_declaration head ds body end_name) us at next s o b w c g e =
         let d = procedure_done head ds body end_name at next e in
         let k = after_types at.0 in
@@ -338,7 +340,7 @@ module _ (types : List TypeForm) where
         let late = ready types us at.0 s o w (body_back head ds body end_name at next d s (c off)) in
         let vs = collected k.here.elaborated ++ us in
         let is = d.known ∙ ended_is (around_body k head) z head.name fs hs last stays.done_in in
-        let ts : AreIn z.types types = subst (λ (v : Known). AreIn v.types types) is (g off) in
+        let ts : AreIn (forms z.types) (forms types) = subst (λ (v : Known). AreIn (forms v.types) (forms types)) is (g off) in
         let order : InOrder d.inner.0 = subst InOrder (sym d.inner_known) (body_early k head) in
         let ended : Ended d.inner.0 = subst Ended (sym d.inner_known) ((body_begins k head).ended ((after_follows at.0).ended b)) in
         let state : State types vs d.inner.0 = subst (λ v. State types vs v) (sym d.inner_known) (begun_body vs k head ((after_follows at.0).ended b) late.place) in
@@ -385,10 +387,16 @@ module _ (types : List TypeForm) where
     told_nested (exception_declaration name) us at next s o b w c g e =
         let one = single_done (exception_declaration name) at next e in
         subst (λ v. State types us v) (sym one.known) (early_state us at.0 (exception_declaration name) tt s w one.quiet)
+    told_nested (pool_declaration name type_name label size) us at next s o b w c g e =
+        let one = single_done (pool_declaration name type_name label size) at next e in
+        subst (λ v. State types us v) (sym one.known) (early_state us at.0 (pool_declaration name type_name label size) tt s w one.quiet)
+    told_nested (attribute_clause spot name attribute value) us at next s o b w c g e =
+        let one = single_done (attribute_clause spot name attribute value) at next e in
+        subst (λ v. State types us v) (sym one.known) (early_state us at.0 (attribute_clause spot name attribute value) tt s w one.quiet)
     told_nested d us at next s o b w c g e = absurd (single_done d at next e).quiet
 
     -- declarations, one behind another
-    pub declarations_nested : (ds : DeclarationsTree) (us : List ℕ) (at after : At) → Sound at.0 → InOrder at.0 → Ended at.0 → State types us at.0 → Complete after.0 → AreIn after.0.types types → declarations_told ds at ≡ gives after → State types us after.0
+    pub declarations_nested : (ds : DeclarationsTree) (us : List ℕ) (at after : At) → Sound at.0 → InOrder at.0 → Ended at.0 → State types us at.0 → Complete after.0 → AreIn (forms after.0.types) (forms types) → declarations_told ds at ≡ gives after → State types us after.0
     declarations_nested no_declarations us at after s o b w c g e = subst (λ (v : At). State types us v.0) (gives_same e) w
     declarations_nested (a_declaration d ds) us at after s o b w c g e =
         let done = declarations_done d ds at after e in
@@ -396,11 +404,11 @@ module _ (types : List TypeForm) where
         let sound = told_sound d at next s done.one in
         let ordered = told_ordered d at next s o done.one in
         let complete : types_go_on next.0 ≡ false → Complete next.0 = λ off. complete_back ds next after sound off done.told c in
-        let there : types_go_on next.0 ≡ false → AreIn next.0.types types =
+        let there : types_go_on next.0 ≡ false → AreIn (forms next.0.types) (forms types) =
         λ off. (let grows = complete_grows next.0 after.0 (complete off) (declarations_keep ds next after sound done.told) in λ i x is. g i x (grows.types i x is)) in
         declarations_nested ds us next after sound ordered.order (ordered.follows.ended b) (told_nested d us at next s o b w complete there done.one) c g done.told
 
-    pub statements_nested : (inside : Bool) (ss : StatementsTree) (us : List ℕ) (at : At) (done : StmtsForm × At) → Sound at.0 → Complete at.0 → Ended at.0 → Place types us at.0 → AreIn done.1.0.types types → statements_told inside ss at ≡ gives done → AllNest us done.1.0 done.0
+    pub statements_nested : (inside : Bool) (ss : StatementsTree) (us : List ℕ) (at : At) (done : StmtsForm × At) → Sound at.0 → Complete at.0 → Ended at.0 → Place types us at.0 → AreIn (forms done.1.0.types) (forms types) → statements_told inside ss at ≡ gives done → AllNest us done.1.0 done.0
     statements_nested inside no_statements us at done w c b a g e =
         let same : (no_stmts, at) ≡ done = cc e in
         subst (λ (v : StmtsForm × At). AllNest us v.1.0 v.0) same (λ bs more. refl)
@@ -416,7 +424,7 @@ module _ (types : List TypeForm) where
         (λ bs more. both_parts (statement_nests types (callees_from types [] bs) us d.own.0) (statements_nest types (callees_from types [] bs) us d.others.0)
         (own bs (λ i x is. more i x (later.grows.bodies i x is))) (others bs more))
 
-    branches_nested : (inside : Bool) (branches : BranchesTree) (tail : Others) (us : List ℕ) (at : At) (done : BranchesForm × At) → TailNests us tail → OthersStay tail → Sound at.0 → Complete at.0 → Ended at.0 → Place types us at.0 → AreIn done.1.0.types types → branches_told inside branches tail at ≡ gives done → BranchesNest us done.1.0 done.0
+    branches_nested : (inside : Bool) (branches : BranchesTree) (tail : Others) (us : List ℕ) (at : At) (done : BranchesForm × At) → TailNests us tail → OthersStay tail → Sound at.0 → Complete at.0 → Ended at.0 → Place types us at.0 → AreIn (forms done.1.0.types) (forms types) → branches_told inside branches tail at ≡ gives done → BranchesNest us done.1.0 done.0
     branches_nested inside no_branches tail us at done f stay w c b a g e =
         let made = made_gives otherwise (tail at) done e in
         branches_done us (known_of (sym made.3)) (sym made.2) (f at made.0 w c b a (types_of made.0.1.0 done.1.0 (known_of (sym made.3)) g) made.1)
@@ -437,7 +445,7 @@ module _ (types : List TypeForm) where
         (λ cs more. both_parts (statements_nest types (callees_from types [] cs) us d.own.0) (branches_nest types (callees_from types [] cs) us d.others.0)
         (own cs (λ i x is. more i x (later.grows.bodies i x is))) (others cs more))
 
-    pub handlers_nested : (inside : Bool) (hs : HandlersTree) (us : List ℕ) (at : At) (done : HandlersForm × At) → Sound at.0 → Complete at.0 → Ended at.0 → Place types us at.0 → AreIn done.1.0.types types → handlers_told inside hs at ≡ gives done → HandledNest us done.1.0 done.0
+    pub handlers_nested : (inside : Bool) (hs : HandlersTree) (us : List ℕ) (at : At) (done : HandlersForm × At) → Sound at.0 → Complete at.0 → Ended at.0 → Place types us at.0 → AreIn (forms done.1.0.types) (forms types) → handlers_told inside hs at ≡ gives done → HandledNest us done.1.0 done.0
     handlers_nested inside no_handlers us at done w c b a g e =
         let same : (form.no_handlers, at) ≡ done = cc e in
         subst (λ (v : HandlersForm × At). HandledNest us v.1.0 v.0) same (λ bs more. refl)
@@ -459,7 +467,7 @@ module _ (types : List TypeForm) where
         (own cs (λ i x is. more i x (later.grows.bodies i x is))) (others cs more))
 
   -- a part, with its declarations
-  pub part_nested : (inside : Bool) (ds : DeclarationsTree) (body : SequenceTree) (us : List ℕ) (at after : At) (done : SequenceForm × At) → Sound at.0 → InOrder at.0 → Ended at.0 → State types us at.0 → AreIn done.1.0.types types → declarations_told ds at ≡ gives after → sequence_told inside body after ≡ gives done → SequenceNests us done.1.0 done.0
+  pub part_nested : (inside : Bool) (ds : DeclarationsTree) (body : SequenceTree) (us : List ℕ) (at after : At) (done : SequenceForm × At) → Sound at.0 → InOrder at.0 → Ended at.0 → State types us at.0 → AreIn (forms done.1.0.types) (forms types) → declarations_told ds at ≡ gives after → sequence_told inside body after ≡ gives done → SequenceNests us done.1.0 done.0
   part_nested inside ds body us at after done s o b w g declared told =
       part_by inside ds body us at after done s o b g declared told
       (λ complete grown. declarations_nested ds us at after s o b w complete grown declared)

@@ -1,26 +1,30 @@
 -- A declaration leaves what is known in order, and what stays.
 
-use Rattle.std.proofs.Common.{◌≡◌, ℕ, ◌≤◌, Bool, true, false, List, [], ◌∷◌, ◌++◌, length, refl, sym, subst, arith}
-use Rattle.std.specs.Prelude.{◌||◌, not, Option, Some, None}
+use Rattle.std.proofs.Common.{◌≡◌, ℕ, ◌≤◌, Bool, true, false, cond, List, [], ◌∷◌, ◌++◌, length, length-append, refl, sym, subst, arith}
+use Rattle.std.specs.Prelude.{◌||◌, not, nat_lt, Option, Some, None, is_some}
 use Rattle.ada_text.specs.declared.spot.Spot.{Spot}
 use Rattle.ada_program.specs.declared.program.Exception.TheVariants as exception
+use Rattle.ada_program.specs.declared.program.PoolNo.{PoolNo}
 use Rattle.ada_program.specs.declared.program.TypeNo.{TypeNo}
 use Rattle.ada_program.specs.declared.program.VariableKind.{VariableKind}
 use Rattle.ada_program.specs.declared.program.VariableKind.TheVariants as variable
-use Rattle.ada_program.specs.Form.{DeclarationForm, ItemForm, collects, declares, declares_record, RightForm, value_of}
-use Rattle.ada_program.specs.ProgramForm.{TypeForm, record_of, access_to, object_of, VariableForm}
+use Rattle.ada_program.specs.Form.{DeclarationForm, ItemForm, creates_pool, collects, declares, declares_record, RightForm, value_of}
+use Rattle.ada_program.specs.ProgramForm.{TypeForm, record_of, access_to, object_of, PoolForm, pool_number, VariableForm}
 use Rattle.ada_program.specs.WellFormed as fits
-use Rattle.ada_tree.specs.Declarations.{AspectTree}
+use Rattle.ada_tree.specs.Declarations.{AspectTree, SizeTree}
 use Rattle.ada_tree.specs.Expressions.{RightTree}
 use Rattle.ada_tree.specs.Names.{Ident}
 use Rattle.ada_tree.specs.Records.{RecordTree}
-use Rattle.ada_tree.specs.Statements.{DeclarationTree, exception_declaration, constant_declaration, incomplete_type, access_type, record_type, instance, object_declaration, borrower_declaration}
+use Rattle.ada_tree.specs.Statements.{DeclarationTree, exception_declaration, constant_declaration, pool_declaration, attribute_clause, incomplete_type, access_type, record_type, instance, object_declaration, borrower_declaration}
 use Rattle.ada_resolve.specs.declared.scope.Entity.{Entity}
 use Rattle.ada_resolve.specs.declared.scope.Entity.TheVariants as entity
 use Rattle.ada_resolve.specs.Borrowers.{borrower_remark, borrower_known}
 use Rattle.ada_resolve.specs.Exceptions.{next_exception, with_exception, exception_known}
-use Rattle.ada_resolve.specs.Instances.{freed_found, with_elaborated, instance_of}
-use Rattle.ada_resolve.specs.Known.{Known, Part, parts, no_variable_yet, no_body_yet, types_go_on, type_begins, next_variable}
+use Rattle.ada_resolve.specs.Clauses.{placed, pool_of, no_pool_yet, with_placed, placed_if, clause_pool, clause_known, clause_remark, storage_remark}
+use Rattle.ada_resolve.specs.Instances.{access_type_in, freed_found, instance_of, with_frozen}
+use Rattle.ada_resolve.specs.Known.{Known, Part, parts, no_variable_yet, no_body_yet, types_go_on, type_begins, next_variable, visible, with_elaborated}
+use Rattle.ada_resolve.specs.Pools.{aspect_found, is_storage_pool, size_value, next_pool, with_pool, pool_known}
+use Rattle.ada_resolve.specs.Remark.{wrong}
 use Rattle.ada_resolve.specs.Rights.{Assigned}
 use Rattle.ada_resolve.specs.Objects.{object_type_found, held_of, kind_of, initial_items_in, initial_value_in, initial_found, initial_source, missing_collections, ends_types, after_types, with_variable, variable_created, object_created, next_record, with_record_object, record_created, created_of, object_known}
 use Rattle.ada_resolve.specs.Records.{composition_of, components_written, record_type_known, record_type_remark}
@@ -30,13 +34,15 @@ use Rattle.ada_resolve.specs.Types.{completed_type, record_found, number_of, inc
 use Rattle.ada_resolve.proofs.WellFormed.Borrowers.{lent_of, lent_kind, borrower_is}
 use Rattle.ada_resolve.proofs.WellFormed.Exceptions.{raised_outer}
 use Rattle.ada_resolve.proofs.WellFormed.Names.{EntityFits, variables_behind, PartsFit}
-use Rattle.ada_resolve.proofs.WellFormed.Remarks.{Quiet, quiet_unless}
-use Rattle.ada_resolve.specs.declared.fault.NameRule.TheVariants.{Layout}
-use Rattle.ada_resolve.proofs.WellFormed.Tables.{all_more, both_parts, second_part, get_more, get_last}
+use Rattle.ada_resolve.proofs.WellFormed.Placed.{grown, placed_forms, placed_housed, placed_fit, placed_unused, parts_placed}
+use Rattle.ada_resolve.proofs.WellFormed.Remarks.{Quiet, quiet_if, quiet_unless}
+use Rattle.ada_resolve.specs.declared.fault.NameRule.TheVariants.{Layout, NotInProfile}
+use Rattle.ada_resolve.proofs.WellFormed.Tables.{all_more, all_weaker, both_parts, second_part, get_more, get_last, types_keep, variable_kept}
 use Rattle.ada_resolve.proofs.WellFormed.Types.{IsAccessIn, found_access, IsKindIn, found_type, record_visible, full_visible}
-use Rattle.ada_resolve.proofs.Standing.Order.{Sound, IsSettled, Keeps, keeps_same, keeps_on, visible_settled}
+use Rattle.ada_resolve.proofs.Standing.Housed.{called_later, housed_later, clause_pool_known}
+use Rattle.ada_resolve.proofs.Standing.Order.{Sound, IsSettled, Keeps, keeps_same, keeps_on, longer_types, visible_settled}
 use Rattle.ada_resolve.proofs.Standing.Types.{name_sound, incomplete_sound, record_sound, access_sound, object_type_sound, one_longer}
-use Rattle.ada_resolve.proofs.Standing.Kept.{IsSlot, new_slot, slot_of, keeps_new, keeps_name, keeps_defined, keeps_elaborated, keeps_object_type, keeps_variable, keeps_exception}
+use Rattle.ada_resolve.proofs.Standing.Kept.{IsSlot, new_slot, slot_of, keeps_new, keeps_name, keeps_defined, keeps_elaborated, keeps_object_type, keeps_variable, keeps_exception, keeps_pool, keeps_frozen, keeps_placed}
 
 -- only what is elaborated changes
 pub elaborated_sound : (es : List DeclarationForm) (k : Known) → Sound k → Sound (with_elaborated es k)
@@ -46,6 +52,7 @@ elaborated_sound es k w = record {
   names = w.names;
   exceptions = w.exceptions;
   called = w.called;
+  housed = w.housed;
   sized = w.sized;
   bounds = record { first = w.bounds.first; first_variable = w.bounds.first_variable; modes = w.bounds.modes; first_body = w.bounds.first_body; open_own = w.bounds.open_own; open_unused = w.bounds.open_unused; outer_before = w.bounds.outer_before };
 }
@@ -75,6 +82,7 @@ variable_sound v k w fit = record {
   names = parts_stay k.types k.variables v (parts k) w.names;
   exceptions = w.exceptions;
   called = w.called;
+  housed = w.housed;
   sized = w.sized;
   bounds = record {
     first = w.bounds.first;
@@ -95,9 +103,63 @@ raised_sound name k w = record {
   names = w.names;
   exceptions = raised_outer k.exceptions name (parts k) w.exceptions;
   called = w.called;
+  housed = w.housed;
   sized = w.sized;
   bounds = record { first = w.bounds.first; first_variable = w.bounds.first_variable; modes = w.bounds.modes; first_body = w.bounds.first_body; open_own = w.bounds.open_own; open_unused = w.bounds.open_unused; outer_before = w.bounds.outer_before };
 }
+
+-- one more pool
+with_pool_sound : (p : PoolForm) (k : Known) → Sound k → Sound (with_pool p k)
+with_pool_sound p k w =
+    let one = length-append k.pools (p ∷ []) in
+    record {
+      types_fit = w.types_fit;
+      variables_fit = w.variables_fit;
+      names = w.names;
+      exceptions = w.exceptions;
+      called = called_later (length k.bodies) (length k.pools) (length k.bodies) (length (k.pools ++ p ∷ [])) (omega arith) (omega (arith, one)) (parts k) w.called;
+      housed = housed_later (length k.pools) (length (k.pools ++ p ∷ [])) (omega (arith, one)) k.types w.housed;
+      sized = w.sized;
+      bounds = record { first = w.bounds.first; first_variable = w.bounds.first_variable; modes = w.bounds.modes; first_body = w.bounds.first_body; open_own = w.bounds.open_own; open_unused = w.bounds.open_unused; outer_before = w.bounds.outer_before };
+    }
+
+-- access types are frozen
+frozen_sound : (access : ℕ) (k : Known) → Sound k → Sound (with_frozen access k)
+frozen_sound access k w = record {
+  types_fit = w.types_fit;
+  variables_fit = w.variables_fit;
+  names = w.names;
+  exceptions = w.exceptions;
+  called = w.called;
+  housed = w.housed;
+  sized = w.sized;
+  bounds = record { first = w.bounds.first; first_variable = w.bounds.first_variable; modes = w.bounds.modes; first_body = w.bounds.first_body; open_own = w.bounds.open_own; open_unused = w.bounds.open_unused; outer_before = w.bounds.outer_before };
+}
+
+-- an access type is on a pool
+placed_sound : (access : TypeNo) (pool : PoolNo) (k : Known) → nat_lt pool.0 (length k.pools) ≡ true → Sound k → Sound (with_placed access pool k)
+placed_sound access pool k there w =
+    let more = placed pool.0 k.types access.0 in
+    let same = placed_forms pool.0 k.types access.0 in
+    let g = grown k.types more same in
+    record {
+      types_fit = placed_fit k.types more same w.types_fit;
+      variables_fit = all_weaker (fits.variable_fits k.types) (fits.variable_fits more) (variable_kept k.types more (types_keep k.types more g)) k.variables w.variables_fit;
+      names = parts_placed k.types more same k.variables (parts k) w.names;
+      exceptions = w.exceptions;
+      called = w.called;
+      housed = placed_housed (length k.pools) pool.0 k.types access.0 there w.housed;
+      sized = w.sized;
+      bounds = record {
+        first = let a = w.bounds.first in let b = longer_types k.types more g in omega (arith, a, b);
+        first_variable = w.bounds.first_variable;
+        modes = w.bounds.modes;
+        first_body = w.bounds.first_body;
+        open_own = w.bounds.open_own;
+        open_unused = λ none text t is. placed_unused k.types more same t.0 (w.bounds.open_unused none text t is);
+        outer_before = w.bounds.outer_before;
+      };
+    }
 
 -- no type follows a body
 pub none_ended : (k : Known) (spot : Spot) → Quiet (type_begins k spot) → no_body_yet k ≡ true
@@ -110,12 +172,12 @@ incomplete_keeps k spot name q =
     (λ t form is. get_more k.types (record_of name.text [] []) t form is) (one_longer k.types (record_of name.text [] [])) (omega arith)
 
 -- `type A is access T;`
-access_keeps_at : (k : Known) (name : Ident) (o : Option TypeNo) → no_body_yet k ≡ true → Sound k → IsSlot k name.text (completed_type k name) → Keeps k (access_defined k name (completed_type k name) o)
-access_keeps_at k name None none w slot = keeps_same k
-access_keeps_at k name (Some d) none w slot = keeps_defined k name.text (entity.Access (number_of (completed_type k name) k.types)) (completed_type k name) (access_to name.text d.0) none w slot refl tt
+access_keeps_at : (k : Known) (name : Ident) (o : Option TypeNo) (pool : Option PoolNo) → no_body_yet k ≡ true → Sound k → IsSlot k name.text (completed_type k name) → Keeps k (access_defined k name (completed_type k name) o pool)
+access_keeps_at k name None pool none w slot = keeps_same k
+access_keeps_at k name (Some d) pool none w slot = keeps_defined k name.text (entity.Access (number_of (completed_type k name) k.types)) (completed_type k name) (access_to name.text d.0 (pool_number pool)) none w slot refl tt
 
-access_keeps : (k : Known) (spot : Spot) (name designated : Ident) (aspect : Option AspectTree) → Sound k → Quiet (access_remark k spot name designated aspect) → Keeps k (access_known k name designated)
-access_keeps k spot name designated aspect w q = access_keeps_at k name (record_found k designated) (none_ended k spot q.0) w (slot_of k name spot q.1.1.0)
+access_keeps : (k : Known) (spot : Spot) (name designated : Ident) (aspect : Option AspectTree) → Sound k → Quiet (access_remark k spot name designated aspect) → Keeps k (access_known k name designated aspect)
+access_keeps k spot name designated aspect w q = access_keeps_at k name (record_found k designated) (aspect_found k aspect) (none_ended k spot q.0) w (slot_of k name spot q.1.1.0)
 
 -- `type T is record .. end record;`
 record_keeps : (k : Known) (spot : Spot) (name : Ident) (definition : RecordTree) → Sound k → Quiet (record_type_remark k spot name definition) → Keeps k (record_type_known k name definition)
@@ -127,13 +189,17 @@ record_keeps k spot name definition w q =
 -- `procedure Free is new Ada.Unchecked_Deallocation (T, A);`
 instance_sound_at : (k : Known) (name : Ident) (o : Option TypeNo) → Sound k → IsAccessIn k.types o → Sound (instance_of k name o)
 instance_sound_at k name None w f = w
-instance_sound_at k name (Some t) w f = let e = elaborated_sound (collects t.0 ∷ []) k w in name_sound (with_elaborated (collects t.0 ∷ []) k) name.text (entity.Instance t) e f tt tt tt (λ none. tt)
+instance_sound_at k name (Some t) w f =
+    let m = with_elaborated (collects t.0 ∷ []) k in
+    name_sound (with_frozen t.0 m) name.text (entity.Instance t) (frozen_sound t.0 m (elaborated_sound (collects t.0 ∷ []) k w)) f tt tt tt (λ none. tt)
 
 instance_keeps_at : (k : Known) (name : Ident) (o : Option TypeNo) → IsSlot k name.text None → Keeps k (instance_of k name o)
 instance_keeps_at k name None slot = keeps_same k
 instance_keeps_at k name (Some t) slot =
     let m = with_elaborated (collects t.0 ∷ []) k in
-    keeps_on k m (instance_of k name (Some t)) (keeps_elaborated (collects t.0 ∷ []) k) (keeps_name m name.text (entity.Instance t) slot tt)
+    let f = with_frozen t.0 m in
+    keeps_on k m (instance_of k name (Some t)) (keeps_elaborated (collects t.0 ∷ []) k)
+    (keeps_on m f (instance_of k name (Some t)) (keeps_frozen t.0 m) (keeps_name f name.text (entity.Instance t) slot tt))
 
 -- `E : exception;`
 exception_sound : (k : Known) (name : Ident) → Sound k → Sound (exception_known k name)
@@ -144,6 +210,54 @@ exception_keeps : (k : Known) (name : Ident) → IsSlot k name.text None → Kee
 exception_keeps k name slot =
     let m = with_exception name.text k in
     keeps_on k m (exception_known k name) (keeps_exception name.text k) (keeps_name m name.text (entity.Exception (exception.Declared (next_exception k))) slot tt)
+
+-- `P : Profile_Pools.First_Fit_Pool (64);`
+pool_sound : (k : Known) (name : Ident) (size : SizeTree) → Sound k → Sound (pool_known k name size)
+pool_sound k name size w =
+    let p : PoolForm = record { name = name.text; words = size_value k size } in
+    let es : List DeclarationForm = creates_pool (length k.pools) ∷ [] in
+    let m = with_pool p k in
+    let one = length-append k.pools (p ∷ []) in
+    name_sound (with_elaborated es m) name.text (entity.Pool (next_pool k)) (elaborated_sound es m (with_pool_sound p k w)) tt tt (omega (arith, one)) tt (λ none. tt)
+
+pool_keeps : (k : Known) (name : Ident) (size : SizeTree) → IsSlot k name.text None → Keeps k (pool_known k name size)
+pool_keeps k name size slot =
+    let p : PoolForm = record { name = name.text; words = size_value k size } in
+    let es : List DeclarationForm = creates_pool (length k.pools) ∷ [] in
+    let m = with_pool p k in
+    let n = with_elaborated es m in
+    keeps_on k n (pool_known k name size) (keeps_on k m n (keeps_pool p k) (keeps_elaborated es m)) (keeps_name n name.text (entity.Pool (next_pool k)) slot tt)
+
+-- `for A'Storage_Pool use P;`
+pub no_pool : (o : Option ℕ) → is_some o ≡ false → o ≡ None
+no_pool None e = refl
+no_pool (Some n) e = absurd (cc e)
+
+-- a clause with which nothing is wrong is one of Storage_Pool
+pub storage_quiet : (k : Known) (spot : Spot) (name attribute : Ident) (value : SizeTree) → Quiet (clause_remark k spot name attribute value) → (is_storage_pool attribute ≡ true) × Quiet (storage_remark k spot name value)
+storage_quiet k spot name attribute value q = by_attribute (is_storage_pool attribute) refl q.1.1
+  where
+    by_attribute : (b : Bool) → is_storage_pool attribute ≡ b → Quiet (cond b (storage_remark k spot name value) (wrong name.spot NotInProfile)) → (is_storage_pool attribute ≡ true) × Quiet (storage_remark k spot name value)
+    by_attribute true is q = (is, q)
+    by_attribute false is q = absurd q
+
+clause_sound_at : (k : Known) (access : Option TypeNo) (pool : Option PoolNo) → fits.is_known_pool (length k.pools) (pool_number pool) ≡ true → Sound k → Sound (placed_if access pool k)
+clause_sound_at k (Some access) (Some pool) there w = placed_sound access pool k there w
+clause_sound_at k (Some access) None there w = w
+clause_sound_at k None pool there w = w
+
+clause_sound : (k : Known) (name : Ident) (value : SizeTree) → Sound k → Sound (clause_known k name value)
+clause_sound k name value w = clause_sound_at k (access_type_in (visible k name.text)) (clause_pool k value) (clause_pool_known k value w) w
+
+clause_keeps_at : (k : Known) (spot : Spot) (access : Option TypeNo) (pool : Option PoolNo) → Quiet (no_pool_yet access k.types spot) → Keeps k (placed_if access pool k)
+clause_keeps_at k spot (Some access) (Some pool) q = keeps_placed access pool k (no_pool (pool_of k.types access.0) (quiet_if (is_some (pool_of k.types access.0)) spot Layout q))
+clause_keeps_at k spot (Some access) None q = keeps_same k
+clause_keeps_at k spot None pool q = keeps_same k
+
+clause_keeps : (k : Known) (spot : Spot) (name attribute : Ident) (value : SizeTree) → Quiet (clause_remark k spot name attribute value) → Keeps k (clause_known k name value)
+clause_keeps k spot name attribute value q =
+    let stored = storage_quiet k spot name attribute value q in
+    clause_keeps_at k spot (access_type_in (visible k name.text)) (clause_pool k value) stored.1.1.0.1.0
 
 -- a variable that is declared: what borrows holds access values
 made_sound : (k : Known) (name : Ident) (borrows : Bool) (kind : VariableKind) (value : RightForm) → Sound k → fits.variable_kind_fits k.types kind ≡ true → (not borrows || fits.is_access_kind kind) ≡ true → Sound (variable_created k name borrows kind value)
@@ -239,11 +353,13 @@ ended_keeps k = ends_keeps (types_go_on k) k
 -- a declaration
 pub declaration_sound : (k : Known) (d : DeclarationTree) → Sound k → Quiet (declaration_remark (known_at k d) d) → Sound (declaration_known (known_at k d) d)
 declaration_sound k (incomplete_type spot name) w q = incomplete_sound k name w
-declaration_sound k (access_type spot name designated aspect) w q = access_sound k name designated (none_ended k spot q.0) w q.1.0
+declaration_sound k (access_type spot name designated aspect) w q = access_sound k name designated aspect (none_ended k spot q.0) w q.1.0
 declaration_sound k (record_type spot name definition) w q = record_sound k name definition (none_ended k spot q.0) w
 declaration_sound k (instance spot name generic object access) w q = instance_sound_at k name (freed_found k access (record_found k object)) w (found_access k access (record_found k object) w.names)
 declaration_sound k (constant_declaration name value) w q = name_sound k name.text (entity.Number (static_value k value)) w tt tt tt tt (λ none. tt)
 declaration_sound k (exception_declaration name) w q = exception_sound k name w
+declaration_sound k (pool_declaration name type_name label size) w q = pool_sound k name size w
+declaration_sound k (attribute_clause spot name attribute value) w q = clause_sound k name value w
 declaration_sound k (object_declaration name type_name initial) w q =
     let m = after_types k in
     let s : Sound m = ended_sound k w in
@@ -261,6 +377,8 @@ declaration_keeps k (record_type spot name definition) w q = record_keeps k spot
 declaration_keeps k (instance spot name generic object access) w q = instance_keeps_at k name (freed_found k access (record_found k object)) (new_slot k name spot q.1.0)
 declaration_keeps k (constant_declaration name value) w q = keeps_name k name.text (entity.Number (static_value k value)) (new_slot k name name.spot q.1.0) tt
 declaration_keeps k (exception_declaration name) w q = exception_keeps k name (new_slot k name name.spot q.1)
+declaration_keeps k (pool_declaration name type_name label size) w q = pool_keeps k name size (new_slot k name name.spot q.1.0)
+declaration_keeps k (attribute_clause spot name attribute value) w q = clause_keeps k spot name attribute value q
 declaration_keeps k (object_declaration name type_name initial) w q =
     let m = after_types k in
     keeps_on k m (object_known m name type_name initial) (ended_keeps k)

@@ -32,7 +32,7 @@ access_within types t is = by_form (slice_get types t) refl
 pub own_before : (k : Known) (text : List ℕ) (e : Entity) → named text k.here.names ≡ Some e → EntityFits k.types k.variables text e → IsBefore (length k.types) e
 own_before k text (entity.Incomplete t) is f = get_within k.types t.0 _ f
 own_before k text (entity.Record t size) is f = get_within k.types t.0 _ f.2
-own_before k text (entity.Access t) is f = get_within k.types t.0 _ f.1
+own_before k text (entity.Access t) is f = get_within k.types t.0 _ f.2
 own_before k text (entity.Instance t) is f = access_within k.types t.0 f
 own_before k text e is f = tt
 
@@ -55,6 +55,7 @@ part_sound k s c = record {
   names = (λ text e is. absurd (cc is), s.names);
   exceptions = (λ text e is. absurd (cc is), s.exceptions);
   called = (λ text e is. absurd (cc is), s.called);
+  housed = s.housed;
   sized = s.sized;
   bounds = record {
     first = omega arith;
@@ -71,7 +72,7 @@ pub part_complete : (k : Known) → Complete (with_part k)
 part_complete k text t is = cc is
 
 pub part_inside : (k : Known) → Sound k → Complete k → Inside k (with_part k)
-part_inside k s c = record { sound = part_sound k s c; around = refl; outer = refl; withs = refl; procedure = refl; grows = record { types = λ t x is. is; variables = λ t x is. is; exceptions = λ t x is. is; texts = λ t x is. is; bodies = λ t x is. is } }
+part_inside k s c = record { sound = part_sound k s c; around = refl; outer = refl; withs = refl; procedure = refl; grows = record { types = λ t x is. is; placed = λ t n is. is; pools = λ t x is. is; variables = λ t x is. is; exceptions = λ t x is. is; texts = λ t x is. is; bodies = λ t x is. is } }
 
 -- the part of a loop parameter begins
 pub parameter_sound : (name : Ident) (k : Known) → Sound k → Complete k → Sound (with_parameter name k)
@@ -96,6 +97,8 @@ parameter_inside name k s c = record {
   procedure = refl;
   grows = record {
     types = λ t x is. is;
+    placed = λ t n is. is;
+    pools = λ t x is. is;
     variables = λ x v is. get_more k.variables (record { name = name.text; spot = name.spot; kind = variable.Integer; borrows = false }) x v is;
     exceptions = λ n x is. is;
     texts = λ n x is. is;
@@ -135,8 +138,8 @@ outers_fit k m w outer = subst (λ (ps : List Part). PartsFit m.types (variables
 pub outers_raised : (k m : Known) → Sound m → m.outer ≡ parts k → PartsRaised m.exceptions (parts k)
 outers_raised k m w outer = subst (λ (ps : List Part). PartsRaised m.exceptions ps) outer w.exceptions.1
 
-pub outers_called : (k m : Known) → Sound m → m.outer ≡ parts k → PartsCalled (length m.bodies) (parts k)
-outers_called k m w outer = subst (λ (ps : List Part). PartsCalled (length m.bodies) ps) outer w.called.1
+pub outers_called : (k m : Known) → Sound m → m.outer ≡ parts k → PartsCalled (length m.bodies) (length m.pools) (parts k)
+outers_called k m w outer = subst (λ (ps : List Part). PartsCalled (length m.bodies) (length m.pools) ps) outer w.called.1
 
 left_sound : (k m : Known) → Sound k → Complete k → Sound m → m.here.around ≡ None → m.outer ≡ parts k → Grows k m → Sound (record m { here = k.here; outer = k.outer })
 left_sound k m s c w around outer g = record {
@@ -145,6 +148,7 @@ left_sound k m s c w around outer g = record {
   names = subst (λ (a : Option (List VariableForm)). PartsFit m.types (variables_behind a m.variables) (parts k)) around (outers_fit k m w outer);
   exceptions = outers_raised k m w outer;
   called = outers_called k m w outer;
+  housed = w.housed;
   sized = w.sized;
   bounds = record {
     first = let a = s.bounds.first in let b = more_types k m g in omega arith;
@@ -171,5 +175,5 @@ leave_stays k m s c f = subst (λ (z : Known). Stays k z) (sym (left_to_parts k 
   outer = refl;
   withs = f.withs;
   procedure = f.procedure;
-  grows = record { types = f.grows.types; variables = f.grows.variables; exceptions = f.grows.exceptions; texts = f.grows.texts; bodies = f.grows.bodies };
+  grows = record { types = f.grows.types; placed = f.grows.placed; pools = f.grows.pools; variables = f.grows.variables; exceptions = f.grows.exceptions; texts = f.grows.texts; bodies = f.grows.bodies };
 })

@@ -5,22 +5,27 @@ use Rattle.std.specs.Prelude.{Option, Some, None, bytes_eq, is_some}
 use Rattle.std.specs.List.{slice_get, slice_set}
 use Rattle.ada_text.specs.declared.spot.Spot.{Spot}
 use Rattle.ada_tree.specs.Names.{Ident}
+use Rattle.ada_program.specs.declared.program.PoolNo.{PoolNo}
 use Rattle.ada_program.specs.declared.program.TypeNo.{TypeNo}
 use Rattle.ada_program.specs.Form.{DeclarationForm}
-use Rattle.ada_program.specs.ProgramForm.{TypeForm, record_of, access_to, object_of, VariableForm}
+use Rattle.ada_program.specs.ProgramForm.{PoolForm, TypeForm, record_of, access_to, object_of, VariableForm}
 use Rattle.ada_resolve.specs.declared.fault.NameRule.TheVariants.{DeclaredTwice}
 use Rattle.ada_resolve.specs.declared.scope.Entity.{Entity}
 use Rattle.ada_resolve.specs.declared.scope.Entity.TheVariants as entity
+use Rattle.ada_resolve.specs.Clauses.{pool_of, with_placed}
 use Rattle.ada_resolve.specs.Exceptions.{with_exception}
-use Rattle.ada_resolve.specs.Instances.{with_elaborated}
-use Rattle.ada_resolve.specs.Known.{Known, Named, named, entered, declared, new_name_remark, no_body_yet}
+use Rattle.ada_resolve.specs.Instances.{with_frozen}
+use Rattle.ada_resolve.specs.Known.{Known, Named, named, entered, declared, new_name_remark, no_body_yet, with_elaborated}
 use Rattle.ada_resolve.specs.Objects.{with_variable}
 use Rattle.ada_resolve.specs.Paths.{name_of_type}
+use Rattle.ada_resolve.specs.Pools.{with_pool}
 use Rattle.ada_resolve.specs.Types.{incomplete_of, completed_type, new_unless, defined, number_of, with_definition}
+use Rattle.ada_resolve.proofs.WellFormed.Forms.{AreIn, bare, forms, forms_in, form_as, form_there, access_there, same_at}
+use Rattle.ada_resolve.proofs.WellFormed.Placed.{placed_forms, pools_in, pools_placed, pools_set}
 use Rattle.ada_resolve.proofs.WellFormed.Remarks.{Quiet, quiet_if}
 use Rattle.ada_resolve.proofs.WellFormed.Names.{all_entered, named_entered, text_same}
 use Rattle.ada_resolve.proofs.WellFormed.Tables.{get_more, get_last, get_set, get_other, get_within}
-use Rattle.ada_resolve.proofs.Standing.Order.{IsSettledEntity, Keeps, Sound}
+use Rattle.ada_resolve.proofs.Standing.Order.{IsSettledEntity, Keeps, Sound, longer_types}
 use Rattle.ada_resolve.proofs.Standing.Types.{IsBehind, length_set, one_longer}
 
 -- a name that is new, or that of an incomplete type that is completed
@@ -75,8 +80,15 @@ settled_entered ns text e t own old other u is =
 -- a new name, with types that only grow; it stands for no incomplete type, or for a new one
 pub keeps_new : (k : Known) (text : List ℕ) (e : Entity) (types : List TypeForm) → named text k.here.names ≡ None → ((t : ℕ) (form : TypeForm) → slice_get k.types t ≡ Some form → slice_get types t ≡ Some form) → length k.types ≤ length types → IsBehind (length k.types) e → Keeps k (declared (record k { types = types }) text e)
 keeps_new k text e types none grow long own = record {
-  types = λ t form is settled. (grow t form is, λ none. settled_entered k.here.names text e t (other_own t (length k.types) e (get_within k.types t form is) own) (settled none));
-  accesses = λ t name d is. grow t (access_to name d) is;
+  types = λ t form is settled. (
+    forms_in k.types types grow t form is,
+    λ none.
+        let there = form_there k.types t form is in
+        settled_entered k.here.names text e t (other_own t (length k.types) e (get_within k.types t there.0 there.1) own) (settled none),
+  );
+  accesses = λ t name d is. forms_in k.types types grow t (access_to name d None) is;
+  placed = pools_in k.types types grow;
+  pools = λ t x is. is;
   type_names = λ t name is. named_type t name (slice_get k.types t) refl is;
   names = λ other x s is. old_name k.here.names text other e x none is;
   more = long;
@@ -105,8 +117,15 @@ keeps_name k text e none own = keeps_new k text e k.types none (λ t form is. is
 -- a completed name
 pub keeps_full : (k : Known) (text : List ℕ) (e : Entity) (t : TypeNo) (form : TypeForm) → no_body_yet k ≡ true → Sound k → named text k.here.names ≡ Some (entity.Incomplete t) → name_of_type (Some form) ≡ Some text → IsSettledEntity e → Keeps k (declared (record k { types = slice_set k.types t.0 form }) text e)
 keeps_full k text e t form none w there own done = record {
-  types = λ u x is settled. (get_other k.types t.0 u form (λ same. settled none text t there same) ∙ is, λ yet. settled_entered k.here.names text e u (no_other u e done) (settled yet));
-  accesses = λ u name d is. get_other k.types t.0 u form (λ same. no_access name d (subst (λ (n : ℕ). slice_get k.types n ≡ Some (access_to name d)) (sym same) is)) ∙ is;
+  types = λ u x is settled. (
+    other_form u x (λ same. settled none text t there same) is,
+    λ yet. settled_entered k.here.names text e u (no_other u e done) (settled yet),
+  );
+  accesses = λ u name d is.
+      let own = access_there k.types u name d is in
+      other_form u (access_to name d None) (λ same. no_access name d own.0 (subst (λ (n : ℕ). slice_get k.types n ≡ Some (access_to name d own.0)) (sym same) own.1)) is;
+  placed = pools_set k.types t.0 (record_of text [] []) form old refl;
+  pools = λ t x is. is;
   type_names = λ u name is. by_number u name is (eqb t.0 u) refl;
   names = λ other x s is. named_entered k.here.names text other e ∙ by_text other x s is (bytes_eq other text) refl;
   more = let h = length_set k.types t.0 form in omega arith;
@@ -131,8 +150,13 @@ keeps_full k text e t form none w there own done = record {
     no_other u (entity.Incomplete v) s = absurd s
     no_other u x s = tt
 
-    no_access : (name : List ℕ) (d : ℕ) → slice_get k.types t.0 ≡ Some (access_to name d) → ⊥
-    no_access name d is = let same : Some (access_to name d) ≡ Some (record_of text [] []) = sym is ∙ old in cc same
+    no_access : (name : List ℕ) (d : ℕ) (pool : Option ℕ) → slice_get k.types t.0 ≡ Some (access_to name d pool) → ⊥
+    no_access name d pool is = let same : Some (access_to name d pool) ≡ Some (record_of text [] []) = sym is ∙ old in cc same
+
+    other_form : (u : ℕ) (x : TypeForm) → (t.0 ≡ u → ⊥) → slice_get (forms k.types) u ≡ Some x → slice_get (forms (slice_set k.types t.0 form)) u ≡ Some x
+    other_form u x ne is =
+        let there = form_there k.types u x is in
+        form_as (slice_set k.types t.0 form) u there.0 x (get_other k.types t.0 u form ne ∙ there.1) there.2
 
     by_number : (u : ℕ) (name : List ℕ) → name_of_type (slice_get k.types u) ≡ Some name → (b : Bool) → eqb t.0 u ≡ b → name_of_type (slice_get (slice_set k.types t.0 form) u) ≡ Some name
     by_number u name is true on =
@@ -171,6 +195,8 @@ pub keeps_elaborated : (es : List DeclarationForm) (k : Known) → Keeps k (with
 keeps_elaborated es k = record {
   types = λ t x is settled. (is, settled);
   accesses = λ t name d is. is;
+  placed = λ t n is. is;
+  pools = λ t x is. is;
   type_names = λ t name is. is;
   names = λ text e settled is. is;
   more = omega arith;
@@ -191,8 +217,10 @@ keeps_elaborated es k = record {
 -- one more type, by which a record object is known
 pub keeps_object_type : (r : ℕ) (k : Known) → Keeps k (with_definition None (object_of r) k)
 keeps_object_type r k = record {
-  types = λ t x is settled. (get_more k.types (object_of r) t x is, settled);
-  accesses = λ t name d is. get_more k.types (object_of r) t (access_to name d) is;
+  types = λ t x is settled. (forms_in k.types (k.types ++ object_of r ∷ []) (λ u y there. get_more k.types (object_of r) u y there) t x is, settled);
+  accesses = λ t name d is. forms_in k.types (k.types ++ object_of r ∷ []) (λ u y there. get_more k.types (object_of r) u y there) t (access_to name d None) is;
+  placed = pools_in k.types (k.types ++ object_of r ∷ []) (λ u y there. get_more k.types (object_of r) u y there);
+  pools = λ t x is. is;
   type_names = λ t name is. named_type t name (slice_get k.types t) refl is;
   names = λ text e settled is. is;
   more = one_longer k.types (object_of r);
@@ -219,6 +247,8 @@ pub keeps_variable : (v : VariableForm) (k : Known) → Keeps k (with_variable v
 keeps_variable v k = record {
   types = λ t x is settled. (is, settled);
   accesses = λ t name d is. is;
+  placed = λ t n is. is;
+  pools = λ t x is. is;
   type_names = λ t name is. is;
   names = λ text e settled is. is;
   more = omega arith;
@@ -241,6 +271,8 @@ pub keeps_exception : (name : List ℕ) (k : Known) → Keeps k (with_exception 
 keeps_exception name k = record {
   types = λ t x is settled. (is, settled);
   accesses = λ t name d is. is;
+  placed = λ t n is. is;
+  pools = λ t x is. is;
   type_names = λ t name is. is;
   names = λ text e settled is. is;
   more = omega arith;
@@ -257,3 +289,52 @@ keeps_exception name k = record {
   withs = refl;
   procedure = refl;
 }
+
+-- the name of a type is not that of its pool
+pub name_bare : (x : TypeForm) → name_of_type (Some (bare x)) ≡ name_of_type (Some x)
+name_bare (record_of name ps cs) = refl
+name_bare (access_to name d pool) = refl
+name_bare (object_of r) = refl
+
+-- what leaves the types as they were but for their pools, and has more pools, and nothing else
+keeps_housed : (k m : Known) → forms m.types ≡ forms k.types → ((t n : ℕ) → pool_of k.types t ≡ Some n → pool_of m.types t ≡ Some n) → ((n : ℕ) (p : PoolForm) → slice_get k.pools n ≡ Some p → slice_get m.pools n ≡ Some p) → m ≡ record k { types = m.types; pools = m.pools; frozen = m.frozen } → Keeps k m
+keeps_housed k m same had more is = subst (λ (v : Known). Keeps k v) (sym is) (record {
+  types = λ t x there settled. (grow t x there, settled);
+  accesses = λ t name d there. grow t (access_to name d None) there;
+  placed = had;
+  pools = more;
+  type_names = λ t name there. named_type t name (slice_get k.types t) refl there;
+  names = λ text e settled there. there;
+  more = longer_types k.types m.types grow;
+  variables = λ t x there. there;
+  exceptions = λ t x there. there;
+  texts = λ t x there. there;
+  bodies = λ t x there. there;
+  first_type = refl;
+  first_variable = refl;
+  modes = refl;
+  first_body = refl;
+  around = refl;
+  outer = refl;
+  withs = refl;
+  procedure = refl;
+})
+  where
+    grow : AreIn (forms k.types) (forms m.types)
+    grow t x there = subst (λ (ts : List TypeForm). slice_get ts t ≡ Some x) (sym same) there
+
+    named_type : (t : ℕ) (name : List ℕ) (o : Option TypeForm) → slice_get k.types t ≡ o → name_of_type o ≡ Some name → name_of_type (slice_get m.types t) ≡ Some name
+    named_type t name None there so = absurd (cc so)
+    named_type t name (Some form) there so = same_at k.types m.types grow (λ o. name_of_type o) name_bare t form there ∙ so
+
+-- one more pool
+pub keeps_pool : (p : PoolForm) (k : Known) → Keeps k (with_pool p k)
+keeps_pool p k = keeps_housed k (with_pool p k) refl (λ t n is. is) (λ n x is. get_more k.pools p n x is) refl
+
+-- access types are frozen
+pub keeps_frozen : (access : ℕ) (k : Known) → Keeps k (with_frozen access k)
+keeps_frozen access k = keeps_housed k (with_frozen access k) refl (λ t n is. is) (λ n x is. is) refl
+
+-- an access type that had no pool is on one
+pub keeps_placed : (access : TypeNo) (pool : PoolNo) (k : Known) → pool_of k.types access.0 ≡ None → Keeps k (with_placed access pool k)
+keeps_placed access pool k none = keeps_housed k (with_placed access pool k) (placed_forms pool.0 k.types access.0) (pools_placed pool.0 k.types access.0 none) (λ n x is. is) refl

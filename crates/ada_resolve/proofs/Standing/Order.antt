@@ -4,14 +4,16 @@ use Rattle.std.proofs.Common.{◌≡◌, ◌∙◌, ℕ, ◌<◌, ◌≤◌, tru
 use Rattle.std.specs.Prelude.{Bool, Option, Some, None, bytes_eq}
 use Rattle.std.specs.List.{list_all, slice_get}
 use Rattle.ada_program.specs.declared.program.TypeNo.{TypeNo}
-use Rattle.ada_program.specs.ProgramForm.{TypeForm, record_of, access_to, object_of, VariableForm, BodyForm}
+use Rattle.ada_program.specs.ProgramForm.{TypeForm, record_of, access_to, object_of, PoolForm, VariableForm, BodyForm}
 use Rattle.ada_program.specs.WellFormed as fits
 use Rattle.ada_resolve.specs.declared.library.Withs.{Withs}
 use Rattle.ada_resolve.specs.declared.scope.Entity.{Entity}
 use Rattle.ada_resolve.specs.declared.scope.Entity.TheVariants as entity
+use Rattle.ada_resolve.specs.Clauses.{pool_of}
 use Rattle.ada_resolve.specs.Known.{Known, Named, Part, named, from_part, named_in, inner_first, outermost, visible, parts, no_body_yet}
 use Rattle.ada_resolve.specs.Paths.{name_of_type}
 use Rattle.ada_resolve.specs.Resolution.{known_first}
+use Rattle.ada_resolve.proofs.WellFormed.Forms.{forms, forms_length}
 use Rattle.ada_resolve.proofs.WellFormed.Laid.{IsUnused}
 use Rattle.ada_resolve.proofs.WellFormed.Names.{PartsFit, first_of_two, within_of, outermost_fits}
 use Rattle.ada_resolve.proofs.WellFormed.Exceptions.{PartsRaised}
@@ -32,18 +34,19 @@ abbrev pub PartsBefore : ℕ → List Part → Type 0
 PartsBefore n [] = Unit {0}
 PartsBefore n (part ∷ outer) = AllBefore n part.names × PartsBefore n outer
 
--- a procedure that may be called has a body that has ended
-abbrev pub IsCalled : ℕ → Entity → Type 0
-IsCalled n (entity.Callable p) = p.0 < n
-IsCalled n e = Unit {0}
+-- a procedure that may be called has a body that has ended, and a pool is there
+abbrev pub IsCalled : (bodies pools : ℕ) → Entity → Type 0
+IsCalled n m (entity.Callable p) = p.0 < n
+IsCalled n m (entity.Pool p) = p.0 < m
+IsCalled n m e = Unit {0}
 
-abbrev pub AllCalled : ℕ → List Named → Type 0
-AllCalled n names = (text : List ℕ) (e : Entity) → named text names ≡ Some e → IsCalled n e
+abbrev pub AllCalled : (bodies pools : ℕ) → List Named → Type 0
+AllCalled n m names = (text : List ℕ) (e : Entity) → named text names ≡ Some e → IsCalled n m e
 
 -- and so in each part
-abbrev pub PartsCalled : ℕ → List Part → Type 0
-PartsCalled n [] = Unit {0}
-PartsCalled n (part ∷ outer) = AllCalled n part.names × PartsCalled n outer
+abbrev pub PartsCalled : (bodies pools : ℕ) → List Part → Type 0
+PartsCalled n m [] = Unit {0}
+PartsCalled n m (part ∷ outer) = AllCalled n m part.names × PartsCalled n m outer
 
 -- each body has a variable for each of its formal parameters
 abbrev pub AllSized : List BodyForm → Type 0
@@ -66,7 +69,8 @@ pub record Sound (k : Known) : Type 0 where
   pub variables_fit : list_all (fits.variable_fits k.types) k.variables ≡ true
   pub names : PartsFit k.types k.variables (parts k)
   pub exceptions : PartsRaised k.exceptions (parts k)
-  pub called : PartsCalled (length k.bodies) (parts k)
+  pub called : PartsCalled (length k.bodies) (length k.pools) (parts k)
+  pub housed : list_all (fits.has_known_pool (length k.pools)) k.types ≡ true
   pub sized : AllSized k.bodies
   pub bounds : IsBounded k
 
@@ -74,9 +78,11 @@ pub record Sound (k : Known) : Type 0 where
 abbrev pub Complete : Known → Type 0
 Complete k = (text : List ℕ) (t : TypeNo) → named text k.here.names ≡ Some (entity.Incomplete t) → ⊥
 
--- tables only grow: what is there stays
+-- tables only grow: what is there stays, but that types may get pools
 pub record Grows (k m : Known) : Type 0 where
-  pub types : (t : ℕ) (form : TypeForm) → slice_get k.types t ≡ Some form → slice_get m.types t ≡ Some form
+  pub types : (t : ℕ) (form : TypeForm) → slice_get (forms k.types) t ≡ Some form → slice_get (forms m.types) t ≡ Some form
+  pub placed : (t n : ℕ) → pool_of k.types t ≡ Some n → pool_of m.types t ≡ Some n
+  pub pools : (n : ℕ) (p : PoolForm) → slice_get k.pools n ≡ Some p → slice_get m.pools n ≡ Some p
   pub variables : (x : ℕ) (v : VariableForm) → slice_get k.variables x ≡ Some v → slice_get m.variables x ≡ Some v
   pub exceptions : (n : ℕ) (name : List ℕ) → slice_get k.exceptions n ≡ Some name → slice_get m.exceptions n ≡ Some name
   pub texts : (n : ℕ) (text : List ℕ) → slice_get k.texts n ≡ Some text → slice_get m.texts n ≡ Some text
@@ -91,11 +97,13 @@ abbrev pub IsSettledEntity : Entity → Type 0
 IsSettledEntity (entity.Incomplete t) = ⊥
 IsSettledEntity e = Unit {0}
 
--- what stays within the declarations of a part: a type, unless a name of the part stands for it, incomplete; each access type; the
--- name of each type; what a name stands for, unless that is incomplete; all variables, exceptions and texts
+-- what stays within the declarations of a part: a type but for its pool, unless a name of the part stands for it, incomplete; each access type but for
+-- its pool, and a pool that it has; the name of each type; what a name stands for, unless that is incomplete; all pools, variables, exceptions and texts
 pub record Keeps (k m : Known) : Type 0 where
-  pub types : (t : ℕ) (form : TypeForm) → slice_get k.types t ≡ Some form → IsSettled k t → (slice_get m.types t ≡ Some form) × IsSettled m t
-  pub accesses : (t : ℕ) (name : List ℕ) (d : ℕ) → slice_get k.types t ≡ Some (access_to name d) → slice_get m.types t ≡ Some (access_to name d)
+  pub types : (t : ℕ) (form : TypeForm) → slice_get (forms k.types) t ≡ Some form → IsSettled k t → (slice_get (forms m.types) t ≡ Some form) × IsSettled m t
+  pub accesses : (t : ℕ) (name : List ℕ) (d : ℕ) → slice_get (forms k.types) t ≡ Some (access_to name d None) → slice_get (forms m.types) t ≡ Some (access_to name d None)
+  pub placed : (t n : ℕ) → pool_of k.types t ≡ Some n → pool_of m.types t ≡ Some n
+  pub pools : (n : ℕ) (p : PoolForm) → slice_get k.pools n ≡ Some p → slice_get m.pools n ≡ Some p
   pub type_names : (t : ℕ) (name : List ℕ) → name_of_type (slice_get k.types t) ≡ Some name → name_of_type (slice_get m.types t) ≡ Some name
   pub names : (text : List ℕ) (e : Entity) → IsSettledEntity e → named text k.here.names ≡ Some e → named text m.here.names ≡ Some e
   pub more : length k.types ≤ length m.types
@@ -137,8 +145,18 @@ longer [] ys w = omega arith
 longer (x ∷ xs) [] w = let no : None ≡ Some x = w 0 x refl in absurd (cc no)
 longer (x ∷ xs) (y ∷ ys) w = let h = longer xs ys (λ i. w (suc i)) in omega arith
 
+pub longer_types : (types more : List TypeForm) → ((t : ℕ) (form : TypeForm) → slice_get (forms types) t ≡ Some form → slice_get (forms more) t ≡ Some form) → length types ≤ length more
+longer_types types more g =
+    let long = longer (forms types) (forms more) g in
+    let before = forms_length types in
+    let behind = forms_length more in
+    omega (arith, long, before, behind)
+
 pub more_types : (k m : Known) → Grows k m → length k.types ≤ length m.types
-more_types k m g = longer k.types m.types g.types
+more_types k m g = longer_types k.types m.types g.types
+
+pub more_pools : (k m : Known) → Grows k m → length k.pools ≤ length m.pools
+more_pools k m g = longer k.pools m.pools g.pools
 
 pub more_bodies : (k m : Known) → Grows k m → length k.bodies ≤ length m.bodies
 more_bodies k m g = longer k.bodies m.bodies g.bodies
@@ -147,11 +165,13 @@ pub more_variables : (k m : Known) → Grows k m → length k.variables ≤ leng
 more_variables k m g = longer k.variables m.variables g.variables
 
 pub grows_same : (k : Known) → Grows k k
-grows_same k = record { types = λ t x is. is; variables = λ t x is. is; exceptions = λ t x is. is; texts = λ t x is. is; bodies = λ t x is. is }
+grows_same k = record { types = λ t x is. is; placed = λ t n is. is; pools = λ t x is. is; variables = λ t x is. is; exceptions = λ t x is. is; texts = λ t x is. is; bodies = λ t x is. is }
 
 pub grows_on : (k m z : Known) → Grows k m → Grows m z → Grows k z
 grows_on k m z f g = record {
   types = λ t x is. g.types t x (f.types t x is);
+  placed = λ t n is. g.placed t n (f.placed t n is);
+  pools = λ t x is. g.pools t x (f.pools t x is);
   variables = λ t x is. g.variables t x (f.variables t x is);
   exceptions = λ t x is. g.exceptions t x (f.exceptions t x is);
   texts = λ t x is. g.texts t x (f.texts t x is);
@@ -162,6 +182,8 @@ pub keeps_same : (k : Known) → Keeps k k
 keeps_same k = record {
   types = λ t x is settled. (is, settled);
   accesses = λ t name d is. is;
+  placed = λ t n is. is;
+  pools = λ t x is. is;
   type_names = λ t name is. is;
   names = λ text e settled is. is;
   more = omega arith;
@@ -183,6 +205,8 @@ pub keeps_on : (k m z : Known) → Keeps k m → Keeps m z → Keeps k z
 keeps_on k m z f g = record {
   types = λ t x is settled. let so = f.types t x is settled in g.types t x so.0 so.1;
   accesses = λ t name d is. g.accesses t name d (f.accesses t name d is);
+  placed = λ t n is. g.placed t n (f.placed t n is);
+  pools = λ t x is. g.pools t x (f.pools t x is);
   type_names = λ t name is. g.type_names t name (f.type_names t name is);
   names = λ text e settled is. g.names text e settled (f.names text e settled is);
   more = let a = f.more in let b = g.more in omega arith;
@@ -218,6 +242,8 @@ stays_on k m z f g = record {
 pub complete_grows : (k m : Known) → Complete k → Keeps k m → Grows k m
 complete_grows k m c f = record {
   types = λ t x is. (f.types t x is (λ none text u there same. c text u there)).0;
+  placed = f.placed;
+  pools = f.pools;
   variables = f.variables;
   exceptions = f.exceptions;
   texts = f.texts;
@@ -267,9 +293,9 @@ visible_settled k text t size s is = by_own (named_in text (parts k)) (bytes_eq 
     by_own None false there e = let no = outermost_fits [] [] k.withs text (entity.Record t size) e in absurd (cc (no.2))
 
 -- and one that is no record type
-pub known_settled : (k : Known) (t : ℕ) (name : List ℕ) (d : ℕ) → Sound k → slice_get k.types t ≡ Some (access_to name d) → IsSettled k t
-known_settled k t name d s is none other u there same =
-    let both_forms : Some (access_to name d) ≡ Some (record_of other [] []) = sym is ∙ (ap (λ n. slice_get k.types n) (sym same) ∙ s.names.0 other (entity.Incomplete u) there) in cc both_forms
+pub known_settled : (k : Known) (t : ℕ) (name : List ℕ) (d : ℕ) (pool : Option ℕ) → Sound k → slice_get k.types t ≡ Some (access_to name d pool) → IsSettled k t
+known_settled k t name d pool s is none other u there same =
+    let both_forms : Some (access_to name d pool) ≡ Some (record_of other [] []) = sym is ∙ (ap (λ n. slice_get k.types n) (sym same) ∙ s.names.0 other (entity.Incomplete u) there) in cc both_forms
 
 pub object_settled : (k : Known) (t r : ℕ) → Sound k → slice_get k.types t ≡ Some (object_of r) → IsSettled k t
 object_settled k t r s is none other u there same =
@@ -283,6 +309,7 @@ first_sound withs procedure = record {
   names = (λ t x e. absurd (cc e), (λ t form e. absurd (cc e), refl));
   exceptions = (λ t x e. absurd (cc e), tt);
   called = (λ t x e. absurd (cc e), tt);
+  housed = refl;
   sized = tt;
   bounds = record { first = omega arith; first_variable = omega arith; modes = omega arith; first_body = omega arith; open_own = λ text t e. absurd (cc e); open_unused = λ none text t e. absurd (cc e); outer_before = tt };
 }

@@ -1,7 +1,7 @@
 -- Bodies of procedures: what is known is in order where one begins, and behind it.
 
 use Rattle.std.proofs.Common.{◌≡◌, ◌∙◌, ℕ, ◌+◌, ◌≤◌, Bool, true, false, cond, List, [], ◌∷◌, ◌++◌, length, append-nil, append_assoc, length-append, refl, sym, ap, subst, zero, suc, arith}
-use Rattle.std.specs.Prelude.{Option, Some, None, is_some}
+use Rattle.std.specs.Prelude.{Option, Some, None}
 use Rattle.std.specs.List.{list_all, slice_get}
 use Rattle.std.proofs.lemmas.Bool.{eqb-true}
 use Rattle.ada_text.specs.declared.spot.Spot.{Spot}
@@ -11,24 +11,29 @@ use Rattle.ada_program.specs.declared.program.TypeNo.{TypeNo}
 use Rattle.ada_program.specs.declared.program.VariableKind.{VariableKind}
 use Rattle.ada_program.specs.declared.program.VariableNo.{VariableNo}
 use Rattle.ada_program.specs.Form.{StmtsForm, HandlersForm}
-use Rattle.ada_program.specs.ProgramForm.{TypeForm, access_to, object_of, VariableForm, BodyForm}
+use Rattle.ada_program.specs.ProgramForm.{TypeForm, access_to, object_of, PoolForm, VariableForm, BodyForm}
 use Rattle.ada_program.specs.WellFormed as fits
 use Rattle.ada_tree.specs.Declarations.{FormalTree, HeadTree}
 use Rattle.ada_tree.specs.Names.{Ident}
 use Rattle.ada_resolve.specs.declared.scope.Entity.{Entity}
 use Rattle.ada_resolve.specs.declared.scope.Entity.TheVariants as entity
-use Rattle.ada_resolve.specs.Known.{Known, Named, Part, declared, entered, first_named, named, next_procedure, no_body_yet, parts, visible}
+use Rattle.ada_resolve.specs.Clauses.{pool_of}
+use Rattle.ada_resolve.specs.Known.{Known, Named, declared, entered, first_named, named, next_procedure, no_body_yet, parts, visible}
 use Rattle.ada_resolve.specs.Paths.{name_of_type}
 use Rattle.ada_resolve.specs.Procedures.{Formals, no_formals, formal_type, formal_types, formal_kind, formal_mode, formal_entity, known_by, with_next, with_formal, with_formals, with_body, behind_head, variables_around, body_of, with_procedure, body_ended}
 use Rattle.ada_resolve.proofs.Parts.{left_parts}
 use Rattle.ada_resolve.proofs.WellFormed.Exceptions.{RaisedFits}
+use Rattle.ada_resolve.proofs.WellFormed.Forms.{forms, forms_in, same_at}
 use Rattle.ada_resolve.proofs.WellFormed.Names.{EntityFits, variables_behind, PartsFit, all_entered, named_entered, other_text, visible_fits}
+use Rattle.ada_resolve.proofs.WellFormed.Placed.{pools_in}
 use Rattle.ada_resolve.proofs.WellFormed.Tables as tables
 use Rattle.ada_resolve.proofs.WellFormed.Tables.{all_get, all_more, all_weaker, both_parts, first_part, get_more, get_last, keeps_more, variable_kept}
-use Rattle.ada_resolve.proofs.Standing.Order.{IsCalled, PartsCalled, AllSized, Sound, Complete, IsSettled, Keeps, longer, visible_settled}
+pub use Rattle.ada_resolve.proofs.WellFormed.Tables.{types_keep}
+use Rattle.ada_resolve.proofs.Standing.Housed.{called_later}
+use Rattle.ada_resolve.proofs.Standing.Order.{IsCalled, AllSized, Sound, Complete, IsSettled, Keeps, longer, longer_types, visible_settled}
 use Rattle.ada_resolve.proofs.WellFormed.Types.{record_visible}
 use Rattle.ada_resolve.proofs.Standing.Types.{name_sound, object_type_sound}
-use Rattle.ada_resolve.proofs.Standing.Kept.{old_name}
+use Rattle.ada_resolve.proofs.Standing.Kept.{old_name, name_bare}
 use Rattle.ada_resolve.proofs.Standing.Inner.{own_before, parts_before, outers_fit, outers_raised, outers_called}
 
 -- a formal parameter is there, a constant or a variable
@@ -115,7 +120,7 @@ formal_found m variables text e f = absurd f
 
 entity_found : (m : Known) (text : List ℕ) (e : Entity) → Sound m → visible m text ≡ Some e → EntityFits m.types m.variables text e → IsFound m (Some e)
 entity_found m text (entity.Record t size) w is f = (record_visible m w.names text t size is, visible_settled m text t size w is)
-entity_found m text (entity.Access t) w is f = rw f.1 refl
+entity_found m text (entity.Access t) w is f = rw f.2 refl
 entity_found m text e w is f = tt
 
 visible_typed : (types : List TypeForm) (k : Known) (text : List ℕ) → visible (typed types k) text ≡ visible k text
@@ -237,10 +242,10 @@ formal_raised exceptions variables text (entity.Parameter x kind) f = tt
 formal_raised exceptions variables text (entity.Variable x kind) f = tt
 formal_raised exceptions variables text e f = absurd f
 
-formal_called : (n : ℕ) (variables : List VariableForm) (text : List ℕ) (e : Entity) → IsFormal variables text e → IsCalled n e
-formal_called n variables text (entity.Parameter x kind) f = tt
-formal_called n variables text (entity.Variable x kind) f = tt
-formal_called n variables text e f = absurd f
+formal_called : (n m : ℕ) (variables : List VariableForm) (text : List ℕ) (e : Entity) → IsFormal variables text e → IsCalled n m e
+formal_called n m variables text (entity.Parameter x kind) f = tt
+formal_called n m variables text (entity.Variable x kind) f = tt
+formal_called n m variables text e f = absurd f
 
 -- the body begins
 with_body_sound : (k : Known) (f : Formals) → Sound (typed f.types k) → FormalsSound f → AllFormalsFit (k.types ++ f.types) f → Sound (with_body f k)
@@ -251,7 +256,8 @@ with_body_sound k f s g fit =
       variables_fit = fit;
       names = (λ text e is. formal_fits types f.variables text e fit (g.names text e is), s.names);
       exceptions = (λ text e is. formal_raised k.exceptions f.variables text e (g.names text e is), s.exceptions);
-      called = (λ text e is. formal_called (length k.bodies) f.variables text e (g.names text e is), s.called);
+      called = (λ text e is. formal_called (length k.bodies) (length k.pools) f.variables text e (g.names text e is), s.called);
+      housed = s.housed;
       sized = s.sized;
       bounds = record {
         first = omega arith;
@@ -292,7 +298,9 @@ pub record InBody (k m : Known) : Type 0 where
   pub outer : m.outer ≡ parts k
   pub withs : m.withs ≡ k.withs
   pub procedure : m.procedure ≡ k.procedure
-  pub types : (t : ℕ) (form : TypeForm) → slice_get k.types t ≡ Some form → slice_get m.types t ≡ Some form
+  pub types : (t : ℕ) (form : TypeForm) → slice_get (forms k.types) t ≡ Some form → slice_get (forms m.types) t ≡ Some form
+  pub placed : (t n : ℕ) → pool_of k.types t ≡ Some n → pool_of m.types t ≡ Some n
+  pub pools : (n : ℕ) (p : PoolForm) → slice_get k.pools n ≡ Some p → slice_get m.pools n ≡ Some p
   pub exceptions : (n : ℕ) (name : List ℕ) → slice_get k.exceptions n ≡ Some name → slice_get m.exceptions n ≡ Some name
   pub texts : (n : ℕ) (text : List ℕ) → slice_get k.texts n ≡ Some text → slice_get m.texts n ≡ Some text
   pub bodies : (n : ℕ) (b : BodyForm) → slice_get k.bodies n ≡ Some b → slice_get m.bodies n ≡ Some b
@@ -305,29 +313,13 @@ head_in_body k head s = record {
   outer = refl;
   withs = refl;
   procedure = refl;
-  types = λ t x is. get_front k.types (with_formals k head.formals no_formals).types t x is;
+  types = forms_in k.types (k.types ++ (with_formals k head.formals no_formals).types) (λ t x is. get_front k.types (with_formals k head.formals no_formals).types t x is);
+  placed = pools_in k.types (k.types ++ (with_formals k head.formals no_formals).types) (λ t x is. get_front k.types (with_formals k head.formals no_formals).types t x is);
+  pools = λ t x is. is;
   exceptions = λ t x is. is;
   texts = λ t x is. is;
   bodies = λ t x is. is;
 }
-
--- types that are there stay what they are
-access_grows : (types more : List TypeForm) → ((t : ℕ) (form : TypeForm) → slice_get types t ≡ Some form → slice_get more t ≡ Some form) → (t : ℕ) → fits.is_access types t ≡ true → fits.is_access more t ≡ true
-access_grows types more g t e = by_form (slice_get types t) refl e
-  where
-    by_form : (o : Option TypeForm) → slice_get types t ≡ o → is_some (fits.designated_in o) ≡ true → fits.is_access more t ≡ true
-    by_form None is e = absurd (cc e)
-    by_form (Some form) is e = rw (g t form is) e
-
-object_grows : (types more : List TypeForm) → ((t : ℕ) (form : TypeForm) → slice_get types t ≡ Some form → slice_get more t ≡ Some form) → (t : ℕ) → fits.is_object_type types t ≡ true → fits.is_object_type more t ≡ true
-object_grows types more g t e = by_form (slice_get types t) refl e
-  where
-    by_form : (o : Option TypeForm) → slice_get types t ≡ o → is_some (fits.object_in o) ≡ true → fits.is_object_type more t ≡ true
-    by_form None is e = absurd (cc e)
-    by_form (Some form) is e = rw (g t form is) e
-
-pub types_keep : (types more : List TypeForm) → ((t : ℕ) (form : TypeForm) → slice_get types t ≡ Some form → slice_get more t ≡ Some form) → tables.Keeps types more
-types_keep types more g = (access_grows types more g, object_grows types more g)
 
 -- what is known behind a body, but for the name of the procedure
 abbrev pub left_body : Known → Known → BodyForm → Known
@@ -335,14 +327,6 @@ left_body k z b = record z { here = k.here; outer = k.outer; variables = k.varia
 
 pub longer_bodies : (bodies : List BodyForm) (b : BodyForm) → length (bodies ++ b ∷ []) ≡ length bodies + 1
 longer_bodies bodies b = length-append bodies (b ∷ [])
-
-called_more : (n : ℕ) (e : Entity) → IsCalled n e → IsCalled (n + 1) e
-called_more n (entity.Callable p) w = omega (arith, w)
-called_more n e w = tt
-
-parts_called : (n : ℕ) (ps : List Part) → PartsCalled n ps → PartsCalled (n + 1) ps
-parts_called n [] w = tt
-parts_called n (p ∷ ps) w = (λ text e is. called_more n e (w.0 text e is), parts_called n ps w.1)
 
 -- behind a body, none of its part is without one
 some_body : (k z : Known) (b : BodyForm) → Sound k → InBody k z → no_body_yet (left_body k z b) ≡ true → ⊥
@@ -364,10 +348,11 @@ left_body_sound k z b s f own = record {
   variables_fit = all_weaker (fits.variable_fits k.types) (fits.variable_fits z.types) (variable_kept k.types z.types (types_keep k.types z.types f.types)) k.variables s.variables_fit;
   names = subst (λ (a : Option (List VariableForm)). PartsFit z.types (variables_behind a z.variables) (parts k)) f.around (outers_fit k z f.sound f.outer);
   exceptions = outers_raised k z f.sound f.outer;
-  called = subst (λ (n : ℕ). PartsCalled n (parts k)) (sym (longer_bodies z.bodies b)) (parts_called (length z.bodies) (parts k) (outers_called k z f.sound f.outer));
+  called = let one = longer_bodies z.bodies b in called_later (length z.bodies) (length z.pools) (length (z.bodies ++ b ∷ [])) (length z.pools) (omega (arith, one)) (omega arith) (parts k) (outers_called k z f.sound f.outer);
+  housed = f.sound.housed;
   sized = sized_more z.bodies b f.sound.sized own;
   bounds = record {
-    first = let a = s.bounds.first in let more = longer k.types z.types f.types in omega arith;
+    first = let a = s.bounds.first in let more = longer_types k.types z.types f.types in omega arith;
     first_variable = s.bounds.first_variable;
     modes = s.bounds.modes;
     first_body = let a = s.bounds.first_body in let more = longer k.bodies z.bodies f.bodies in let one = longer_bodies z.bodies b in omega arith;
@@ -424,10 +409,12 @@ body_ended_keeps k z head spot fs hs last s none f =
     let e = entity.Callable (next_procedure z) in
     subst (λ (v : Known). Keeps k v) (sym (ended_is k1 z head.name fs hs last f)) (record {
       types = λ t form is settled. (f.types t form is, λ yet. absurd (some_body k1 z b (around_sound k head s) f yet));
-      accesses = λ t name d is. f.types t (access_to name d) is;
+      accesses = λ t name d is. f.types t (access_to name d None) is;
+      placed = f.placed;
+      pools = f.pools;
       type_names = λ t name is. named_type t name (slice_get k.types t) refl is;
       names = λ text x settled is. twice_entered k.here.names head.name.text text entity.Procedure e x none is;
-      more = longer k.types z.types f.types;
+      more = longer_types k.types z.types f.types;
       variables = λ x v is. is;
       exceptions = f.exceptions;
       texts = f.texts;
@@ -444,4 +431,4 @@ body_ended_keeps k z head spot fs hs last s none f =
   where
     named_type : (t : ℕ) (name : List ℕ) (o : Option TypeForm) → slice_get k.types t ≡ o → name_of_type o ≡ Some name → name_of_type (slice_get z.types t) ≡ Some name
     named_type t name None is so = absurd (cc so)
-    named_type t name (Some form) is so = ap (λ v. name_of_type v) (f.types t form is) ∙ so
+    named_type t name (Some form) is so = same_at k.types z.types f.types (λ o. name_of_type o) name_bare t form is ∙ so

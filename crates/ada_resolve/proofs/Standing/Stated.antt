@@ -40,6 +40,7 @@ texts_stay texts k s c = record {
     names = s.names;
     exceptions = s.exceptions;
     called = s.called;
+    housed = s.housed;
     sized = s.sized;
     bounds = record { first = s.bounds.first; first_variable = s.bounds.first_variable; modes = s.bounds.modes; first_body = s.bounds.first_body; open_own = s.bounds.open_own; open_unused = s.bounds.open_unused; outer_before = s.bounds.outer_before };
   };
@@ -48,7 +49,7 @@ texts_stay texts k s c = record {
   outer = refl;
   withs = refl;
   procedure = refl;
-  grows = record { types = λ t x is. is; variables = λ t x is. is; exceptions = λ t x is. is; texts = λ n x is. get_front k.texts texts n x is; bodies = λ n x is. is };
+  grows = record { types = λ t x is. is; placed = λ t n is. is; pools = λ t x is. is; variables = λ t x is. is; exceptions = λ t x is. is; texts = λ n x is. get_front k.texts texts n x is; bodies = λ n x is. is };
 }
 
 pub simple_stays : (inside : Bool) (s : StatementTree) (at : At) (done : StmtForm × At) → Sound at.0 → Complete at.0 → simple_told inside s at ≡ gives done → Stays at.0 done.1.0
@@ -93,6 +94,8 @@ body_behind k m z f c s g =
       withs = g.withs ∙ f.withs;
       procedure = g.procedure ∙ f.procedure;
       types = λ t x is. grows.types t x (f.types t x is);
+      placed = λ t n is. grows.placed t n (f.placed t n is);
+      pools = λ t x is. grows.pools t x (f.pools t x is);
       exceptions = λ t x is. grows.exceptions t x (f.exceptions t x is);
       texts = λ t x is. grows.texts t x (f.texts t x is);
       bodies = λ t x is. grows.bodies t x (f.bodies t x is);
@@ -107,6 +110,8 @@ body_on k m z f g = record {
   withs = g.withs ∙ f.withs;
   procedure = g.procedure ∙ f.procedure;
   types = λ t x is. g.grows.types t x (f.types t x is);
+  placed = λ t n is. g.grows.placed t n (f.placed t n is);
+  pools = λ t x is. g.grows.pools t x (f.pools t x is);
   exceptions = λ t x is. g.grows.exceptions t x (f.exceptions t x is);
   texts = λ t x is. g.grows.texts t x (f.texts t x is);
   bodies = λ t x is. g.grows.bodies t x (f.bodies t x is);

@@ -4,15 +4,18 @@ use Rattle.std.proofs.Common.{◌≡◌, ◌∙◌, ℕ, ◌<◌, ◌≤◌, tru
 use Rattle.std.specs.Prelude.{Option, Some, None, bytes_eq}
 use Rattle.std.specs.List.{list_all, slice_get, slice_set}
 use Rattle.ada_program.specs.declared.program.ComponentKind.{ComponentKind}
+use Rattle.ada_program.specs.declared.program.PoolNo.{PoolNo}
 use Rattle.ada_program.specs.declared.program.TypeNo.{TypeNo}
-use Rattle.ada_program.specs.ProgramForm.{PartForm, TypeForm, record_of, access_to, object_of, VariableForm}
+use Rattle.ada_program.specs.ProgramForm.{PartForm, TypeForm, record_of, access_to, object_of, pool_number, VariableForm}
 use Rattle.ada_program.specs.WellFormed as fits
+use Rattle.ada_tree.specs.Declarations.{AspectTree}
 use Rattle.ada_tree.specs.Names.{Ident}
 use Rattle.ada_tree.specs.Records.{ComponentTree, RecordTree}
 use Rattle.ada_resolve.specs.declared.fault.NameRule.TheVariants.{WrongType}
 use Rattle.ada_resolve.specs.declared.scope.Entity.{Entity}
 use Rattle.ada_resolve.specs.declared.scope.Entity.TheVariants as entity
 use Rattle.ada_resolve.specs.Known.{Known, Named, Part, named, entered, declared, parts, no_body_yet}
+use Rattle.ada_resolve.specs.Pools.{aspect_found}
 use Rattle.ada_resolve.specs.Records.{composition_of, no_components, components_written, record_type_known}
 use Rattle.ada_resolve.specs.Types.{incomplete_of, completed_type, record_found, is_designated, number_of, defined, incomplete_known, completion_remark, access_defined, access_known, with_definition}
 use Rattle.ada_resolve.proofs.WellFormed.Remarks.{Quiet, quiet_if}
@@ -22,12 +25,13 @@ use Rattle.ada_resolve.proofs.WellFormed.Laid.{AreRecordsLaid, IsLaid, IsUnused,
 use Rattle.ada_resolve.proofs.WellFormed.Exceptions.{RaisedFits, raised_entered}
 use Rattle.ada_resolve.proofs.WellFormed.Names.{EntityFits, TypesFit, variables_behind, PartsFit, all_entered, names_entered, no_text, laid_in}
 use Rattle.ada_resolve.proofs.WellFormed.Types.{record_is, composed_fit, composition_has, composition_laid, IsRecordNamed, found_record}
+use Rattle.ada_resolve.proofs.Standing.Housed.{aspect_pool_known}
 use Rattle.ada_resolve.proofs.Standing.Order.{IsBefore, PartsBefore, IsCalled, Sound, IsSettled, visible_settled}
 
 -- the name of a type; a record object's type has none
 abbrev form_name : TypeForm → List ℕ
 form_name (record_of name ps cs) = name
-form_name (access_to name d) = name
+form_name (access_to name d pool) = name
 form_name (object_of r) = []
 
 -- a type of this name is declared or completed, behind so many of the parts around
@@ -42,7 +46,7 @@ pub record Grown (n : ℕ) (text : List ℕ) (types more : List TypeForm) : Type
 entity_kept : (n : ℕ) (types more : List TypeForm) (variables : List VariableForm) (text other : List ℕ) → Grown n text types more → (other ≡ text → ⊥) → (e : Entity) → EntityFits types variables other e → EntityFits more variables other e
 entity_kept n types more variables text other g ne (entity.Incomplete t) f = g.keeps t.0 (record_of other [] []) ne f
 entity_kept n types more variables text other g ne (entity.Record t size) f = (f.0, f.1, g.keeps t.0 (record_of other f.0 f.1) ne f.2)
-entity_kept n types more variables text other g ne (entity.Access t) f = (f.0, g.keeps t.0 (access_to other f.0) ne f.1)
+entity_kept n types more variables text other g ne (entity.Access t) f = (f.0, f.1, g.keeps t.0 (access_to other f.0 f.1) ne f.2)
 entity_kept n types more variables text other g ne (entity.Instance t) f = g.kept.0 t.0 f
 entity_kept n types more variables text other g ne (entity.Variable x kind) f = (f.0, object_kind_kept types more g.kept kind f.1)
 entity_kept n types more variables text other g ne (entity.Parameter x kind) f = (f.0, object_kind_kept types more g.kept kind f.1)
@@ -52,7 +56,7 @@ entity_kept n types more variables text other g ne e f = f
 outer_kept : (n : ℕ) (types more : List TypeForm) (variables : List VariableForm) (text other : List ℕ) → Grown n text types more → (e : Entity) → IsBefore n e → EntityFits types variables other e → EntityFits more variables other e
 outer_kept n types more variables text other g (entity.Incomplete t) b f = g.before t.0 (record_of other [] []) b f
 outer_kept n types more variables text other g (entity.Record t size) b f = (f.0, f.1, g.before t.0 (record_of other f.0 f.1) b f.2)
-outer_kept n types more variables text other g (entity.Access t) b f = (f.0, g.before t.0 (access_to other f.0) b f.1)
+outer_kept n types more variables text other g (entity.Access t) b f = (f.0, f.1, g.before t.0 (access_to other f.0 f.1) b f.2)
 outer_kept n types more variables text other g (entity.Instance t) b f = g.kept.0 t.0 f
 outer_kept n types more variables text other g (entity.Variable x kind) b f = (f.0, object_kind_kept types more g.kept kind f.1)
 outer_kept n types more variables text other g (entity.Parameter x kind) b f = (f.0, object_kind_kept types more g.kept kind f.1)
@@ -90,8 +94,8 @@ abbrev pub OthersUnused : Known → List ℕ → List TypeForm → Type 0
 OthersUnused k text more = no_body_yet k ≡ true → (other : List ℕ) (t : TypeNo) → (other ≡ text → ⊥) → named other k.here.names ≡ Some (entity.Incomplete t) → IsUnused more t.0
 
 -- the name stands for that, where a type of this name is declared or completed
-pub type_sound : (k : Known) (text : List ℕ) (e : Entity) (more : List TypeForm) → Sound k → Grown k.here.first_type text k.types more → OthersUnused k text more → EntityFits more k.variables text e → RaisedFits k.exceptions text e → IsCalled (length k.bodies) e → IsBehind k.here.first_type e → (no_body_yet k ≡ true → IsOwn k.here.first_type more e) → Sound (declared (record k { types = more }) text e)
-type_sound k text e more w g unused f r y behind own = record {
+pub type_sound : (k : Known) (text : List ℕ) (e : Entity) (more : List TypeForm) → Sound k → Grown k.here.first_type text k.types more → list_all (fits.has_known_pool (length k.pools)) more ≡ true → OthersUnused k text more → EntityFits more k.variables text e → RaisedFits k.exceptions text e → IsCalled (length k.bodies) (length k.pools) e → IsBehind k.here.first_type e → (no_body_yet k ≡ true → IsOwn k.here.first_type more e) → Sound (declared (record k { types = more }) text e)
+type_sound k text e more w g housed unused f r y behind own = record {
   types_fit = g.types_fit;
   variables_fit = all_weaker (fits.variable_fits k.types) (fits.variable_fits more) (variable_kept k.types more g.kept) k.variables w.variables_fit;
   names = (
@@ -99,7 +103,8 @@ type_sound k text e more w g unused f r y behind own = record {
     outers_kept k.here.first_type k.types more (variables_behind k.here.around k.variables) text g k.outer w.bounds.outer_before w.names.1,
   );
   exceptions = raised_entered k.exceptions k.here.names k.outer text e r w.exceptions;
-  called = (all_entered (λ t x. IsCalled (length k.bodies) x) k.here.names text e y (λ t x ne is. w.called.0 t x is), w.called.1);
+  called = (all_entered (λ t x. IsCalled (length k.bodies) (length k.pools) x) k.here.names text e y (λ t x ne is. w.called.0 t x is), w.called.1);
+  housed = housed;
   sized = w.sized;
   bounds = record {
     first = let a = w.bounds.first in let b = g.longer in omega arith;
@@ -120,8 +125,8 @@ type_sound k text e more w g unused f r y behind own = record {
     open_here none = own_entered k.here.first_type more k.here.names text e (own none) (λ other t ne is. (w.bounds.open_own other t is, unused none other t ne is))
 
 -- nothing is declared but a name
-pub name_sound : (k : Known) (text : List ℕ) (e : Entity) → Sound k → EntityFits k.types k.variables text e → RaisedFits k.exceptions text e → IsCalled (length k.bodies) e → IsBehind k.here.first_type e → (no_body_yet k ≡ true → IsOwn k.here.first_type k.types e) → Sound (declared k text e)
-name_sound k text e w f r y behind own = type_sound k text e k.types w same (λ none other t ne is. w.bounds.open_unused none other t is) f r y behind own
+pub name_sound : (k : Known) (text : List ℕ) (e : Entity) → Sound k → EntityFits k.types k.variables text e → RaisedFits k.exceptions text e → IsCalled (length k.bodies) (length k.pools) e → IsBehind k.here.first_type e → (no_body_yet k ≡ true → IsOwn k.here.first_type k.types e) → Sound (declared k text e)
+name_sound k text e w f r y behind own = type_sound k text e k.types w same w.housed (λ none other t ne is. w.bounds.open_unused none other t is) f r y behind own
   where
     same : Grown k.here.first_type text k.types k.types
     same = record { kept = (λ t is. is, λ t is. is); keeps = λ t form ne is. is; before = λ t form b is. is; longer = omega arith; types_fit = w.types_fit; laid = laid_in k.types k.variables (parts k) w.names }
@@ -162,7 +167,7 @@ grown_set n text types t form behind is all unused laid avoids lies = record {
   where
     same_name : (x : TypeForm) → Some x ≡ Some (record_of text [] []) → form_name x ≡ text
     same_name (record_of name ps cs) e = cc e
-    same_name (access_to name d) e = absurd (cc e)
+    same_name (access_to name d pool) e = absurd (cc e)
     same_name (object_of r) e = absurd (cc e)
 
     apart : (u : ℕ) → u < n → t ≡ u → ⊥
@@ -207,6 +212,11 @@ unused_defined : (types : List TypeForm) (c : Option TypeNo) (form : TypeForm) (
 unused_defined types None form t unused avoids = unused_more types form t unused avoids
 unused_defined types (Some u) form t unused avoids = unused_set types u.0 form t unused avoids
 
+-- a type that is declared or completed has a pool that is there, if any
+pub housed_defined : (n : ℕ) (types : List TypeForm) (c : Option TypeNo) (form : TypeForm) → list_all (fits.has_known_pool n) types ≡ true → fits.has_known_pool n form ≡ true → list_all (fits.has_known_pool n) (defined c form types) ≡ true
+housed_defined n types None form all own = all_more (fits.has_known_pool n) types (form ∷ []) all (both_parts (fits.has_known_pool n form) true own refl)
+housed_defined n types (Some t) form all own = all_set (fits.has_known_pool n) types t.0 form all own
+
 -- `type T;`
 pub incomplete_sound : (k : Known) (name : Ident) → Sound k → Sound (incomplete_known k name)
 incomplete_sound k name w =
@@ -214,6 +224,7 @@ incomplete_sound k name w =
     let laid = laid_in k.types k.variables (parts k) w.names in
     type_sound k name.text (entity.Incomplete (record { 0 = length k.types })) (k.types ++ form ∷ []) w
     (grown_more k.here.first_type name.text k.types form w.types_fit refl laid (refl, λ i c is. absurd (cc is)))
+    (housed_defined (length k.pools) k.types None form w.housed refl)
     (λ none other t ne is. unused_more k.types form t.0 (w.bounds.open_unused none other t is) (λ i c is. absurd (cc is)))
     (get_last k.types form) tt tt w.bounds.first (λ none. (w.bounds.first, unused_more k.types form (length k.types) (new_unused k.types laid) (λ i c is. absurd (cc is))))
 
@@ -245,7 +256,7 @@ record_sound k name definition none w =
     let form = record_of name.text made.parts made.kinds in
     let done = record_defined k.here.first_type k.types k.variables name.text made.parts made.kinds made.size c (completes k name none w) w.types_fit (composed_fit k w.names w.types_fit no_components cs refl)
     (laid_in k.types k.variables (parts k) w.names) (composition_laid k name.text cs w.names) (completed_has k name (λ t. Avoids t form) (λ t is. composition_avoids k name.text name.text t cs none w is)) in
-    type_sound k name.text (entity.Record (number_of c k.types) made.size) (defined c form k.types) w done.0
+    type_sound k name.text (entity.Record (number_of c k.types) made.size) (defined c form k.types) w done.0 (housed_defined (length k.pools) k.types c form w.housed refl)
     (λ yet other t ne is. unused_defined k.types c form t.0 (w.bounds.open_unused yet other t is) (composition_avoids k name.text other t cs yet w is)) done.1 tt tt tt (λ yet. tt)
 
 -- what an access type completes is another type than it designates, and nothing designates it
@@ -264,38 +275,40 @@ may_complete k name designated d (Some t) h r q = (
     one_name : (ps : List PartForm) (cs : List ComponentKind) → Some (record_of designated.text ps cs) ≡ Some (record_of name.text [] []) → designated.text ≡ name.text
     one_name ps cs e = cc e
 
-access_type_defined : (n : ℕ) (types : List TypeForm) (variables : List VariableForm) (text : List ℕ) (d : ℕ) (c : Option TypeNo) → Completes n types text c → MayComplete types d c → fits.is_record types d ≡ true → list_all (fits.type_fits types) types ≡ true → AreRecordsLaid types → Grown n text types (defined c (access_to text d) types) × EntityFits (defined c (access_to text d) types) variables text (entity.Access (number_of c types))
-access_type_defined n types variables text d None h m r all laid =
-    (grown_more n text types (access_to text d) all (record_more types (access_to text d) d r) laid tt, (d, get_last types (access_to text d)))
-access_type_defined n types variables text d (Some t) h m r all laid =
-    let more = slice_set types t.0 (access_to text d) in
-    let keeps : tables.Keeps types more = keeps_set types t.0 (access_to text d) (record_is types t.0 text [] [] h.1) in (
-      grown_set n text types t.0 (access_to text d) h.0 h.1
-          (all_set (fits.type_fits more) types t.0 (access_to text d)
-          (types_without types more t.0 keeps (λ u ne. record_other types t.0 (access_to text d) u ne) types m.0 (λ u r is. h.2 u (object_of r) is) all)
-          (record_other types t.0 (access_to text d) d m.1 r))
+access_type_defined : (n : ℕ) (types : List TypeForm) (variables : List VariableForm) (text : List ℕ) (d : ℕ) (pool : Option ℕ) (c : Option TypeNo) → Completes n types text c → MayComplete types d c → fits.is_record types d ≡ true → list_all (fits.type_fits types) types ≡ true → AreRecordsLaid types → Grown n text types (defined c (access_to text d pool) types) × EntityFits (defined c (access_to text d pool) types) variables text (entity.Access (number_of c types))
+access_type_defined n types variables text d pool None h m r all laid =
+    (grown_more n text types (access_to text d pool) all (record_more types (access_to text d pool) d r) laid tt, (d, pool, get_last types (access_to text d pool)))
+access_type_defined n types variables text d pool (Some t) h m r all laid =
+    let more = slice_set types t.0 (access_to text d pool) in
+    let keeps : tables.Keeps types more = keeps_set types t.0 (access_to text d pool) (record_is types t.0 text [] [] h.1) in (
+      grown_set n text types t.0 (access_to text d pool) h.0 h.1
+          (all_set (fits.type_fits more) types t.0 (access_to text d pool)
+          (types_without types more t.0 keeps (λ u ne. record_other types t.0 (access_to text d pool) u ne) types m.0 (λ u r is. h.2 u (object_of r) is) all)
+          (record_other types t.0 (access_to text d pool) d m.1 r))
           h.2 laid tt tt,
-      (d, get_set types t.0 (record_of text [] []) (access_to text d) h.1),
+      (d, pool, get_set types t.0 (record_of text [] []) (access_to text d pool) h.1),
     )
 
-access_sound_at : (k : Known) (name designated : Ident) (o : Option TypeNo) → no_body_yet k ≡ true → Sound k → IsRecordNamed k.types designated.text o → Quiet (completion_remark (completed_type k name) k name designated) → Sound (access_defined k name (completed_type k name) o)
-access_sound_at k name designated None none w r q = w
-access_sound_at k name designated (Some d) none w r q =
+access_sound_at : (k : Known) (name designated : Ident) (o : Option TypeNo) (pool : Option PoolNo) → no_body_yet k ≡ true → Sound k → IsRecordNamed k.types designated.text o → fits.is_known_pool (length k.pools) (pool_number pool) ≡ true → Quiet (completion_remark (completed_type k name) k name designated) → Sound (access_defined k name (completed_type k name) o pool)
+access_sound_at k name designated None pool none w r p q = w
+access_sound_at k name designated (Some d) pool none w r p q =
+    let form = access_to name.text d.0 (pool_number pool) in
     let c = completed_type k name in
     let h : Completes k.here.first_type k.types name.text c = completes k name none w in
-    let done = access_type_defined k.here.first_type k.types k.variables name.text d.0 c h (may_complete k name designated d c h r q) (record_is k.types d.0 designated.text r.0 r.1 r.2) w.types_fit (laid_in k.types k.variables (parts k) w.names) in
-    type_sound k name.text (entity.Access (number_of c k.types)) (defined c (access_to name.text d.0) k.types) w done.0
-    (λ yet other t ne is. unused_defined k.types c (access_to name.text d.0) t.0 (w.bounds.open_unused yet other t is) tt) done.1 tt tt tt (λ yet. tt)
+    let done = access_type_defined k.here.first_type k.types k.variables name.text d.0 (pool_number pool) c h (may_complete k name designated d c h r q) (record_is k.types d.0 designated.text r.0 r.1 r.2) w.types_fit (laid_in k.types k.variables (parts k) w.names) in
+    type_sound k name.text (entity.Access (number_of c k.types)) (defined c form k.types) w done.0 (housed_defined (length k.pools) k.types c form w.housed p)
+    (λ yet other t ne is. unused_defined k.types c form t.0 (w.bounds.open_unused yet other t is) tt) done.1 tt tt tt (λ yet. tt)
 
 -- `type A is access T;`
-pub access_sound : (k : Known) (name designated : Ident) → no_body_yet k ≡ true → Sound k → Quiet (completion_remark (completed_type k name) k name designated) → Sound (access_known k name designated)
-access_sound k name designated none w q = access_sound_at k name designated (record_found k designated) none w (found_record k designated w.names) q
+pub access_sound : (k : Known) (name designated : Ident) (aspect : Option AspectTree) → no_body_yet k ≡ true → Sound k → Quiet (completion_remark (completed_type k name) k name designated) → Sound (access_known k name designated aspect)
+access_sound k name designated aspect none w q =
+    access_sound_at k name designated (record_found k designated) (aspect_found k aspect) none w (found_record k designated w.names) (aspect_pool_known k aspect w) q
 
 -- the type by which a record object is known: one more, which has no name
 entity_more : (types : List TypeForm) (variables : List VariableForm) (form : TypeForm) (text : List ℕ) (e : Entity) → EntityFits types variables text e → EntityFits (types ++ form ∷ []) variables text e
 entity_more types variables form text (entity.Incomplete t) f = get_more types form t.0 (record_of text [] []) f
 entity_more types variables form text (entity.Record t size) f = (f.0, f.1, get_more types form t.0 (record_of text f.0 f.1) f.2)
-entity_more types variables form text (entity.Access t) f = (f.0, get_more types form t.0 (access_to text f.0) f.1)
+entity_more types variables form text (entity.Access t) f = (f.0, f.1, get_more types form t.0 (access_to text f.0 f.1) f.2)
 entity_more types variables form text (entity.Instance t) f = (keeps_more types form).0 t.0 f
 entity_more types variables form text (entity.Variable x kind) f = (f.0, object_kind_kept types (types ++ form ∷ []) (keeps_more types form) kind f.1)
 entity_more types variables form text (entity.Parameter x kind) f = (f.0, object_kind_kept types (types ++ form ∷ []) (keeps_more types form) kind f.1)
@@ -318,6 +331,7 @@ object_type_sound k r w is settled =
       names = parts_more k.types k.variables form (parts k) (g.laid, g.types_fit) w.names;
       exceptions = w.exceptions;
       called = w.called;
+      housed = housed_defined (length k.pools) k.types None form w.housed refl;
       sized = w.sized;
       bounds = record {
         first = let a = w.bounds.first in let b = g.longer in omega arith;

@@ -8,20 +8,23 @@ use Rattle.std.proofs.lemmas.List.{append-nil}
 use Rattle.ada_text.specs.declared.spot.Spot.{Spot}
 use Rattle.ada_tree.specs.Declarations.{HeadTree}
 use Rattle.ada_program.specs.Form.{StmtsForm, HandlersForm}
+use Rattle.ada_program.specs.Freed.{body_frees_own}
 use Rattle.ada_program.specs.ProgramForm.{TypeForm, object_of}
 use Rattle.ada_program.specs.WellFormed as fits
 use Rattle.ada_program.specs.WellFormed.{declarations_fit, stmts_fit, handlers_fit, Creation}
 use Rattle.ada_resolve.specs.declared.scope.Entity.TheVariants as entity
 use Rattle.ada_resolve.specs.Known.{Known, declared, next_procedure, no_body_yet, no_variable_yet, types_go_on}
 use Rattle.ada_resolve.specs.Procedures.{no_formals, with_formals, behind_head, body_of, body_ended}
-use Rattle.ada_resolve.proofs.Standing.{Sound, get_front, around_body, around_sound, InBody, left_body, ended_is}
+use Rattle.ada_resolve.proofs.Standing.{Sound, IsSettled, longer, get_front, around_body, around_sound, InBody, left_body, ended_is}
 use Rattle.ada_resolve.proofs.Standing.Procedures.{AllObjects, head_complete, head_formals, head_objects, body_ended_some}
 use Rattle.ada_resolve.proofs.WellFormed.Alike.{body_late}
 use Rattle.ada_resolve.proofs.WellFormed.Called.{callables}
-use Rattle.ada_resolve.proofs.WellFormed.Created.{accesses, accesses_object, accesses_past, collected, bodies_collect, collect_least, created_more, Creates}
+use Rattle.ada_resolve.proofs.WellFormed.Created.{accesses, accesses_object, accesses_past, collected, bodies_collect, bodies_known, collect_least, created_more, Creates}
 use Rattle.ada_resolve.proofs.WellFormed.Elaborated.{Late, InOrder, late}
+use Rattle.ada_resolve.proofs.WellFormed.Forms.{AreIn, forms, forms_in}
+use Rattle.ada_resolve.proofs.WellFormed.Freed.{body_frees}
 use Rattle.ada_resolve.proofs.WellFormed.Lasting.{Ended, ended_on, body_later, one_body_more}
-use Rattle.ada_resolve.proofs.WellFormed.Tables.{both_parts, second_part}
+use Rattle.ada_resolve.proofs.WellFormed.Tables.{all_more, both_parts, second_part}
 
 -- where a body begins
 pub record BodyBegun (k inner : Known) : Type 0 where
@@ -53,8 +56,8 @@ body_begins k head =
       first_variable = refl;
       first_body = refl;
       modes = (head_formals k head.formals).modes;
-      ended = λ e. ended_on k (behind_head k head) refl (omega arith) (omega arith) (omega (arith, longer))
-          (λ t form is settled. (get_front k.types own t form is, λ yet text u there same. head_complete k head text u there)) e;
+      ended = λ e. ended_on k (behind_head k head) refl (omega arith) (omega arith) (omega (arith, longer)) (omega arith)
+          (λ t form is settled. (forms_in k.types (k.types ++ own) (λ u x there. get_front k.types own u x there) t form is, λ yet text u there same. head_complete k head text u there)) e;
     }
 
 -- its variables are created once, and it fits
@@ -86,22 +89,23 @@ pub record BodyBehind (k next z : Known) : Type 0 where
   pub types : next.types ≡ z.types
   pub ended : Ended z → Ended next
 
-pub body_behind : (k z : Known) (head : HeadTree) (fs : StmtsForm) (hs : HandlersForm) (last : Spot) → Sound k → Late k → InBody (around_body k head) z → ((a : ℕ) → accesses k.types a + collected a (fits.created_in (body_of z fs hs last)) + bodies_collect z.bodies a ≡ accesses z.types a + bodies_collect k.bodies a) → fits.body_fits z.types z.texts z.exceptions (callables z.bodies) (body_of z fs hs last) ≡ true → BodyBehind k (body_ended head.name fs hs last z) z
-body_behind k z head fs hs last s w f creates fit =
+pub body_behind : (k z : Known) (head : HeadTree) (fs : StmtsForm) (hs : HandlersForm) (last : Spot) → Sound k → Late k → InBody (around_body k head) z → ((a : ℕ) → accesses k.types a + collected a (fits.created_in (body_of z fs hs last)) + bodies_collect z.bodies a ≡ accesses z.types a + bodies_collect k.bodies a) → fits.body_fits z.types z.texts z.exceptions (callables z.bodies) (body_of z fs hs last) ≡ true → body_frees_own z.types (body_of z fs hs last) ≡ true → list_all (fits.creates_known_pool (length z.pools)) (fits.created_in (body_of z fs hs last)) ≡ true → BodyBehind k (body_ended head.name fs hs last z) z
+body_behind k z head fs hs last s w f creates fit own pools =
     let k1 = around_body k head in
     let b = body_of z fs hs last in
     let e = entity.Callable (next_procedure z) in
     let next = body_ended head.name fs hs last z in
     let so : next ≡ declared (left_body k1 z b) head.name.text e = ended_is k1 z head.name fs hs last f in
     let some : no_body_yet next ≡ true → ⊥ = body_ended_some k1 z head.name fs hs last (around_sound k head s) f in
+    let settled : (ts : List TypeForm) → ((t : ℕ) (form : TypeForm) → slice_get (forms z.types) t ≡ Some form → IsSettled (declared (left_body k1 z b) head.name.text e) t → slice_get (forms ts) t ≡ Some form) → AreIn (forms z.types) (forms ts) =
+    λ ts more t form is. more t form is (λ yet. absurd (some (ap (λ (v : Known). no_body_yet v) so ∙ yet))) in
     record {
-      order = late (subst Late (sym so) (body_late k z head b e s w f.types (λ i x is. f.bodies i x is) creates))
+      order = late (subst Late (sym so) (body_late k z head b e s w f.types (λ i x is. f.bodies i x is) (longer k.pools z.pools f.pools) creates))
           (false_from_ne_true (types_go_on next) (λ on. some (second_part (no_variable_yet next) (no_body_yet next) on)));
       types = ap (λ (v : Known). v.types) so;
       ended = λ done. subst Ended (sym so) (record {
         fit = λ ts more.
-            let all : (t : ℕ) (form : TypeForm) → slice_get z.types t ≡ Some form → slice_get ts t ≡ Some form =
-            λ t form is. more t form is (λ yet. absurd (some (ap (λ (v : Known). no_body_yet v) so ∙ yet))) in
+            let all = settled ts more in
             one_body_more ts z.texts z.exceptions [] z.bodies b (done.fit ts (λ t form is settled. all t form is))
             (body_later z.types ts z.texts z.texts z.exceptions z.exceptions all (omega arith) (omega arith) (callables z.bodies) b fit);
         below = λ a past.
@@ -111,5 +115,10 @@ body_behind k z head fs hs last s w f creates fit =
             let least = collect_least k.bodies z.bodies (λ i x is. f.bodies i x is) a in
             let both = created_more a z.bodies b in
             omega (arith, front, none, all, least, both);
+        frees = λ ts more.
+            let all = settled ts more in
+            all_more (body_frees_own ts) z.bodies (b ∷ []) (done.frees ts (λ t form is yet. all t form is))
+            (both_parts (body_frees_own ts b) true (body_frees z.types ts all b own) refl);
+        pools = bodies_known (length z.pools) z.bodies b done.pools pools;
       });
     }

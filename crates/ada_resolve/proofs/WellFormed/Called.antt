@@ -67,38 +67,39 @@ profile_known (b ∷ bs) zero less = refl
 profile_known (b ∷ bs) (suc i) less = profile_known bs i (omega (arith, less))
 
 -- what is predefined is no procedure that may be called
-standard_called : (n : ℕ) (x : Entity) (a b c d f g h : Bool) → cond a (Some entity.Integer) (cond b (Some entity.Boolean) (cond c (Some (entity.Truth true)) (cond d (Some (entity.Truth false)) (cond f (Some (entity.Exception ConstraintError)) (cond g (Some (entity.Exception ProgramError)) (cond h (Some (entity.Exception StorageError)) None)))))) ≡ Some x → IsCalled n x
-standard_called n x true b c d f g h e = let is : entity.Integer ≡ x = cc e in rw (sym is) tt
-standard_called n x false true c d f g h e = let is : entity.Boolean ≡ x = cc e in rw (sym is) tt
-standard_called n x false false true d f g h e = let is : entity.Truth true ≡ x = cc e in rw (sym is) tt
-standard_called n x false false false true f g h e = let is : entity.Truth false ≡ x = cc e in rw (sym is) tt
-standard_called n x false false false false true g h e = let is : entity.Exception ConstraintError ≡ x = cc e in rw (sym is) tt
-standard_called n x false false false false false true h e = let is : entity.Exception ProgramError ≡ x = cc e in rw (sym is) tt
-standard_called n x false false false false false false true e = let is : entity.Exception StorageError ≡ x = cc e in rw (sym is) tt
-standard_called n x false false false false false false false e = absurd (cc e)
+standard_called : (n m : ℕ) (x : Entity) (a b c d f g h : Bool) → cond a (Some entity.Integer) (cond b (Some entity.Boolean) (cond c (Some (entity.Truth true)) (cond d (Some (entity.Truth false)) (cond f (Some (entity.Exception ConstraintError)) (cond g (Some (entity.Exception ProgramError)) (cond h (Some (entity.Exception StorageError)) None)))))) ≡ Some x → IsCalled n m x
+standard_called n m x true b c d f g h e = let is : entity.Integer ≡ x = cc e in rw (sym is) tt
+standard_called n m x false true c d f g h e = let is : entity.Boolean ≡ x = cc e in rw (sym is) tt
+standard_called n m x false false true d f g h e = let is : entity.Truth true ≡ x = cc e in rw (sym is) tt
+standard_called n m x false false false true f g h e = let is : entity.Truth false ≡ x = cc e in rw (sym is) tt
+standard_called n m x false false false false true g h e = let is : entity.Exception ConstraintError ≡ x = cc e in rw (sym is) tt
+standard_called n m x false false false false false true h e = let is : entity.Exception ProgramError ≡ x = cc e in rw (sym is) tt
+standard_called n m x false false false false false false true e = let is : entity.Exception StorageError ≡ x = cc e in rw (sym is) tt
+standard_called n m x false false false false false false false e = absurd (cc e)
 
-predefined_called : (n : ℕ) (text : List ℕ) (x : Entity) → predefined text ≡ Some x → IsCalled n x
+predefined_called : (n m : ℕ) (text : List ℕ) (x : Entity) → predefined text ≡ Some x → IsCalled n m x
 unfolding predefined
-predefined_called n text x e =
-    standard_called n x (bytes_eq text (codes "INTEGER")) (bytes_eq text (codes "BOOLEAN")) (bytes_eq text (codes "TRUE")) (bytes_eq text (codes "FALSE"))
+predefined_called n m text x e =
+    standard_called n m x (bytes_eq text (codes "INTEGER")) (bytes_eq text (codes "BOOLEAN")) (bytes_eq text (codes "TRUE")) (bytes_eq text (codes "FALSE"))
     (bytes_eq text (codes "CONSTRAINT_ERROR")) (bytes_eq text (codes "PROGRAM_ERROR")) (bytes_eq text (codes "STORAGE_ERROR")) e
 
-inner_called : (n : ℕ) (withs : Withs) (text : List ℕ) (x : Entity) (own : Option Entity) (b : Bool) → ((y : Entity) → own ≡ Some y → IsCalled n y) → inner_first own b (outermost withs text) ≡ Some x → IsCalled n x
-inner_called n withs text x (Some y) b w e = let is : y ≡ x = cc e in rw (sym is) (w y refl)
-inner_called n withs text x None true w e = let is : entity.Procedure ≡ x = cc e in rw (sym is) tt
-inner_called n withs text x None false w e =
-    first_of_two (IsCalled n) (predefined text) (unit_named withs text) x (predefined_called n text) (λ y. unit_only (IsCalled n) withs text y tt) e
+inner_called : (n m : ℕ) (withs : Withs) (text : List ℕ) (x : Entity) (own : Option Entity) (b : Bool) → ((y : Entity) → own ≡ Some y → IsCalled n m y) → inner_first own b (outermost withs text) ≡ Some x → IsCalled n m x
+inner_called n m withs text x (Some y) b w e = let is : y ≡ x = cc e in rw (sym is) (w y refl)
+inner_called n m withs text x None true w e = let is : entity.Procedure ≡ x = cc e in rw (sym is) tt
+inner_called n m withs text x None false w e =
+    first_of_two (IsCalled n m) (predefined text) (unit_named withs text) x (predefined_called n m text) (λ y. unit_only (IsCalled n m) withs text y tt) e
 
-parts_called : (n : ℕ) (ps : List Part) → PartsCalled n ps → (text : List ℕ) (x : Entity) → named_in text ps ≡ Some x → IsCalled n x
-parts_called n [] w text x e = absurd (cc e)
-parts_called n (p ∷ ps) w text x e =
-    first_of_two (IsCalled n) (named text p.names) (from_part p.around (named_in text ps)) x (w.0 text)
-    (λ y is. within_of (IsCalled n) p.around (named_in text ps) y (λ kind r. tt) (parts_called n ps w.1 text) is) e
+parts_called : (n m : ℕ) (ps : List Part) → PartsCalled n m ps → (text : List ℕ) (x : Entity) → named_in text ps ≡ Some x → IsCalled n m x
+parts_called n m [] w text x e = absurd (cc e)
+parts_called n m (p ∷ ps) w text x e =
+    first_of_two (IsCalled n m) (named text p.names) (from_part p.around (named_in text ps)) x (w.0 text)
+    (λ y is. within_of (IsCalled n m) p.around (named_in text ps) y (λ kind r. tt) (parts_called n m ps w.1 text) is) e
 
--- what is visible, where it may be called, has a body that has ended
-pub visible_called : (k : Known) → PartsCalled (length k.bodies) (parts k) → (text : List ℕ) (x : Entity) → visible k text ≡ Some x → IsCalled (length k.bodies) x
+-- what is visible, where it may be called, has a body that has ended, and a pool is there
+pub visible_called : (k : Known) → PartsCalled (length k.bodies) (length k.pools) (parts k) → (text : List ℕ) (x : Entity) → visible k text ≡ Some x → IsCalled (length k.bodies) (length k.pools) x
 unfolding visible
-visible_called k w text x e = inner_called (length k.bodies) k.withs text x (named_in text (parts k)) (bytes_eq text k.procedure) (parts_called (length k.bodies) (parts k) w text) e
+visible_called k w text x e =
+    inner_called (length k.bodies) (length k.pools) k.withs text x (named_in text (parts k)) (bytes_eq text k.procedure) (parts_called (length k.bodies) (length k.pools) (parts k) w text) e
 
 same_number : (t u : ℕ) → (t == u) ≡ true → (u == t) ≡ true
 same_number t u e = eq-eqb u t (sym (eqb-true t u e))
@@ -147,7 +148,7 @@ object_known types object = by_form (slice_get types object)
     by_form : (o : Option TypeForm) → record_known_by o ≡ fits.object_in o
     by_form None = refl
     by_form (Some (record_of name ps cs)) = refl
-    by_form (Some (access_to name d)) = refl
+    by_form (Some (access_to name d pool)) = refl
     by_form (Some (object_of r)) = refl
 
 record_referred : (types : List TypeForm) (variables : List VariableForm) (object : TypeNo) (m : Meant) (spot : Spot) → MeantFits types variables m → Quiet (reference_wanted (record_of_object types object.0) m spot) → IsReferred types variables (fits.object_in (slice_get types object.0)) m

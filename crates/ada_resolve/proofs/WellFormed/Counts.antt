@@ -4,7 +4,7 @@ use Rattle.std.proofs.Common.{◌≡◌, ℕ, ◌+◌, ◌≤◌, ◌<◌, Bool,
 use Rattle.std.specs.Prelude.{count_by, map}
 use Rattle.std.proofs.lemmas.Bool.{ne_eqb}
 use Rattle.std.proofs.lemmas.List.Sums.{sum_by-cons, sum_by-append}
-use Rattle.ada_program.specs.Form.{DeclarationForm, collects, declares, declares_record}
+use Rattle.ada_program.specs.Form.{DeclarationForm, creates_pool, collects, declares, declares_record}
 use Rattle.ada_program.specs.ProgramForm.{TypeForm, record_of, access_to, object_of}
 use Rattle.ada_program.specs.WellFormed as fits
 use Rattle.ada_resolve.specs.Instances.{is_collected}
@@ -31,6 +31,7 @@ not_collected a (collects t ∷ es) e =
     let first : eqb t a ≡ false = left_fails (eqb t a) (is_collected a es) e in
     let rest : count a es ≡ 0 = not_collected a es (right_fails (eqb t a) (is_collected a es) e) in
     count_next a (collects t) es ∙ (rw (first, rest) (omega arith))
+not_collected a (creates_pool p ∷ es) e = not_collected a es e
 not_collected a (declares x source ∷ es) e = not_collected a es e
 not_collected a (declares_record x object initial ∷ es) e = not_collected a es e
 
@@ -41,6 +42,7 @@ some_collected false c n e w = let h = w e in omega arith
 pub is_counted : (a : ℕ) (es : List DeclarationForm) → is_collected a es ≡ true → 0 < count a es
 is_counted a [] e = absurd (cc e)
 is_counted a (collects t ∷ es) e = rw (count_next a (collects t) es) (some_collected (eqb t a) (is_collected a es) (count a es) e (is_counted a es))
+is_counted a (creates_pool p ∷ es) e = is_counted a es e
 is_counted a (declares x source ∷ es) e = is_counted a es e
 is_counted a (declares_record x object initial ∷ es) e = is_counted a es e
 
@@ -72,7 +74,7 @@ pub later_none : (ts : List TypeForm) (k a : ℕ) (es : List DeclarationForm) �
 later_none [] k a es less = refl
 later_none (record_of name ps cs ∷ ts) k a es less = later_none ts (k + 1) a es (omega arith)
 later_none (object_of r ∷ ts) k a es less = later_none ts (k + 1) a es (omega arith)
-later_none (access_to name d ∷ ts) k a es less =
+later_none (access_to name d pool ∷ ts) k a es less =
     let rest : count a (collections_of (k + 1) ts es) ≡ 0 = later_none ts (k + 1) a es (omega arith) in
     let other : eqb k a ≡ false = ne_eqb k a (omega arith) in
     made_first (is_collected k es) k a (collections_of (k + 1) ts es) ∙ (rw (other, rest, either_zero (is_collected k es)) (omega arith))
@@ -87,7 +89,7 @@ made (object_of r ∷ ts) k zero es =
     let here : k + 0 ≡ k = omega arith in
     let rest : count k (collections_of (k + 1) ts es) ≡ 0 = later_none ts (k + 1) k es (omega arith) in
     rw here (rest ∙ sym (either_zero (is_collected k es)))
-made (access_to name d ∷ ts) k zero es =
+made (access_to name d pool ∷ ts) k zero es =
     let here : k + 0 ≡ k = omega arith in
     let rest : count k (collections_of (k + 1) ts es) ≡ 0 = later_none ts (k + 1) k es (omega arith) in
     let own : eqb k k ≡ true = eq-eqb k k refl in
@@ -96,7 +98,7 @@ made (record_of name ps cs ∷ ts) k (suc i) es =
     let next : k + suc i ≡ (k + 1) + i = omega arith in rw next (made ts (k + 1) i es)
 made (object_of r ∷ ts) k (suc i) es =
     let next : k + suc i ≡ (k + 1) + i = omega arith in rw next (made ts (k + 1) i es)
-made (access_to name d ∷ ts) k (suc i) es =
+made (access_to name d pool ∷ ts) k (suc i) es =
     let next : k + suc i ≡ (k + 1) + i = omega arith in
     let other : eqb k ((k + 1) + i) ≡ false = ne_eqb k ((k + 1) + i) (omega arith) in
     rw next (made_first (is_collected k es) k ((k + 1) + i) (collections_of (k + 1) ts es) ∙
@@ -106,7 +108,7 @@ pub at_most_made : (ts : List TypeForm) (k a : ℕ) (es : List DeclarationForm) 
 at_most_made [] k a es = omega arith
 at_most_made (record_of name ps cs ∷ ts) k a es = at_most_made ts (k + 1) a es
 at_most_made (object_of r ∷ ts) k a es = at_most_made ts (k + 1) a es
-at_most_made (access_to name d ∷ ts) k a es =
+at_most_made (access_to name d pool ∷ ts) k a es =
     rw (made_first (is_collected k es) k a (collections_of (k + 1) ts es)) (made_at (at_most_made ts (k + 1) a es) (eqb k a) refl)
   where
     made_at : count a (collections_of (k + 1) ts es) ≤ cond (is_collected a es) 0 1 → (b : Bool) → eqb k a ≡ b → cond (is_collected k es) 0 (cond b 1 0) + count a (collections_of (k + 1) ts es) ≤ cond (is_collected a es) 0 1

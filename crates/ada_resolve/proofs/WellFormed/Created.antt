@@ -2,17 +2,18 @@
 -- that ends between them.
 
 use Rattle.std.proofs.Common.{◌≡◌, ◌∙◌, ℕ, ◌+◌, ◌≤◌, ◌<◌, Bool, true, false, List, [], ◌∷◌, ◌++◌, length, drop, refl, zero, suc, sym, ap, subst, append_assoc, arith, cond, eqb, eq-eqb}
-use Rattle.std.specs.Prelude.{Option, Some, None, count_by, nat_le}
-use Rattle.std.specs.List.{slice_get}
-use Rattle.std.proofs.lemmas.Bool.{leb-true, leb-false}
+use Rattle.std.specs.Prelude.{Option, Some, None, count_by, map, nat_le}
+use Rattle.std.specs.List.{list_all, slice_get}
+use Rattle.std.proofs.lemmas.Bool.{leb-true, leb-false, lt-ltb, ltb-true}
 use Rattle.std.proofs.lemmas.List.{append-nil}
 use Rattle.std.proofs.lemmas.List.Sums.{sum_by-append}
+use Rattle.ada_program.specs.Form.{DeclarationForm}
 use Rattle.ada_program.specs.ProgramForm.{TypeForm, record_of, access_to, object_of, VariableForm, BodyForm}
 use Rattle.ada_program.specs.WellFormed as fits
-use Rattle.ada_program.specs.WellFormed.{Creation, of_collection, of_variable}
+use Rattle.ada_program.specs.WellFormed.{Creation, of_pool, of_collection, of_variable}
 use Rattle.ada_resolve.specs.Known.{Known}
-use Rattle.ada_resolve.proofs.WellFormed.Growing.{AreIn}
-use Rattle.ada_resolve.proofs.WellFormed.Tables.{both_parts, get_within}
+use Rattle.ada_resolve.proofs.WellFormed.Forms.{AreIn, forms}
+use Rattle.ada_resolve.proofs.WellFormed.Tables.{access_same, all_back, all_front, all_more, all_weaker, both_parts, first_part, second_part, get_within}
 
 -- how many access types have this number: one or none
 abbrev pub accesses : List TypeForm → ℕ → ℕ
@@ -79,26 +80,58 @@ drop_more bs zero b within = refl
 drop_more [] (suc n) b within = absurd (omega (arith, within))
 drop_more (c ∷ bs) (suc n) b within = drop_more bs n b (omega (arith, within))
 
+-- the pools that are created are there
+abbrev pub makes_known : ℕ → DeclarationForm → Bool
+makes_known n e = fits.creates_known_pool n (fits.creation e)
+
+pub known_made : (n : ℕ) (es : List DeclarationForm) → list_all (makes_known n) es ≡ true → list_all (fits.creates_known_pool n) (map fits.creation es) ≡ true
+known_made n [] h = refl
+known_made n (e ∷ es) h =
+    both_parts (makes_known n e) (list_all (fits.creates_known_pool n) (map fits.creation es)) (first_part (makes_known n e) (list_all (makes_known n) es) h)
+    (known_made n es (second_part (makes_known n e) (list_all (makes_known n) es) h))
+
+creation_later : (n m : ℕ) → n ≤ m → (c : Creation) → fits.creates_known_pool n c ≡ true → fits.creates_known_pool m c ≡ true
+creation_later n m le (of_pool p) h = let less = ltb-true p n h in lt-ltb p m (omega (arith, less, le))
+creation_later n m le (of_collection a) h = refl
+creation_later n m le (of_variable x) h = refl
+
+pub creations_later : (n m : ℕ) → n ≤ m → (cs : List Creation) → list_all (fits.creates_known_pool n) cs ≡ true → list_all (fits.creates_known_pool m) cs ≡ true
+creations_later n m le cs h = all_weaker (fits.creates_known_pool n) (fits.creates_known_pool m) (creation_later n m le) cs h
+
+pub makes_later : (n m : ℕ) → n ≤ m → (es : List DeclarationForm) → list_all (makes_known n) es ≡ true → list_all (makes_known m) es ≡ true
+makes_later n m le es h = all_weaker (makes_known n) (makes_known m) (λ e known. creation_later n m le (fits.creation e) known) es h
+
+-- so it is with those of one more body
+pub bodies_known : (n : ℕ) (bs : List BodyForm) (b : BodyForm) → list_all (fits.creates_known_pool n) (fits.created_in_all bs) ≡ true → list_all (fits.creates_known_pool n) (fits.created_in b) ≡ true → list_all (fits.creates_known_pool n) (fits.created_in_all (bs ++ b ∷ [])) ≡ true
+bodies_known n [] b all own = all_more (fits.creates_known_pool n) (fits.created_in b) [] own refl
+bodies_known n (c ∷ bs) b all own =
+    let p = fits.creates_known_pool n in
+    all_more p (fits.created_in c) (fits.created_in_all (bs ++ b ∷ [])) (all_front p (fits.created_in c) (fits.created_in_all bs) all)
+    (bodies_known n bs b (all_back p (fits.created_in c) (fits.created_in_all bs) all) own)
+
 -- from one place to another these are created: a collection for each access type, there or in a body that ends between them, and the variables, in
--- order
+-- order; and pools that are there
 pub record Creates (k m : Known) (cs : List Creation) : Type 0 where
   pub collections : (a : ℕ) → accesses k.types a + collected a cs + bodies_collect m.bodies a ≡ accesses m.types a + bodies_collect k.bodies a
   pub in_order : (n : ℕ) (rest : List Creation) → fits.creates_from n (length k.variables) (cs ++ rest) ≡ fits.creates_from n (length m.variables) rest
+  pub pools : list_all (fits.creates_known_pool (length m.pools)) cs ≡ true
 
 pub creates_none : (k m : Known) → k.types ≡ m.types → k.variables ≡ m.variables → k.bodies ≡ m.bodies → Creates k m []
 creates_none k m ts vs bs = record {
   collections = λ a. rw (sym ts, sym bs) (omega arith);
   in_order = λ n rest. ap (λ (xs : List VariableForm). fits.creates_from n (length xs) rest) vs;
+  pools = refl;
 }
 
-pub creates_both : (k m z : Known) (cs ds : List Creation) → Creates k m cs → Creates m z ds → Creates k z (cs ++ ds)
-creates_both k m z cs ds f g = record {
+pub creates_both : (k m z : Known) (cs ds : List Creation) → length m.pools ≤ length z.pools → Creates k m cs → Creates m z ds → Creates k z (cs ++ ds)
+creates_both k m z cs ds le f g = record {
   collections = λ a.
       let front = f.collections a in
       let back = g.collections a in
       let all = collected_both a cs ds in
       omega (arith, front, back, all);
   in_order = λ n rest. ap (λ es. fits.creates_from n (length k.variables) es) (append_assoc cs ds rest) ∙ (f.in_order n (ds ++ rest) ∙ g.in_order n rest);
+  pools = all_more (fits.creates_known_pool (length z.pools)) cs ds (creations_later (length m.pools) (length z.pools) le cs f.pools) g.pools;
 }
 
 -- one variable more
@@ -106,6 +139,7 @@ pub creates_variable : (k m : Known) → k.types ≡ m.types → k.bodies ≡ m.
 creates_variable k m ts bs longer = record {
   collections = λ a. rw (sym ts, sym bs) (omega arith);
   in_order = λ n rest. rw (longer, eq-eqb (length k.variables) (length k.variables) refl) refl;
+  pools = refl;
 }
 
 -- how many collections the types from this number on have, of an access type
@@ -118,8 +152,12 @@ not_past [] i less e = omega arith
 not_past (x ∷ xs) zero less e = (cc e)
 not_past (x ∷ xs) (suc i) less e = not_past xs i (omega arith) e
 
+-- a type that is there is an access type still, or is none
+stays_access : (types more : List TypeForm) → AreIn (forms types) (forms more) → (a : ℕ) (x : TypeForm) → slice_get types a ≡ Some x → accesses more a ≡ accesses types a
+stays_access types more w a x is = ap (λ (b : Bool). cond {A = ℕ} b 1 0) (access_same types more w a x is)
+
 -- the access types among more types are those among these, and those behind them
-pub accesses_grow : (types more : List TypeForm) → AreIn types more → (a : ℕ) → accesses types a + due (length types) more a ≡ accesses more a
+pub accesses_grow : (types more : List TypeForm) → AreIn (forms types) (forms more) → (a : ℕ) → accesses types a + due (length types) more a ≡ accesses more a
 accesses_grow types more w a = by_place (nat_le (length types) a) refl (slice_get types a) refl
   where
     by_place : (b : Bool) → nat_le (length types) a ≡ b → (o : Option TypeForm) → slice_get types a ≡ o → accesses types a + cond b (accesses more a) 0 ≡ accesses more a
@@ -127,15 +165,15 @@ accesses_grow types more w a = by_place (nat_le (length types) a) refl (slice_ge
     by_place true past (Some x) is =
         let before : a < length types = get_within types a x is in let behind : length types ≤ a = leb-true (length types) a past in absurd (omega arith)
     by_place false past None is = absurd (not_past types a (leb-false (length types) a past) is)
-    by_place false past (Some x) is = rw (is, w a x is) (omega arith)
+    by_place false past (Some x) is = let same = stays_access types more w a x is in omega (arith, same)
 
 -- an access type with the number of one that was there is that one
-pub accesses_before : (types more : List TypeForm) → AreIn types more → (a : ℕ) → a < length types → accesses more a ≡ accesses types a
+pub accesses_before : (types more : List TypeForm) → AreIn (forms types) (forms more) → (a : ℕ) → a < length types → accesses more a ≡ accesses types a
 accesses_before types more w a less = by_place (slice_get types a) refl
   where
     by_place : (o : Option TypeForm) → slice_get types a ≡ o → accesses more a ≡ accesses types a
     by_place None is = absurd (not_past types a less is)
-    by_place (Some x) is = rw (is, w a x is) refl
+    by_place (Some x) is = stays_access types more w a x is
 
 -- no type has a number past all of them
 pub accesses_past : (types : List TypeForm) (a : ℕ) → length types ≤ a → accesses types a ≡ 0
@@ -149,7 +187,7 @@ accesses_past types a past = by_place (slice_get types a) refl
 has_from : (cs : List Creation) (ts : List TypeForm) (k : ℕ) → ((i : ℕ) → fits.is_access ts i ≡ true → collected (k + i) cs ≡ 1) → fits.has_collections cs k ts ≡ true
 has_from cs [] k w = refl
 has_from cs (record_of name ps parts ∷ ts) k w = has_from cs ts (k + 1) (λ i e. let next : (k + 1) + i ≡ k + suc i = omega arith in rw next (w (suc i) e))
-has_from cs (access_to name d ∷ ts) k w =
+has_from cs (access_to name d pool ∷ ts) k w =
     let here : collected k cs ≡ 1 = let at : k ≡ k + 0 = omega arith in rw at (w 0 refl) in
     both_parts (eqb (collected k cs) 1) (fits.has_collections cs (k + 1) ts) (eq-eqb (collected k cs) 1 here)
     (has_from cs ts (k + 1) (λ i e. let next : (k + 1) + i ≡ k + suc i = omega arith in rw next (w (suc i) e)))

@@ -13,6 +13,7 @@ use Rattle.ada_program.specs.declared.program.ScalarType.TheVariants.{Integer, B
 use Rattle.ada_program.specs.declared.program.VariableKind.TheVariants as variable
 use Rattle.ada_program.specs.Form.{ExpressionForm, StmtForm, chooses, repeats, counts, encloses, StmtsForm, no_stmts, a_stmt, BranchesForm, otherwise, HandlersForm}
 use Rattle.ada_program.specs.Form as form
+use Rattle.ada_program.specs.Freed.{statement_frees_own, statements_free_own, branches_free_own, handlers_free_own}
 use Rattle.ada_program.specs.ProgramForm.{VariableForm}
 use Rattle.ada_program.specs.WellFormed.{Creation, of_variable, creation, created_in, created_by, created_by_all, created_by_branches, created_by_handlers, statement_fits, stmts_fit, branches_fit, handlers_fit, has_type, condition_fits, has_statement, choice_fits, declarations_fit, collections_first, collection_fits, initial_fits}
 use Rattle.ada_program.specs.WellFormed as fits
@@ -22,33 +23,35 @@ use Rattle.ada_resolve.specs.Resolution.{gives, At, with_parameter, body_remark,
 use Rattle.ada_resolve.specs.Spots.{end_of}
 use Rattle.ada_resolve.specs.Procedures.{body_of}
 use Rattle.ada_resolve.specs.Statements.{simple_texts, with_texts}
-use Rattle.ada_resolve.proofs.Standing.{Sound, Complete, Grows, Keeps, Stays, longer, grows_on, complete_grows, get_front, ProcedureDone, BodyStays, simple_done, statements_done, ended_keeps, part_complete, parameter_complete}
+use Rattle.ada_resolve.proofs.Standing.{Sound, Complete, Grows, Keeps, Stays, longer, more_pools, grows_on, complete_grows, get_front, ProcedureDone, BodyStays, simple_done, statements_done, ended_keeps, part_complete, parameter_complete}
 use Rattle.ada_resolve.proofs.WellFormed.Remarks.{Quiet}
 use Rattle.ada_resolve.proofs.WellFormed.Tables.{both_parts, get_last}
 use Rattle.ada_resolve.proofs.WellFormed.Growing as growing
-use Rattle.ada_resolve.proofs.WellFormed.Growing.{AreIn}
+use Rattle.ada_resolve.proofs.WellFormed.Forms.{AreIn, forms}
 use Rattle.ada_resolve.proofs.WellFormed.Counts.{count}
-use Rattle.ada_resolve.proofs.WellFormed.Created.{Creates, creates_none, creates_both, creates_variable, accesses_grow, bodies_collect, collect_more, due, none_behind}
+use Rattle.ada_resolve.proofs.WellFormed.Created.{Creates, creates_none, creates_both, creates_variable, accesses_grow, bodies_collect, collect_more, due, known_made, none_behind}
 use Rattle.ada_resolve.proofs.WellFormed.Elaborated.{Late, InOrder, after_late, ended_here}
 use Rattle.ada_resolve.proofs.WellFormed.Alike.{body_early, after_follows}
 use Rattle.ada_resolve.proofs.WellFormed.Bodies.{BodyBegun, body_begins, body_is, created_between, body_behind}
 use Rattle.ada_resolve.proofs.WellFormed.Called.{callables, callables_in}
+use Rattle.ada_resolve.proofs.WellFormed.Freed.{statement_frees, statements_free}
 use Rattle.ada_resolve.proofs.WellFormed.Lasting.{Ended, ended_on, Follows, follows_on, follows_left}
 use Rattle.ada_resolve.proofs.WellFormed.Objects.{one_longer}
 use Rattle.ada_resolve.proofs.WellFormed.Statements.{meant_fits}
 
--- from one place to another: what is done there has the types that it wants, at the second place, and creates what is declared between them
+-- from one place to another: what is done there has the types that it wants, at the second place, creates what is declared between them, and frees by the
+-- instances for the very types of what it frees
 abbrev pub DoneFits : Known → Known → (inside : Bool) → StmtForm → Type 0
-DoneFits k m inside f = (statement_fits m.types m.variables m.texts m.exceptions (callables m.bodies) inside f ≡ true) × Creates k m (created_by f) × Follows k m
+DoneFits k m inside f = (statement_fits m.types m.variables m.texts m.exceptions (callables m.bodies) inside f ≡ true) × Creates k m (created_by f) × Follows k m × (statement_frees_own m.types m.variables f ≡ true)
 
 abbrev pub AllFit : Known → Known → (inside : Bool) → StmtsForm → Type 0
-AllFit k m inside fs = (stmts_fit m.types m.variables m.texts m.exceptions (callables m.bodies) inside fs ≡ true) × Creates k m (created_by_all fs) × Follows k m
+AllFit k m inside fs = (stmts_fit m.types m.variables m.texts m.exceptions (callables m.bodies) inside fs ≡ true) × Creates k m (created_by_all fs) × Follows k m × (statements_free_own m.types m.variables fs ≡ true)
 
 abbrev pub BranchesFit : Known → Known → (inside : Bool) → BranchesForm → Type 0
-BranchesFit k m inside f = (branches_fit m.types m.variables m.texts m.exceptions (callables m.bodies) inside f ≡ true) × Creates k m (created_by_branches f) × Follows k m
+BranchesFit k m inside f = (branches_fit m.types m.variables m.texts m.exceptions (callables m.bodies) inside f ≡ true) × Creates k m (created_by_branches f) × Follows k m × (branches_free_own m.types m.variables f ≡ true)
 
 abbrev pub HandledFit : Known → Known → (inside : Bool) → HandlersForm → Type 0
-HandledFit k m inside f = (handlers_fit m.types m.variables m.texts m.exceptions (callables m.bodies) inside f ≡ true) × Creates k m (created_by_handlers f) × Follows k m
+HandledFit k m inside f = (handlers_fit m.types m.variables m.texts m.exceptions (callables m.bodies) inside f ≡ true) × Creates k m (created_by_handlers f) × Follows k m × (handlers_free_own m.types m.variables f ≡ true)
 
 -- what fits stays so further on
 module _ (k m : Known) (g : Grows k m) where
@@ -70,14 +73,22 @@ module _ (k m : Known) (g : Grows k m) where
   choices_later cs h = growing.choices_stay k.types m.types k.variables m.variables g.types g.variables k.texts m.texts k.exceptions m.exceptions (callables k.bodies) (callables m.bodies)
       (longer k.texts m.texts g.texts) (longer k.exceptions m.exceptions g.exceptions) (callables_in k.bodies m.bodies g.bodies) cs h
 
+-- so does what frees by the instances for the very types
+module _ (k m : Known) (g : Grows k m) where
+  frees_later : (f : StmtForm) → statement_frees_own k.types k.variables f ≡ true → statement_frees_own m.types m.variables f ≡ true
+  frees_later f h = statement_frees k.types m.types k.variables m.variables g.types g.variables f h
+
+  free_later : (fs : StmtsForm) → statements_free_own k.types k.variables fs ≡ true → statements_free_own m.types m.variables fs ≡ true
+  free_later fs h = statements_free k.types m.types k.variables m.variables g.types g.variables fs h
+
 -- where the innermost part ends, the tables stay
 creates_left : (k m : Known) (ps : List Part) (cs : List Creation) → Creates k m cs → Creates k (left_to ps m) cs
-creates_left k m [] cs f = record { collections = f.collections; in_order = f.in_order }
-creates_left k m (p ∷ ps) cs f = record { collections = f.collections; in_order = f.in_order }
+creates_left k m [] cs f = record { collections = f.collections; in_order = f.in_order; pools = f.pools }
+creates_left k m (p ∷ ps) cs f = record { collections = f.collections; in_order = f.in_order; pools = f.pools }
 
 pub left_fits : (k m : Known) (ps : List Part) (inside : Bool) (f : StmtForm) → Stays k (left_to ps m) → DoneFits k m inside f → DoneFits k (left_to ps m) inside f
-left_fits k m [] inside f s h = (h.0, creates_left k m [] (created_by f) h.1, follows_left k m [] s h.2)
-left_fits k m (p ∷ ps) inside f s h = (h.0, creates_left k m (p ∷ ps) (created_by f) h.1, follows_left k m (p ∷ ps) s h.2)
+left_fits k m [] inside f s h = (h.0, creates_left k m [] (created_by f) h.1, follows_left k m [] s h.2, h.3)
+left_fits k m (p ∷ ps) inside f s h = (h.0, creates_left k m (p ∷ ps) (created_by f) h.1, follows_left k m (p ∷ ps) s h.2, h.3)
 
 -- what is known at both places, and what is done
 pub is_done : {k k2 m m2 : Known} {f f2 : StmtForm} (inside : Bool) → k2 ≡ k → m2 ≡ m → f2 ≡ f → DoneFits k m inside f → DoneFits k2 m2 inside f2
@@ -86,7 +97,7 @@ is_done inside ks ms fs h = rw (ks, ms, fs) h
 -- texts alone are written
 texts_follow : (texts : List (List ℕ)) (k : Known) → Follows k (with_texts texts k)
 texts_follow texts k = record {
-  ended = ended_on k (with_texts texts k) refl (longer k.texts (k.texts ++ texts) (λ i x is. get_front k.texts texts i x is)) (omega arith) (omega arith) (λ t form is settled. (is, settled));
+  ended = ended_on k (with_texts texts k) refl (longer k.texts (k.texts ++ texts) (λ i x is. get_front k.texts texts i x is)) (omega arith) (omega arith) (omega arith) (λ t form is settled. (is, settled));
 }
 
 -- a statement with no others in it
@@ -96,7 +107,7 @@ simple_fits inside s at done w e =
     let k = at.0 in
     let m = with_texts (simple_texts s) k in
     let h = meant_fits k inside s w.names w.exceptions w.sized w.called d.quiet in
-    is_done inside refl d.known d.form (h.0, subst (λ (cs : List Creation). Creates k m cs) (sym h.1) (creates_none k m refl refl refl), texts_follow (simple_texts s) k)
+    is_done inside refl d.known d.form (h.0, subst (λ (cs : List Creation). Creates k m cs) (sym h.1) (creates_none k m refl refl refl), texts_follow (simple_texts s) k, h.2)
 
 -- what a part has elaborated once its types end: it fits, and from where the part began it creates what is declared since then
 pub late_fits : (m : Known) → Late m → declarations_fit m.types m.variables m.here.elaborated ≡ true
@@ -105,7 +116,7 @@ late_fits m w =
     both_parts (collections_first ds && list_all (collection_fits m.types) ds) (list_all (initial_fits m.types m.variables) ds)
     (both_parts (collections_first ds) (list_all (collection_fits m.types) ds) w.collections_first w.collections_fit) w.initials_fit
 
-pub late_creates : (k m : Known) → Late m → AreIn k.types m.types → AreIn k.bodies m.bodies → m.here.first_type ≡ length k.types → m.here.first_variable ≡ length k.variables → m.here.first_body ≡ length k.bodies → Creates k m (map creation m.here.elaborated)
+pub late_creates : (k m : Known) → Late m → AreIn (forms k.types) (forms m.types) → AreIn k.bodies m.bodies → m.here.first_type ≡ length k.types → m.here.first_variable ≡ length k.variables → m.here.first_body ≡ length k.bodies → Creates k m (map creation m.here.elaborated)
 late_creates k m w grows bodies first_type first_variable first_body = record {
   collections = λ a.
       let own : count a m.here.elaborated + ended_here m a ≡ due (length k.types) m.types a = w.one_each a ∙ ap (λ (n : ℕ). due n m.types a) first_type in
@@ -115,6 +126,7 @@ late_creates k m w grows bodies first_type first_variable first_body = record {
       let none = none_behind k.bodies a in
       omega (arith, own, all, ended, more, none);
   in_order = λ n rest. ap (λ v. fits.creates_from n v (map creation m.here.elaborated ++ rest)) (sym first_variable) ∙ w.in_order n rest;
+  pools = known_made (length m.pools) m.here.elaborated w.pools;
 }
 
 -- a loop has a statement
@@ -134,6 +146,7 @@ on_condition_fits k z condition own last inside c s h = (
       (both_parts (condition_fits z.types z.variables condition) (has_statement own) c s) h.0,
   h.1,
   h.2,
+  h.3,
 )
 
 -- a loop over a range
@@ -146,7 +159,7 @@ parameter_held name k z g =
 -- the parameter's part begins
 pub parameter_follows : (name : Ident) (k : Known) → Follows k (with_parameter name k)
 parameter_follows name k = record {
-  ended = ended_on k (with_parameter name k) refl (omega arith) (omega arith) (omega arith) (λ t form is settled. (is, λ yet text u there same. parameter_complete name k text u there));
+  ended = ended_on k (with_parameter name k) refl (omega arith) (omega arith) (omega arith) (omega arith) (λ t form is settled. (is, λ yet text u there same. parameter_complete name k text u there));
 }
 
 pub over_range_fits : (name : Ident) (k z : Known) (low high : ExpressionForm) (own : StmtsForm) (last : Spot) (inside : Bool) → Grows (with_parameter name k) z → has_type z.types z.variables Integer low ≡ true → has_type z.types z.variables Integer high ≡ true → has_statement own ≡ true → AllFit (with_parameter name k) z true own → DoneFits k z inside (counts (length k.variables) low high own last)
@@ -158,9 +171,10 @@ over_range_fits name k z low high own last inside g l u s h =
       both_parts (held && low_is && high_is && has_statement own) (stmts_fit z.types z.variables z.texts z.exceptions (callables z.bodies) true own)
           (both_parts (held && low_is && high_is) (has_statement own)
           (both_parts (held && low_is) high_is (both_parts held low_is (parameter_held name k z g) l) u) s) h.0,
-      creates_both k (with_parameter name k) z (of_variable x ∷ []) (created_by_all own)
+      creates_both k (with_parameter name k) z (of_variable x ∷ []) (created_by_all own) (more_pools (with_parameter name k) z g)
           (creates_variable k (with_parameter name k) refl refl (one_longer k.variables (record { name = name.text; spot = name.spot; kind = variable.Integer; borrows = false }))) h.1,
       follows_on k (with_parameter name k) z (parameter_follows name k) h.2,
+      h.3,
     )
 
 -- a statement and those behind it, a branch and those behind it, a handler and those behind it
@@ -168,8 +182,9 @@ pub more_fit : (k m z : Known) (inside : Bool) (f : StmtForm) (fs : StmtsForm) �
 more_fit k m z inside f fs g h i = (
   both_parts (statement_fits z.types z.variables z.texts z.exceptions (callables z.bodies) inside f) (stmts_fit z.types z.variables z.texts z.exceptions (callables z.bodies) inside fs)
       (statement_later m z g inside f h.0) i.0,
-  creates_both k m z (created_by f) (created_by_all fs) h.1 i.1,
+  creates_both k m z (created_by f) (created_by_all fs) (more_pools m z g) h.1 i.1,
   follows_on k m z h.2 i.2,
+  both_parts (statement_frees_own z.types z.variables f) (statements_free_own z.types z.variables fs) (frees_later m z g f h.3) i.3,
 )
 
 pub branch_fits : (k m z : Known) (inside : Bool) (c : ExpressionForm) (fs : StmtsForm) (bs : BranchesForm) → has_type z.types z.variables Boolean c ≡ true → Grows m z → AllFit k m inside fs → BranchesFit m z inside bs → BranchesFit k z inside (form.a_branch c fs bs)
@@ -178,8 +193,9 @@ branch_fits k m z inside c fs bs condition g h i = (
       (branches_fit z.types z.variables z.texts z.exceptions (callables z.bodies) inside bs)
       (both_parts (has_type z.types z.variables Boolean c) (stmts_fit z.types z.variables z.texts z.exceptions (callables z.bodies) inside fs) condition
       (stmts_later m z g inside fs h.0)) i.0,
-  creates_both k m z (created_by_all fs) (created_by_branches bs) h.1 i.1,
+  creates_both k m z (created_by_all fs) (created_by_branches bs) (more_pools m z g) h.1 i.1,
   follows_on k m z h.2 i.2,
+  both_parts (statements_free_own z.types z.variables fs) (branches_free_own z.types z.variables bs) (free_later m z g fs h.3) i.3,
 )
 
 pub handler_fits : (k m z : Known) (inside : Bool) (cs : List Choice) (fs : StmtsForm) (hs : HandlersForm) → list_all (choice_fits z.exceptions) cs ≡ true → has_statement fs ≡ true → Grows m z → AllFit k m inside fs → HandledFit m z inside hs → HandledFit k z inside (form.a_handler cs fs hs)
@@ -188,14 +204,15 @@ handler_fits k m z inside cs fs hs named there g h i = (
       (handlers_fit z.types z.variables z.texts z.exceptions (callables z.bodies) inside hs)
       (both_parts (list_all (choice_fits z.exceptions) cs && has_statement fs) (stmts_fit z.types z.variables z.texts z.exceptions (callables z.bodies) inside fs)
       (both_parts (list_all (choice_fits z.exceptions) cs) (has_statement fs) named there) (stmts_later m z g inside fs h.0)) i.0,
-  creates_both k m z (created_by_all fs) (created_by_handlers hs) h.1 i.1,
+  creates_both k m z (created_by_all fs) (created_by_handlers hs) (more_pools m z g) h.1 i.1,
   follows_on k m z h.2 i.2,
+  both_parts (statements_free_own z.types z.variables fs) (handlers_free_own z.types z.variables hs) (free_later m z g fs h.3) i.3,
 )
 
 -- the part of a block begins
 pub part_follows : (k : Known) → Follows k (with_part k)
 part_follows k = record {
-  ended = ended_on k (with_part k) refl (omega arith) (omega arith) (omega arith) (λ t form is settled. (is, λ yet text u there same. part_complete k text u there));
+  ended = ended_on k (with_part k) refl (omega arith) (omega arith) (omega arith) (omega arith) (λ t form is settled. (is, λ yet text u there same. part_complete k text u there));
 }
 
 -- the statements and the handlers of a part whose declarations are known: with these they fit, and from where the part began they create what is
@@ -204,8 +221,10 @@ pub record SequenceFits (m z : Known) (inside : Bool) (body : SequenceForm) : Ty
   pub declares : declarations_fit z.types z.variables z.here.elaborated ≡ true
   pub own : stmts_fit z.types z.variables z.texts z.exceptions (callables z.bodies) inside body.0 ≡ true
   pub handled : handlers_fit z.types z.variables z.texts z.exceptions (callables z.bodies) inside body.1 ≡ true
-  pub creates : (k : Known) → AreIn k.types m.types → AreIn k.bodies m.bodies → m.here.first_type ≡ length k.types → m.here.first_variable ≡ length k.variables → m.here.first_body ≡ length k.bodies → Creates k z (map creation z.here.elaborated ++ created_by_all body.0 ++ created_by_handlers body.1)
+  pub creates : (k : Known) → AreIn (forms k.types) (forms m.types) → AreIn k.bodies m.bodies → m.here.first_type ≡ length k.types → m.here.first_variable ≡ length k.variables → m.here.first_body ≡ length k.bodies → Creates k z (map creation z.here.elaborated ++ created_by_all body.0 ++ created_by_handlers body.1)
   pub follows : Follows m z
+  pub own_frees : statements_free_own z.types z.variables body.0 ≡ true
+  pub handled_frees : handlers_free_own z.types z.variables body.1 ≡ true
 
 pub sequence_fits_by : (m o z : Known) (inside : Bool) (fs : StmtsForm) (hs : HandlersForm) → InOrder m → Complete m → Stays (after_types m) o → Stays o z → AllFit (after_types m) o inside fs → HandledFit o z inside hs → SequenceFits m z inside (fs, hs)
 sequence_fits_by m o z inside fs hs order complete f g h i =
@@ -221,18 +240,20 @@ sequence_fits_by m o z inside fs hs order complete f g h i =
       handled = i.0;
       creates = λ k types bodies first_type first_variable first_body.
           subst (λ (p : Part). Creates k z (map creation p.elaborated ++ created_by_all fs ++ created_by_handlers hs)) (sym here)
-          (creates_both k o z (map creation ds ++ created_by_all fs) (created_by_handlers hs)
-          (creates_both k r o (map creation ds) (created_by_all fs)
+          (creates_both k o z (map creation ds ++ created_by_all fs) (created_by_handlers hs) (more_pools o z g.grows)
+          (creates_both k r o (map creation ds) (created_by_all fs) (more_pools r o f.grows)
           (late_creates k r late (λ t x is. (complete_grows m r complete keeps).types t x (types t x is)) (λ i x is. keeps.bodies i x (bodies i x is))
           (keeps.first_type ∙ first_type) (keeps.first_variable ∙ first_variable) (keeps.first_body ∙ first_body)) h.1) i.1);
       follows = follows_on m r z (after_follows m) (follows_on r o z h.2 i.2);
+      own_frees = free_later o z g.grows fs h.3;
+      handled_frees = i.3;
     }
 
 pub sequence_is : {m z z2 : Known} {b b2 : SequenceForm} (inside : Bool) → z2 ≡ z → b2 ≡ b → SequenceFits m z inside b → SequenceFits m z2 inside b2
 sequence_is inside zs bs h = rw (zs, bs) h
 
 -- a block, from where its statements begin
-pub block_fits : (k m z : Known) (inside : Bool) (body : SequenceForm) → AreIn k.types m.types → AreIn k.bodies m.bodies → m.here.first_type ≡ length k.types → m.here.first_variable ≡ length k.variables → m.here.first_body ≡ length k.bodies → Follows k m → Stays k (left_to z.outer z) → SequenceFits m z inside body → DoneFits k (left_to z.outer z) inside (block_of z body)
+pub block_fits : (k m z : Known) (inside : Bool) (body : SequenceForm) → AreIn (forms k.types) (forms m.types) → AreIn k.bodies m.bodies → m.here.first_type ≡ length k.types → m.here.first_variable ≡ length k.variables → m.here.first_body ≡ length k.bodies → Follows k m → Stays k (left_to z.outer z) → SequenceFits m z inside body → DoneFits k (left_to z.outer z) inside (block_of z body)
 block_fits k m z inside body types bodies first_type first_variable first_body follows stays f =
     let ds = z.here.elaborated in
     left_fits k z z.outer inside (block_of z body) stays (
@@ -242,6 +263,7 @@ block_fits k m z inside body types bodies first_type first_variable first_body f
           f.declares f.own) f.handled,
       f.creates k types bodies first_type first_variable first_body,
       follows_on k m z follows f.follows,
+      both_parts (statements_free_own z.types z.variables body.0) (handlers_free_own z.types z.variables body.1) f.own_frees f.handled_frees,
     )
 
 -- what is elaborated stays in order from one place of a part to another
@@ -273,7 +295,8 @@ body_ordered head ds body end_name at next d order s keeps declares sequence =
     ap (λ (p : Part). p.modes) s.sequence.stays.here ∙ ((ended_keeps behind).modes ∙ keeps.modes) in
     let modes : length z.here.modes ≡ length inner.variables = ap (λ (ms : List FormalMode). length ms) same_modes ∙ begun.modes in
     let fit = body_is inner z fs hs last s.done_in.sound modes creates f.declares f.own f.handled in
-    let after = body_behind k z head fs hs last s.before (after_late at.0 order) s.done_in (created_between k inner z (created_in (body_of z fs hs last)) begun.accesses begun.bodies creates) fit in
+    let own_frees = both_parts (statements_free_own z.types z.variables fs) (handlers_free_own z.types z.variables hs) f.own_frees f.handled_frees in
+    let after = body_behind k z head fs hs last s.before (after_late at.0 order) s.done_in (created_between k inner z (created_in (body_of z fs hs last)) begun.accesses begun.bodies creates) fit own_frees creates.pools in
     let types_end = after_follows at.0 in
     record {
       order = subst InOrder (sym d.known) after.order;

@@ -1,4 +1,4 @@
--- What fits stays so as types, variables, exceptions and texts are added behind those that are there.
+-- What fits stays so as types, variables, exceptions and texts are added behind those that are there, and as types get pools.
 
 use Rattle.std.proofs.Common.{◌≡◌, ℕ, ◌<◌, ◌≤◌, Bool, true, cond, List, [], ◌∷◌, length, drop, refl, sym, ap, ◌∙◌, subst, arith, eqb}
 use Rattle.std.specs.Prelude.{Option, Some, None, ◌&&◌, ◌||◌, not, is_some}
@@ -14,25 +14,44 @@ use Rattle.ada_program.specs.declared.program.VariableKind.{VariableKind}
 use Rattle.ada_program.specs.declared.program.VariableKind.TheVariants as variable
 use Rattle.ada_program.specs.declared.program.ScalarType.{ScalarType}
 use Rattle.ada_program.specs.declared.program.ScalarType.TheVariants.{Integer, Boolean}
-use Rattle.ada_program.specs.Form.{PathForm, ActualForm, in_value, in_null, in_access, in_record, in_out_path, in_out_access, in_out_component, in_out_record, RecordPathForm, ExpressionForm, integer, boolean, reads, is_null, applied_to, chained, LinksForm, no_more_links, a_link, ItemForm, null_item, item_of_path, item_of_value, item_of_record, RightForm, nothing, value_of, allocates, allocates_default, computes, StmtForm, skips, assigns, assigns_record, frees, gets, writes, writes_text, chooses, repeats, counts, exits, calls, returns, raises, encloses, StmtsForm, no_stmts, a_stmt, BranchesForm, otherwise, a_branch, HandlersForm, no_handlers, a_handler, DeclarationForm, collects, declares, declares_record}
-use Rattle.ada_program.specs.ProgramForm.{TypeForm, VariableForm}
+use Rattle.ada_program.specs.Form.{PathForm, ActualForm, in_value, in_null, in_access, in_record, in_out_path, in_out_access, in_out_component, in_out_record, RecordPathForm, ExpressionForm, integer, boolean, reads, is_null, applied_to, chained, LinksForm, no_more_links, a_link, ItemForm, null_item, item_of_path, item_of_value, item_of_record, RightForm, nothing, value_of, allocates, allocates_default, computes, StmtForm, skips, assigns, assigns_record, frees, gets, writes, writes_text, chooses, repeats, counts, exits, calls, returns, raises, encloses, StmtsForm, no_stmts, a_stmt, BranchesForm, otherwise, a_branch, HandlersForm, no_handlers, a_handler, DeclarationForm, creates_pool, collects, declares, declares_record}
+use Rattle.ada_program.specs.ProgramForm.{TypeForm, record_of, access_to, object_of, VariableForm}
 use Rattle.ada_program.specs.WellFormed as fits
+use Rattle.ada_resolve.proofs.WellFormed.Forms.{bare, forms, same_at}
 use Rattle.ada_resolve.proofs.WellFormed.Tables.{both_parts, first_part, second_part, all_weaker}
 use Rattle.ada_resolve.proofs.WellFormed.Typing.{nowhere, unary_typed, left_typed, operand_typed, of_type, is_of_type}
+pub use Rattle.ada_resolve.proofs.WellFormed.Forms.{AreIn}
 
--- each element is there, with its number
-abbrev pub AreIn : {X : Type 0} → List X → List X → Type 0
-AreIn {X} xs ys = (i : ℕ) (x : X) → slice_get xs i ≡ Some x → slice_get ys i ≡ Some x
+-- what looks at no pool
+designated_bare : (x : TypeForm) → fits.designated_in (Some (bare x)) ≡ fits.designated_in (Some x)
+designated_bare (record_of name ps cs) = refl
+designated_bare (access_to name d pool) = refl
+designated_bare (object_of r) = refl
 
--- as types and variables are added
-module _ (types more : List TypeForm) (variables others : List VariableForm) (ts : AreIn types more) (vs : AreIn variables others) where
+named_bare : (x : TypeForm) → fits.named_in (Some (bare x)) ≡ fits.named_in (Some x)
+named_bare (record_of name ps cs) = refl
+named_bare (access_to name d pool) = refl
+named_bare (object_of r) = refl
+
+components_bare : (x : TypeForm) → fits.components_in (Some (bare x)) ≡ fits.components_in (Some x)
+components_bare (record_of name ps cs) = refl
+components_bare (access_to name d pool) = refl
+components_bare (object_of r) = refl
+
+object_bare : (x : TypeForm) → fits.object_in (Some (bare x)) ≡ fits.object_in (Some x)
+object_bare (record_of name ps cs) = refl
+object_bare (access_to name d pool) = refl
+object_bare (object_of r) = refl
+
+-- as types, but for their pools, and variables are added
+module _ (types more : List TypeForm) (variables others : List VariableForm) (ts : AreIn (forms types) (forms more)) (vs : AreIn variables others) where
   -- what an access type designates, and what a record type has
-  designated_stays : (t d : ℕ) → fits.designated_type types t ≡ Some d → fits.designated_type more t ≡ Some d
+  pub designated_stays : (t d : ℕ) → fits.designated_type types t ≡ Some d → fits.designated_type more t ≡ Some d
   designated_stays t d e = found_stays (slice_get types t) refl e
     where
       found_stays : (o : Option TypeForm) → slice_get types t ≡ o → fits.designated_in o ≡ Some d → fits.designated_type more t ≡ Some d
       found_stays None is e = absurd (cc e)
-      found_stays (Some x) is e = rw (ts t x is) e
+      found_stays (Some x) is e = same_at types more ts (λ o. fits.designated_in o) designated_bare t x is ∙ e
 
   -- of which record type the objects are that values of a type name
   named_stays : (t d : ℕ) → fits.named_in (slice_get types t) ≡ Some d → fits.named_in (slice_get more t) ≡ Some d
@@ -40,14 +59,14 @@ module _ (types more : List TypeForm) (variables others : List VariableForm) (ts
     where
       found_stays : (o : Option TypeForm) → slice_get types t ≡ o → fits.named_in o ≡ Some d → fits.named_in (slice_get more t) ≡ Some d
       found_stays None is e = absurd (cc e)
-      found_stays (Some x) is e = rw (ts t x is) e
+      found_stays (Some x) is e = same_at types more ts (λ o. fits.named_in o) named_bare t x is ∙ e
 
   pub components_stay : (t : ℕ) (cs : List ComponentKind) → fits.record_components types t ≡ Some cs → fits.record_components more t ≡ Some cs
   components_stay t cs e = found_stays (slice_get types t) refl e
     where
       found_stays : (o : Option TypeForm) → slice_get types t ≡ o → fits.components_in o ≡ Some cs → fits.record_components more t ≡ Some cs
       found_stays None is e = absurd (cc e)
-      found_stays (Some x) is e = rw (ts t x is) e
+      found_stays (Some x) is e = same_at types more ts (λ o. fits.components_in o) components_bare t x is ∙ e
 
   reached_stay : (access : ℕ) (cs : List ComponentKind) → fits.reached_components types access ≡ Some cs → fits.reached_components more access ≡ Some cs
   reached_stay access cs e = found_stay (fits.named_in (slice_get types access)) refl e
@@ -135,7 +154,7 @@ module _ (types more : List TypeForm) (variables others : List VariableForm) (ts
   has_type_stays t e h = is_of_type t (fits.type_of more others e) (type_stays e t (of_type t (fits.type_of types variables e) h))
 
   -- a value that is moved
-  moved_stays : (path : PathForm) (access : ℕ) → fits.is_this access (fits.path_access types variables path) ≡ true → fits.is_this access (fits.path_access more others path) ≡ true
+  pub moved_stays : (path : PathForm) (access : ℕ) → fits.is_this access (fits.path_access types variables path) ≡ true → fits.is_this access (fits.path_access more others path) ≡ true
   moved_stays path access h = by_kind (fits.path_kind types variables path) refl h
     where
       by_kind : (o : Option VariableKind) → fits.path_kind types variables path ≡ o → fits.is_this access (fits.value_access o) ≡ true → fits.is_this access (fits.path_access more others path) ≡ true
@@ -349,6 +368,7 @@ module _ (types more : List TypeForm) (variables others : List VariableForm) (ts
 
   -- declarations
   collection_stays : (d : DeclarationForm) → fits.collection_fits types d ≡ true → fits.collection_fits more d ≡ true
+  collection_stays (creates_pool pool) h = refl
   collection_stays (collects access) h = access_stays access h
   collection_stays (declares x s) h = refl
   collection_stays (declares_record x object initial) h = refl
@@ -370,6 +390,7 @@ module _ (types more : List TypeForm) (variables others : List VariableForm) (ts
       (record_stays (fits.reached_components types object) (fits.reached_components more object) items (reached_stay object) (second_part before fit h))
 
   initial_stays : (d : DeclarationForm) → fits.initial_fits types variables d ≡ true → fits.initial_fits more others d ≡ true
+  initial_stays (creates_pool pool) h = refl
   initial_stays (collects access) h = refl
   initial_stays (declares x s) h =
       let before = fits.names_before x s in
@@ -485,7 +506,7 @@ module _ (types more : List TypeForm) (variables others : List VariableForm) (ts
     where
       found_stays : (o : Option TypeForm) → slice_get types object ≡ o → fits.is_this t (fits.object_in o) ≡ true → fits.is_this t (fits.object_in (slice_get more object)) ≡ true
       found_stays None is h = absurd (cc h)
-      found_stays (Some x) is h = rw (ts object x is) h
+      found_stays (Some x) is h = ap (λ o. fits.is_this t o) (same_at types more ts (λ o. fits.object_in o) object_bare object x is) ∙ h
 
   record_named_stays : (object : ℕ) (p : RecordPathForm) → fits.names_record types variables object p ≡ true → fits.names_record more others object p ≡ true
   record_named_stays object p h =

@@ -34,7 +34,7 @@ record_has_both P Q R w (part.Record t) h g = w t.0 h g
 -- the components of a type lie one behind the other, and records among them are of types that are there; so is a record object
 abbrev pub IsLaid : List TypeForm → TypeForm → Type 0
 IsLaid types (record_of name ps cs) = AreLaidOut types 0 ps cs × OfParts (RecordHas (λ t. fits.is_record types t ≡ true)) ps
-IsLaid types (access_to name d) = Unit {0}
+IsLaid types (access_to name d pool) = Unit {0}
 IsLaid types (object_of r) = fits.is_record types r ≡ true
 
 -- and so in each type
@@ -44,7 +44,7 @@ AreRecordsLaid types = (t : ℕ) (form : TypeForm) → slice_get types t ≡ Som
 -- no component of a type is a record of the type of this number, nor is a record object that is known by the type
 abbrev pub Avoids : ℕ → TypeForm → Type 0
 Avoids t (record_of name ps cs) = OfParts (RecordHas (λ u. u ≡ t → ⊥)) ps
-Avoids t (access_to name d) = Unit {0}
+Avoids t (access_to name d pool) = Unit {0}
 Avoids t (object_of r) = r ≡ t → ⊥
 
 -- and so in each type
@@ -114,7 +114,7 @@ form_laid_more types form (record_of name ps cs) l = (
   laid_stays types (types ++ form ∷ []) 0 ps cs (λ i c is. record_has (λ t. fits.is_record types t ≡ true) (λ t. elementary_of (types ++ form ∷ []) t ≡ elementary_of types t) (record_same types form) c.kind (l.1 i c is)) l.0,
   λ i c is. record_has (λ t. fits.is_record types t ≡ true) (λ t. fits.is_record (types ++ form ∷ []) t ≡ true) (record_more types form) c.kind (l.1 i c is),
 )
-form_laid_more types form (access_to name d) l = tt
+form_laid_more types form (access_to name d pool) l = tt
 form_laid_more types form (object_of r) l = record_more types form r l
 
 pub records_laid_more : (types : List TypeForm) (form : TypeForm) → AreRecordsLaid types → IsLaid types form → AreRecordsLaid (types ++ form ∷ [])
@@ -130,7 +130,7 @@ form_laid_set types i form (record_of name ps cs) a l = (
   laid_stays types (slice_set types i form) 0 ps cs (λ j c is. record_has (λ t. t ≡ i → ⊥) (λ t. elementary_of (slice_set types i form) t ≡ elementary_of types t) (other_same types i form) c.kind (a j c is)) l.0,
   λ j c is. record_has_both (λ t. t ≡ i → ⊥) (λ t. fits.is_record types t ≡ true) (λ t. fits.is_record (slice_set types i form) t ≡ true) (λ t ne there. record_other types i form t (λ same. ne (sym same)) there) c.kind (a j c is) (l.1 j c is),
 )
-form_laid_set types i form (access_to name d) a l = tt
+form_laid_set types i form (access_to name d pool) a l = tt
 form_laid_set types i form (object_of r) a l = record_other types i form r (λ same. a (sym same)) l
 
 pub records_laid_set : (types : List TypeForm) (i : ℕ) (form : TypeForm) → IsUnused types i → AreRecordsLaid types → Avoids i form → IsLaid types form → AreRecordsLaid (slice_set types i form)
@@ -150,7 +150,7 @@ new_unused types all u form is = by_form form (all u form is)
 
     by_form : (x : TypeForm) → IsLaid types x → Avoids (length types) x
     by_form (record_of name ps cs) l = λ i c at. record_has (λ t. fits.is_record types t ≡ true) (λ t. t ≡ length types → ⊥) absent c.kind (l.1 i c at)
-    by_form (access_to name d) l = tt
+    by_form (access_to name d pool) l = tt
     by_form (object_of r) l = absent r l
 
 pub unused_more : (types : List TypeForm) (form : TypeForm) (t : ℕ) → IsUnused types t → Avoids t form → IsUnused (types ++ form ∷ []) t

@@ -4,19 +4,19 @@ use Rattle.std.proofs.Common.{◌≡◌, ℕ, ◌≤◌, true, false, List, [], 
 use Rattle.std.specs.Prelude.{Some, ◌&&◌}
 use Rattle.std.specs.List.{list_all, slice_get}
 use Rattle.std.proofs.lemmas.List.{append-nil}
+use Rattle.ada_program.specs.Freed.{body_frees_own}
 use Rattle.ada_program.specs.ProgramForm.{TypeForm, BodyForm}
 use Rattle.ada_program.specs.WellFormed as fits
 use Rattle.ada_resolve.specs.Known.{Known, Part, left_to}
 use Rattle.ada_resolve.proofs.Standing.Order.{Complete, IsSettled, Stays}
-use Rattle.ada_resolve.proofs.Standing.Procedures.{types_keep}
 use Rattle.ada_resolve.proofs.WellFormed.Called.{callables}
-use Rattle.ada_resolve.proofs.WellFormed.Created.{bodies_collect}
+use Rattle.ada_resolve.proofs.WellFormed.Created.{bodies_collect, creations_later}
+use Rattle.ada_resolve.proofs.WellFormed.Forms.{AreIn, forms}
 use Rattle.ada_resolve.proofs.WellFormed.Growing as growing
-use Rattle.ada_resolve.proofs.WellFormed.Growing.{AreIn}
-use Rattle.ada_resolve.proofs.WellFormed.Tables.{all_weaker, both_parts, first_part, second_part, variable_kept}
+use Rattle.ada_resolve.proofs.WellFormed.Tables.{all_weaker, both_parts, first_part, second_part, types_keep, variable_kept}
 
 -- as types, texts and exceptions are added
-module _ (types more : List TypeForm) (texts longer exceptions raised : List (List ℕ)) (ts : AreIn types more) (room : length texts ≤ length longer) (declared : length exceptions ≤ length raised) where
+module _ (types more : List TypeForm) (texts longer exceptions raised : List (List ℕ)) (ts : AreIn (forms types) (forms more)) (room : length texts ≤ length longer) (declared : length exceptions ≤ length raised) where
   pub body_later : (callable : List fits.Profile) (b : BodyForm) → fits.body_fits types texts exceptions callable b ≡ true → fits.body_fits more longer raised callable b ≡ true
   body_later callable b h =
       let vs = b.variables in
@@ -66,23 +66,32 @@ one_body_more types texts exceptions callable (c ∷ bs) b h g =
     (one_body_more types texts exceptions next bs b (second_part own rest h)
     (subst (λ ps. fits.body_fits types texts exceptions ps b ≡ true) (sym (append_assoc callable (fits.profile_of c ∷ []) (callables bs))) g))
 
--- the bodies that have ended fit, whatever types that are still incomplete become, and create collections of types that are there
+-- the bodies that have ended fit, whatever types that are still incomplete become, create collections of types that are there, and free by the instances
+-- for the very types of what they free; the pools that they create are there
 pub record Ended (k : Known) : Type 0 where
-  pub fit : (ts : List TypeForm) → ((t : ℕ) (form : TypeForm) → slice_get k.types t ≡ Some form → IsSettled k t → slice_get ts t ≡ Some form) → fits.bodies_fit ts k.texts k.exceptions [] k.bodies ≡ true
+  pub fit : (ts : List TypeForm) → ((t : ℕ) (form : TypeForm) → slice_get (forms k.types) t ≡ Some form → IsSettled k t → slice_get (forms ts) t ≡ Some form) → fits.bodies_fit ts k.texts k.exceptions [] k.bodies ≡ true
   pub below : (a : ℕ) → length k.types ≤ a → bodies_collect k.bodies a ≡ 0
+  pub frees : (ts : List TypeForm) → ((t : ℕ) (form : TypeForm) → slice_get (forms k.types) t ≡ Some form → IsSettled k t → slice_get (forms ts) t ≡ Some form) → list_all (body_frees_own ts) k.bodies ≡ true
+  pub pools : list_all (fits.creates_known_pool (length k.pools)) (fits.created_in_all k.bodies) ≡ true
 
 -- where no body ends, they go on fitting
-pub ended_on : (k m : Known) → m.bodies ≡ k.bodies → length k.texts ≤ length m.texts → length k.exceptions ≤ length m.exceptions → length k.types ≤ length m.types → ((t : ℕ) (form : TypeForm) → slice_get k.types t ≡ Some form → IsSettled k t → (slice_get m.types t ≡ Some form) × IsSettled m t) → Ended k → Ended m
-ended_on k m same texts exceptions types keeps e = record {
+pub ended_on : (k m : Known) → m.bodies ≡ k.bodies → length k.texts ≤ length m.texts → length k.exceptions ≤ length m.exceptions → length k.types ≤ length m.types → length k.pools ≤ length m.pools → ((t : ℕ) (form : TypeForm) → slice_get (forms k.types) t ≡ Some form → IsSettled k t → (slice_get (forms m.types) t ≡ Some form) × IsSettled m t) → Ended k → Ended m
+ended_on k m same texts exceptions types pools keeps e = record {
   fit = λ ts w. subst (λ bs. fits.bodies_fit ts m.texts m.exceptions [] bs ≡ true) (sym same)
       (bodies_later ts ts k.texts m.texts k.exceptions m.exceptions (λ i x is. is) texts exceptions [] k.bodies
       (e.fit ts (λ t form is settled. let so = keeps t form is settled in w t form so.0 so.1)));
   below = λ a past. subst (λ bs. bodies_collect bs a ≡ 0) (sym same) (e.below a (omega (arith, past, types)));
+  frees = λ ts w. subst (λ bs. list_all (body_frees_own ts) bs ≡ true) (sym same) (e.frees ts (λ t form is settled. let so = keeps t form is settled in w t form so.0 so.1));
+  pools = subst (λ bs. list_all (fits.creates_known_pool (length m.pools)) (fits.created_in_all bs) ≡ true) (sym same)
+      (creations_later (length k.pools) (length m.pools) pools (fits.created_in_all k.bodies) e.pools);
 }
 
 -- where no type is incomplete
 pub ended_all : (k : Known) → Complete k → Ended k → fits.bodies_fit k.types k.texts k.exceptions [] k.bodies ≡ true
 ended_all k c e = e.fit k.types (λ t form is settled. is)
+
+pub ended_free : (k : Known) → Ended k → list_all (body_frees_own k.types) k.bodies ≡ true
+ended_free k e = e.frees k.types (λ t form is settled. is)
 
 -- from one place to another behind it in the same part: the bodies that have ended go on fitting
 pub record Follows (k m : Known) : Type 0 where
@@ -97,8 +106,8 @@ follows_on k m z f g = record { ended = λ e. g.ended (f.ended e) }
 -- where the innermost part ends
 pub follows_left : (k z : Known) (ps : List Part) → Stays k (left_to ps z) → Follows k z → Follows k (left_to ps z)
 follows_left k z [] s f = record {
-  ended = λ e. ended_on z (left_to [] z) refl (omega arith) (omega arith) (omega arith) (λ t form is settled. (is, λ yet text u there same. s.complete text u there)) (f.ended e);
+  ended = λ e. ended_on z (left_to [] z) refl (omega arith) (omega arith) (omega arith) (omega arith) (λ t form is settled. (is, λ yet text u there same. s.complete text u there)) (f.ended e);
 }
 follows_left k z (p ∷ ps) s f = record {
-  ended = λ e. ended_on z (left_to (p ∷ ps) z) refl (omega arith) (omega arith) (omega arith) (λ t form is settled. (is, λ yet text u there same. s.complete text u there)) (f.ended e);
+  ended = λ e. ended_on z (left_to (p ∷ ps) z) refl (omega arith) (omega arith) (omega arith) (omega arith) (λ t form is settled. (is, λ yet text u there same. s.complete text u there)) (f.ended e);
 }

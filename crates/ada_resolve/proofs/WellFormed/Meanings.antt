@@ -18,9 +18,10 @@ use Rattle.ada_program.specs.declared.program.ComponentKind.{ComponentKind}
 use Rattle.ada_program.specs.declared.program.ComponentKind.TheVariants as kind
 use Rattle.ada_program.specs.ProgramForm.{TypeForm, record_of, access_to, object_of, VariableForm}
 use Rattle.ada_program.specs.WellFormed as fits
+use Rattle.ada_resolve.specs.declared.fault.NameRule.{NameRule}
 use Rattle.ada_resolve.specs.declared.fault.NameRule.TheVariants.{UnknownName, NotInProfile}
 use Rattle.ada_resolve.specs.declared.library.LibraryName.{LibraryName}
-use Rattle.ada_resolve.specs.declared.library.LibraryName.TheVariants.{TextIo, PutLine, UncheckedDeallocation, RunInput, Get, EndError, OtherUnit, Unknown}
+use Rattle.ada_resolve.specs.declared.library.LibraryName.TheVariants.{TextIo, PutLine, UncheckedDeallocation, Finalization, OfFinalization, Pools, FirstFitPool, OfPools, RunInput, Get, EndError, OtherUnit, Unknown}
 use Rattle.ada_resolve.specs.declared.library.Withs.{Withs}
 use Rattle.ada_resolve.specs.declared.scope.Entity.{Entity}
 use Rattle.ada_resolve.specs.declared.scope.Entity.TheVariants as entity
@@ -57,7 +58,7 @@ components_there types t e = by_form (slice_get types t) e
     by_form : (o : Option TypeForm) → is_some (fits.components_in o) ≡ true → fits.components_in o ≡ Some (elementary_in o)
     by_form None e = absurd (cc e)
     by_form (Some (record_of name ps cs)) e = refl
-    by_form (Some (access_to name d)) e = absurd (cc e)
+    by_form (Some (access_to name d pool)) e = absurd (cc e)
     by_form (Some (object_of r)) e = absurd (cc e)
 
 -- components begin with themselves
@@ -126,17 +127,22 @@ entity_fits k text None name selectors laid v q = absurd q
 entity_fits k text (Some e) name selectors laid v q = entity_one k text e name selectors laid (v e refl) q
 
 -- a name of the library is no value
-no_library_value : (b : Bool) (n : LibraryName) (spot : Spot) (rule_spot : Spot) → Quiet (wrong_if (not b) rule_spot UnknownName) → Quiet (library_is_no_value (if_with b n) spot) → ⊥
-no_library_value true n spot rule_spot p q = q
-no_library_value false n spot rule_spot p q = p
+no_library_value : (b : Bool) (n : LibraryName) (spot : Spot) (rule : NameRule) → Quiet (wrong_if (not b) spot rule) → Quiet (library_is_no_value (if_with b n) spot) → ⊥
+no_library_value true n spot rule p q = q
+no_library_value false n spot rule p q = p
 
 no_library_name : (withs : Withs) (n : LibraryName) (spot : Spot) → Quiet (library_wrong withs n spot) → Quiet (library_is_no_value (if_with (is_with withs n) n) spot) → ⊥
-no_library_name withs TextIo spot p q = no_library_value withs.text_io TextIo spot spot p q
-no_library_name withs PutLine spot p q = no_library_value withs.text_io PutLine spot spot p q
-no_library_name withs UncheckedDeallocation spot p q = no_library_value withs.deallocation UncheckedDeallocation spot spot p q
-no_library_name withs RunInput spot p q = no_library_value withs.run_input RunInput spot spot p q
-no_library_name withs Get spot p q = no_library_value withs.run_input Get spot spot p q
-no_library_name withs EndError spot p q = no_library_value withs.run_input EndError spot spot p q
+no_library_name withs TextIo spot p q = no_library_value withs.text_io TextIo spot UnknownName p q
+no_library_name withs PutLine spot p q = no_library_value withs.text_io PutLine spot UnknownName p q
+no_library_name withs UncheckedDeallocation spot p q = no_library_value withs.deallocation UncheckedDeallocation spot UnknownName p q
+no_library_name withs Finalization spot p q = no_library_value withs.finalization Finalization spot UnknownName p q
+no_library_name withs OfFinalization spot p q = p
+no_library_name withs Pools spot p q = no_library_value withs.pools Pools spot UnknownName p q
+no_library_name withs FirstFitPool spot p q = no_library_value withs.pools FirstFitPool spot UnknownName p q
+no_library_name withs OfPools spot p q = p
+no_library_name withs RunInput spot p q = no_library_value withs.run_input RunInput spot UnknownName p q
+no_library_name withs Get spot p q = no_library_value withs.run_input Get spot UnknownName p q
+no_library_name withs EndError spot p q = no_library_value withs.run_input EndError spot UnknownName p q
 no_library_name withs OtherUnit spot p q = p
 no_library_name withs Unknown spot p q = p
 

@@ -1,7 +1,7 @@
 -- What names stand for is there.
 
 use Rattle.std.proofs.Common.{◌≡◌, ℕ, Bool, true, false, List, [], ◌∷◌, refl, sym, ◌∙◌, cond, subst}
-use Rattle.std.specs.Prelude.{Option, Some, None, ◌&&◌, bytes_eq, codes}
+use Rattle.std.specs.Prelude.{Option, Some, None, bytes_eq, codes}
 use Rattle.std.specs.List.{list_all, slice_get}
 use Rattle.std.proofs.lemmas.Bool.{false_from_ne_true}
 use Rattle.std.proofs.lemmas.Slice.Eq.{bytes_eq-Decides}
@@ -17,7 +17,7 @@ use Rattle.ada_resolve.specs.declared.scope.Entity.TheVariants as entity
 use Rattle.ada_resolve.specs.Naming.{truth_name}
 use Rattle.ada_resolve.specs.declared.scope.Role.{Role}
 use Rattle.ada_resolve.specs.declared.scope.Role.TheVariants as role
-use Rattle.ada_resolve.specs.Known.{Known, Named, Part, named, entered, first_named, role_of, from_within, from_part, named_in, inner_first, outermost, unit_named, visible, parts}
+use Rattle.ada_resolve.specs.Known.{Known, Named, Part, named, entered, first_named, role_of, from_within, from_part, named_in, inner_first, outermost, is_unit_named, unit_named, visible, parts}
 use Rattle.ada_resolve.specs.Library.{predefined}
 use Rattle.ada_resolve.proofs.WellFormed.Laid.{AreRecordsLaid}
 
@@ -32,12 +32,13 @@ EntityFits types variables text entity.Boolean = Unit {0}
 EntityFits types variables text (entity.Truth b) = text ≡ truth_name b
 EntityFits types variables text (entity.Number n) = Unit {0}
 EntityFits types variables text (entity.Exception e) = Unit {0}
+EntityFits types variables text (entity.Pool p) = Unit {0}
 EntityFits types variables text entity.Procedure = Unit {0}
 EntityFits types variables text (entity.Callable p) = Unit {0}
 EntityFits types variables text entity.LibraryUnit = Unit {0}
 EntityFits types variables text (entity.Incomplete t) = slice_get types t.0 ≡ Some (record_of text [] [])
 EntityFits types variables text (entity.Record t size) = (ps : List PartForm) × (cs : List ComponentKind) × (slice_get types t.0 ≡ Some (record_of text ps cs))
-EntityFits types variables text (entity.Access t) = (d : ℕ) × (slice_get types t.0 ≡ Some (access_to text d))
+EntityFits types variables text (entity.Access t) = (d : ℕ) × (pool : Option ℕ) × (slice_get types t.0 ≡ Some (access_to text d pool))
 EntityFits types variables text (entity.Instance t) = fits.is_access types t.0 ≡ true
 EntityFits types variables text (entity.Variable x kind) = IsVariableIn variables text kind x.0 × (fits.variable_kind_fits types kind ≡ true)
 EntityFits types variables text (entity.Parameter x kind) =
@@ -137,7 +138,7 @@ first_of_two P None outer x w v e = v x e
 
 -- a library unit has no number
 pub unit_only : (P : Entity → Type 0) (withs : Withs) (text : List ℕ) (x : Entity) → P entity.LibraryUnit → unit_named withs text ≡ Some x → P x
-unit_only P withs text x own e = by_name (bytes_eq text (codes "RUN_INPUT") && withs.run_input) e
+unit_only P withs text x own e = by_name (is_unit_named withs text) e
   where
     by_name : (b : Bool) → cond b (Some entity.LibraryUnit) None ≡ Some x → P x
     by_name true e = let is : entity.LibraryUnit ≡ x = cc e in subst P is own
@@ -177,6 +178,7 @@ outer_fits types variables others text (entity.Access t) x f e = let is : entity
 outer_fits types variables others text (entity.Instance t) x f e = let is : entity.Instance t ≡ x = cc e in subst (EntityFits types variables text) is f
 outer_fits types variables others text (entity.Number n) x f e = let is : entity.Number n ≡ x = cc e in subst (EntityFits types variables text) is tt
 outer_fits types variables others text (entity.Exception n) x f e = let is : entity.Exception n ≡ x = cc e in subst (EntityFits types variables text) is tt
+outer_fits types variables others text (entity.Pool n) x f e = let is : entity.Pool n ≡ x = cc e in subst (EntityFits types variables text) is tt
 outer_fits types variables others text (entity.Callable n) x f e = let is : entity.Callable n ≡ x = cc e in subst (EntityFits types variables text) is tt
 outer_fits types variables others text (entity.Outer kind r) x f e = let is : entity.Outer kind r ≡ x = cc e in subst (EntityFits types variables text) is tt
 outer_fits types variables others text entity.Integer x f e = let is : entity.Integer ≡ x = cc e in subst (EntityFits types variables text) is tt

@@ -11,7 +11,7 @@ use Rattle.ada_program.specs.declared.program.VariableKind.TheVariants as variab
 use Rattle.ada_program.specs.declared.program.ScalarType.{ScalarType}
 use Rattle.ada_program.specs.declared.program.ScalarType.TheVariants.{Integer, Boolean}
 use Rattle.ada_program.specs.declared.program.TypeNo.{TypeNo}
-use Rattle.ada_program.specs.Form.{PathForm, RecordPathForm, ExpressionForm, ItemForm, null_item, item_of_path, item_of_value, item_of_record, RightForm, nothing, value_of, allocates, allocates_default, computes, DeclarationForm, collects, declares, declares_record}
+use Rattle.ada_program.specs.Form.{PathForm, RecordPathForm, ExpressionForm, ItemForm, null_item, item_of_path, item_of_value, item_of_record, RightForm, nothing, value_of, allocates, allocates_default, computes, DeclarationForm, creates_pool, collects, declares, declares_record}
 use Rattle.ada_tree.specs.Names.{Ident, NameTree}
 use Rattle.ada_tree.specs.Expressions.{RightTree}
 use Rattle.ada_program.specs.ProgramForm.{TypeForm, object_of, VariableForm}
@@ -30,7 +30,8 @@ use Rattle.ada_resolve.proofs.WellFormed.Remarks.{Quiet}
 use Rattle.ada_resolve.proofs.WellFormed.Tables.{all_more, both_parts, first_part, second_part, get_last, get_more}
 use Rattle.ada_resolve.proofs.WellFormed.Names.{PartsFit}
 use Rattle.ada_resolve.proofs.WellFormed.Counts.{count_more}
-use Rattle.ada_resolve.proofs.WellFormed.Created.{due, accesses_object}
+use Rattle.ada_resolve.proofs.WellFormed.Created.{due, accesses_object, makes_known}
+use Rattle.ada_resolve.proofs.WellFormed.Forms.{forms_in}
 use Rattle.ada_resolve.proofs.WellFormed.Elaborated.{Late, InOrder, late}
 use Rattle.ada_resolve.proofs.WellFormed.Growing.{lent_stays, taken_stays, collections_stay, components_stay, initials_stay, record_stays}
 use Rattle.ada_resolve.proofs.WellFormed.Typing.{path_before, typed_before, of_type}
@@ -117,9 +118,11 @@ source_before types variables (variable.Record object) s h = absurd (cc h)
 
 -- one more object, the next in order
 next_first : (es : List DeclarationForm) (d : DeclarationForm) → fits.is_object d ≡ true → fits.collections_first es ≡ true → fits.collections_first (es ++ d ∷ []) ≡ true
+next_first [] (creates_pool p) o e = absurd (cc o)
 next_first [] (collects t) o e = absurd (cc o)
 next_first [] (declares x s) o e = refl
 next_first [] (declares_record x object initial) o e = refl
+next_first (creates_pool p ∷ es) d o e = next_first es d o e
 next_first (collects t ∷ es) d o e = next_first es d o e
 next_first (declares x s ∷ es) d o e = all_more fits.is_object es (d ∷ []) e (both_parts (fits.is_object d) true o refl)
 next_first (declares_record x object initial ∷ es) d o e = all_more fits.is_object es (d ∷ []) e (both_parts (fits.is_object d) true o refl)
@@ -167,6 +170,7 @@ created_late k name borrows kind s w f =
           (ap (λ cs. fits.creates_from n k.here.first_variable cs) (append_assoc (map fits.creation es) (of_variable (length k.variables) ∷ []) rest) ∙
           (w.in_order n (of_variable (length k.variables) ∷ rest) ∙
           (rw (one_longer k.variables o, eq-eqb (length k.variables) (length k.variables) refl) refl)));
+      pools = all_more (makes_known (length k.pools)) es (declares (length k.variables) s ∷ []) w.pools refl;
     }
 
 -- one more variable
@@ -187,9 +191,9 @@ items_initial k t o (Some items) h =
     let filled : Bool = fits.is_filled k.types k.variables (fits.record_components k.types t.0) items in
     let own = list_all (fits.item_owns k.variables) items in
     let stays : fits.record_fits more others (fits.record_components more t.0) items ≡ true =
-    record_stays k.types more k.variables others (λ i x is. get_more k.types (object_of t.0) i x is) (λ i x is. get_more k.variables o i x is)
+    record_stays k.types more k.variables others (forms_in k.types more (λ i x is. get_more k.types (object_of t.0) i x is)) (λ i x is. get_more k.variables o i x is)
     (fits.record_components k.types t.0) (fits.record_components more t.0) items
-    (components_stay k.types more k.variables others (λ i x is. get_more k.types (object_of t.0) i x is) (λ i x is. get_more k.variables o i x is) t.0) h in
+    (components_stay k.types more k.variables others (forms_in k.types more (λ i x is. get_more k.types (object_of t.0) i x is)) (λ i x is. get_more k.variables o i x is) t.0) h in
     both_parts (list_all (fits.item_before (length k.variables)) items) (fits.record_fits more others (fits.reached_components more (length k.types)) items)
     (filled_before k.types k.variables (fits.record_components k.types t.0) items (first_part filled own h))
     (rw (get_last k.types (object_of t.0)) stays)
@@ -205,9 +209,9 @@ record_late k name t initial w f =
     record {
       collections_first = next_first es d refl w.collections_first;
       collections_fit = all_more (fits.collection_fits more) es (d ∷ [])
-          (collections_stay k.types more k.variables others (λ i x is. get_more k.types (object_of t.0) i x is) (λ i x is. get_more k.variables o i x is) es w.collections_fit) refl;
+          (collections_stay k.types more k.variables others (forms_in k.types more (λ i x is. get_more k.types (object_of t.0) i x is)) (λ i x is. get_more k.variables o i x is) es w.collections_fit) refl;
       initials_fit = all_more (fits.initial_fits more others) es (d ∷ [])
-          (initials_stay k.types more k.variables others (λ i x is. get_more k.types (object_of t.0) i x is) (λ i x is. get_more k.variables o i x is) es w.initials_fit)
+          (initials_stay k.types more k.variables others (forms_in k.types more (λ i x is. get_more k.types (object_of t.0) i x is)) (λ i x is. get_more k.variables o i x is) es w.initials_fit)
           (both_parts (fits.initial_fits more others d) true
           (both_parts (fits.is_record_object (length k.types) (fits.variable_kind others (length k.variables)))
           (fits.record_initial_fits more others (length k.variables) (fits.reached_components more (length k.types)) initial)
@@ -222,6 +226,7 @@ record_late k name t initial w f =
           (ap (λ cs. fits.creates_from n k.here.first_variable cs) (append_assoc (map fits.creation es) (of_variable (length k.variables) ∷ []) rest) ∙
           (w.in_order n (of_variable (length k.variables) ∷ rest) ∙
           (rw (one_longer k.variables o, eq-eqb (length k.variables) (length k.variables) refl) refl)));
+      pools = all_more (makes_known (length k.pools)) es (d ∷ []) w.pools refl;
     }
 
 record_order : (k : Known) (name : Ident) (t : TypeNo) (initial : Option (List ItemForm)) → k.here.first_variable ≤ length k.variables → Late k → IsRecordInitial k t initial → InOrder (record_created k name t initial)

@@ -65,7 +65,7 @@ designated_same types access = same (slice_get types access)
     same : (o : Option TypeForm) → path.designated_in o ≡ fits.designated_in o
     same None = refl
     same (Some (record_of name ps cs)) = refl
-    same (Some (access_to name d)) = refl
+    same (Some (access_to name d pool)) = refl
     same (Some (object_of r)) = refl
 
 -- what is known of types stays, where more are declared
@@ -113,7 +113,7 @@ has_record types t j c e = by_form (slice_get types t) refl e
     by_form : (o : Option TypeForm) → slice_get types t ≡ o → slice_get (path.components_in o) j ≡ Some c → (name : List ℕ) × (parts : List PartForm) × (components : List ComponentKind) × (slice_get types t ≡ Some (record_of name parts components)) × (slice_get parts j ≡ Some c)
     by_form None is e = absurd (cc e)
     by_form (Some (record_of name ps cs)) is e = (name, ps, cs, is, e)
-    by_form (Some (access_to name d)) is e = absurd (cc e)
+    by_form (Some (access_to name d pool)) is e = absurd (cc e)
     by_form (Some (object_of r)) is e = absurd (cc e)
 
 -- what lies in a part of a part
@@ -159,7 +159,7 @@ named_record types t d w e = by_form (slice_get types t) refl e
     by_form : (o : Option TypeForm) → slice_get types t ≡ o → fits.named_in o ≡ Some d → fits.is_record types d ≡ true
     by_form None is e = absurd (cc e)
     by_form (Some (record_of name ps cs)) is e = absurd (cc e)
-    by_form (Some (access_to name u)) is e = let same : u ≡ d = cc e in subst (λ (v : ℕ). fits.is_record types v ≡ true) same (all_get (fits.type_fits types) types t (access_to name u) w.1 is)
+    by_form (Some (access_to name u pool)) is e = let same : u ≡ d = cc e in subst (λ (v : ℕ). fits.is_record types v ≡ true) same (all_get (fits.type_fits types) types t (access_to name u pool) w.1 is)
     by_form (Some (object_of u)) is e = let same : u ≡ d = cc e in subst (λ (v : ℕ). fits.is_record types v ≡ true) same (all_get (fits.type_fits types) types t (object_of u) w.1 is)
 
 -- an object behind what is held
@@ -177,7 +177,7 @@ named_more types more object d w e = by_form (slice_get types object) refl e
     by_form : (o : Option TypeForm) → slice_get types object ≡ o → record_known_by o ≡ Some d → fits.named_in (slice_get more object) ≡ Some d
     by_form None is e = absurd (cc e)
     by_form (Some (record_of name ps cs)) is e = absurd (cc e)
-    by_form (Some (access_to name t)) is e = absurd (cc e)
+    by_form (Some (access_to name t pool)) is e = absurd (cc e)
     by_form (Some (object_of r)) is e = rw (w object (object_of r) is) e
 
 -- a record object is reached as a whole
@@ -218,7 +218,7 @@ kind_in_record types d n kind e = by_form (slice_get types d) refl e
     by_form : (o : Option TypeForm) → slice_get types d ≡ o → slice_get (elementary_in o) n ≡ Some kind → fits.kind_among (fits.components_in o) n ≡ Some (fits.held_kind kind)
     by_form None is e = absurd (cc e)
     by_form (Some (record_of name ps cs)) is e = rw e refl
-    by_form (Some (access_to name u)) is e = absurd (cc e)
+    by_form (Some (access_to name u pool)) is e = absurd (cc e)
     by_form (Some (object_of r)) is e = absurd (cc e)
 
 kind_is_behind : (types : List TypeForm) (of : Option VariableKind) (n : ℕ) (kind : ComponentKind) → IsWithin types of (kind ∷ []) n → fits.kind_behind types (fits.access_of of) n ≡ Some (fits.held_kind kind)

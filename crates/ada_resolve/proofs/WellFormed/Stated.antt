@@ -146,7 +146,7 @@ mutual
   pub statements_fit : (inside : Bool) (ss : StatementsTree) (at : At) (done : StmtsForm × At) → Sound at.0 → Complete at.0 → statements_told inside ss at ≡ gives done → AllFit at.0 done.1.0 inside done.0
   statements_fit inside no_statements at done w c e =
       let same : (no_stmts, at) ≡ done = cc e in
-      subst (λ (v : StmtsForm × At). AllFit at.0 v.1.0 inside v.0) same (refl, creates_none at.0 at.0 refl refl refl, follows_same at.0)
+      subst (λ (v : StmtsForm × At). AllFit at.0 v.1.0 inside v.0) same (refl, creates_none at.0 at.0 refl refl refl, follows_same at.0, refl)
   statements_fit inside (a_statement s ss) at done w c e =
       let d = statements_done inside s ss at done e in
       let stays = statement_stays inside s at d.own w c d.told in
@@ -182,7 +182,7 @@ mutual
   pub handlers_all_fit : (inside : Bool) (hs : HandlersTree) (at : At) (done : HandlersForm × At) → Sound at.0 → Complete at.0 → handlers_told inside hs at ≡ gives done → HandledFit at.0 done.1.0 inside done.0
   handlers_all_fit inside no_handlers at done w c e =
       let same : (form.no_handlers, at) ≡ done = cc e in
-      subst (λ (v : HandlersForm × At). HandledFit at.0 v.1.0 inside v.0) same (refl, creates_none at.0 at.0 refl refl refl, follows_same at.0)
+      subst (λ (v : HandlersForm × At). HandledFit at.0 v.1.0 inside v.0) same (refl, creates_none at.0 at.0 refl refl refl, follows_same at.0, refl)
   handlers_all_fit inside (a_handler spot choices ss hs) at done w c e =
       let d = handler_done inside spot choices ss hs at done e in
       let k = at.0 in

@@ -1,6 +1,6 @@
 -- What stays of types and objects as more of them are declared.
 
-use Rattle.std.proofs.Common.{◌≡◌, ℕ, ◌<◌, Bool, true, false, ◌&&◌, ◌||◌, List, [], ◌∷◌, ◌++◌, length, refl, zero, suc, sym, ap, subst, eqb, eq-eqb, arith}
+use Rattle.std.proofs.Common.{◌≡◌, ◌∙◌, ℕ, ◌<◌, ◌≤◌, Bool, true, false, ◌&&◌, ◌||◌, List, [], ◌∷◌, ◌++◌, length, refl, zero, suc, sym, ap, subst, eqb, eq-eqb, arith}
 use Rattle.std.specs.Prelude.{Option, Some, None, is_some, not}
 use Rattle.std.specs.List.{list_all, slice_get, slice_set}
 use Rattle.ada_program.specs.declared.program.ComponentKind.{ComponentKind}
@@ -10,6 +10,7 @@ use Rattle.ada_program.specs.declared.program.VariableKind.TheVariants as variab
 use Rattle.ada_program.specs.ProgramForm.{PartForm, TypeForm, record_of, access_to, object_of, VariableForm}
 use Rattle.ada_program.specs.WellFormed as fits
 use Rattle.ada_resolve.specs.Types.{is_designated}
+use Rattle.ada_resolve.proofs.WellFormed.Forms.{AreIn, bare, forms, same_at}
 
 -- both parts of a test
 pub first_part : (a b : Bool) → (a && b) ≡ true → a ≡ true
@@ -32,6 +33,15 @@ module _ {X : Type 0} where
   pub all_more : (p : X → Bool) (xs ys : List X) → list_all p xs ≡ true → list_all p ys ≡ true → list_all p (xs ++ ys) ≡ true
   all_more p [] ys e f = f
   all_more p (x ∷ xs) ys e f = both_parts (p x) (list_all p (xs ++ ys)) (first_part (p x) (list_all p xs) e) (all_more p xs ys (second_part (p x) (list_all p xs) e) f)
+
+  -- both parts of a list
+  pub all_front : (p : X → Bool) (xs ys : List X) → list_all p (xs ++ ys) ≡ true → list_all p xs ≡ true
+  all_front p [] ys e = refl
+  all_front p (x ∷ xs) ys e = both_parts (p x) (list_all p xs) (first_part (p x) (list_all p (xs ++ ys)) e) (all_front p xs ys (second_part (p x) (list_all p (xs ++ ys)) e))
+
+  pub all_back : (p : X → Bool) (xs ys : List X) → list_all p (xs ++ ys) ≡ true → list_all p ys ≡ true
+  all_back p [] ys e = e
+  all_back p (x ∷ xs) ys e = all_back p xs ys (second_part (p x) (list_all p (xs ++ ys)) e)
 
   pub all_set : (p : X → Bool) (xs : List X) (i : ℕ) (y : X) → list_all p xs ≡ true → p y ≡ true → list_all p (slice_set xs i y) ≡ true
   all_set p [] i y e f = refl
@@ -79,6 +89,17 @@ module _ {X : Type 0} where
   all_get p (z ∷ xs) zero x h e = let same : z ≡ x = cc e in subst (λ y. p y ≡ true) same (first_part (p z) (list_all p xs) h)
   all_get p (z ∷ xs) (suc i) x h e = all_get p xs i x (second_part (p z) (list_all p xs) h) e
 
+  -- where there is none
+  pub none_past : (xs : List X) (i : ℕ) → slice_get xs i ≡ None → length xs ≤ i
+  none_past [] i e = omega arith
+  none_past (x ∷ xs) zero e = absurd (cc e)
+  none_past (x ∷ xs) (suc i) e = let h = none_past xs i e in omega (arith, h)
+
+  pub past_none : (xs : List X) (i : ℕ) → length xs ≤ i → slice_get xs i ≡ None
+  past_none [] i le = refl
+  past_none (x ∷ xs) zero le = let no : ⊥ = omega (arith, le) in absurd no
+  past_none (x ∷ xs) (suc i) le = past_none xs i (omega (arith, le))
+
   pub get_within : (xs : List X) (i : ℕ) (x : X) → slice_get xs i ≡ Some x → i < length xs
   get_within [] i x e = absurd (cc e)
   get_within (z ∷ xs) zero x e = omega arith
@@ -122,21 +143,21 @@ components_kept types more w cs e = all_weaker (fits.kind_fits types) (fits.kind
 one_kind : (o : Option TypeForm) → is_some (fits.components_in o) ≡ true → is_some (fits.designated_in o) ≡ true → ⊥
 one_kind None a b = (cc a)
 one_kind (Some (record_of name ps cs)) a b = (cc b)
-one_kind (Some (access_to name d)) a b = (cc a)
+one_kind (Some (access_to name d pool)) a b = (cc a)
 one_kind (Some (object_of r)) a b = (cc a)
 
 -- nor is a type by which a record object is known
 no_object : (o : Option TypeForm) → is_some (fits.components_in o) ≡ true → is_some (fits.object_in o) ≡ true → ⊥
 no_object None a b = (cc a)
 no_object (Some (record_of name ps cs)) a b = (cc b)
-no_object (Some (access_to name d)) a b = (cc a)
+no_object (Some (access_to name d pool)) a b = (cc a)
 no_object (Some (object_of r)) a b = (cc a)
 
 -- objects of the type that an access type designates are what its values name
 pub designated_named : (o : Option TypeForm) (d : ℕ) → fits.designated_in o ≡ Some d → fits.named_in o ≡ Some d
 designated_named None d e = absurd (cc e)
 designated_named (Some (record_of name ps cs)) d e = absurd (cc e)
-designated_named (Some (access_to name t)) d e = e
+designated_named (Some (access_to name t pool)) d e = e
 designated_named (Some (object_of r)) d e = absurd (cc e)
 
 -- one more type
@@ -193,7 +214,7 @@ record_other (x ∷ types) (suc i) form (suc t) ne e = record_other types i form
 -- types that keep both kinds keep what fits
 type_kept : (types more : List TypeForm) → Keeps types more → ((t : ℕ) → fits.is_record types t ≡ true → fits.is_record more t ≡ true) → (x : TypeForm) → fits.type_fits types x ≡ true → fits.type_fits more x ≡ true
 type_kept types more a r (record_of name ps cs) e = components_kept types more a cs e
-type_kept types more a r (access_to name d) e = r d e
+type_kept types more a r (access_to name d pool) e = r d e
 type_kept types more a r (object_of t) e = r t e
 
 pub types_kept : (types more : List TypeForm) → Keeps types more → ((t : ℕ) → fits.is_record types t ≡ true → fits.is_record more t ≡ true) → (xs : List TypeForm) → list_all (fits.type_fits types) xs ≡ true → list_all (fits.type_fits more) xs ≡ true
@@ -219,7 +240,7 @@ types_without types more i a r (record_of name ps cs ∷ xs) d o e =
     both_parts (list_all (fits.kind_fits more) cs) (list_all (fits.type_fits more) xs)
     (components_kept types more a cs (first_part (list_all (fits.kind_fits types) cs) (list_all (fits.type_fits types) xs) e))
     (types_without types more i a r xs d (λ u t is. o (suc u) t is) (second_part (list_all (fits.kind_fits types) cs) (list_all (fits.type_fits types) xs) e))
-types_without types more i a r (access_to name t ∷ xs) d o e =
+types_without types more i a r (access_to name t pool ∷ xs) d o e =
     both_parts (fits.is_record more t) (list_all (fits.type_fits more) xs)
     (r t (λ same. let no : eqb t i ≡ false = left_fails (eqb t i) (is_designated i xs) d in let on : eqb t i ≡ true = eq-eqb t i (sym same) in absurd (cc (no, on)))
     (first_part (fits.is_record types t) (list_all (fits.type_fits types) xs) e))
@@ -228,3 +249,47 @@ types_without types more i a r (object_of t ∷ xs) d o e =
     both_parts (fits.is_record more t) (list_all (fits.type_fits more) xs)
     (r t (λ same. o 0 t refl (sym same)) (first_part (fits.is_record types t) (list_all (fits.type_fits types) xs) e))
     (types_without types more i a r xs d (λ u v is. o (suc u) v is) (second_part (fits.is_record types t) (list_all (fits.type_fits types) xs) e))
+
+-- types that are there stay what they are, but for their pools
+access_bare : (x : TypeForm) → is_some (fits.designated_in (Some (bare x))) ≡ is_some (fits.designated_in (Some x))
+access_bare (record_of name ps cs) = refl
+access_bare (access_to name d pool) = refl
+access_bare (object_of r) = refl
+
+object_bare : (x : TypeForm) → is_some (fits.object_in (Some (bare x))) ≡ is_some (fits.object_in (Some x))
+object_bare (record_of name ps cs) = refl
+object_bare (access_to name d pool) = refl
+object_bare (object_of r) = refl
+
+record_bare : (x : TypeForm) → is_some (fits.components_in (Some (bare x))) ≡ is_some (fits.components_in (Some x))
+record_bare (record_of name ps cs) = refl
+record_bare (access_to name d pool) = refl
+record_bare (object_of r) = refl
+
+module _ (types more : List TypeForm) (g : AreIn (forms types) (forms more)) where
+  pub access_same : (t : ℕ) (x : TypeForm) → slice_get types t ≡ Some x → fits.is_access more t ≡ fits.is_access types t
+  access_same t x is = same_at types more g (λ o. is_some (fits.designated_in o)) access_bare t x is ∙ ap (λ o. is_some (fits.designated_in o)) (sym is)
+
+  access_grows : (t : ℕ) → fits.is_access types t ≡ true → fits.is_access more t ≡ true
+  access_grows t e = by_form (slice_get types t) refl e
+    where
+      by_form : (o : Option TypeForm) → slice_get types t ≡ o → is_some (fits.designated_in o) ≡ true → fits.is_access more t ≡ true
+      by_form None is e = absurd (cc e)
+      by_form (Some form) is e = same_at types more g (λ o. is_some (fits.designated_in o)) access_bare t form is ∙ e
+
+  object_grows : (t : ℕ) → fits.is_object_type types t ≡ true → fits.is_object_type more t ≡ true
+  object_grows t e = by_form (slice_get types t) refl e
+    where
+      by_form : (o : Option TypeForm) → slice_get types t ≡ o → is_some (fits.object_in o) ≡ true → fits.is_object_type more t ≡ true
+      by_form None is e = absurd (cc e)
+      by_form (Some form) is e = same_at types more g (λ o. is_some (fits.object_in o)) object_bare t form is ∙ e
+
+  pub record_grows : (t : ℕ) → fits.is_record types t ≡ true → fits.is_record more t ≡ true
+  record_grows t e = by_form (slice_get types t) refl e
+    where
+      by_form : (o : Option TypeForm) → slice_get types t ≡ o → is_some (fits.components_in o) ≡ true → fits.is_record more t ≡ true
+      by_form None is e = absurd (cc e)
+      by_form (Some form) is e = same_at types more g (λ o. is_some (fits.components_in o)) record_bare t form is ∙ e
+
+  pub types_keep : Keeps types more
+  types_keep = (access_grows, object_grows)

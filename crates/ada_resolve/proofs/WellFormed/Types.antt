@@ -34,8 +34,8 @@ pub record_is : (types : List TypeForm) (t : ℕ) (name : List ℕ) (ps : List P
 record_is types t name ps cs is = rw is refl
 
 -- it is an access type
-pub access_is : (types : List TypeForm) (t : ℕ) (name : List ℕ) (d : ℕ) → slice_get types t ≡ Some (access_to name d) → fits.is_access types t ≡ true
-access_is types t name d is = rw is refl
+pub access_is : (types : List TypeForm) (t : ℕ) (name : List ℕ) (d : ℕ) (pool : Option ℕ) → slice_get types t ≡ Some (access_to name d pool) → fits.is_access types t ≡ true
+access_is types t name d pool is = rw is refl
 
 -- the kinds of an elementary component alone
 abbrev own_kinds : PartKind → List ComponentKind
@@ -44,7 +44,7 @@ own_kinds (part.Record t) = []
 
 -- an elementary component is of what its type's name stands for, and a record is of a record type
 kind_there : (k : Known) (text : List ℕ) (e : Entity) (initial : Option StaticTree) → EntityFits k.types k.variables text e → list_all (fits.kind_fits k.types) (own_kinds (kind_in (Some e) k initial)) ≡ true
-kind_there k text (entity.Access t) initial f = both_parts (fits.is_access k.types t.0) true (access_is k.types t.0 text f.0 f.1) refl
+kind_there k text (entity.Access t) initial f = both_parts (fits.is_access k.types t.0) true (access_is k.types t.0 text f.0 f.1 f.2) refl
 kind_there k text e initial f = refl
 
 kinds_there : (k : Known) (text : List ℕ) (o : Option Entity) (initial : Option StaticTree) → ((e : Entity) → o ≡ Some e → EntityFits k.types k.variables text e) → list_all (fits.kind_fits k.types) (own_kinds (kind_in o k initial)) ≡ true
@@ -58,7 +58,7 @@ elementary_fit types t all = by_form (slice_get types t) refl
     by_form : (o : Option TypeForm) → slice_get types t ≡ o → list_all (fits.kind_fits types) (elementary_in o) ≡ true
     by_form None is = refl
     by_form (Some (record_of name ps cs)) is = all_get (fits.type_fits types) types t (record_of name ps cs) all is
-    by_form (Some (access_to name d)) is = refl
+    by_form (Some (access_to name d pool)) is = refl
     by_form (Some (object_of r)) is = refl
 
 within_fit : (types : List TypeForm) (kind : PartKind) → list_all (fits.type_fits types) types ≡ true → list_all (fits.kind_fits types) (own_kinds kind) ≡ true → list_all (fits.kind_fits types) (kinds_within types kind) ≡ true
@@ -153,7 +153,7 @@ access_if_fits types true t e = e
 access_if_fits types false t e = tt
 
 access_one : (types : List TypeForm) (variables : List VariableForm) (text : List ℕ) (e : Entity) (r : Option TypeNo) → EntityFits types variables text e → IsAccessIn types (access_in (Some e) types r)
-access_one types variables text (entity.Access t) r f = access_if_fits types (designates_if_known types t.0 r) t (access_is types t.0 text f.0 f.1)
+access_one types variables text (entity.Access t) r f = access_if_fits types (designates_if_known types t.0 r) t (access_is types t.0 text f.0 f.1 f.2)
 access_one types variables text e r f = tt
 
 access_named : (types : List TypeForm) (variables : List VariableForm) (text : List ℕ) (o : Option Entity) (r : Option TypeNo) → ((e : Entity) → o ≡ Some e → EntityFits types variables text e) → IsAccessIn types (access_in o types r)
@@ -182,7 +182,7 @@ IsKindIn types (Some kind) = fits.variable_kind_fits types kind ≡ true
 type_one : (types : List TypeForm) (variables : List VariableForm) (text : List ℕ) (e : Entity) → EntityFits types variables text e → IsKindIn types (kind_of (type_in (Some e)))
 type_one types variables text entity.Integer f = refl
 type_one types variables text entity.Boolean f = refl
-type_one types variables text (entity.Access t) f = access_is types t.0 text f.0 f.1
+type_one types variables text (entity.Access t) f = access_is types t.0 text f.0 f.1 f.2
 type_one types variables text e f = tt
 
 type_named : (types : List TypeForm) (variables : List VariableForm) (text : List ℕ) (b c : Bool) (o : Option Entity) → ((e : Entity) → o ≡ Some e → EntityFits types variables text e) → IsKindIn types (kind_of (cond b None (cond c (type_in o) None)))

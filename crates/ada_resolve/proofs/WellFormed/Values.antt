@@ -119,7 +119,7 @@ assigned_fits types variables kind borrows m spot f q r = absurd q
 designated_is : (o : Option TypeForm) (r : ℕ) → is_access_to o r ≡ true → fits.designated_in o ≡ Some r
 designated_is None r e = absurd (cc e)
 designated_is (Some (record_of name ps cs)) r e = absurd (cc e)
-designated_is (Some (access_to name d)) r e = ap (λ v. Some v) (eqb-true d r e)
+designated_is (Some (access_to name d pool)) r e = ap (λ v. Some v) (eqb-true d r e)
 designated_is (Some (object_of t)) r e = absurd (cc e)
 
 pub access_designates : (types : List TypeForm) (access record_type : ℕ) → designates types access record_type ≡ true → fits.designated_type types access ≡ Some record_type

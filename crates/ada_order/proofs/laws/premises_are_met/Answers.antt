@@ -1,6 +1,7 @@
--- By two programs and their runs.
+-- By three programs and their runs.
 use Rattle.ada_order.proofs.Example as example
 use Rattle.ada_order.proofs.Calling as calling
+use Rattle.ada_order.proofs.Pooling as pooling
 use Rattle.ada_order.proofs.laws.premises_are_met.Goals as goal
 
 pub returns-clause-run : goal.returns-clause-run
@@ -14,3 +15,9 @@ returns-clause-call c = (calling.program, calling.form, calling.bodies, calling.
 
 pub returns-clause-call_step : goal.returns-clause-call_step
 returns-clause-call_step c = (calling.program, calling.form, calling.bodies, calling.leaves_body)
+
+pub returns-clause-pools : goal.returns-clause-pools
+returns-clause-pools c = (pooling.program, pooling.form, pooling.opened)
+
+pub returns-clause-pools_left : goal.returns-clause-pools_left
+returns-clause-pools_left c = (pooling.program, pooling.form, pooling.finishes)

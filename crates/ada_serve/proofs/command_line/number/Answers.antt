@@ -1,7 +1,7 @@
 use Rattle.std.proofs.Common.{◌≡◌, ◌∙◌, sym, ap, true, false}
 use Rattle.std.specs.Char.{is_ascii_digit}
 use Rattle.std.specs.List.{list_all}
-use Rattle.ada_serve.proofs.Limits.{not_digits, fitting, unreadable}
+use Rattle.ada_serve.proofs.Numbers.{not_digits, fitting, unreadable}
 use Rattle.ada_serve.proofs.command_line.number.Goals as goal
 
 pub returns-then-not-has_digits_alone : goal.returns-then-not-has_digits_alone

@@ -10,4 +10,4 @@ returns-in_err-numbers-clause-writer g c =
 
 pub returns-then-options-clause-text : goal.returns-then-options-clause-text
 returns-then-options-clause-text g c =
-    answers_run (IsRead g.I.ByteReader.remaining g.I.ByteReader.reads c.args.input.now c.read_numbers.new.input) c.args.accepted.now c.program-program.result.now c.in_ok-numbers.numbers.items c.args.options.now.run c.args.options.now.steps c.args.options.now.refuse (g.W.ByteWriter.contents c.args.out.now) (g.W.ByteWriter.contents c.run.new.out) c.run.result c.if-options.true c.program-program.ensures.program c.in_ok-numbers.ensures.numbers c.run.ensures.text
+    answers_run (IsRead g.I.ByteReader.remaining g.I.ByteReader.reads c.args.input.now c.read_numbers.new.input) c.args.accepted.now c.program-program.result.now c.in_ok-numbers.numbers.items c.args.options.now (g.W.ByteWriter.contents c.args.out.now) (g.W.ByteWriter.contents c.run.new.out) c.run.result c.if-options.true c.program-program.ensures.program c.in_ok-numbers.ensures.numbers c.run.ensures.text

@@ -6,12 +6,13 @@ use Rattle.ada_meaning.specs.Event.{event_of}
 use Rattle.ada_meaning.specs.Named.{next}
 use Rattle.ada_meaning.specs.Run.{Halts}
 use Rattle.ada_interpreter.specs.Machine.{state_in, choices_of, Makes}
-use Rattle.ada_serve.proofs.Steps.{RefusesOne, TakesNewest, breaks_in_line, breaks_in_end, ends_of}
+use Rattle.ada_pools.specs.View.{runner_of}
+use Rattle.ada_serve.proofs.Steps.{PoolGrants, PoolPicks, breaks_in_line, breaks_in_end, ends_of}
 use Rattle.ada_serve.proofs.serve.take_turn.Goals as goal
 
 pub returns-in_err-write_event-in-Ok-clause-text : goal.returns-in_err-write_event-in-Ok-clause-text
 returns-in_err-write_event-in-Ok-clause-text g c =
-    let made : Makes RefusesOne TakesNewest (next c.args.program.now.types.items (body_forms c.args.program.now) (state_in c.args.machine.now)) (choices_of c.args.machine.now) (event_of c.in-Ok.event) (state_in c.step.new.self) (choices_of c.step.new.self) =
+    let made : Makes PoolGrants PoolPicks (next c.args.program.now.types.items (body_forms c.args.program.now) (state_in c.args.machine.now)) (choices_of c.args.machine.now) (event_of c.in-Ok.event) (state_in c.step.new.self) (choices_of c.step.new.self) =
     rw c.requires.same at c.in-Ok.ensures.steps in
     let p = err_from_is_err_and c.from_residual.result c.from_residual.ensures.1 in
     rw (p.1) (breaks_in_line c.args.program.now (state_in c.args.machine.now) (state_in c.step.new.self) (choices_of c.args.machine.now) (choices_of c.step.new.self) (event_of c.in-Ok.event) (g.W.ByteWriter.contents c.args.out.now) (g.W.ByteWriter.contents c.write_event.new.out) made c.in_err-write_event-in-Ok.ensures.text)
@@ -21,4 +22,4 @@ returns-in_err-finish-in-Err-clause-text g c =
     let ends : (c.in-Err.halt ≡ Memory) ⊎ Halts c.args.program.now (state_in c.args.machine.now) c.in-Err.halt =
     rw c.requires.same at (ends_of c.args.machine.now c.in-Err.halt c.step.new.self (c.in-Err.ensures.ends c.requires.runs)) in
     let p = err_from_is_err_and c.from_residual-in_err-finish-in-Err.result c.from_residual-in_err-finish-in-Err.ensures.1 in
-    rw (p.1) (breaks_in_end c.args.program.now (choices_of c.args.machine.now).left (state_in c.args.machine.now) c.in-Err.halt (g.W.ByteWriter.contents c.args.out.now) (g.W.ByteWriter.contents c.finish.new.out) ends c.in_err-finish-in-Err.ensures.text)
+    rw (p.1) (breaks_in_end c.args.program.now (runner_of (choices_of c.args.machine.now)) (state_in c.args.machine.now) c.in-Err.halt (g.W.ByteWriter.contents c.args.out.now) (g.W.ByteWriter.contents c.finish.new.out) ends c.in_err-finish-in-Err.ensures.text)

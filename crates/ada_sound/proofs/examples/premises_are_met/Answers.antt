@@ -1,4 +1,4 @@
--- By twenty-six programs and their runs.
+-- By twenty-seven programs and their runs.
 use Rattle.ada_sound.proofs.Example as example
 use Rattle.ada_sound.proofs.ExampleBlocks as blocks
 use Rattle.ada_sound.proofs.ExampleTargets as targets
@@ -7,6 +7,7 @@ use Rattle.ada_sound.proofs.ExampleBorrowers as borrowers
 use Rattle.ada_sound.proofs.ExampleFrees as frees
 use Rattle.ada_sound.proofs.ExampleRecords as records
 use Rattle.ada_sound.proofs.ExampleCalls as calls
+use Rattle.ada_sound.proofs.ExamplePools as pools
 use Rattle.ada_sound.proofs.examples.premises_are_met.Goals as goal
 
 pub returns-clause-begins : goal.returns-clause-begins
@@ -103,3 +104,6 @@ returns-clause-gives_back_there c = (
   calls.replacing_accepted,
   calls.replaces,
 )
+
+pub returns-clause-has_pools : goal.returns-clause-has_pools
+returns-clause-has_pools c = (pools.pooling, pools.pooling_declares, pools.pooling_pools, pools.pooling_form, pools.pooling_accepted, pools.pools)

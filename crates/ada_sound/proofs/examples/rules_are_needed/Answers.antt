@@ -1,4 +1,4 @@
--- By twenty-six programs and their runs.
+-- By twenty-seven programs and their runs.
 use Rattle.ada_sound.proofs.Example as example
 use Rattle.ada_sound.proofs.ExampleBlocks as blocks
 use Rattle.ada_sound.proofs.ExampleTargets as targets
@@ -7,6 +7,7 @@ use Rattle.ada_sound.proofs.ExampleBorrowers as borrowers
 use Rattle.ada_sound.proofs.ExampleFrees as frees
 use Rattle.ada_sound.proofs.ExampleRecords as records
 use Rattle.ada_sound.proofs.ExampleCalls as calls
+use Rattle.ada_sound.proofs.ExamplePools as pools
 use Rattle.ada_sound.proofs.examples.rules_are_needed.Goals as goal
 
 pub returns-clause-follows : goal.returns-clause-follows
@@ -114,3 +115,6 @@ returns-clause-strips c = (
   calls.stripping_breaks,
   calls.strips,
 )
+
+pub returns-clause-misplaces : goal.returns-clause-misplaces
+returns-clause-misplaces c = (pools.misplacing, pools.misplacing_pools, pools.misplacing_form, pools.misplacing_frees, pools.misplaces)

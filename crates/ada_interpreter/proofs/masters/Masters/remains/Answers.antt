@@ -40,3 +40,10 @@ returns-in-Record c =
     let item : slice_get c.self.inside.items 0 ≡ Some c.in-Some-at.item = cc in
     let some : 0 < c.in-Some.master.count = omega arith in
     rw (← c.self.view_is, c.len-in-Record.ensures) (sym (rw c.in-Record.is at (comes_upon c.self.inside.entered c.self.inside.items c.in-Some.master c.in-Some-at.item top item some)))
+
+pub returns-in-Pool : goal.returns-in-Pool
+returns-in-Pool c =
+    let top : slice_get c.self.inside.entered 0 ≡ Some c.in-Some.master = cc in
+    let item : slice_get c.self.inside.items 0 ≡ Some c.in-Some-at.item = cc in
+    let some : 0 < c.in-Some.master.count = omega arith in
+    rw (← c.self.view_is) (sym (rw c.in-Pool.is at (comes_upon c.self.inside.entered c.self.inside.items c.in-Some.master c.in-Some-at.item top item some)))

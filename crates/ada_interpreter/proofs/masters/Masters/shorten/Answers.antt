@@ -1,7 +1,7 @@
 -- The newest item of the innermost master stands at the end of the stack.
 use Rattle.std.proofs.Common.{◌≡◌, ◌<◌, refl, None, Some, arith}
 use Rattle.std.specs.List.{slice_get}
-use Rattle.ada_interpreter.proofs.MasterLemmas.{none_entered, none_shorter, has_item, shorter_view, shorter_kept}
+use Rattle.ada_interpreter.proofs.MasterLemmas.{none_entered, none_shorter, has_item, shorter_view, shortened}
 use Rattle.ada_interpreter.proofs.masters.Masters.shorten.Goals as goal
 
 pub returns-in_default : goal.returns-in_default
@@ -25,7 +25,7 @@ invariant_of-self c =
     let top : slice_get c.self.inside.entered 0 ≡ Some c.in-Some.master = cc in
     let item : slice_get c.self.inside.items 0 ≡ Some c.in-Some-at.item = cc in
     let some : 0 < c.in-Some.master.count = omega arith in
-    rw (c.set_newest.ensures, c.set_top.ensures, c.shorten.ensures) (shorter_kept c.self.inside.newest.items c.self.inside.entered c.self.inside.items c.in-Some.master c.in-Some-at.item top item some c.self.invariant)
+    shortened c.self.inside.collections.items c.set_newest.new.newest.items c.self.inside.pools.items c.set_newest-2.new.newest.items c.self.inside.pool_count c.uncounted-self-inside.result c.self.inside.entered c.set_top.new.self c.self.inside.items c.shorten.new.self c.in-Some.master c.in-Some-at.item c.access.result c.declaration.result top item some c.access.ensures c.declaration.ensures c.set_newest.ensures c.set_newest-2.ensures c.uncounted-self-inside.ensures c.set_top.ensures c.shorten.ensures c.self.invariant
 
 pub returns : goal.returns
 returns c =

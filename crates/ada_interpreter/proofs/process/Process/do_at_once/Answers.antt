@@ -1,6 +1,6 @@
 use Rattle.std.proofs.Common.{◌≡◌, [], ◌∷◌, refl, ap, sym, subst, arith}
 use Rattle.std.proofs.lemmas.Grind.{common_steps}
-use Rattle.ada_program.specs.Form.{path_form, right_form, skips_form, assigns_form}
+use Rattle.ada_program.specs.Form.{path_form, right_form, skips_form, assigns_form, exits_form}
 use Rattle.ada_meaning.specs.declared.state.Value.TheVariants.{Scalar}
 use Rattle.ada_meaning.specs.Frame as frame
 use Rattle.ada_meaning.specs.Step as step
@@ -27,3 +27,8 @@ returns-in-Some-clause-done c program fs k runs =
     (subst (GoesOn program (step.assign_next named (path_form c.in-Assign.target).selectors x right s)) (sym last)
     (subst (λ cs. GoesOn program (step.assign_next named cs x right s) (step.put x v s)) (sym none)
     (assigned_right program s right c.in-Some.value runs known.0 known.1 x)))
+
+pub returns-in-Exit-clause-done : goal.returns-in-Exit-clause-done
+returns-in-Exit-clause-done c program fs k runs =
+    let on = rw c.as_ref.ensures.value at (c.stays_at_once.ensures program (frame.Does fs ∷ k) c.if-stays_at_once.true runs) in
+    rw (c.in-Exit.is, exits_form c.in-Exit.condition c.in-Exit.spot) on

@@ -1,28 +1,22 @@
-use Rattle.std.proofs.Common.{◌≡◌, ◌<◌, ap, ◌∙◌, arith}
+use Rattle.std.proofs.Common.{◌≡◌, ◌-◌, ◌<◌, ap, sym, ◌∙◌, subst, arith}
 use Rattle.ada_program.specs.Form.{stmts_form}
 use Rattle.ada_meaning.specs.declared.state.Mode.TheVariants.{Running}
+use Rattle.ada_meaning.specs.Frame as frame
 use Rattle.ada_meaning.specs.Named.{State}
-use Rattle.ada_interpreter.specs.Process.{state_of}
-use Rattle.ada_interpreter.proofs.AtOnceLemmas.{ran}
+use Rattle.ada_meaning.specs.Step as step
+use Rattle.ada_interpreter.specs.CommonSteps.{GoesQuietly, MayBegin}
+use Rattle.ada_interpreter.specs.Process.{state_of, pushed}
+use Rattle.ada_interpreter.proofs.AtOnceLemmas.{put_on_again}
 use Rattle.ada_interpreter.proofs.CommonStepLemmas.{within_limit}
 use Rattle.ada_interpreter.proofs.process.Process.do_next.Goals as goal
 
-pub returns-in_ok-make_turns : goal.returns-in_ok-make_turns
-returns-in_ok-make_turns c program runs =
-    let run = c.run_at_once-left in
+pub returns-then-run : goal.returns-then-run
+returns-then-run c program runs =
     let s = state_of c.args.self.now in
-    let there = run.ensures.mode ∙ runs in
-    let done = ran program s (state_of run.new.self) (state_of c.go_behind_statement.new.self) (stmts_form c.args.statements.now) (stmts_form run.result.0.now) _ c.requires.top run.ensures.control there (run.ensures.steps program _ runs) c.in_ok-go_behind_statement.ensures in
-    let less : run.result.1 < c.args.limit = omega (arith, c.if-left-limit.false, run.ensures.left) in
-    let again : (state_of c.go_behind_statement.new.self).mode ≡ Running = ap (λ (t : State). t.mode) c.in_ok-go_behind_statement.ensures ∙ there in
-    let turns = c.in_ok-make_turns.ensures.steps program again in
-    (omega (arith, less, c.in_ok-make_turns.ensures.left), within_limit c.args.limit run.result.1 c.in_ok-make_turns.field-0 done turns run.ensures.left c.in_ok-make_turns.ensures.left)
-
-pub returns-else-is_empty : goal.returns-else-is_empty
-returns-else-is_empty c program runs =
-    let run = c.run_at_once-left in
-    let s = state_of c.args.self.now in
-    let there = run.ensures.mode ∙ runs in (
-      omega (arith, c.if-left-limit.false, run.ensures.left),
-      ran program s (state_of run.new.self) (state_of c.go_behind_statement.new.self) (stmts_form c.args.statements.now) (stmts_form run.result.0.now) _ c.requires.top run.ensures.control there (run.ensures.steps program _ runs) c.in_ok-go_behind_statement.ensures,
-    )
+    let f = frame.Does (stmts_form c.args.statements.now) in
+    let running = ap (λ (t : State). t.mode) c.pass.ensures ∙ runs in
+    let from : pushed f (state_of c.pass.new.self) ≡ s = ap (pushed f) c.pass.ensures ∙ put_on_again s f (step.older s.control) c.requires.top in
+    let run = subst (λ (t : State). GoesQuietly program t (c.args.limit - c.in_ok-run.run'.left) (state_of c.run_through.new.self)) from (c.in_ok-run.ensures.steps program running) in
+    let less : c.in_ok-run.run'.left < c.args.limit = omega (arith, c.requires.statements, c.in_ok-run.ensures.counted c.if-run.true) in
+    let turns = c.in_ok-make_turns.ensures.steps program (c.in_ok-run.ensures.mode ∙ running) in
+    (omega (arith, less, c.in_ok-make_turns.ensures.left), within_limit c.args.limit c.in_ok-run.run'.left c.in_ok-make_turns.field-0 run turns c.in_ok-run.ensures.left c.in_ok-make_turns.ensures.left)

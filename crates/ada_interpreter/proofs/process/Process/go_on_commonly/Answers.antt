@@ -1,34 +1,14 @@
-use Rattle.std.proofs.Common.{◌≡◌, List, ◌∷◌, Some, map, sym, subst, arith}
-use Rattle.std.proofs.lemmas.Grind.{common_steps}
-use Rattle.ada_program.specs.Form.{expression_form, stmts_form, branches_form}
+use Rattle.std.proofs.Common.{◌≡◌, map, ◌∙◌, subst}
 use Rattle.ada_program.specs.ProgramForm.{body_forms}
-use Rattle.ada_meaning.specs.declared.state.Value.{Value}
-use Rattle.ada_meaning.specs.Frame.{Frame}
-use Rattle.ada_meaning.specs.Frame as frame
 use Rattle.ada_meaning.specs.Step as step
 use Rattle.ada_meaning.specs.Named.{named}
+use Rattle.ada_interpreter.specs.declared.process.Process.{Process}
 use Rattle.ada_interpreter.specs.CommonSteps.{MayGoOn}
 use Rattle.ada_interpreter.specs.Process.{frame_of, state_of}
-use Rattle.ada_interpreter.proofs.CommonStepLemmas.{may_once}
 use Rattle.ada_interpreter.proofs.process.Process.go_on_commonly.Goals as goal
 
-pub returns-in-Some-Repeats-Some-default : goal.returns-in-Some-Repeats-Some-default
-returns-in-Some-Repeats-Some-default c program runs =
-    let w = c.in-Some-Repeats-Some-default in
-    let k = map frame_of c.args.self.now.frames in
-    let first : k ≡ frame.Repeats (Some (expression_form w.condition.now)) (stmts_form w.statements.now) ∷ step.older k = grind (arith, common_steps, c.top.ensures, w.is, w.field-0-is, w.field-0-0-is, w.ensures) in
-    subst (λ (k' : List (Frame Value)). MayGoOn program (step.running_next named program.types.items (body_forms program) k' (state_of c.args.self.now)) c.args.self.now c.repeat_at_once.result c.repeat_at_once.new.self) (sym first)
-    (c.repeat_at_once.ensures program runs)
-
-pub returns-in-Some-Decides : goal.returns-in-Some-Decides
-returns-in-Some-Decides c program runs =
-    let w = c.in-Some-Decides in
-    let k = map frame_of c.args.self.now.frames in
-    let first : k ≡ frame.Decides (stmts_form w.statements.now) (branches_form w.branches.now (stmts_form w.otherwise.now)) ∷ step.older k = grind (arith, common_steps, c.top.ensures, w.is, w.field-0-is, w.ensures) in
-    subst (λ (k' : List (Frame Value)). MayGoOn program (step.running_next named program.types.items (body_forms program) k' (state_of c.args.self.now)) c.args.self.now c.decide_next.result c.decide_next.new.self) (sym first)
-    (c.decide_next.ensures program runs)
-
-pub returns-in_default : goal.returns-in_default
-returns-in_default c program runs =
-    may_once program (step.running_next named program.types.items (body_forms program) (map frame_of c.args.self.now.frames) (state_of c.args.self.now)) c.args.self.now c.go_on_by_one.result c.go_on_by_one.new.self
-    (c.go_on_by_one.ensures program.types.items (body_forms program))
+pub returns-in-Unknown : goal.returns-in-Unknown
+returns-in-Unknown c program runs =
+    let same : c.turn_at_once.new.self ≡ c.args.self.now = rw c.in-Unknown.is at (c.turn_at_once.ensures.steps program runs) in
+    subst (λ (p : Process). MayGoOn program (step.running_next named program.types.items (body_forms program) (map frame_of p.frames) (state_of p)) p c.decide_or_go_on.result c.decide_or_go_on.new.self) same
+    (c.decide_or_go_on.ensures program (c.turn_at_once.ensures.mode ∙ runs))

@@ -1,5 +1,6 @@
-use Rattle.std.proofs.Common.{◌≡◌, ◌≤◌, ◌∙◌, sym, false, arith}
+use Rattle.std.proofs.Common.{◌≡◌, ◌-◌, ◌≤◌, ◌∙◌, sym, subst, false, arith}
 use Rattle.ada_meaning.specs.State.{begins}
+use Rattle.ada_interpreter.specs.CommonSteps.{GoesQuietly}
 use Rattle.ada_interpreter.specs.Process.{state_of}
 use Rattle.ada_interpreter.proofs.CommonStepLemmas.{none_made, more_steps, within_limit, lighter_behind}
 use Rattle.ada_interpreter.proofs.process.Process.make_common_steps.Goals as goal
@@ -32,8 +33,8 @@ returns-then-not-branch-clause-steps c =
 
 pub returns-in-None-clause-steps : goal.returns-in-None-clause-steps
 returns-in-None-clause-steps c =
-    let same : c.begin_common_statements.new.self ≡ c.steps.self = rw c.in-None.is at (c.in_ok-begin_common_statements.ensures c.args.program.now) in
-    rw same c.steps.invariant.steps
+    let same : state_of c.begin_common_statements.new.self ≡ state_of c.steps.self = rw c.in-None.is at (c.in_ok-begin_common_statements.ensures c.args.program.now) in
+    subst (GoesQuietly c.args.program.now (state_of c.args.self.now) (c.args.limit - c.statements.left)) (sym same) c.steps.invariant.steps
 
 pub statements-smaller : goal.statements-smaller
 statements-smaller c =

@@ -1,13 +1,6 @@
-use Rattle.std.proofs.Common.{◌≡◌, ◌-◌, List, ◌∷◌, refl, ap, sym, ◌∙◌, subst, arith}
-use Rattle.std.proofs.lemmas.Grind.{common_steps}
-use Rattle.ada_program.specs.Form.{stmts_form}
-use Rattle.ada_meaning.specs.declared.state.Value.{Value}
-use Rattle.ada_meaning.specs.Frame.{Frame}
-use Rattle.ada_meaning.specs.Frame as frame
-use Rattle.ada_meaning.specs.Step as step
-use Rattle.ada_interpreter.specs.CommonSteps.{GoesQuietly, statements_left}
+use Rattle.std.proofs.Common.{◌≡◌, ◌-◌, ◌∙◌, refl, arith}
 use Rattle.ada_interpreter.specs.Process.{state_of}
-use Rattle.ada_interpreter.proofs.AtOnceLemmas.{behind_done}
+use Rattle.ada_interpreter.proofs.AtOnceLemmas.{comes_within}
 use Rattle.ada_interpreter.proofs.CommonStepLemmas.{none_made, quietly_within, within_limit}
 use Rattle.ada_interpreter.proofs.process.Process.make_turns.Goals as goal
 
@@ -18,19 +11,18 @@ turns-init c = record {
   mode = refl;
 }
 
-pub returns-then-not-is_empty-clause-steps : goal.returns-then-not-is_empty-clause-steps
-returns-then-not-is_empty-clause-steps c program runs =
+pub returns-else-run-clause-steps : goal.returns-else-run-clause-steps
+returns-else-run-clause-steps c program runs =
     let i = c.turns.invariant in
     let running = i.mode ∙ runs in
-    let turn = rw c.in-Some.is at (c.in_ok-statements.ensures.steps program running) in
-    let t = state_of c.begin_turn_at_once.new.self in
-    let u = state_of c.run_at_once-now.new.self in
-    let begun = quietly_within (i.steps program runs) turn in
-    let run = c.run_at_once-now.ensures.steps program t.control (c.in_ok-statements.ensures.mode ∙ running) in
-    let all = within_limit c.args.limit c.turns.left c.run_at_once-now.result.1 begun run i.left c.run_at_once-now.ensures.left in
-    let last : step.at (frame.Does (stmts_form c.run_at_once-now.result.0.now) ∷ t.control) u ≡ state_of c.push.new.self =
-    ap (λ (k : List (Frame Value)). step.at (frame.Does (stmts_form c.run_at_once-now.result.0.now) ∷ k) u) (sym c.run_at_once-now.ensures.control) ∙ sym c.in_ok-push.ensures in
-    subst (GoesQuietly program (state_of c.args.self.now) (c.args.limit - c.run_at_once-now.result.1)) last all
+    let turn = rw c.in-Begins.is at (c.turn_at_once.ensures.steps program running) in
+    let begun = quietly_within (i.steps program runs) (comes_within program (state_of c.turns.self) _ running turn.1) in
+    within_limit c.args.limit c.turns.left c.in_ok-run-in-Begins.run'.left begun (c.in_ok-run-in-Begins.ensures.steps program (c.turn_at_once.ensures.mode ∙ running)) i.left c.in_ok-run-in-Begins.ensures.left
+
+pub turns-smaller : goal.turns-smaller
+turns-smaller c =
+    let some = rw c.in-Begins.is at c.turn_at_once.ensures.some in
+    omega (arith, some, c.in_ok-run-in-Begins.ensures.counted c.if-run.true)
 
 pub turns-preserved : goal.turns-preserved
 turns-preserved c =
@@ -38,16 +30,21 @@ turns-preserved c =
     record {
       steps = λ program runs.
           let running = i.mode ∙ runs in
-          let turn = rw c.in-Some.is at (c.in_ok-statements.ensures.steps program running) in
-          let t = state_of c.begin_turn_at_once.new.self in
-          let u = state_of c.run_at_once-now.new.self in
-          let there = c.in_ok-statements.ensures.mode ∙ running in
-          let begun = quietly_within (i.steps program runs) turn in
-          let run = c.run_at_once-now.ensures.steps program t.control there in
-          let all = within_limit c.args.limit c.turns.left c.run_at_once-now.result.1 begun run i.left c.run_at_once-now.ensures.left in
-          let none : statements_left (stmts_form c.run_at_once-now.result.0.now) t.control ≡ u.control = grind (arith, common_steps, c.is_empty.ensures, c.if-not-is_empty.false, c.run_at_once-now.ensures.control) in
-          let done = behind_done program (state_of c.args.self.now) u (stmts_form c.run_at_once-now.result.0.now) t.control (c.args.limit - c.run_at_once-now.result.1) (c.run_at_once-now.ensures.mode ∙ there) all in
-          subst (λ (k : List (Frame Value)). GoesQuietly program (state_of c.args.self.now) (c.args.limit - c.run_at_once-now.result.1) (step.at k u)) none done;
-      left = omega (arith, i.left, c.run_at_once-now.ensures.left);
-      mode = c.run_at_once-now.ensures.mode ∙ (c.in_ok-statements.ensures.mode ∙ i.mode);
+          let turn = rw c.in-Begins.is at (c.turn_at_once.ensures.steps program running) in
+          let begun = quietly_within (i.steps program runs) (comes_within program (state_of c.turns.self) _ running turn.1) in
+          within_limit c.args.limit c.turns.left c.in_ok-run-in-Begins.run'.left begun (c.in_ok-run-in-Begins.ensures.steps program (c.turn_at_once.ensures.mode ∙ running)) i.left c.in_ok-run-in-Begins.ensures.left;
+      left = omega (arith, i.left, c.in_ok-run-in-Begins.ensures.left);
+      mode = c.in_ok-run-in-Begins.ensures.mode ∙ (c.turn_at_once.ensures.mode ∙ i.mode);
     }
+
+pub returns-in-Ends-clause-steps : goal.returns-in-Ends-clause-steps
+returns-in-Ends-clause-steps c program runs =
+    let i = c.turns.invariant in
+    let running = i.mode ∙ runs in
+    quietly_within (i.steps program runs) (comes_within program (state_of c.turns.self) _ running (rw c.in-Ends.is at (c.turn_at_once.ensures.steps program running)))
+
+pub returns-in-Unknown-clause-steps : goal.returns-in-Unknown-clause-steps
+returns-in-Unknown-clause-steps c program runs =
+    let i = c.turns.invariant in
+    let same : c.turn_at_once.new.self ≡ c.turns.self = rw c.in-Unknown.is at (c.turn_at_once.ensures.steps program (i.mode ∙ runs)) in
+    rw same (i.steps program runs)

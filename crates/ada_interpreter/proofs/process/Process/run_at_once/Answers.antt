@@ -14,6 +14,7 @@ statements-init c = record {
   left = omega arith;
   counted = refl;
   unchanged = λ same. refl;
+  rest = λ same. refl;
   control = refl;
   mode = refl;
 }
@@ -26,11 +27,12 @@ statements-preserved c =
       steps = λ program k runs.
           let running = i.mode ∙ runs in
           let so_far = subst (λ xs. GoesQuietly program (step.at (frame.Does (stmts_form c.args.statements.now) ∷ k) (state_of c.args.self.now)) (c.args.limit - c.statements.left) (step.at (frame.Does (stmts_form xs) ∷ k) (state_of c.statements.self))) c.in-Some.ensures.cases.0 (i.steps program k runs) in
-          statement_done program (step.at (frame.Does (stmts_form c.args.statements.now) ∷ k) (state_of c.args.self.now)) (state_of c.statements.self) (state_of c.do_at_once.new.self) (stmt_form c.in-Some.first.now) (stmts_form c.in-Some.behind.now) k c.args.limit c.statements.left running so_far
+          statement_done program (step.at (frame.Does (stmts_form c.args.statements.now) ∷ k) (state_of c.args.self.now)) (state_of c.statements.self) (step.at (frame.Does (stmts_form c.in-Some.behind.now) ∷ k) (state_of c.do_at_once.new.self)) (stmt_form c.in-Some.first.now) (stmts_form c.in-Some.behind.now) k c.args.limit c.statements.left running so_far
           (c.if-not-do_at_once.ensures.done program (stmts_form c.in-Some.behind.now) k running) some i.left;
       left = omega (arith, i.left);
       counted = omega (arith, some, i.counted, c.in-Some.ensures.cases.1);
       unchanged = λ same. absurd (omega (arith, same, some, i.left));
+      rest = λ same. absurd (omega (arith, same, some, i.left));
       control = c.if-not-do_at_once.ensures.control ∙ i.control;
       mode = c.if-not-do_at_once.ensures.mode ∙ i.mode;
     }

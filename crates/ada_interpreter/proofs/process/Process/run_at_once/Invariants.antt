@@ -17,6 +17,7 @@ invariant-statements l = record {
   left : l.left ≤ l.limit;
   counted : length l.statements + l.left ≡ length l.rest + l.limit;
   unchanged : l.left ≡ l.limit → l.self ≡ l.fn.self;
+  rest : l.left ≡ l.limit → l.rest ≡ l.statements;
   control : (state_of l.self).control ≡ (state_of l.fn.self).control;
   mode : l.self.mode ≡ l.fn.self.mode;
 }

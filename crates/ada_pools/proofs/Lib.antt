@@ -1,0 +1,4 @@
+pub mod Totals
+pub mod Tables
+pub mod Holding
+pub mod Views
