@@ -238,22 +238,49 @@ fn sized(alloc: Global, source: &str, line: &str, input: &[u8]) -> Result<(Strin
 fn pools_have_the_sizes_that_are_given(rt: HostRuntime) -> Result<(), Fail> {
     let rows: [(&str, &str, &[u8], &str, u8); 11] = [
         (NODES, "run --standard 12", b"", " 1\nfinished\n", 0),
-        (NODES, "run --standard 11", b"", "unhandled CONSTRAINT_ERROR\n", 2),
+        (
+            NODES,
+            "run --standard 11",
+            b"",
+            "unhandled CONSTRAINT_ERROR\n",
+            2,
+        ),
         (ROOM, "run", b"", "unhandled STORAGE_ERROR\n", 2),
         (ROOM, "run ROOM=11", b"", "unhandled STORAGE_ERROR\n", 2),
         (ROOM, "run ROOM=12", b"", "finished\n", 0),
-        (ROOM, "run room=0 Room=12 --standard 0", b"", "finished\n", 0),
-        (ROOM, "run ROOM=12 --refuse 2", b"", "unhandled STORAGE_ERROR\n", 2),
+        (
+            ROOM,
+            "run room=0 Room=12 --standard 0",
+            b"",
+            "finished\n",
+            0,
+        ),
+        (
+            ROOM,
+            "run ROOM=12 --refuse 2",
+            b"",
+            "unhandled STORAGE_ERROR\n",
+            2,
+        ),
         // a size is for a pool, whatever the input is
         (ROOM, "run ROOM=12 HALL=12", b"x", "F74 no-such-pool", 4),
         (ROOM, "run STANDARD=12", b"", "F74 no-such-pool", 4),
         (NODES, "run ROOM=12", b"", "F74 no-such-pool", 4),
         // but no size is looked at where the source is refused
-        (WRONG, "run ROOM=12", b"x", "refused 1:25 F20 unknown-name\n", 1),
+        (
+            WRONG,
+            "run ROOM=12",
+            b"x",
+            "refused 1:25 F20 unknown-name\n",
+            1,
+        ),
     ];
     for (source, line, input, wanted, status) in rows {
         let (found, code) = sized(rt.alloc(), source, line, input)?;
-        assert!(rt; found.as_str() == wanted && code == status, "at {line}: {found}");
+        assert!(rt;
+            found.as_str() == wanted && code == status,
+            "at {line}: {found}"
+        );
     }
     Ok(())
 }

@@ -75,10 +75,7 @@ fn words_ask_for_a_check_or_a_run(rt: HostRuntime) -> Result<(), Fail> {
         ("run --standard -1", USAGE),
         ("run --standard", USAGE),
         ("check --standard 5", USAGE),
-        (
-            "run P=0 --steps 7 Q=65536",
-            ("run", None, None, 7, 0),
-        ),
+        ("run P=0 --steps 7 Q=65536", ("run", None, None, 7, 0)),
         ("run P=65537", USAGE),
         ("run P=-1", USAGE),
         ("run P=+5", USAGE),
