@@ -1,6 +1,6 @@
 -- Values that expressions have at once: the steps of the definition that lead to them, and what comes behind.
 
-use Rattle.std.proofs.Common.{◌≡◌, ◌≢◌, ℕ, not, ◌==◌, Bool, true, false, List, [], ◌∷◌, length, Option, Some, None, Result, Ok, Err, refl, sym, ap, ◌∙◌, subst, ◌-◌, ◌<◌, ◌≤◌, arith}
+use Rattle.std.proofs.Common.{Bor, ◌≡◌, ◌≢◌, ℕ, not, ◌==◌, Bool, true, false, List, [], ◌∷◌, map, length, Option, Some, None, Result, Ok, Err, refl, sym, ap, ◌∙◌, subst, ◌-◌, ◌<◌, ◌≤◌, arith}
 use Rattle.std.specs.Prelude.{ℤ, pos, ◌+ℤ◌, int_le}
 use Rattle.std.specs.List.{slice_index_or}
 use Rattle.ada_values.specs.declared.value.Value.{Value as ScalarValue}
@@ -12,6 +12,7 @@ use Rattle.ada_values.specs.Outcome.{outcome_of, unary_outcome_of}
 use Rattle.ada_program.specs.declared.program.Branch.{Branch}
 use Rattle.ada_program.specs.declared.program.Program.{Program}
 use Rattle.ada_program.specs.declared.program.Stmt.{Stmt}
+use Rattle.ada_program.specs.declared.program.VariableNo.{VariableNo}
 use Rattle.ada_program.specs.Form.{PathForm, ExpressionForm, integer, boolean, reads, is_null, applied_to, chained, LinksForm, no_more_links, a_link, RightForm, nothing, value_of, allocates, allocates_default, computes, StmtsForm, no_stmts, a_stmt, BranchesForm, a_branch, branches_form, stmts_form, StmtForm, stmt_form}
 use Rattle.ada_program.specs.ProgramForm.{body_forms}
 use Rattle.ada_meaning.specs.declared.state.Value.{Value}
@@ -24,9 +25,17 @@ use Rattle.ada_meaning.specs.Event.{Quiet}
 use Rattle.ada_meaning.specs.State.{Activation, begins, begins_in, begins_among}
 use Rattle.ada_meaning.specs.Step.{moves, is_decided, named_next, null_test_next, outcome_next, link_next, assign_next, branches_next, decided_next, repeats_next, turned_next, turn_next, exit_next, exited_next, frame_next, running_next, mode_next, at, first_or, older, places_of, operands_of, with_operands, places, newest, computed, popped, put, stmt_next, counts_next}
 use Rattle.ada_meaning.specs.Named.{State, next, named, boolean_in, reads_boolean, reads_null, as_value, whole, an_integer}
+use Rattle.ada_interpreter.specs.declared.frame.Frame.{Frame as HeldFrame}
+use Rattle.ada_interpreter.specs.declared.frame.Frame.TheVariants as held
+use Rattle.ada_interpreter.specs.Process.{frame_of}
 use Rattle.ada_interpreter.specs.AtOnce.{variable_at_once, test_of, test_at_once, if_given, applied_at_once, both_at_once, link_at_once, value_at_once, links_at_once, right_at_once}
-use Rattle.ada_interpreter.specs.CommonSteps.{GoesWithin, stays_within, GoesOn, ComesTo, statements_left, GoesQuietly}
+use Rattle.ada_interpreter.specs.CommonSteps.{GoesWithin, stays_within, GoesOn, ComesTo, statements_left, GoesQuietly, counting, newest_counted_to}
 use Rattle.ada_interpreter.proofs.CommonStepLemmas.{goes_once, joined, one_within, one_statement_more, quietly_within, none_made}
+
+-- a turn of a `for` loop begins, where there is a next value and a statement
+pub counts_turn : (x : ℕ) (value last : ℤ) (statements : List Stmt) (s : State) → int_le value last ≡ true → (length statements == 0) ≡ false → counts_next named x value last (stmts_form statements) s ≡ moves Quiet (at (frame.Does (stmts_form statements) ∷ frame.Counts x (value +ℤ pos 1) last (stmts_form statements) ∷ s.control) (put x (an_integer value) s))
+counts_turn x value last [] s up some = absurd (cc some)
+counts_turn x value last (f ∷ fs) s up some = rw up refl
 
 module _ (program : Program) (s : State) (a : Activation Value) (suspended : List (Activation Value)) where
   -- The state with this left to do, and these operands.
@@ -205,6 +214,18 @@ module _ (program : Program) (s : State) (a : Activation Value) (suspended : Lis
   computes_to : (e : ExpressionForm) (v : ScalarValue) → value_at_once a.places e ≡ Some v → (k : List (Frame Value)) (operands : List Value) → GoesWithin program (doing (frame.Computes e ∷ k) operands) (doing k (Scalar v ∷ operands))
   computes_to e v is = subst (ComputesTo e) is (computing e)
 
+  -- The bounds of a `for` loop (5.5).
+  ranges_step : (x : ℕ) (fs : StmtsForm) (low high : ℤ) (k : List (Frame Value)) (operands : List Value) → next program.types.items (body_forms program) (doing (frame.Ranges x fs ∷ k) (an_integer high ∷ an_integer low ∷ operands)) ≡ counts_next named x low high fs (doing k operands)
+  unfolding next
+  ranges_step x fs low high k operands = refl
+
+  ranged_to : (e f : ExpressionForm) (low high : ℤ) (x : ℕ) (statements : List Stmt) (k : List (Frame Value)) → value_at_once a.places e ≡ Some (scalar.Integer low) → value_at_once a.places f ≡ Some (scalar.Integer high) → int_le low high ≡ true → (length statements == 0) ≡ false → GoesWithin program (doing (frame.Computes e ∷ frame.Computes f ∷ frame.Ranges x (stmts_form statements) ∷ k) a.operands) (counting x low high (stmts_form statements) (doing k a.operands))
+  ranged_to e f low high x statements k first last up some =
+      joined (computes_to e (scalar.Integer low) first (frame.Computes f ∷ frame.Ranges x (stmts_form statements) ∷ k) a.operands)
+      (joined (computes_to f (scalar.Integer high) last (frame.Ranges x (stmts_form statements) ∷ k) (an_integer low ∷ a.operands))
+      (one (doing (frame.Ranges x (stmts_form statements) ∷ k) (an_integer high ∷ an_integer low ∷ a.operands)) (counting x low high (stmts_form statements) (doing k a.operands)) refl
+      (ranges_step x (stmts_form statements) low high k a.operands ∙ counts_turn x low high statements (doing k a.operands) up some)))
+
 -- An expression that has a value at once leads to it, in any state that runs.
 has_value : (program : Program) (s : State) (e : ExpressionForm) (v : ScalarValue) (k : List (Frame Value)) (activations : List (Activation Value)) → activations ≢ [] → value_at_once (places_of activations) e ≡ Some v → GoesWithin program (record s { activations = activations; control = frame.Computes e ∷ k; mode = Running }) (record s { activations = with_operands (Scalar v ∷ operands_of activations) activations; control = k; mode = Running })
 has_value program s e v k [] some is = absurd (some refl)
@@ -213,6 +234,15 @@ has_value program s e v k (a ∷ suspended) some is = computes_to program s a su
 pub goes_to_value : (program : Program) (s : State) (e : ExpressionForm) (v : ScalarValue) (k : List (Frame Value)) → s.mode ≡ Running → s.activations ≢ [] → value_at_once (places s) e ≡ Some v → GoesWithin program (at (frame.Computes e ∷ k) s) (computed (Scalar v) (at k s))
 goes_to_value program s e v k runs some is =
     subst (λ (m : Mode). GoesWithin program (record s { control = frame.Computes e ∷ k; mode = m }) (record s { activations = with_operands (Scalar v ∷ operands_of s.activations) s.activations; control = k; mode = m })) (sym runs) (has_value program s e v k s.activations some is)
+
+-- The first turn of a `for` loop whose bounds are known at once begins.
+pub ranged : (program : Program) (s : State) (e f : ExpressionForm) (low high : ℤ) (x : ℕ) (statements : List Stmt) (k : List (Frame Value)) → s.mode ≡ Running → s.activations ≢ [] → value_at_once (places s) e ≡ Some (scalar.Integer low) → value_at_once (places s) f ≡ Some (scalar.Integer high) → int_le low high ≡ true → (length statements == 0) ≡ false → GoesWithin program (at (frame.Computes e ∷ frame.Computes f ∷ frame.Ranges x (stmts_form statements) ∷ k) s) (counting x low high (stmts_form statements) (at k s))
+ranged program s e f low high x statements k runs some first last up filled =
+    subst (λ (m : Mode). GoesWithin program (record s { control = frame.Computes e ∷ frame.Computes f ∷ frame.Ranges x (stmts_form statements) ∷ k; mode = m }) (counting x low high (stmts_form statements) (record s { control = k; mode = m }))) (sym runs) (by s.activations some first last)
+  where
+    by : (activations : List (Activation Value)) → activations ≢ [] → value_at_once (places_of activations) e ≡ Some (scalar.Integer low) → value_at_once (places_of activations) f ≡ Some (scalar.Integer high) → GoesWithin program (record s { activations = activations; control = frame.Computes e ∷ frame.Computes f ∷ frame.Ranges x (stmts_form statements) ∷ k; mode = Running }) (counting x low high (stmts_form statements) (record s { activations = activations; control = k; mode = Running }))
+    by [] none e-is f-is = absurd (none refl)
+    by (a ∷ suspended) none e-is f-is = ranged_to program s a suspended e f low high x statements k e-is f-is up filled
 
 -- The frame behind a value that an expression has at once.
 
@@ -329,7 +359,7 @@ begins_turn condition (f ∷ fs) s some = refl
 -- Statements that are done at once, one after another.
 
 -- the first of them
-pub statement_done : (program : Program) (first s last : State) (f : StmtForm) (fs : StmtsForm) (k : List (Frame Value)) (limit left : ℕ) → s.mode ≡ Running → GoesQuietly program first (limit - left) (at (frame.Does (a_stmt f fs) ∷ k) s) → GoesOn program (stmt_next named (body_forms program) f (at (frame.Does fs ∷ k) s)) last → 0 < left → left ≤ limit → GoesQuietly program first (limit - (left - 1)) last
+pub statement_done : (program : Program) (first s last : State) (f : StmtForm) (fs : StmtsForm) (k : List (Frame Value)) (limit left : ℕ) → s.mode ≡ Running → GoesQuietly program first (limit - left) (at (frame.Does (a_stmt f fs) ∷ k) s) → GoesOn program (stmt_next named program.types.items (body_forms program) f (at (frame.Does fs ∷ k) s)) last → 0 < left → left ≤ limit → GoesQuietly program first (limit - (left - 1)) last
 statement_done program first s last f fs k limit left runs so_far on some within =
     one_statement_more limit left so_far
     (record {
@@ -361,7 +391,7 @@ comes_within program s last runs to =
     joined (one_within program s to.1.mid to.0 (ap (λ (m : Mode). mode_next named program.types.items (body_forms program) m s) runs ∙ to.1.comes)) to.1.behind
 
 -- the first statement begins, with steps behind it
-pub first_begun : (program : Program) (s last : State) (statements : List Stmt) (f : Stmt) (fs : List Stmt) (limit : ℕ) → s.mode ≡ Running → s.control ≡ frame.Does (stmts_form statements) ∷ older s.control → statements ≡ f ∷ fs → GoesOn program (stmt_next named (body_forms program) (stmt_form f) (at (frame.Does (stmts_form fs) ∷ older s.control) s)) last → 0 < limit → GoesQuietly program s (limit - (limit - 1)) last
+pub first_begun : (program : Program) (s last : State) (statements : List Stmt) (f : Stmt) (fs : List Stmt) (limit : ℕ) → s.mode ≡ Running → s.control ≡ frame.Does (stmts_form statements) ∷ older s.control → statements ≡ f ∷ fs → GoesOn program (stmt_next named program.types.items (body_forms program) (stmt_form f) (at (frame.Does (stmts_form fs) ∷ older s.control) s)) last → 0 < limit → GoesQuietly program s (limit - (limit - 1)) last
 first_begun program s last statements f fs limit runs top is on some =
     one_statement_more limit limit (none_made program s limit)
     (record {
@@ -374,14 +404,36 @@ first_begun program s last statements f fs limit runs top is on some =
     first : s.control ≡ frame.Does (a_stmt (stmt_form f) (stmts_form fs)) ∷ older s.control
     first = top ∙ ap (λ (xs : List Stmt). frame.Does (stmts_form xs) ∷ older s.control) is
 
--- a turn of a `for` loop begins, where there is a next value and a statement
-pub counts_turn : (x : ℕ) (value last : ℤ) (statements : List Stmt) (s : State) → int_le value last ≡ true → (length statements == 0) ≡ false → counts_next named x value last (stmts_form statements) s ≡ moves Quiet (at (frame.Does (stmts_form statements) ∷ frame.Counts x (value +ℤ pos 1) last (stmts_form statements) ∷ s.control) (put x (an_integer value) s))
-counts_turn x value last [] s up some = absurd (cc some)
-counts_turn x value last (f ∷ fs) s up some = rw up refl
-
 -- it is done, where there is no next value
 pub counts_done : (x : ℕ) (value last : ℤ) (fs : StmtsForm) (s : State) → int_le value last ≡ false → counts_next named x value last fs s ≡ moves Quiet s
 counts_done x value last fs s past = rw past refl
+
+-- what is left to do is the same, seen as the definition sees it
+pub same_control : {xs ys : List HeldFrame} → xs ≡ ys → map frame_of xs ≡ map frame_of ys
+same_control is = ap (λ (fs : List HeldFrame). map frame_of fs) is
+
+pub older_control : (fs : List HeldFrame) → map frame_of (older fs) ≡ older (map frame_of fs)
+older_control [] = refl
+older_control (f ∷ fs) = refl
+
+-- what comes in front of it is taken off again, behind what has left it as it was
+pub put_back : (then_left put_on before shortened : List HeldFrame) (f : HeldFrame) → then_left ≡ put_on → put_on ≡ f ∷ before → shortened ≡ older then_left → frame_of f ∷ map frame_of shortened ≡ map frame_of then_left
+put_back then_left put_on before shortened f same is shorter =
+    ap (λ (fs : List HeldFrame). frame_of f ∷ map frame_of fs) (shorter ∙ ap older (same ∙ is)) ∙ sym (same_control (same ∙ is))
+
+-- a `for` loop that comes to a turn with this value is first of it
+pub counted_first : (before after : List HeldFrame) (parameter : VariableNo) (value count last : ℤ) (statements : Bor (List Stmt)) → before ≡ held.Counts parameter value last statements ∷ older before → after ≡ newest_counted_to count before → after ≡ held.Counts parameter count last statements ∷ older before
+counted_first before after parameter value count last statements first is = is ∙ ap (newest_counted_to count) first
+
+pub counts_first : (before after : List HeldFrame) (parameter : VariableNo) (value count last : ℤ) (statements : Bor (List Stmt)) → before ≡ held.Counts parameter value last statements ∷ older before → after ≡ newest_counted_to count before → after ≡ held.Counts parameter count last statements ∷ older after
+counts_first before after parameter value count last statements first is =
+    let e = counted_first before after parameter value count last statements first is in
+    e ∙ ap (λ (fs : List HeldFrame). held.Counts parameter count last statements ∷ fs) (sym (ap older e))
+
+-- the next turn
+pub counts_next_turn : (before after then : List HeldFrame) (parameter : VariableNo) (value count last : ℤ) (statements : Bor (List Stmt)) (next_count : ℤ) → before ≡ held.Counts parameter value last statements ∷ older before → after ≡ newest_counted_to count before → then ≡ newest_counted_to next_count after → then ≡ newest_counted_to next_count before
+counts_next_turn before after then parameter value count last statements next_count first is more =
+    more ∙ (ap (newest_counted_to next_count) (counted_first before after parameter value count last statements first is) ∙ sym (ap (newest_counted_to next_count) first))
 
 -- what is left to do stays, where its first thing is taken off and put on again
 pub put_on_again : (s : State) (f : Frame Value) (k : List (Frame Value)) → s.control ≡ f ∷ k → at (f ∷ older s.control) s ≡ s

@@ -1,6 +1,6 @@
 -- Quiet steps one after another, as the machine makes them within a limit of statements.
 
-use Rattle.std.proofs.Common.{◌≡◌, ℕ, ◌+◌, ◌-◌, ◌<◌, ◌≤◌, Bool, true, false, List, [], ◌∷◌, length, reverse, Result, Ok, Err, IfOk, refl, sym, ap, ◌∙◌, subst, arith}
+use Rattle.std.proofs.Common.{◌≡◌, ℕ, ◌+◌, ◌-◌, ◌<◌, ◌≤◌, Bool, true, false, List, [], ◌∷◌, length, reverse, Option, Some, None, Result, Ok, Err, IfOk, IfSome, refl, sym, ap, ◌∙◌, subst, arith}
 use Rattle.std.proofs.Math.ListN.{set, get_or}
 use Rattle.std.proofs.lemmas.Grind.{get_or_head}
 use Rattle.std.proofs.lemmas.List.{get_or-reverse, reverse-reverse, length-reverse}
@@ -36,11 +36,11 @@ quietly_within {program} {first} {mid} {last} {statements} so_far (goes_within b
     goes_on statements before (quietly_within so_far more) is (sym (ap (λ (b : Bool). begun_with b statements) starts))
 
 -- and make the state no heavier
-pub no_heavier : StepsMakeLighter → {program : Program} {first last : State} → GoesWithin program first last → weight last ≤ weight first
+pub no_heavier : StepsMakeLighter → {program : Program} {first last : State} → GoesWithin program first last → weight program.types.items last ≤ weight program.types.items first
 no_heavier lightens stays_within = omega arith
 no_heavier lightens {program} {first} {last} (goes_within mid more starts is) =
-    let less : weight last < weight mid = lightens program mid settled Quiet last starts (subst (λ (coming : Next). Leads coming settled Quiet last) (sym is) (refl, refl)) in
-    let so_far : weight mid ≤ weight first = no_heavier lightens more in
+    let less : weight program.types.items last < weight program.types.items mid = lightens program mid settled Quiet last starts (subst (λ (coming : Next). Leads coming settled Quiet last) (sym is) (refl, refl)) in
+    let so_far : weight program.types.items mid ≤ weight program.types.items first = no_heavier lightens more in
     omega (arith, less, so_far)
 
 -- steps behind what goes on so far
@@ -75,10 +75,10 @@ one_statement_more {program} {first} {mid} {last} limit left so_far on starts so
     let begun : begun_with true (limit - left) ≡ begun_with (begins mid) (limit - left) = sym (ap (λ (b : Bool). begun_with b (limit - left)) starts) in
     quietly_within (goes_on (limit - left) mid so_far on.comes (rw count begun)) on.behind
 
-pub lighter_behind : StepsMakeLighter → (program : Program) (mid last : State) → GoesOn program (next program.types.items (body_forms program) mid) last → begins mid ≡ false → weight last < weight mid
+pub lighter_behind : StepsMakeLighter → (program : Program) (mid last : State) → GoesOn program (next program.types.items (body_forms program) mid) last → begins mid ≡ false → weight program.types.items last < weight program.types.items mid
 lighter_behind lightens program mid last on starts =
-    let less : weight on.mid < weight mid = lightens program mid settled Quiet on.mid starts (subst (λ (coming : Next). Leads coming settled Quiet on.mid) (sym on.comes) (refl, refl)) in
-    let so_far : weight last ≤ weight on.mid = no_heavier lightens on.behind in
+    let less : weight program.types.items on.mid < weight program.types.items mid = lightens program mid settled Quiet on.mid starts (subst (λ (coming : Next). Leads coming settled Quiet on.mid) (sym on.comes) (refl, refl)) in
+    let so_far : weight program.types.items last ≤ weight program.types.items on.mid = no_heavier lightens on.behind in
     omega (arith, less, so_far)
 
 -- quiet steps behind quiet steps
@@ -100,6 +100,10 @@ within_limit {program} {first} {mid} {last} limit left now so_far more within fu
 pub both_ok : {T E : Type 0} (r : Result T E) (P Q R : T → Type 0) → ((x : T) → P x → Q x → R x) → IfOk r P → IfOk r Q → IfOk r R
 both_ok (Ok x) P Q R f p q = f x p q
 both_ok (Err e) P Q R f p q = tt
+
+pub some_then : {T : Type 0} (o : Option T) (P Q : T → Type 0) → ((x : T) → P x → Q x) → IfSome o P → IfSome o Q
+some_then (Some x) P Q f p = f x p
+some_then None P Q f p = tt
 
 -- The newest frame is counted on where it lies, at the end of a list that is kept oldest first.
 

@@ -4,6 +4,7 @@ use Rattle.std.proofs.Common.{◌≡◌, ℕ, ℤ, List, [], ◌∷◌, ◌++◌
 use Rattle.ada_program.specs.declared.program.ComponentNo.{ComponentNo}
 use Rattle.ada_program.specs.Form.{RightForm, component_number}
 use Rattle.ada_meaning.specs.declared.state.Value.{Value}
+use Rattle.ada_program.specs.declared.program.TypeDefinition.{TypeDefinition}
 use Rattle.ada_meaning.specs.Frame.{Frame}
 use Rattle.ada_meaning.specs.Frame as frame
 use Rattle.ada_meaning.specs.Step.{at, held, named_next, holder_next, first_in, before_last, last_of, assign_next, frees_next, gets_next, open_next}
@@ -34,9 +35,9 @@ gets_split [] last n x input s is = rw is refl
 gets_split (c ∷ cs) last n x input s is = rw is (holder_split c cs last x (λ (d : ℕ). frame.Receives d) s)
 
 -- So does a Free.
-pub frees_split : (cs : List ComponentNo) (last n : ComponentNo) (access x : ℕ) (s : State) → n.0 ≡ first_in named (held named s x) (map component_number cs) last.0 → frees_next named (map component_number (cs ++ last ∷ [])) access x s ≡ named_next named (map component_number cs) x (at (frame.FreesIn access n.0 ∷ s.control) s)
-frees_split [] last n access x s is = rw is refl
-frees_split (c ∷ cs) last n access x s is = rw is (holder_split c cs last x (λ (d : ℕ). frame.FreesIn access d) s)
+pub frees_split : (types : List TypeDefinition) (cs : List ComponentNo) (last n : ComponentNo) (access x : ℕ) (s : State) → n.0 ≡ first_in named (held named s x) (map component_number cs) last.0 → frees_next named types (map component_number (cs ++ last ∷ [])) access x s ≡ named_next named (map component_number cs) x (at (frame.FreesIn access n.0 ∷ s.control) s)
+frees_split types [] last n access x s is = rw is refl
+frees_split types (c ∷ cs) last n access x s is = rw is (holder_split c cs last x (λ (d : ℕ). frame.FreesIn access d) s)
 
 -- So does what is given for a formal parameter of mode `in out`.
 pub opens_split : (cs : List ComponentNo) (last n : ComponentNo) (x : ℕ) (s : State) → n.0 ≡ first_in named (held named s x) (map component_number cs) last.0 → open_next named (map component_number (cs ++ last ∷ [])) x s ≡ named_next named (map component_number cs) x (at (frame.OpensIn n.0 ∷ s.control) s)

@@ -6,6 +6,8 @@ pub mod MemberLemmas
 pub mod MasterLemmas
 -- one element that changes, in what the list is seen as
 pub mod ChangeLemmas
+-- turns that leave nothing open, and treatments that go on
+pub mod TurnLemmas
 -- quiet steps, one after another
 pub mod CommonStepLemmas
 -- the last component of a path, and those before it
@@ -20,3 +22,5 @@ pub mod CallLemmas
 pub mod OperandLemmas
 -- values that expressions have at once
 pub mod AtOnceLemmas
+-- what operators give of two numbers
+pub mod NumberLemmas

@@ -13,7 +13,7 @@ use Rattle.ada_interpreter.specs.declared.newest.Newest.{Newest}
 use Rattle.ada_interpreter.specs.declared.masters.Item.{Item as HeldItem}
 use Rattle.ada_interpreter.specs.declared.masters.Master.{Master as HeldMaster}
 use Rattle.ada_interpreter.specs.declared.masters.Remains.TheVariants as remains
-use Rattle.ada_interpreter.specs.Masters.{owned_of, access_key, pool_key, pool_known, known, items_of, masters_of, AreOwned, newest_by, newest_in, IsLinked, AreLinked, AreIndexed, IsIndex, counted_by, uncounted_by, pools_among, AreKept, remains_at, remains_in, remains_of, HasNoItem, previous_of, with_newest, HasRoom, home_by, pool_by}
+use Rattle.ada_interpreter.specs.Masters.{owned_of, access_key, pool_key, pool_known, known, items_of, masters_of, AreOwned, newest_by, newest_in, IsLinked, AreIndexed, IsIndex, counted_by, uncounted_by, pools_among, AreKept, remains_at, remains_in, remains_of, HasNoItem, previous_of, with_newest, HasRoom, home_by, pool_by}
 
 length-items : (is : List HeldItem) → length (items_of is) ≡ length is
 length-items [] = refl

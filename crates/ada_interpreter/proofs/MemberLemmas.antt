@@ -9,9 +9,9 @@ use Rattle.std.proofs.lemmas.List.Elements.{filter-append}
 use Rattle.ada_meaning.specs.declared.state.Id.{Id}
 use Rattle.ada_meaning.specs.declared.state.Value.{Value}
 use Rattle.ada_meaning.specs.declared.state.Value.TheVariants.{Names}
-use Rattle.ada_meaning.specs.Heap.{Cell}
+use Rattle.ada_meaning.specs.Heap.{Cell, PartState}
 use Rattle.ada_meaning.specs.Named.{Object, object_at, changed, parted, finished, returned, filled, new_object, is_member, members_from, members_of}
-use Rattle.ada_interpreter.specs.Objects.{is_member_by, is_member_at, members_among, Kept, nothing_kept, kept_at, AreGiven, Shows, AreShelved, entered, discounted, discounted_at, listed_home, gone, filled_from, IsTidied}
+use Rattle.ada_interpreter.specs.Objects.{is_member_by, is_member_at, members_among, Kept, nothing_kept, kept_at, AreGiven, Shows, AreShelved, entered, discounted, discounted_at, listed_home, gone, filled_from, with_part_state, IsTidied}
 
 -- a name other than the one of this number
 abbrev is_other : ℕ → Id → Bool
@@ -268,6 +268,9 @@ filled_shelved c v xs kept o shelved = same_by (filled c v) xs kept o (object_at
 
 pub filled_from_shelved : (first : ℕ) (vs : List Value) (xs : List Object) (kept : List Kept) (o : Id) → AreShelved xs kept → AreShelved (changed (filled_from first vs) (object_at xs o) xs o) kept
 filled_from_shelved first vs xs kept o shelved = same_by (filled_from first vs) xs kept o (object_at xs o) (λ x i. refl) refl shelved
+
+pub part_state_shelved : (part : ℕ) (state : PartState) (xs : List Object) (kept : List Kept) (o : Id) → AreShelved xs kept → AreShelved (changed (with_part_state part state) (object_at xs o) xs o) kept
+part_state_shelved part state xs kept o shelved = same_by (with_part_state part state) xs kept o (object_at xs o) (λ x i. refl) refl shelved
 
 -- entries are taken away that are no members
 pub tidied_shelved : (xs : List Object) (before after : List Kept) → ((i : ℕ) → IsTidied xs i (kept_at before i) (kept_at after i)) → AreShelved xs before → AreShelved xs after

@@ -1,9 +1,10 @@
 -- The common steps: what making one of them does to a run in progress.
 
-use Rattle.std.specs.Prelude.{◌≡◌, ℕ, ℤ, ◌-◌, ◌<◌, Bool, true, false, List, [], ◌∷◌, map, length, Option, Some, None, Result, Ok, Err}
+use Rattle.std.specs.Prelude.{◌≡◌, ℕ, ℤ, pos, ◌+ℤ◌, int_lt, ◌-◌, ◌<◌, Bool, true, false, List, [], ◌∷◌, map, length, Option, Some, None, Result, Ok, Err, IfOk}
+use Rattle.std.specs.Option.{option_copied}
 use Rattle.std.specs.declared.alloc.AllocError.{AllocError}
 use Rattle.ada_program.specs.declared.program.Program.{Program}
-use Rattle.ada_program.specs.Form.{StmtForm, StmtsForm, no_stmts, a_stmt, stmts_form}
+use Rattle.ada_program.specs.Form.{StmtForm, StmtsForm, no_stmts, a_stmt, stmts_form, condition_form}
 use Rattle.ada_program.specs.ProgramForm.{body_forms}
 use Rattle.ada_meaning.specs.declared.state.Value.{Value}
 use Rattle.ada_meaning.specs.declared.state.Mode.TheVariants.{Running}
@@ -11,14 +12,17 @@ use Rattle.ada_meaning.specs.Frame.{Frame}
 use Rattle.ada_meaning.specs.Frame as frame
 use Rattle.ada_meaning.specs.Event.{Quiet}
 use Rattle.ada_meaning.specs.State.{begins}
-use Rattle.ada_meaning.specs.Step.{moves, at, stmt_next, running_next}
-use Rattle.ada_meaning.specs.Named.{State, Next, next, named}
+use Rattle.ada_meaning.specs.Step.{moves, at, older, put, stmt_next, running_next}
+use Rattle.ada_meaning.specs.Named.{State, Next, next, named, an_integer}
 use Rattle.ada_meaning.specs.Chosen.{begun_with}
 use Rattle.ada_interpreter.specs.declared.frame.Frame.{Frame as HeldFrame}
 use Rattle.ada_interpreter.specs.declared.frame.Frame.TheVariants as held
 use Rattle.ada_interpreter.specs.declared.process.Process.{Process}
 use Rattle.ada_interpreter.specs.declared.turn.NextTurn.{NextTurn}
 use Rattle.ada_interpreter.specs.declared.turn.NextTurn.TheVariants.{Begins, Ends, Unknown}
+use Rattle.ada_interpreter.specs.declared.turn.Run.{Run}
+use Rattle.ada_interpreter.specs.declared.turn.Inner.{Inner}
+use Rattle.ada_interpreter.specs.declared.turn.Inner.TheVariants.{Branch, Turns, Counts}
 use Rattle.ada_interpreter.specs.Process.{frame_of, state_of}
 
 -- What comes is a quiet step, and it is made; or nothing changes; unless memory runs out.
@@ -63,7 +67,7 @@ ComesTo program first last =
 abbrev pub IsDone : StmtForm → (before : Process) → (done : Bool) → (after : Process) → Type 0
 IsDone f before true after =
     (program : Program) (fs : StmtsForm) (k : List (Frame Value)) → before.mode ≡ Running →
-    GoesOn program (stmt_next named (body_forms program) f (at (frame.Does fs ∷ k) (state_of before))) (at (frame.Does fs ∷ k) (state_of after))
+    GoesOn program (stmt_next named program.types.items (body_forms program) f (at (frame.Does fs ∷ k) (state_of before))) (at (frame.Does fs ∷ k) (state_of after))
 IsDone f before false after = after ≡ before
 
 -- Where a branch is done, what is behind its `if` is first of what is left to do; where it isn't, what is left of it is there already.
@@ -93,3 +97,36 @@ ComesToTurn program before (Begins statements) after =
     (0 < length statements.now) × ComesTo program (state_of before) (at (frame.Does (stmts_form statements.now) ∷ map frame_of after.frames) (state_of after))
 ComesToTurn program before Ends after = ComesTo program (state_of before) (state_of after)
 ComesToTurn program before Unknown after = after ≡ before
+
+-- What is left to do, where a loop comes to its next turn (5.5): the same, or all but the loop.
+abbrev pub TurnsFrames : (before : List HeldFrame) → NextTurn → (after : List HeldFrame) → Type 0
+TurnsFrames before (Begins statements) after = after ≡ before
+TurnsFrames before Ends after = after ≡ older before
+TurnsFrames before Unknown after = after ≡ before
+
+-- The same of a `for` loop, whose parameter has this value: a turn begins with the next one, which is no greater than the last.
+abbrev pub CountsOn : (value last : ℤ) → (before : List HeldFrame) → NextTurn → (after : List HeldFrame) → Type 0
+CountsOn value last before (Begins statements) after =
+    (int_lt value last ≡ true) × (after ≡ newest_counted_to (value +ℤ pos 1) before)
+CountsOn value last before Ends after = after ≡ older before
+CountsOn value last before Unknown after = after ≡ before
+
+-- The first turn of a `for` loop begins (5.5).
+abbrev pub counting : (parameter : ℕ) → (first last : ℤ) → StmtsForm → State → State
+counting x first last fs s = put x (an_integer first) (at (frame.Does fs ∷ frame.Counts x (first +ℤ pos 1) last fs ∷ s.control) s)
+
+-- What a statement in which others stand begins with comes in front of what is left to do (5.3, 5.5).
+abbrev pub begun_with_inner : Inner → State → State
+begun_with_inner (Branch statements) s = at (frame.Does (stmts_form statements.now) ∷ s.control) s
+begun_with_inner (Turns condition statements) s =
+    at (frame.Repeats (condition_form (option_copied condition)) (stmts_form statements.now) ∷ s.control) s
+begun_with_inner (Counts parameter first last statements) s = counting parameter.0 first last (stmts_form statements.now) s
+
+-- Statements, or turns of a loop, run so: in quiet steps, in which as many statements begin as no longer may; unless memory runs out.
+abbrev pub Runs : (program : Program) → (first : State) → (limit : ℕ) → (made : Result Run AllocError) → (last : State) → Type 0
+Runs program first limit made last = IfOk made (λ run. GoesQuietly program first (limit - run.left) last)
+
+-- They run so in front of others: where they are done, the others are first of what is left to do; else those are there already.
+abbrev pub RunsBefore : (behind : StmtsForm) → (program : Program) → (first : State) → (limit : ℕ) → (made : Result Run AllocError) → (last : State) → Type 0
+RunsBefore behind program first limit made last =
+    IfOk made (λ run. GoesQuietly program first (limit - run.left) (before_rest run.is_done behind last))

@@ -1,5 +1,7 @@
 -- The machine that runs programs over names, in the order in which it is read.
 
+-- controlled parts and their treatments
+pub mod Treatment
 -- objects by name, and the members of each collection
 pub mod Objects
 -- activations, with their places behind one another

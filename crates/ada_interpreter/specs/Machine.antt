@@ -22,7 +22,7 @@ state_in m = state_of m.process
 
 -- The program that a machine runs.
 abbrev pub program_of : {C : Type 0} → Machine C → Program
-program_of m = m.program.now
+program_of m = m.loaded.program.now
 
 -- Who answers what the run leaves open.
 abbrev pub choices_of : {C : Type 0} → Machine C → C

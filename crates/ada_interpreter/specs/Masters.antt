@@ -87,13 +87,14 @@ AreLinked key_of (i ∷ is) = IsLinked key_of (key_of i.owned) i.previous is × 
 abbrev pub AreIndexed : (HeldOwned → Option ℕ) → List (Option Newest) → List HeldItem → Type 0
 AreIndexed key_of newest is = (key : ℕ) → slice_index_or newest key None ≡ newest_in key_of key is
 
--- How many pools exist with what is owned, and without it, where so many exist without it, or with it.
+-- How many pools exist with what is owned, where so many exist without it.
 abbrev pub counted_by : HeldOwned → (pools : ℕ) → ℕ
 counted_by (held.Declared variable) pools = pools
 counted_by (held.Collection access pool) pools = pools
 counted_by (held.Record t) pools = pools
 counted_by (held.Pool declaration number) pools = pools + 1
 
+-- How many pools exist without what is owned, where so many exist with it.
 abbrev pub uncounted_by : HeldOwned → (pools : ℕ) → ℕ
 uncounted_by (held.Declared variable) pools = pools
 uncounted_by (held.Collection access pool) pools = pools

@@ -1,16 +1,17 @@
 -- Objects by name, and the members of each collection.
 
-use Rattle.std.specs.Prelude.{◌≡◌, ℕ, ◌+◌, ◌-◌, ◌<◌, Bool, false, if◌then◌else◌, List, [], ◌∷◌, ◌++◌, reverse, length, Option, Some, None}
-use Rattle.std.specs.List.{slice_index_or, slice_set, filter}
+use Rattle.std.specs.Prelude.{◌≡◌, ℕ, ◌+◌, ◌-◌, ◌<◌, Bool, false, if◌then◌else◌, List, [], ◌∷◌, ◌++◌, reverse, length, map, Option, Some, None}
+use Rattle.std.specs.List.{slice_get, slice_index_or, slice_set, filter}
 use Rattle.ada_meaning.specs.declared.state.Id.{Id}
 use Rattle.ada_meaning.specs.declared.state.Value.{Value}
 use Rattle.ada_meaning.specs.declared.state.Stage.TheVariants.{Gone}
-use Rattle.ada_meaning.specs.Heap.{Home, Cell}
-use Rattle.ada_meaning.specs.Named.{Object, object_at, is_member, members_of}
+use Rattle.ada_meaning.specs.Heap.{Home, PartState, Cell, Found, on_null, on_gone, on_other, finds}
+use Rattle.ada_meaning.specs.Named.{Object, object_at, seen, is_member, members_of}
 use Rattle.ada_interpreter.specs.declared.objects.Home.{Home as HeldHome}
 use Rattle.ada_interpreter.specs.declared.objects.Cell.{Cell as HeldCell}
 use Rattle.ada_interpreter.specs.declared.objects.Object.{Object as HeldObject}
 use Rattle.ada_interpreter.specs.declared.shelves.Shelf.{Shelf}
+use Rattle.ada_interpreter.specs.Treatment.{part_form}
 
 -- The home, the cell and the object that the machine keeps.
 abbrev pub home_form : HeldHome → Home
@@ -18,11 +19,12 @@ home_form home = record { item = home.item; pool = home.pool; subpool = home.sub
 
 -- The cell of an object, as the code keeps it.
 abbrev pub cell_of : HeldCell → Cell Value
-cell_of cell = record { access = cell.access.0; number = cell.number; home = home_form cell.home; values = cell.values.items }
+cell_of cell = record { access = cell.access.0; number = cell.number; home = home_form cell.home; values = cell.values.items; parts = map part_form cell.parts.items }
 
 -- What lies in a record object, whose home is its own item.
-abbrev pub declared_cell : (object_type item : ℕ) → List Value → Cell Value
-declared_cell t item values = record { access = t; number = 0; home = record { item = item; pool = None; subpool = None }; values = values }
+abbrev pub declared_cell : (object_type item : ℕ) → List Value → List PartState → Cell Value
+declared_cell t item values parts =
+    record { access = t; number = 0; home = record { item = item; pool = None; subpool = None }; values = values; parts = parts }
 
 -- An object, as the code keeps it.
 abbrev pub object_of : HeldObject → Object
@@ -103,6 +105,21 @@ set_from values first (v ∷ vs) = set_from (slice_set values first v) (first + 
 -- An object once its components have other values, from one on (5.2).
 abbrev pub filled_from : (first : ℕ) → List Value → Object → Object
 filled_from first vs object = record object { cell = record (object.cell) { values = set_from object.cell.values first vs } }
+
+-- A controlled part of what is found (7.6), if an object is found that exists and has that part.
+abbrev pub part_in : Found (Cell Value) → (part : ℕ) → Option PartState
+part_in on_null part = None
+part_in on_gone part = None
+part_in on_other part = None
+part_in (finds cell) part = slice_get cell.parts part
+
+-- That of the object of a name.
+abbrev pub part_at : List Object → Id → (part : ℕ) → Option PartState
+part_at objects o part = part_in (seen (object_at objects o)) part
+
+-- An object once one of its controlled parts has another state (7.6, 7.6.1).
+abbrev pub with_part_state : (part : ℕ) → PartState → Object → Object
+with_part_state part state object = record object { cell = record (object.cell) { parts = slice_set object.cell.parts part state } }
 
 -- Entries are taken away, none of them a member's.
 pub record Trims (objects : List Object) (item : ℕ) (before after : List Id) : Type 0 where

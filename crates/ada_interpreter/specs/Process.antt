@@ -1,10 +1,13 @@
 -- A run in progress: the state that it stands for, and what a turn of it does.
 
-use Rattle.std.specs.Prelude.{◌≡◌, ℕ, pos, ◌+ℤ◌, List, [], ◌∷◌, map, Option, Some, Result, Ok, Err}
+use Rattle.std.specs.Prelude.{◌≡◌, ℕ, Bool, true, false, pos, ◌+ℤ◌, List, [], ◌∷◌, map, Option, Some, Result, Ok, Err}
 use Rattle.std.specs.Option.{option_copied}
 use Rattle.std.specs.declared.alloc.AllocError.{AllocError}
 use Rattle.ada_program.specs.Form.{component_number, path_form, record_path_form, reads, value_of, actual_form, expression_form, links_form, item_form, right_form, initial_form, condition_form, stmts_form, branches_form, handlers_form, declaration_form}
 use Rattle.ada_program.specs.ProgramForm.{body_form}
+use Rattle.ada_parts.specs.Task.{taken as taken_task}
+use Rattle.ada_program.specs.Controlled.{shapes_of}
+use Rattle.ada_program.specs.declared.program.TypeDefinition.{TypeDefinition}
 use Rattle.ada_program.specs.declared.program.Exception.TheVariants.{ConstraintError}
 use Rattle.ada_meaning.specs.declared.state.Value.{Value as ValueOf}
 use Rattle.ada_meaning.specs.declared.state.Value.TheVariants.{Names}
@@ -14,9 +17,10 @@ use Rattle.ada_meaning.specs.declared.event.Cause.TheVariants.{Leaving as leavin
 use Rattle.ada_meaning.specs.Frame.{Frame, Landing, passes_on, goes_behind, goes_in}
 use Rattle.ada_meaning.specs.Frame as frame
 use Rattle.ada_meaning.specs.Event.{Quiet, Followed, Allocate, event_of, request_of}
+use Rattle.ada_meaning.specs.Heap.{Cell, Found, on_null, on_gone, on_other, finds}
 use Rattle.ada_meaning.specs.State.{home_of, pool_freed_to}
-use Rattle.ada_meaning.specs.Step.{halts, moves, tells, asks, picks, at, older, computed, raised, numbered, answered, taken}
-use Rattle.ada_meaning.specs.Named.{State, Next, named, members, on_object, parted}
+use Rattle.ada_meaning.specs.Step.{halts, moves, tells, asks, picks, at, older, computed, raised, numbered, answered, taken, taken_out, finalizing, treated_on, direction_of}
+use Rattle.ada_meaning.specs.Named.{State, Next, named, look, members}
 use Rattle.ada_interpreter.specs.declared.frame.Frame.{Frame as HeldFrame}
 use Rattle.ada_interpreter.specs.declared.frame.Frame.TheVariants as held
 use Rattle.ada_interpreter.specs.declared.handling.Landing.{Landing as HeldLanding}
@@ -24,9 +28,10 @@ use Rattle.ada_interpreter.specs.declared.handling.Landing.TheVariants as landin
 use Rattle.ada_interpreter.specs.declared.expressions.Outcome.{Outcome}
 use Rattle.ada_interpreter.specs.declared.expressions.Outcome.TheVariants.{Value, Raises, Component}
 use Rattle.ada_interpreter.specs.declared.turn.Turn.{Turn}
-use Rattle.ada_interpreter.specs.declared.turn.Turn.TheVariants.{Halts, Moves, Tells, Asks, Picks}
+use Rattle.ada_interpreter.specs.declared.turn.Turn.TheVariants.{Halts, Moves, Tells, Asks, Picks, PicksComponent}
 use Rattle.ada_interpreter.specs.declared.process.Process.{Process}
 use Rattle.ada_interpreter.specs.Masters.{destination_of}
+use Rattle.ada_interpreter.specs.Treatment.{treatment_form}
 
 -- One thing that is left to do. Behind a turn of a `for` loop, the next one comes with the next value.
 abbrev pub frame_of : HeldFrame → Frame ValueOf
@@ -70,6 +75,8 @@ frame_of (held.Receives component) = frame.Receives component.0
 frame_of (held.FreesIn access component) = frame.FreesIn access.0 component.0
 frame_of (held.Declares variable) = frame.Declares variable.0
 frame_of (held.DeclaresRecord variable object) = frame.DeclaresRecord variable.0 object.0
+frame_of (held.Treats treated) =
+    frame.Treats (Names treated.value.object) (treatment_form treated.value.treatment) treated.value.tasks
 frame_of held.Writes = frame.Writes
 frame_of (held.Ends object) = frame.Ends object
 frame_of (held.GivesBack object cause pool) = frame.GivesBack object cause pool
@@ -96,13 +103,29 @@ state_of p = record {
   heap = p.objects;
 }
 
+-- The state once one of the components that are open has been picked, where this first of what is left to do, which is taken off in the first state, is a
+-- treatment (7.6, 7.6.1).
+abbrev pub picked_first : List TypeDefinition → (i : ℕ) → Frame ValueOf → (behind s : State) → State
+picked_first types i (frame.Treats v treatment tasks) behind s = treated_on named v treatment (taken_task (shapes_of types) (direction_of treatment) tasks i) behind
+picked_first types i f behind s = s
+
+-- That of all that is left to do.
+abbrev pub picked_in : List TypeDefinition → (i : ℕ) → List (Frame ValueOf) → State → State
+picked_in types i [] s = s
+picked_in types i (f ∷ k) s = picked_first types i f (at k s) s
+
+-- That of a state.
+abbrev pub picked : List TypeDefinition → (i : ℕ) → State → State
+picked types i s = picked_in types i s.control s
+
 -- What comes next, by the answer of a turn and the state that it left.
-abbrev pub shown : Turn → State → Next
-shown (Halts halt) s = halts halt
-shown (Moves e) s = moves (event_of e) s
-shown (Tells request e) s = tells (request_of request) (event_of e) s
-shown (Asks a) s = asks (Allocate a.home.pool 0 a.words (Names a.object)) (answered named a.access.0 a.count a.words (destination_of a.home) s)
-shown (Picks l) s = picks l.count (taken named (leaving l.master l.item) l.pool (members s.heap l.item) s)
+abbrev pub shown : List TypeDefinition → Turn → State → Next
+shown types (Halts halt) s = halts halt
+shown types (Moves e) s = moves (event_of e) s
+shown types (Tells request e) s = tells (request_of request) (event_of e) s
+shown types (Asks a) s = asks (Allocate a.home.pool 0 a.words (Names a.object)) (answered named types a.access.0 a.count a.words (destination_of a.home) s)
+shown types (Picks l) s = picks l.count (taken named types (leaving l.master l.item) l.pool (members s.heap l.item) s)
+shown types (PicksComponent o) s = picks o.count (λ i. picked types i s)
 
 -- A halt leaves the state as it was.
 abbrev pub Stays : Turn → State → State → Type 0
@@ -111,16 +134,48 @@ Stays (Moves e) before after = Unit {0}
 Stays (Tells request e) before after = Unit {0}
 Stays (Asks a) before after = Unit {0}
 Stays (Picks l) before after = Unit {0}
+Stays (PicksComponent o) before after = Unit {0}
 
 -- A turn answers and leaves what comes next, and a halt leaves the state as it was; unless memory is refused.
-pub record IsTurn (coming : Next) (before : State) (turn : Turn) (after : State) : Type 0 where
-  pub shows : shown turn after ≡ coming
+pub record IsTurnOf (types : List TypeDefinition) (coming : Next) (before : State) (turn : Turn) (after : State) : Type 0 where
+  pub shows : shown types turn after ≡ coming
   pub stays : Stays turn before after
 
 -- A turn is answered that is what comes in a state, unless memory runs out.
+abbrev pub TurnsOf : List TypeDefinition → Next → State → Result Turn AllocError → State → Type 0
+TurnsOf types coming before (Ok turn) after = IsTurnOf types coming before turn after
+TurnsOf types coming before (Err e) after = Unit {0}
+
+-- What comes next, by the answer of a turn that leaves nothing open.
+abbrev pub Shows : Turn → State → Next → Type 0
+Shows (Halts halt) s coming = halts halt ≡ coming
+Shows (Moves e) s coming = moves (event_of e) s ≡ coming
+Shows (Tells request e) s coming = tells (request_of request) (event_of e) s ≡ coming
+Shows (Asks a) s coming = ⊥
+Shows (Picks l) s coming = ⊥
+Shows (PicksComponent o) s coming = ⊥
+
+-- A turn that leaves nothing open answers and leaves what comes next, whatever the types are.
+pub record IsTurn (coming : Next) (before : State) (turn : Turn) (after : State) : Type 0 where
+  pub shows : Shows turn after coming
+  pub stays : Stays turn before after
+
+-- Such a turn is answered, unless memory runs out.
 abbrev pub Turns : Next → State → Result Turn AllocError → State → Type 0
 Turns coming before (Ok turn) after = IsTurn coming before turn after
 Turns coming before (Err e) after = Unit {0}
+
+-- May the step of a frame leave open which answer comes?
+abbrev pub asks_by : Frame ValueOf → Bool
+asks_by (frame.Leaves mode) = true
+asks_by (frame.Creates access count) = true
+asks_by (frame.Treats v treatment tasks) = true
+asks_by f = false
+
+-- That of the first of what is left to do.
+abbrev pub asks_first : List (Frame ValueOf) → Bool
+asks_first [] = false
+asks_first (f ∷ k) = asks_by f
 
 -- The state once the frame that is first of what is left to do has been taken off, and once another one stands in its place or before it.
 abbrev pub passed : State → State
@@ -150,13 +205,18 @@ abbrev pub outcome_of : Result Outcome Halt → State → Next
 outcome_of (Ok outcome) s = going_by outcome s
 outcome_of (Err halt) s = halts halt
 
--- An object is to cease to exist, and its storage is to go back, to a pool if it is from one: it leaves its collection.
-abbrev pub ending : ValueOf → Cause → (pool : Option ℕ) → State → State
-ending v cause pool s = record s {
-  heap = on_object parted s.heap v;
-  control = frame.Ends v ∷ frame.GivesBack v cause pool ∷ s.control;
-}
+-- An object is to cease to exist, and its storage is to go back, to a pool if it is from one: it leaves its collection, and its controlled parts are
+-- finalized first.
+abbrev pub ending : List TypeDefinition → ValueOf → Cause → (pool : Option ℕ) → State → State
+ending types v cause pool s = taken_out named types cause pool v (look s.heap v) s
+
+-- The controlled parts of an object that exists are finalized next (7.6.1).
+abbrev pub finalized_first : List TypeDefinition → ValueOf → Cause → Found (Cell ValueOf) → State → State
+finalized_first types v cause on_null s = s
+finalized_first types v cause on_gone s = s
+finalized_first types v cause on_other s = s
+finalized_first types v cause (finds cell) s = at (finalizing types v cell cause s.control) s
 
 -- An object begins to end by a Free: a number is used up for it, and its words are to go back to the pool of the access type (13.11.2).
-abbrev pub releasing : (access : ℕ) → ValueOf → State → State
-releasing access v s = numbered (ending v (freeing s.next) (Some (pool_freed_to (home_of access s.masters))) s)
+abbrev pub releasing : List TypeDefinition → (access : ℕ) → ValueOf → State → State
+releasing types access v s = numbered (ending types v (freeing s.next) (Some (pool_freed_to (home_of access s.masters))) s)

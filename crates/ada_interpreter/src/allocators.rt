@@ -8,14 +8,16 @@ ghost use Rattle.ada_meaning.specs.Step as step;
 ghost use Rattle.ada_meaning.specs.State.{counted, home_of};
 ghost use Rattle.ada_meaning.specs.Named.{named};
 ghost use Rattle.ada_interpreter.specs.Masters.{destination_of};
-ghost use Rattle.ada_interpreter.specs.Process.{frame_of, state_of, passed, replaced, Turns, IsTurn};
+ghost use Rattle.ada_interpreter.specs.Process.{frame_of, state_of, passed, replaced, Turns, IsTurnOf};
 
 use crate::frame::Frame;
+use crate::loaded::Loaded;
 use crate::objects::{Cell, Home};
 use crate::process::Process;
+use crate::treatment::Treatment;
 use crate::turn::{Allocation, QUIET, Turn};
 use crate::values::initial_value;
-use ada_meaning::{Exception, Value};
+use ada_meaning::{Birth, Exception, Value};
 use ada_program::program::{ComponentKind, Item};
 use ada_program::{Program, TypeNo};
 use std::alloc::AllocError;
@@ -108,8 +110,8 @@ impl<'a> Process<'a> {
     pub(crate) fn ask(&mut self, program: &Program, access: TypeNo, count: usize) -> Turn
         ensures { let s = state_of self.old in
             let types = program.now.types.items in
-            IsTurn
-            (step.new_next named access.0 count (words_of types access.0) (home_of access.0 s.masters) (passed s))
+            IsTurnOf types
+            (step.new_next named types access.0 count (words_of types access.0) (home_of access.0 s.masters) (passed s))
             s result (state_of self.new) }
     {
         self.pass();
@@ -131,28 +133,35 @@ impl<'a> Process<'a> {
     /// The answer to a request: the new object exists, or Storage_Error is raised (4.8, 11.1).
     pub(crate) fn answer(
         &mut self,
+        loaded: &Loaded<'a>,
         allocation: &Allocation,
         granted: bool,
     ) -> Result<(), AllocError>
         ensures { let a = allocation.now in
             let home = destination_of a.home in
-            OnOk result (state_of self.new ≡ step.answered named a.access.0 a.count a.words home (state_of self.old) granted) }
+            let types = loaded.now.program.now.types.items in
+            OnOk result
+            (state_of self.new ≡ step.answered named types a.access.0 a.count a.words home (state_of self.old) granted) }
     {
         if granted {
-            self.allocate(allocation)
+            self.allocate(loaded, allocation)
         } else {
             self.raise(Exception::StorageError);
             Ok(())
         }
     }
 
-    /// The new object exists (4.8), and the value that names it is the newest operand.
-    fn allocate(&mut self, allocation: &Allocation) -> Result<(), AllocError>
+    /// The new object exists (4.8), and the value that names it is the newest operand. Its controlled parts are initialized
+    /// next (7.6).
+    fn allocate(&mut self, loaded: &Loaded<'a>, allocation: &Allocation) -> Result<(), AllocError>
         ensures { let a = allocation.now in
             let home = destination_of a.home in
-            OnOk result (state_of self.new ≡ step.granted named a.access.0 a.count a.words home (state_of self.old)) }
+            let types = loaded.now.program.now.types.items in
+            OnOk result
+            (state_of self.new ≡ step.granted named types a.access.0 a.count a.words home (state_of self.old)) }
     {
         let number = counted(self.allocated);
+        let parts = loaded.new_parts(allocation.access)?;
         let values = self.activations.take(allocation.count)?;
         let object = self.objects.create(Cell {
             access: allocation.access,
@@ -163,14 +172,21 @@ impl<'a> Process<'a> {
                 subpool: None,
             },
             values,
+            parts,
         })?;
         self.allocated = number;
-        self.activations.push(Value::Names(object))
+        self.activations.push(Value::Names(object))?;
+        self.begin_treatment(
+            loaded,
+            object,
+            allocation.access,
+            Treatment::Begins(Birth::Creation),
+        )
     }
 }
 
 /// The next trace number; past 64 bits it stays.
-fn counted(n: u64) -> u64
+pub(crate) fn counted(n: u64) -> u64
     ensures { result ≡ counted n }
 {
     if n == u64::MAX { n } else { n + 1 }

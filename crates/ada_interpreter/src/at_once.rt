@@ -7,6 +7,7 @@ ghost use Rattle.std.specs.List.{slice_index_or};
 ghost use Rattle.ada_interpreter.specs.AtOnce as rules;
 ghost use Rattle.ada_interpreter.specs.Process.{state_of};
 
+use crate::numbers::{comparison_at_once, number_at_once};
 use crate::operators::is_decided;
 use crate::process::Process;
 use crate::values::value_at;
@@ -17,34 +18,48 @@ use ada_values::Value as Scalar;
 use ada_values::operator::{BinaryOperator, UnaryOperator};
 
 impl<'a> Process<'a> {
-    /// The value that an expression has at once (4.4).
-    pub(crate) fn value_at_once(&self, expression: &Expression) -> Option<Scalar>
-        ensures { let s = state_of self.now in
-            IfSome result
-            (λ value. (s.activations ≢ []) × (rules.value_at_once (places s) (expression_form expression.now) ≡ Some value)) }
-    {
-        value_at_once(self.activations.running_places()?, expression)
-    }
-
     /// The value of what is assigned, if that is an expression that has one at once (5.2).
+    #[inline(always)]
     pub(crate) fn right_at_once(&self, right: &Right) -> Option<Scalar>
         ensures { let s = state_of self.now in
             IfSome result
             (λ value. (s.activations ≢ []) × (rules.right_at_once (places s) (right_form right.now) ≡ Some value)) }
     {
         match right {
-            Right::Value(expression) => self.value_at_once(expression),
+            Right::Value(expression) => {
+                let places = self.activations.running_places()?;
+                match number_at_once(places, expression) {
+                    Some(number) => Some(Scalar::Integer(number)),
+                    None => value_at_once(places, expression),
+                }
+            }
             _ => None,
         }
     }
 
+    /// The number that an expression is at once (4.4), if all operators in it are between Integers.
+    pub(crate) fn number_at_once(&self, expression: &Expression) -> Option<i32>
+        ensures { let s = state_of self.now in
+            IfSome result
+            (λ n. (s.activations ≢ []) × (rules.value_at_once (places s) (expression_form expression.now) ≡ Some (Scalar.Integer n))) }
+    {
+        number_at_once(self.activations.running_places()?, expression)
+    }
+
     /// The truth that a condition has at once (5.3).
+    #[tactic(auto, using(std::proofs::lemmas::Grind::common_steps, ada_program::specs::Form::expression_rules))]
     pub(crate) fn truth_at_once(&self, condition: &Expression) -> Option<bool>
         ensures { let s = state_of self.now in
             IfSome result
             (λ truth. (s.activations ≢ []) × (rules.value_at_once (places s) (expression_form condition.now) ≡ Some (Scalar.Boolean truth))) }
     {
-        match self.value_at_once(condition)? {
+        let places = self.activations.running_places()?;
+        if let Expression::Chain { first, links } = condition {
+            if let Some(truth) = comparison_at_once(places, first, links) {
+                return Some(truth);
+            }
+        }
+        match value_at_once(places, condition)? {
             Scalar::Boolean(truth) => Some(truth),
             Scalar::Integer(_) => None,
         }
@@ -68,6 +83,9 @@ pub(crate) fn value_at_once(places: &[Value], expression: &Expression) -> Option
             ada_values::unary(*operator, operand).ok()
         }
         Expression::Chain { first, links } => {
+            if let Some(truth) = comparison_at_once(places, first, links) {
+                return Some(Scalar::Boolean(truth));
+            }
             let first = match leaf_at_once(places, first) {
                 Some(first) => first,
                 None => value_at_once(places, first)?,

@@ -192,8 +192,8 @@ impl<'a> Process<'a> {
 
     /// The statements that are left, where none is (5.1).
     fn pass_done(&mut self, statements: &'a [Stmt]) -> Result<bool, AllocError>
-        ensures { let s = state_of self.old in (bodies : List BodyForm) →
-            MayMove (step.stmts_next named bodies (stmts_form statements.now) (passed s)) self.old result self.new }
+        ensures { let s = state_of self.old in (types : List TypeDefinition) (bodies : List BodyForm) →
+            MayMove (step.stmts_next named types bodies (stmts_form statements.now) (passed s)) self.old result self.new }
     {
         match statements.first() {
             None => {
@@ -249,7 +249,7 @@ impl<'a> Process<'a> {
     fn execute_next(&mut self, statement: &'a Stmt, rest: &'a [Stmt]) -> Result<bool, AllocError>
         ensures { let s = replaced (frame.Does (stmts_form rest.now)) (state_of self.old) in
             (program : Program) → s.mode ≡ Mode.Running →
-            MayGoOn program (step.stmt_next named (body_forms program) (stmt_form statement.now) s)
+            MayGoOn program (step.stmt_next named program.types.items (body_forms program) (stmt_form statement.now) s)
             self.old result self.new }
     {
         match statement {

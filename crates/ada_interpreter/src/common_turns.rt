@@ -1,34 +1,33 @@
 //! Statements, and turns of loops, that are done at once, one after another.
 
-ghost use Rattle.std.specs.Prelude.{◌≡◌, ◌+◌, ◌-◌, ◌<◌, ◌≤◌, true, false, List, ◌∷◌, length, IfOk, OnOk, IfSome};
+ghost use Rattle.std.specs.Prelude.{◌≡◌, ◌+◌, ◌-◌, ◌≤◌, true, false, List, ◌∷◌, length, IfOk, OnOk, IfSome};
 ghost use Rattle.std.specs.Option.{option_copied};
-ghost use Rattle.ada_program.specs.Form.{stmt_form, stmts_form, condition_form, branches_form};
+ghost use Rattle.ada_program.specs.Form.{stmt_form, stmts_form, expression_form, condition_form, branches_form};
 ghost use Rattle.ada_program.specs.ProgramForm.{body_forms};
 ghost use Rattle.ada_meaning.specs.declared.state.Value.{Value as ValueOf};
 ghost use Rattle.ada_meaning.specs.Frame.{Frame as FrameOf};
 ghost use Rattle.ada_meaning.specs.Frame as frame;
 ghost use Rattle.ada_meaning.specs.Step as step;
 ghost use Rattle.ada_meaning.specs.Named.{named};
-ghost use Rattle.ada_interpreter.specs.AtOnce.{HasStatement};
-ghost use Rattle.ada_interpreter.specs.CommonSteps.{GoesQuietly, GoesOn, IsDone, ComesToTurn, before_rest};
+ghost use Rattle.ada_interpreter.specs.CommonSteps.{GoesQuietly, GoesOn, GoesWithin, IsDone, Runs, RunsBefore, begun_with_inner};
 ghost use Rattle.ada_interpreter.specs.Process.{state_of, pushed};
 
 use crate::frame::Frame;
 use crate::process::Process;
-use crate::turn::{NextTurn, Run};
+use crate::turn::{Inner, Run};
 use ada_meaning::{Mode, Value};
 use ada_program::program::{Branch, Expression};
-use ada_program::{Program, Stmt};
-use ada_values::Value as Scalar;
+use ada_program::{Program, Stmt, VariableNo};
 use std::alloc::AllocError;
 
 impl<'a> Process<'a> {
     /// Does a statement, if it is done at once: it is null, a variable gets a value that is known at once, or the condition
     /// of an exit is false (5.1, 5.2, 5.7).
     #[tactic(auto, using(std::proofs::lemmas::Grind::common_steps, ada_program::specs::Form::statement_rules))]
+    #[inline(always)]
     fn do_at_once(&mut self, statement: &Stmt) -> bool
         ensures done { IsDone (stmt_form statement.now) self.old result self.new }
-        ensures control { (state_of self.new).control ≡ (state_of self.old).control }
+        ensures frames { self.new.frames ≡ self.old.frames }
         ensures mode { self.new.mode ≡ self.old.mode }
     {
         match statement {
@@ -65,6 +64,7 @@ impl<'a> Process<'a> {
 
     /// Does statements from the first on, as long as they are done at once, and at most `limit` of them. Returns those that
     /// are left, and how many may still begin.
+    #[inline(always)]
     fn run_at_once(&mut self, statements: &'a [Stmt], limit: u32) -> (&'a [Stmt], u32)
         ensures steps { (program : Program) (k : List (FrameOf ValueOf)) → self.old.mode ≡ Mode.Running →
             GoesQuietly program (step.at (frame.Does (stmts_form statements.now) ∷ k) (state_of self.old)) (limit - result.1)
@@ -73,7 +73,7 @@ impl<'a> Process<'a> {
         ensures counted { length statements.now + result.1 ≡ length result.0.now + limit }
         ensures unchanged { result.1 ≡ limit → self.new ≡ self.old }
         ensures rest { result.1 ≡ limit → result.0.now ≡ statements.now }
-        ensures control { (state_of self.new).control ≡ (state_of self.old).control }
+        ensures frames { self.new.frames ≡ self.old.frames }
         ensures mode { self.new.mode ≡ self.old.mode }
     {
         let mut rest = statements;
@@ -90,22 +90,23 @@ impl<'a> Process<'a> {
 
     /// Runs statements from the first on, those of branches that are taken at once, too, as long as all is done at once, and
     /// at most `limit` statements begin. What is left of them is then first of what is left to do.
+    #[cycle(run)]
     #[inline(always)]
     pub(crate) fn run_through(
         &mut self,
         statements: &'a [Stmt],
         limit: u32,
     ) -> Result<Run, AllocError>
-        ensures steps { (program : Program) → self.old.mode ≡ Mode.Running →
-            IfOk result
-            (λ run. GoesQuietly program (pushed (frame.Does (stmts_form statements.now)) (state_of self.old)) (limit - run.left) (state_of self.new)) }
+        ensures steps { let first = pushed (frame.Does (stmts_form statements.now)) (state_of self.old) in
+            (program : Program) → self.old.mode ≡ Mode.Running →
+            Runs program first limit result (state_of self.new) }
         ensures left { IfOk result (λ run. run.left ≤ limit) }
         ensures counted { IfOk result
             (λ run. run.is_done ≡ true → length statements.now + run.left ≤ limit) }
-        ensures unchanged { IfOk result
-            (λ run. run.is_done ≡ false → run.left ≡ limit → state_of self.new ≡ pushed (frame.Does (stmts_form statements.now)) (state_of self.old)) }
-        ensures control { IfOk result
-            (λ run. run.is_done ≡ true → (state_of self.new).control ≡ (state_of self.old).control) }
+        ensures unchanged { let first = pushed (frame.Does (stmts_form statements.now)) (state_of self.old) in
+            IfOk result
+            (λ run. run.is_done ≡ false → run.left ≡ limit → state_of self.new ≡ first) }
+        ensures frames { IfOk result (λ run. run.is_done ≡ true → self.new.frames ≡ self.old.frames) }
         ensures mode { OnOk result (self.new.mode ≡ self.old.mode) }
     {
         let (rest, left) = self.run_at_once(statements, limit);
@@ -121,16 +122,16 @@ impl<'a> Process<'a> {
     /// Runs statements as `run_through` does, where the first isn't done at once by itself.
     #[cycle(run)]
     fn run_on(&mut self, statements: &'a [Stmt], limit: u32) -> Result<Run, AllocError>
-        ensures steps { (program : Program) → self.old.mode ≡ Mode.Running →
-            IfOk result
-            (λ run. GoesQuietly program (pushed (frame.Does (stmts_form statements.now)) (state_of self.old)) (limit - run.left) (state_of self.new)) }
+        ensures steps { let first = pushed (frame.Does (stmts_form statements.now)) (state_of self.old) in
+            (program : Program) → self.old.mode ≡ Mode.Running →
+            Runs program first limit result (state_of self.new) }
         ensures left { IfOk result (λ run. run.left ≤ limit) }
         ensures counted { IfOk result
             (λ run. run.is_done ≡ true → length statements.now + run.left ≤ limit) }
-        ensures unchanged { IfOk result
-            (λ run. run.is_done ≡ false → run.left ≡ limit → state_of self.new ≡ pushed (frame.Does (stmts_form statements.now)) (state_of self.old)) }
-        ensures control { IfOk result
-            (λ run. run.is_done ≡ true → (state_of self.new).control ≡ (state_of self.old).control) }
+        ensures unchanged { let first = pushed (frame.Does (stmts_form statements.now)) (state_of self.old) in
+            IfOk result
+            (λ run. run.is_done ≡ false → run.left ≡ limit → state_of self.new ≡ first) }
+        ensures frames { IfOk result (λ run. run.is_done ≡ true → self.new.frames ≡ self.old.frames) }
         ensures mode { OnOk result (self.new.mode ≡ self.old.mode) }
     {
         let mut rest = statements;
@@ -139,10 +140,10 @@ impl<'a> Process<'a> {
             if left == 0 {
                 return self.stop_before(rest, left);
             }
-            let Some(branch) = self.branch_at_once(first) else {
+            let Some(inner) = self.inner_at_once(first) else {
                 return self.stop_before(rest, left);
             };
-            let run = self.run_branch(branch, behind, left - 1)?;
+            let run = self.run_inner(inner, behind, left - 1)?;
             if run.is_done {
                 let (after, now) = self.run_at_once(behind, run.left);
                 rest = after;
@@ -157,6 +158,38 @@ impl<'a> Process<'a> {
         })
     }
 
+    /// Runs what a statement begins with, in front of the statements behind it, as `run_through` does.
+    #[cycle(run)]
+    #[inline(always)]
+    fn run_inner(
+        &mut self,
+        inner: Inner<'a>,
+        behind: &'a [Stmt],
+        limit: u32,
+    ) -> Result<Run, AllocError>
+        ensures steps { let rest = stmts_form behind.now in
+            let first = begun_with_inner inner.entry (pushed (frame.Does rest) (state_of self.old)) in
+            (program : Program) → self.old.mode ≡ Mode.Running →
+            RunsBefore rest program first limit result (state_of self.new) }
+        ensures left { IfOk result (λ run. run.left ≤ limit) }
+        ensures frames { IfOk result (λ run. run.is_done ≡ true → self.new.frames ≡ self.old.frames) }
+        ensures mode { OnOk result (self.new.mode ≡ self.old.mode) }
+    {
+        match inner {
+            Inner::Branch(statements) => self.run_branch(statements, behind, limit),
+            Inner::Turns {
+                condition,
+                statements,
+            } => self.run_loop(condition, statements, behind, limit),
+            Inner::Counts {
+                parameter,
+                first,
+                last,
+                statements,
+            } => self.run_count(parameter, first, last, statements, behind, limit),
+        }
+    }
+
     /// Runs the statements of a branch, in front of those behind its `if`, as `run_through` does.
     #[cycle(run)]
     fn run_branch(
@@ -165,12 +198,13 @@ impl<'a> Process<'a> {
         behind: &'a [Stmt],
         limit: u32,
     ) -> Result<Run, AllocError>
-        ensures steps { (program : Program) → self.old.mode ≡ Mode.Running →
-            IfOk result
-            (λ run. GoesQuietly program (pushed (frame.Does (stmts_form statements.now)) (pushed (frame.Does (stmts_form behind.now)) (state_of self.old))) (limit - run.left) (before_rest run.is_done (stmts_form behind.now) (state_of self.new))) }
+        ensures steps { let rest = stmts_form behind.now in
+            let branch = frame.Does (stmts_form statements.now) in
+            let first = pushed branch (pushed (frame.Does rest) (state_of self.old)) in
+            (program : Program) → self.old.mode ≡ Mode.Running →
+            RunsBefore rest program first limit result (state_of self.new) }
         ensures left { IfOk result (λ run. run.left ≤ limit) }
-        ensures control { IfOk result
-            (λ run. run.is_done ≡ true → (state_of self.new).control ≡ (state_of self.old).control) }
+        ensures frames { IfOk result (λ run. run.is_done ≡ true → self.new.frames ≡ self.old.frames) }
         ensures mode { OnOk result (self.new.mode ≡ self.old.mode) }
     {
         let (rest, left) = self.run_at_once(statements, limit);
@@ -180,18 +214,19 @@ impl<'a> Process<'a> {
                 left,
             });
         }
-        self.push(Frame::Does(behind))?;
+        self.frames.push(Frame::Does(behind))?;
         let run = self.run_on(rest, left)?;
         if run.is_done {
-            self.pass();
+            self.frames.shorten();
         }
         Ok(run)
     }
 
     /// Statements that are left are put in front of what is left to do.
     fn stop_before(&mut self, statements: &'a [Stmt], left: u32) -> Result<Run, AllocError>
-        ensures stops { IfOk result
-            (λ run. (run ≡ record { is_done = false; left = left }) × (state_of self.new ≡ pushed (frame.Does (stmts_form statements.now)) (state_of self.old))) }
+        ensures stops { let last = pushed (frame.Does (stmts_form statements.now)) (state_of self.old) in
+            IfOk result
+            (λ run. (run ≡ record { is_done = false; left = left }) × (state_of self.new ≡ last)) }
         ensures mode { OnOk result (self.new.mode ≡ self.old.mode) }
     {
         self.push(Frame::Does(statements))?;
@@ -201,21 +236,70 @@ impl<'a> Process<'a> {
         })
     }
 
-    /// The statements that an `if` does, where the conditions are known at once (5.3); none for any other statement.
+    /// What a statement in which others stand begins with, where that is known at once: its branch, or the bounds of its
+    /// loop (5.3, 5.5); none for any other statement.
     #[tactic(auto, using(std::proofs::lemmas::Grind::common_steps, ada_program::specs::Form::statement_rules))]
     #[inline(always)]
-    fn branch_at_once(&self, statement: &'a Stmt) -> Option<&'a [Stmt]>
+    fn inner_at_once(&self, statement: &'a Stmt) -> Option<Inner<'a>>
         ensures { (program : Program) (k : List (FrameOf ValueOf)) → self.now.mode ≡ Mode.Running →
-            IfSome result
-            (λ statements. GoesOn program (step.stmt_next named (body_forms program) (stmt_form statement.now) (step.at k (state_of self.now))) (pushed (frame.Does (stmts_form statements.now)) (step.at k (state_of self.now)))) }
+            let s = step.at k (state_of self.now) in
+            let coming = step.stmt_next named program.types.items (body_forms program) (stmt_form statement.now) s in
+            IfSome result (λ inner. GoesOn program coming (begun_with_inner inner s)) }
     {
         match statement {
             Stmt::If {
                 branches,
                 otherwise,
-            } => self.chosen_at_once(branches.as_slice(), otherwise.as_slice()),
+            } => {
+                let statements = self.chosen_at_once(branches.as_slice(), otherwise.as_slice())?;
+                Some(Inner::Branch(statements))
+            }
+            Stmt::Loop {
+                condition,
+                statements,
+                end: _,
+            } => Some(Inner::Turns {
+                condition: condition.as_ref(),
+                statements: statements.as_slice(),
+            }),
+            Stmt::For {
+                parameter,
+                first,
+                last,
+                statements,
+                end: _,
+            } => self.counts_at_once(*parameter, first, last, statements.as_slice()),
             _ => None,
         }
+    }
+
+    /// The turns of a `for` loop, where both bounds are known at once, and there is one (5.5).
+    fn counts_at_once(
+        &self,
+        parameter: VariableNo,
+        first: &Expression,
+        last: &Expression,
+        statements: &'a [Stmt],
+    ) -> Option<Inner<'a>>
+        ensures { (program : Program) (k : List (FrameOf ValueOf)) → self.now.mode ≡ Mode.Running →
+            let s = step.at k (state_of self.now) in
+            let fs = stmts_form statements.now in
+            let low = frame.Computes (expression_form first.now) in
+            let high = frame.Computes (expression_form last.now) in
+            let bounds = step.at (low ∷ high ∷ frame.Ranges parameter.0 fs ∷ k) s in
+            IfSome result (λ inner. GoesWithin program bounds (begun_with_inner inner s)) }
+    {
+        let low = self.number_at_once(first)?;
+        let high = self.number_at_once(last)?;
+        if low > high || statements.is_empty() {
+            return None;
+        }
+        Some(Inner::Counts {
+            parameter,
+            first: low,
+            last: high,
+            statements,
+        })
     }
 
     /// The statements of the first branch whose condition is true, or the others, where the conditions are known at once
@@ -226,8 +310,10 @@ impl<'a> Process<'a> {
         otherwise: &'a [Stmt],
     ) -> Option<&'a [Stmt]>
         ensures { (program : Program) (k : List (FrameOf ValueOf)) → self.now.mode ≡ Mode.Running →
+            let s = step.at k (state_of self.now) in
+            let coming = step.branches_next named (branches_form branches.now (stmts_form otherwise.now)) s in
             IfSome result
-            (λ statements. GoesOn program (step.branches_next named (branches_form branches.now (stmts_form otherwise.now)) (step.at k (state_of self.now))) (pushed (frame.Does (stmts_form statements.now)) (step.at k (state_of self.now)))) }
+            (λ statements. GoesOn program coming (pushed (frame.Does (stmts_form statements.now)) s)) }
     {
         let mut left = branches;
         'branches: while let Some((first, rest)) = left.split_first() {
@@ -237,105 +323,5 @@ impl<'a> Process<'a> {
             left = rest;
         }
         Some(otherwise)
-    }
-
-    /// A loop that is first of what is left to do comes to its next turn (5.5): what is known of that at once is done.
-    #[inline(always)]
-    pub(crate) fn turn_at_once(&mut self) -> NextTurn<'a>
-        ensures steps { (program : Program) → (state_of self.old).mode ≡ Mode.Running →
-            ComesToTurn program self.old result self.new }
-        ensures some { HasStatement result }
-        ensures mode { self.new.mode ≡ self.old.mode }
-    {
-        match self.frames.top() {
-            Some(
-                Frame::Repeats {
-                    condition,
-                    statements,
-                },
-            ) => {
-                let condition = *condition;
-                let statements = *statements;
-                self.repeat_at_once(condition, statements)
-            }
-            Some(
-                Frame::Counts {
-                    parameter,
-                    value,
-                    last,
-                    statements,
-                },
-            ) => {
-                let parameter = *parameter;
-                let value = *value;
-                let last = *last;
-                let statements = *statements;
-                if value >= last {
-                    self.pass();
-                    return NextTurn::Ends;
-                }
-                if statements.is_empty() {
-                    return NextTurn::Unknown;
-                }
-                self.frames.set_count(value + 1);
-                self.put(parameter, Value::Scalar(Scalar::Integer(value + 1)));
-                NextTurn::Begins(statements)
-            }
-            _ => NextTurn::Unknown,
-        }
-    }
-
-    /// A loop comes to its next turn (5.5), whose condition may be known at once.
-    #[inline(always)]
-    fn repeat_at_once(
-        &mut self,
-        condition: Option<&'a Expression>,
-        statements: &'a [Stmt],
-    ) -> NextTurn<'a>
-        requires { let s = state_of self.old in
-            s.control ≡ frame.Repeats (condition_form (option_copied condition)) (stmts_form statements.now) ∷ step.older s.control }
-        ensures steps { (program : Program) → (state_of self.old).mode ≡ Mode.Running →
-            ComesToTurn program self.old result self.new }
-        ensures some { HasStatement result }
-        ensures mode { self.new.mode ≡ self.old.mode }
-    {
-        if statements.is_empty() {
-            return NextTurn::Unknown;
-        }
-        let Some(condition) = condition else {
-            return NextTurn::Begins(statements);
-        };
-        match self.truth_at_once(condition) {
-            Some(true) => NextTurn::Begins(statements),
-            Some(false) => {
-                self.pass();
-                NextTurn::Ends
-            }
-            None => NextTurn::Unknown,
-        }
-    }
-
-    /// Makes turns of the loop that is first of what is left to do, as long as all of each is done at once, and at most
-    /// `limit` statements begin. Returns how many may still begin.
-    pub(crate) fn make_turns(&mut self, limit: u32) -> Result<u32, AllocError>
-        ensures steps { (program : Program) → self.old.mode ≡ Mode.Running →
-            IfOk result (λ left. GoesQuietly program (state_of self.old) (limit - left) (state_of self.new)) }
-        ensures left { IfOk result (λ left. left ≤ limit) }
-    {
-        let mut left = limit;
-        'turns: loop {
-            match self.turn_at_once() {
-                NextTurn::Begins(statements) => {
-                    let run = self.run_through(statements, left)?;
-                    if run.is_done {
-                        left = run.left;
-                    } else {
-                        return Ok(run.left);
-                    }
-                }
-                NextTurn::Ends => return Ok(left),
-                NextTurn::Unknown => return Ok(left),
-            }
-        }
     }
 }

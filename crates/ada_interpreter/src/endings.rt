@@ -1,29 +1,35 @@
 //! The ends of objects, and the leaving of masters.
 
-ghost use Rattle.std.specs.Prelude.{◌≡◌, OnOk};
+ghost use Rattle.std.specs.Prelude.{◌≡◌, List, OnOk};
+ghost use Rattle.ada_program.specs.declared.program.TypeDefinition.{TypeDefinition};
 ghost use Rattle.ada_meaning.specs.Event.{Quiet, Gone};
 ghost use Rattle.ada_meaning.specs.Frame as frame;
 ghost use Rattle.ada_meaning.specs.Step as step;
 ghost use Rattle.ada_meaning.specs.Named.{named, look, lent, members};
 ghost use Rattle.ada_meaning.specs.declared.event.Cause.TheVariants.{Leaving as leaving};
-ghost use Rattle.ada_interpreter.specs.Process.{state_of, passed, replaced, Turns, IsTurn, ending};
+ghost use Rattle.ada_interpreter.specs.Process.{state_of, passed, replaced, Turns, TurnsOf, IsTurn, ending, finalized_first};
 
 use crate::frame::Frame;
+use crate::loaded::Loaded;
 use crate::masters::Remains;
 use crate::process::Process;
+use crate::treatment::Treatment;
 use crate::turn::{Leaving, QUIET, Turn};
 use ada_meaning::{Cause, Event, Halt, Id, Mode, Request, Value, Why};
 use std::alloc::AllocError;
 
 impl<'a> Process<'a> {
-    /// An object leaves its collection; it is to cease to exist, and its storage is to go back, to a pool if it is from one.
+    /// An object leaves its collection; its controlled parts are finalized, it is to cease to exist, and its storage is to go
+    /// back, to a pool if it is from one.
     pub(crate) fn dispose(
         &mut self,
+        loaded: &Loaded<'a>,
         object: Value,
         cause: Cause,
         pool: Option<usize>,
     ) -> Result<(), AllocError>
-        ensures { OnOk result (state_of self.new ≡ ending object cause pool (state_of self.old)) }
+        ensures { let types = loaded.now.program.now.types.items in
+            OnOk result (state_of self.new ≡ ending types object cause pool (state_of self.old)) }
     {
         self.push(Frame::GivesBack {
             object,
@@ -32,9 +38,30 @@ impl<'a> Process<'a> {
         })?;
         self.push(Frame::Ends(object))?;
         if let Value::Names(object) = object {
+            self.finalize_parts(loaded, object, cause)?;
             self.objects.part(object);
         }
         Ok(())
+    }
+
+    /// The controlled parts of the object of a name are finalized next, if it exists (7.6.1).
+    fn finalize_parts(
+        &mut self,
+        loaded: &Loaded<'a>,
+        object: Id,
+        cause: Cause,
+    ) -> Result<(), AllocError>
+        ensures { let s = state_of self.old in let v = Value.Names object in
+            OnOk result
+            (state_of self.new ≡ finalized_first loaded.now.program.now.types.items v cause (look s.heap v) s) }
+    {
+        match self.objects.existing(object) {
+            None => Ok(()),
+            Some(cell) => {
+                let access = cell.access;
+                self.begin_treatment(loaded, object, access, Treatment::Ends(cause))
+            }
+        }
     }
 
     /// An object ceases to exist (13.11.2): twice is erroneous.
@@ -107,8 +134,8 @@ impl<'a> Process<'a> {
 
     /// The leaving of the innermost master (7.6.1), newest item first; when no item is left, it has been left.
     pub(crate) fn leave(&mut self, mode: Mode) -> Result<Turn, AllocError>
-        ensures { let s = state_of self.old in
-            Turns (step.leave_next named mode s.masters (passed s)) s result (state_of self.new) }
+        ensures { let s = state_of self.old in (types : List TypeDefinition) →
+            TurnsOf types (step.leave_next named types mode s.masters (passed s)) s result (state_of self.new) }
     {
         match self.masters.remains() {
             Remains::NoMaster => Ok(Turn::Halts(Halt::Stuck)),
@@ -160,12 +187,19 @@ impl<'a> Process<'a> {
     }
 
     /// One of the objects of the item that is left is taken, counted from the newest: it is to end.
-    pub(crate) fn take(&mut self, place: &Leaving, i: usize) -> Result<(), AllocError>
-        ensures { let l = place.now in let s = state_of self.old in
-            OnOk result (state_of self.new ≡ step.taken named (leaving l.master l.item) l.pool (members s.heap l.item) s i) }
+    pub(crate) fn take(
+        &mut self,
+        loaded: &Loaded<'a>,
+        place: &Leaving,
+        i: usize,
+    ) -> Result<(), AllocError>
+        ensures { let l = place.now in let s = state_of self.old in let types = loaded.now.program.now.types.items in
+            OnOk result
+            (state_of self.new ≡ step.taken named types (leaving l.master l.item) l.pool (members s.heap l.item) s i) }
     {
         let object = self.objects.member(place.item, i);
         self.dispose(
+            loaded,
             object,
             Cause::Leaving {
                 master: place.master,

@@ -5,9 +5,10 @@ ghost use Rattle.ada_program.specs.Form.{actual_form};
 ghost use Rattle.ada_meaning.specs.Frame as frame;
 ghost use Rattle.ada_meaning.specs.Frame.{is_master, is_return, exit_landing, return_landing, exception_landing, landing, begins_by};
 ghost use Rattle.ada_interpreter.specs.CommonSteps.{counted_to};
-ghost use Rattle.ada_interpreter.specs.Process.{frame_of, landing_of};
+ghost use Rattle.ada_interpreter.specs.Process.{frame_of, landing_of, asks_by};
 
 use crate::handling::{Landing, landing_among};
+use crate::treatment::Treated;
 use ada_meaning::{Cause, Exception, Mode, Value};
 use ada_program::program::{
     Actual, Branch, ComponentNo, Declaration, Expression, Handler, Item, Link, Procedure,
@@ -163,6 +164,8 @@ pub(crate) enum Frame<'a> {
         variable: VariableNo,
         object: TypeNo,
     },
+    /// The controlled parts of an object are initialized, or finalized (7.6, 7.6.1).
+    Treats(Box<Treated>),
     /// The newest operand is to be written (A.10.7).
     Writes,
     /// An object ceases to exist (13.11.2).
@@ -234,6 +237,21 @@ impl<'a> Frame<'a> {
                 handlers: _,
             } => true,
             Frame::Closes => true,
+            _ => false,
+        }
+    }
+
+    /// May the step that it makes leave open which answer comes?
+    pub(crate) fn asks(&self) -> bool
+        ensures { result ≡ asks_by (frame_of self.now) }
+    {
+        match self {
+            Frame::Leaves(_) => true,
+            Frame::Creates {
+                access: _,
+                count: _,
+            } => true,
+            Frame::Treats(_) => true,
             _ => false,
         }
     }

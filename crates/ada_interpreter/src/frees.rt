@@ -8,6 +8,7 @@ ghost use Rattle.ada_meaning.specs.Named.{named, look};
 ghost use Rattle.ada_interpreter.specs.Process.{frame_of, state_of, passed, replaced, Turns, IsTurn, releasing};
 
 use crate::frame::Frame;
+use crate::loaded::Loaded;
 use crate::process::Process;
 use crate::turn::{QUIET, Turn};
 use ada_meaning::{Cause, Event, Exception, Halt, Id, Value, Why};
@@ -19,17 +20,18 @@ impl<'a> Process<'a> {
     /// A Free: of a variable, or of a component, whose object is found first.
     pub(crate) fn free(
         &mut self,
+        loaded: &Loaded<'a>,
         access: TypeNo,
         path: &'a Path,
         rest: Frame<'a>,
     ) -> Result<Turn, AllocError>
         ensures { let s = replaced (frame_of rest.entry) (state_of self.old) in
             let form = path_form path.now in
-            Turns (step.frees_next named form.selectors access.0 form.root s)
+            Turns (step.frees_next named loaded.now.program.now.types.items form.selectors access.0 form.root s)
             (state_of self.old) result (state_of self.new) }
     {
         match path.selectors.as_slice().split_last() {
-            None => self.free_variable(access, path.root, rest),
+            None => self.free_variable(loaded, access, path.root, rest),
             Some((last, before)) => {
                 let component = self.number_in(path.root, before, *last)?;
                 self.find(
@@ -45,13 +47,14 @@ impl<'a> Process<'a> {
     /// Free (X): null has no effect; else the object leaves its collection, and is to end.
     fn free_variable(
         &mut self,
+        loaded: &Loaded<'a>,
         access: TypeNo,
         variable: VariableNo,
         rest: Frame<'a>,
     ) -> Result<Turn, AllocError>
         ensures { let s = replaced (frame_of rest.entry) (state_of self.old) in
             let v = step.held named s variable.0 in
-            Turns (step.free_next named access.0 variable.0 v (look s.heap v) s)
+            Turns (step.free_next named loaded.now.program.now.types.items access.0 variable.0 v (look s.heap v) s)
             (state_of self.old) result (state_of self.new) }
     {
         match self.held(variable) {
@@ -64,13 +67,14 @@ impl<'a> Process<'a> {
                 object: _,
                 first: _,
             } => { Ok(Turn::Halts(Halt::Stuck)) }
-            Value::Names(object) => self.free_object(access, object, variable, rest),
+            Value::Names(object) => self.free_object(loaded, access, object, variable, rest),
         }
     }
 
     /// The object that a variable names is to end, and the variable is to become null; twice is erroneous.
     fn free_object(
         &mut self,
+        loaded: &Loaded<'a>,
         access: TypeNo,
         object: Id,
         variable: VariableNo,
@@ -78,7 +82,7 @@ impl<'a> Process<'a> {
     ) -> Result<Turn, AllocError>
         ensures { let s = replaced (frame_of rest.entry) (state_of self.old) in
             let v = Value.Names object in
-            Turns (step.free_next named access.0 variable.0 v (look s.heap v) s)
+            Turns (step.free_next named loaded.now.program.now.types.items access.0 variable.0 v (look s.heap v) s)
             (state_of self.old) result (state_of self.new) }
     {
         match self.objects.existing(object) {
@@ -86,7 +90,7 @@ impl<'a> Process<'a> {
             Some(_) => {
                 self.replace(rest)?;
                 self.push(Frame::Clears(variable))?;
-                self.release(access, Value::Names(object))?;
+                self.release(loaded, access, Value::Names(object))?;
                 Ok(QUIET)
             }
         }
@@ -95,12 +99,13 @@ impl<'a> Process<'a> {
     /// Free (P.C): the newest operand gives access to the object of the component. Null raises Constraint_Error.
     pub(crate) fn free_in(
         &mut self,
+        loaded: &Loaded<'a>,
         access: TypeNo,
         component: ComponentNo,
     ) -> Result<Turn, AllocError>
         ensures { let s = passed (state_of self.old) in
             let v = step.newest named s in
-            Turns (step.free_in_next named access.0 v component.0 (look s.heap v) (step.popped s))
+            Turns (step.free_in_next named loaded.now.program.now.types.items access.0 v component.0 (look s.heap v) (step.popped s))
             (state_of self.old) result (state_of self.new) }
     {
         match self.newest() {
@@ -114,20 +119,21 @@ impl<'a> Process<'a> {
                 object: _,
                 first: _,
             } => { Ok(Turn::Halts(Halt::Stuck)) }
-            Value::Names(holder) => self.free_in_object(access, holder, component),
+            Value::Names(holder) => self.free_in_object(loaded, access, holder, component),
         }
     }
 
     /// A component of the object of a name is freed: to follow one that is gone is erroneous.
     fn free_in_object(
         &mut self,
+        loaded: &Loaded<'a>,
         access: TypeNo,
         holder: Id,
         component: ComponentNo,
     ) -> Result<Turn, AllocError>
         ensures { let s = step.popped (passed (state_of self.old)) in
             let v = Value.Names holder in
-            Turns (step.free_in_next named access.0 v component.0 (look s.heap v) s)
+            Turns (step.free_in_next named loaded.now.program.now.types.items access.0 v component.0 (look s.heap v) s)
             (state_of self.old) result (state_of self.new) }
     {
         let Some(cell) = self.objects.existing(holder) else {
@@ -137,7 +143,7 @@ impl<'a> Process<'a> {
             None => Ok(Turn::Halts(Halt::Stuck)),
             Some(value) => {
                 let value = *value;
-                self.free_component(access, holder, component, value)
+                self.free_component(loaded, access, holder, component, value)
             }
         }
     }
@@ -145,6 +151,7 @@ impl<'a> Process<'a> {
     /// What a component holds is freed: null has no effect.
     fn free_component(
         &mut self,
+        loaded: &Loaded<'a>,
         access: TypeNo,
         holder: Id,
         component: ComponentNo,
@@ -153,7 +160,7 @@ impl<'a> Process<'a> {
         ensures { let s = step.popped (passed (state_of self.old)) in
             let o = Value.Names holder in
             let found = look s.heap value in
-            Turns (step.freed_next named access.0 o component.0 value found s)
+            Turns (step.freed_next named loaded.now.program.now.types.items access.0 o component.0 value found s)
             (state_of self.old) result (state_of self.new) }
     {
         match value {
@@ -167,13 +174,16 @@ impl<'a> Process<'a> {
                 object: _,
                 first: _,
             } => { Ok(Turn::Halts(Halt::Stuck)) }
-            Value::Names(object) => self.free_component_object(access, holder, component, object),
+            Value::Names(object) => self.free_component_object(
+                loaded, access, holder, component, object,
+            ),
         }
     }
 
     /// The object that a component names is to end, and the component is to become null; twice is erroneous.
     fn free_component_object(
         &mut self,
+        loaded: &Loaded<'a>,
         access: TypeNo,
         holder: Id,
         component: ComponentNo,
@@ -182,7 +192,7 @@ impl<'a> Process<'a> {
         ensures { let s = step.popped (passed (state_of self.old)) in
             let o = Value.Names holder in
             let v = Value.Names object in
-            Turns (step.freed_next named access.0 o component.0 v (look s.heap v) s)
+            Turns (step.freed_next named loaded.now.program.now.types.items access.0 o component.0 v (look s.heap v) s)
             (state_of self.old) result (state_of self.new) }
     {
         let Some(_) = self.objects.existing(object) else {
@@ -194,20 +204,25 @@ impl<'a> Process<'a> {
         };
         self.pop();
         self.replace(clears)?;
-        self.release(access, Value::Names(object))?;
+        self.release(loaded, access, Value::Names(object))?;
         Ok(Turn::Moves(Event::Followed { object: holder }))
     }
 
     /// An object is to end by a Free, and its words are to go back to the pool of the access type (13.11.2).
-    fn release(&mut self, access: TypeNo, value: Value) -> Result<(), AllocError>
-        ensures { OnOk result (state_of self.new ≡ releasing access.0 value (state_of self.old)) }
+    fn release(
+        &mut self,
+        loaded: &Loaded<'a>,
+        access: TypeNo,
+        value: Value,
+    ) -> Result<(), AllocError>
+        ensures { OnOk result (state_of self.new ≡ releasing loaded.now.program.now.types.items access.0 value (state_of self.old)) }
     {
         let number = self.next;
         let Some(next) = number.checked_add(1) else {
             return Err(AllocError);
         };
         let pool = self.masters.pool_freed_to(access);
-        self.dispose(value, Cause::Freeing { number }, Some(pool))?;
+        self.dispose(loaded, value, Cause::Freeing { number }, Some(pool))?;
         self.next = next;
         Ok(())
     }

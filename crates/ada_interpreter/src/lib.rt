@@ -7,7 +7,8 @@
 //! A step costs constant time, whatever the program has allocated and entered: a collection knows its members and its
 //! pool, an object its collection, an access type its newest open collection, and a declaration of a pool the newest pool
 //! of it. An exception looks at the handlers that it comes to,
-//! the step that copies or fills a record costs as much as the record is long, the steps in which a call begins cost
+//! the step that copies or fills a record costs as much as the record is long, the step that creates an object as much as it
+//! has controlled parts, the steps in which a call begins cost
 //! as much as it has actual parameters and its procedure has variables, and the step in which it ends costs as much as
 //! it has actual parameters. Once the machine's stacks have grown, a call takes no memory.
 #![tactic(auto)]
@@ -19,6 +20,7 @@ mod branches;
 mod calls;
 mod choices;
 mod common_branches;
+mod common_loops;
 mod common_steps;
 mod common_turns;
 mod common_values;
@@ -32,18 +34,23 @@ mod given;
 mod handling;
 mod input;
 mod listed;
+mod loaded;
 mod machine;
 mod masters;
 mod newest;
+mod numbers;
 mod objects;
 mod operators;
 mod parameters;
 mod pools;
 mod process;
 mod records;
+mod rights;
 mod shelves;
 mod stack;
 mod steps;
+mod treatment;
+mod treats;
 mod turn;
 mod values;
 

@@ -9,8 +9,9 @@ ghost use Rattle.ada_interpreter.specs.Process.{shown};
 ghost use Rattle.ada_interpreter.specs.Machine.{state_in, program_of, choices_of, halt_of, MakesStep, EndsRun, Settles, EndsTurn};
 
 use crate::choices::Choices;
+use crate::loaded::Loaded;
 use crate::process::Process;
-use crate::turn::{Allocation, Leaving, Turn};
+use crate::turn::{Allocation, Leaving, Open, Turn};
 use ada_meaning::{Event, Halt, Request};
 use ada_program::Program;
 use std::alloc::{AllocError, Global};
@@ -18,7 +19,7 @@ use std::alloc::{AllocError, Global};
 /// A machine that runs a program, step by step.
 #[derive(Drop)]
 pub struct Machine<'a, C: Choices + Drop> {
-    program: &'a Program,
+    loaded: Loaded<'a>,
     process: Process<'a>,
     choices: C,
     /// How the run has ended, if it has.
@@ -43,7 +44,7 @@ impl<'a, C: Choices + Drop> Machine<'a, C> {
         ensures runs { IfOk result (λ machine. halt_of machine ≡ None) }
     {
         Ok(Machine {
-            program,
+            loaded: Loaded::new(alloc, program)?,
             process: Process::new(alloc, program, input)?,
             choices,
             halted: None,
@@ -100,7 +101,7 @@ impl<'a, C: Choices + Drop> Machine<'a, C> {
         if self.halted.is_some() {
             return Ok(limit);
         }
-        match self.process.make_common_steps(self.program, limit) {
+        match self.process.make_common_steps(self.loaded.program, limit) {
             Ok(left) => Ok(left),
             Err(AllocError) => {
                 self.halted = Some(Halt::Memory);
@@ -134,7 +135,7 @@ impl<'a, C: Choices + Drop> Machine<'a, C> {
         ensures same { halt_of self.new ≡ halt_of self.old }
         ensures program { program_of self.new ≡ program_of self.old }
     {
-        match self.process.turn(self.program) {
+        match self.process.turn(&self.loaded) {
             Ok(turn) => self.settle(turn),
             Err(AllocError) => Err(Halt::Memory),
         }
@@ -144,7 +145,7 @@ impl<'a, C: Choices + Drop> Machine<'a, C> {
     /// reply.
     fn settle(&mut self, turn: Turn) -> Result<Event, Halt>
         ensures steps { IfOk result
-            (λ event. Settles C.grants C.picks (shown turn (state_in self.old)) self.old event self.new) }
+            (λ event. Settles C.grants C.picks (shown (program_of self.old).types.items turn (state_in self.old)) self.old event self.new) }
         ensures ends { IfErr result (λ halt. EndsTurn turn self.old halt self.new) }
         ensures same { halt_of self.new ≡ halt_of self.old }
         ensures program { program_of self.new ≡ program_of self.old }
@@ -155,13 +156,14 @@ impl<'a, C: Choices + Drop> Machine<'a, C> {
             Turn::Tells(request, event) => self.tell(request, event),
             Turn::Asks(allocation) => self.ask(allocation),
             Turn::Picks(leaving) => self.pick(leaving),
+            Turn::PicksComponent(choice) => self.pick_component(choice),
         }
     }
 
     /// The pools are told.
     fn tell(&mut self, request: Request, event: Event) -> Result<Event, Halt>
         ensures steps { IfOk result
-            (λ shows. Settles C.grants C.picks (shown (Turn.Tells request event) (state_in self.old)) self.old shows self.new) }
+            (λ shows. Settles C.grants C.picks (shown (program_of self.old).types.items (Turn.Tells request event) (state_in self.old)) self.old shows self.new) }
         ensures ends { IfErr result (λ halt. halt ≡ Memory) }
         ensures same { halt_of self.new ≡ halt_of self.old }
         ensures program { program_of self.new ≡ program_of self.old }
@@ -175,13 +177,13 @@ impl<'a, C: Choices + Drop> Machine<'a, C> {
     /// A pool is asked.
     fn ask(&mut self, allocation: Allocation) -> Result<Event, Halt>
         ensures steps { IfOk result
-            (λ shows. Settles C.grants C.picks (shown (Turn.Asks allocation) (state_in self.old)) self.old shows self.new) }
+            (λ shows. Settles C.grants C.picks (shown (program_of self.old).types.items (Turn.Asks allocation) (state_in self.old)) self.old shows self.new) }
         ensures ends { IfErr result (λ halt. halt ≡ Memory) }
         ensures same { halt_of self.new ≡ halt_of self.old }
         ensures program { program_of self.new ≡ program_of self.old }
     {
         match self.choices.grant(&allocation.request()) {
-            Ok(granted) => match self.process.answer(&allocation, granted) {
+            Ok(granted) => match self.process.answer(&self.loaded, &allocation, granted) {
                 Ok(()) => Ok(Event::Quiet),
                 Err(AllocError) => Err(Halt::Memory),
             },
@@ -192,13 +194,27 @@ impl<'a, C: Choices + Drop> Machine<'a, C> {
     /// One of the members is taken.
     fn pick(&mut self, leaving: Leaving) -> Result<Event, Halt>
         ensures steps { IfOk result
-            (λ shows. Settles C.grants C.picks (shown (Turn.Picks leaving) (state_in self.old)) self.old shows self.new) }
+            (λ shows. Settles C.grants C.picks (shown (program_of self.old).types.items (Turn.Picks leaving) (state_in self.old)) self.old shows self.new) }
         ensures ends { IfErr result (λ halt. halt ≡ Memory) }
         ensures same { halt_of self.new ≡ halt_of self.old }
         ensures program { program_of self.new ≡ program_of self.old }
     {
         let i = self.choices.pick(leaving.count);
-        match self.process.take(&leaving, i) {
+        match self.process.take(&self.loaded, &leaving, i) {
+            Ok(()) => Ok(Event::Quiet),
+            Err(AllocError) => Err(Halt::Memory),
+        }
+    }
+    /// One of the components that are open is picked (7.6, 7.6.1).
+    fn pick_component(&mut self, choice: Open) -> Result<Event, Halt>
+        ensures steps { let types = (program_of self.old).types.items in IfOk result
+            (λ shows. Settles C.grants C.picks (shown types (Turn.PicksComponent choice) (state_in self.old)) self.old shows self.new) }
+        ensures ends { IfErr result (λ halt. halt ≡ Memory) }
+        ensures same { halt_of self.new ≡ halt_of self.old }
+        ensures program { program_of self.new ≡ program_of self.old }
+    {
+        let i = self.choices.pick(choice.count);
+        match self.process.take_component(&self.loaded, i) {
             Ok(()) => Ok(Event::Quiet),
             Err(AllocError) => Err(Halt::Memory),
         }

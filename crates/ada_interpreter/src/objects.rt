@@ -1,13 +1,15 @@
 //! Objects by name, and the members of each collection.
 
-ghost use Rattle.std.specs.Prelude.{◌≡◌, ℕ, [], ◌∷◌, ◌++◌, length, reverse, map, OnOk, IfOk, MatchOption};
+ghost use Rattle.std.specs.Prelude.{◌≡◌, ℕ, [], ◌∷◌, ◌++◌, length, reverse, map, Some, option_map, OnOk, IfOk, MatchOption};
 ghost use Rattle.std.specs.List.{slice_index_or};
 ghost use Rattle.ada_meaning.specs.Heap.{on_gone, finds};
 ghost use Rattle.ada_meaning.specs.Step.{initial_value, stored_from};
-ghost use Rattle.ada_meaning.specs.Named.{named, object_at, seen, lent_by, new_object, changed, parted, finished, returned, filled, members};
-ghost use Rattle.ada_interpreter.specs.Objects.{cell_of, declared_cell, object_of, kept_of, kept_at, listed_home, gone, filled_from, is_member_at, members_among, Trims, IsTidied};
+ghost use Rattle.ada_meaning.specs.Named.{named, object_at, seen, lent_by, new_object, changed, parted, finished, returned, filled, born_part, finalized_part, treated, members};
+ghost use Rattle.ada_interpreter.specs.Objects.{cell_of, declared_cell, object_of, kept_of, kept_at, listed_home, gone, filled_from, part_at, with_part_state, is_member_at, members_among, Trims, IsTidied};
+ghost use Rattle.ada_interpreter.specs.Treatment.{part_form};
 
 use crate::shelves::{Shelf, discount, enter, entries_at, live_at, make_shelves};
+use crate::treatment::{PartState, set_part};
 use crate::values::{initial_values, set_value, set_values};
 use ada_meaning::{Id, Stage, Value};
 use ada_program::TypeNo;
@@ -34,6 +36,8 @@ pub(crate) struct Cell {
     pub(crate) number: u64,
     pub(crate) home: Home,
     pub(crate) values: Vec<Value>,
+    /// Its controlled parts, by their numbers (7.6).
+    pub(crate) parts: Vec<PartState>,
 }
 
 /// An object: an allocated one, or a declared one.
@@ -139,15 +143,17 @@ impl Objects {
         initial_values(self.alloc, components)
     }
 
-    /// A new record object, whose components hold these values (3.3.1); its home is an item of its own.
+    /// A new record object, with these values in its components (3.3.1) and these controlled parts; its home is an item of
+    /// its own.
     pub(crate) fn create_declared(
         &mut self,
         object: TypeNo,
         item: usize,
         values: Vec<Value>,
+        parts: Vec<PartState>,
     ) -> Result<Id, AllocError>
         ensures name { IfOk result (λ o. o ≡ record { 0 = length self.old }) }
-        ensures object { let cell = declared_cell object.0 item values.items in
+        ensures object { let cell = declared_cell object.0 item values.items (map part_form parts.items) in
             OnOk result (self.new ≡ self.old ++ new_object cell ∷ []) }
     {
         self.create(Cell {
@@ -159,6 +165,7 @@ impl Objects {
                 subpool: None,
             },
             values,
+            parts,
         })
     }
 
@@ -197,6 +204,48 @@ impl Objects {
         ensures { self.new ≡ stored_from named self.old (Value.Names o) first.0 values.now }
     {
         set_components(&mut self.objects, o, first, values);
+    }
+
+    /// A controlled part of the object of a name, if that exists and has this part (7.6).
+    pub(crate) fn part_state(&self, o: Id, part: usize) -> Option<PartState>
+        ensures { option_map part_form result ≡ part_at self.now o part }
+    {
+        match self.existing(o)?.parts.get(part) {
+            Some(state) => Some(*state),
+            None => None,
+        }
+    }
+
+    /// Such a part comes to have a value, with a trace number (7.6).
+    pub(crate) fn bear(&mut self, o: Id, part: usize, state: PartState, number: u64)
+        requires { part_at self.old o part ≡ Some (part_form state) }
+        ensures { self.new ≡ changed (treated (born_part number) part) (object_at self.old o) self.old o }
+    {
+        self.set_part(o, part, state.born(number));
+    }
+
+    /// The value of such a part is finalized (7.6.1). Fails where no more values of it can be counted.
+    pub(crate) fn finalize(
+        &mut self,
+        o: Id,
+        part: usize,
+        state: PartState,
+    ) -> Result<(), AllocError>
+        requires { part_at self.old o part ≡ Some (part_form state) }
+        ensures { OnOk result
+            (self.new ≡ changed (treated finalized_part part) (object_at self.old o) self.old o) }
+    {
+        let ended = state.finalized()?;
+        self.set_part(o, part, ended);
+        Ok(())
+    }
+
+    /// A controlled part of the object of a name gets another state.
+    fn set_part(&mut self, o: Id, part: usize, state: PartState)
+        ensures { let xs = self.old in
+            self.new ≡ changed (with_part_state part (part_form state)) (object_at xs o) xs o }
+    {
+        set_part_state(&mut self.objects, o, part, state);
     }
 
     /// How many members the collection of an item has.
@@ -277,6 +326,17 @@ fn set_components(objects: &mut Vec<Object>, o: Id, first: ComponentNo, values: 
     if o.0 < objects.len() {
         let object = &mut objects[o.0];
         set_values(object.cell.values.as_mut_slice(), first.0, values);
+    }
+}
+
+/// A controlled part of the object of a name has another state.
+fn set_part_state(objects: &mut Vec<Object>, o: Id, part: usize, state: PartState)
+    ensures { let xs = map object_of objects.old.items in
+        map object_of objects.new.items ≡ changed (with_part_state part (part_form state)) (object_at xs o) xs o }
+{
+    if o.0 < objects.len() {
+        let object = &mut objects[o.0];
+        set_part(object.cell.parts.as_mut_slice(), part, state);
     }
 }
 

@@ -222,7 +222,8 @@ impl<'a> Process<'a> {
 
     /// A variable gets a value (5.2).
     pub(crate) fn put(&mut self, variable: VariableNo, value: Value)
-        ensures { state_of self.new ≡ put variable.0 value (state_of self.old) }
+        ensures state { state_of self.new ≡ put variable.0 value (state_of self.old) }
+        ensures frames { self.new.frames ≡ self.old.frames }
     {
         self.activations.put(variable, value);
     }

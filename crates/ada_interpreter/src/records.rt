@@ -11,11 +11,13 @@ ghost use Rattle.ada_meaning.specs.Named.{named, look};
 ghost use Rattle.ada_interpreter.specs.Process.{frame_of, state_of, passed, replaced, pushed, Turns, IsTurn};
 
 use crate::frame::Frame;
+use crate::loaded::Loaded;
 use crate::masters::Owned;
 use crate::process::Process;
+use crate::treatment::Treatment;
 use crate::turn::{QUIET, Turn};
 use crate::values::record_in;
-use ada_meaning::{Event, Exception, Halt, Id, Value, Why};
+use ada_meaning::{Birth, Event, Exception, Halt, Id, Value, Why};
 use ada_program::program::{ComponentNo, Item, RecordPath};
 use ada_program::{Program, TypeNo, VariableNo};
 use std::alloc::AllocError;
@@ -207,12 +209,12 @@ impl<'a> Process<'a> {
     /// A record object is created, and the newest operands are its components (3.3.1).
     pub(crate) fn declare_record(
         &mut self,
-        program: &Program,
+        loaded: &Loaded<'a>,
         variable: VariableNo,
         object: TypeNo,
     ) -> Result<Turn, AllocError>
         ensures { let s = passed (state_of self.old) in
-            let types = program.now.types.items in
+            let types = loaded.now.program.now.types.items in
             let count = words_of types object.0 in
             let values = step.newest_ones named count s in
             Turns
@@ -220,45 +222,48 @@ impl<'a> Process<'a> {
             (state_of self.old) result (state_of self.new) }
     {
         self.pass();
-        let values = self.activations.take(program.words(object))?;
-        self.make(variable, object, values)?;
+        let values = self.activations.take(loaded.program.words(object))?;
+        self.make(loaded, variable, object, values)?;
         Ok(QUIET)
     }
 
     /// A record object is created, with what its components hold at first (3.3.1).
     pub(crate) fn make_initial(
         &mut self,
-        program: &Program,
+        loaded: &Loaded<'a>,
         variable: VariableNo,
         object: TypeNo,
     ) -> Result<(), AllocError>
-        ensures { let types = program.now.types.items in
+        ensures { let types = loaded.now.program.now.types.items in
             let values = step.initial_values named (reached_of types object.0) in
             OnOk result
             (state_of self.new ≡ step.made named types variable.0 object.0 values (state_of self.old)) }
     {
-        let components = match program.components(object) {
+        let components = match loaded.program.components(object) {
             Some(components) => components,
             None => &[],
         };
         let values = self.objects.initial_values(components)?;
-        self.make(variable, object, values)
+        self.make(loaded, variable, object, values)
     }
 
     /// A record object is created, whose components hold these values (3.3.1): its variable holds its name, and the
-    /// innermost master owns it.
+    /// innermost master owns it. Its controlled parts are initialized next (7.6).
     fn make(
         &mut self,
+        loaded: &Loaded<'a>,
         variable: VariableNo,
         object: TypeNo,
         values: Vec<Value>,
     ) -> Result<(), AllocError>
-        ensures { (types : List TypeDefinition) → OnOk result
+        ensures { let types = loaded.now.program.now.types.items in OnOk result
             (state_of self.new ≡ step.made named types variable.0 object.0 values.items (state_of self.old)) }
     {
         let item = self.masters.height();
-        let name = self.objects.create_declared(object, item, values)?;
+        let parts = loaded.new_parts(object)?;
+        let name = self.objects.create_declared(object, item, values, parts)?;
         self.put(variable, Value::Names(name));
-        self.masters.own(Owned::Record(object))
+        self.masters.own(Owned::Record(object))?;
+        self.begin_treatment(loaded, name, object, Treatment::Begins(Birth::Creation))
     }
 }

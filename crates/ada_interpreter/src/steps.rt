@@ -1,23 +1,21 @@
 //! Declarations and statements.
 
 ghost use Rattle.std.specs.Prelude.{◌≡◌, map};
-ghost use Rattle.std.specs.Option.{option_copied};
-ghost use Rattle.ada_program.specs.Form.{initial_form, right_form, stmt_form, stmts_form, handlers_form, declaration_form};
+ghost use Rattle.ada_program.specs.Form.{stmt_form, stmts_form, handlers_form, declaration_form};
 ghost use Rattle.ada_program.specs.ProgramForm.{body_forms};
 ghost use Rattle.ada_meaning.specs.Frame as frame;
 ghost use Rattle.ada_meaning.specs.Event.{Quiet};
-ghost use Rattle.ada_meaning.specs.State.{declared};
 ghost use Rattle.ada_meaning.specs.Step as step;
 ghost use Rattle.ada_meaning.specs.Named.{named, reads_integer};
 ghost use Rattle.ada_interpreter.specs.Process.{frame_of, state_of, passed, replaced, pushed, Turns, IsTurn};
 
 use crate::frame::Frame;
-use crate::masters::Owned;
+use crate::loaded::Loaded;
 use crate::process::Process;
 use crate::turn::{QUIET, Turn};
 use ada_meaning::{Event, Halt, Line, Mode, Value};
-use ada_program::program::{Declaration, Handler, Right};
-use ada_program::{Program, Stmt, VariableNo};
+use ada_program::program::{Declaration, Handler};
+use ada_program::{Program, Stmt};
 use ada_values::Value as Scalar;
 use std::alloc::AllocError;
 
@@ -25,14 +23,14 @@ impl<'a> Process<'a> {
     /// The declarations that are left (3.11). Then the statements come, with their handlers.
     pub(crate) fn elaborate(
         &mut self,
-        program: &Program,
+        loaded: &Loaded<'a>,
         declarations: &'a [Declaration],
         statements: &'a [Stmt],
         handlers: &'a [Handler],
     ) -> Result<Turn, AllocError>
         ensures { let s = state_of self.old in let hs = handlers_form handlers.now in
             Turns
-            (step.declarations_next named program.now.types.items (map declaration_form declarations.now) (stmts_form statements.now) hs (passed s))
+            (step.declarations_next named loaded.now.program.now.types.items (map declaration_form declarations.now) (stmts_form statements.now) hs (passed s))
             s result (state_of self.new) }
     {
         match declarations.split_first() {
@@ -45,7 +43,7 @@ impl<'a> Process<'a> {
                 Ok(QUIET)
             }
             Some((first, rest)) => self.declare(
-                program,
+                loaded,
                 first,
                 Frame::Elaborates {
                     declarations: rest,
@@ -60,18 +58,18 @@ impl<'a> Process<'a> {
     /// record object is created, once the items of its initial value are known where they are written.
     fn declare(
         &mut self,
-        program: &Program,
+        loaded: &Loaded<'a>,
         declaration: &'a Declaration,
         rest: Frame<'a>,
     ) -> Result<Turn, AllocError>
         ensures { let s = state_of self.old in
             Turns
-            (step.declaration_next named program.now.types.items (declaration_form declaration.now) (replaced (frame_of rest.entry) s))
+            (step.declaration_next named loaded.now.program.now.types.items (declaration_form declaration.now) (replaced (frame_of rest.entry) s))
             s result (state_of self.new) }
     {
         match declaration {
             Declaration::Pool(declaration) => self.begin_pool(*declaration, rest),
-            Declaration::Collection(access) => self.collect(program, *access, rest),
+            Declaration::Collection(access) => self.collect(loaded.program, *access, rest),
             Declaration::Variable { variable, initial } => {
                 self.replace_by_three(
                     Frame::Evaluates(initial.as_ref()),
@@ -86,7 +84,7 @@ impl<'a> Process<'a> {
                 initial: None,
             } => {
                 self.replace(rest)?;
-                self.make_initial(program, *variable, *object)?;
+                self.make_initial(loaded, *variable, *object)?;
                 Ok(QUIET)
             }
             Declaration::Record {
@@ -110,11 +108,11 @@ impl<'a> Process<'a> {
     /// The statements that are left (5.1).
     pub(crate) fn begin(
         &mut self,
-        program: &'a Program,
+        loaded: &Loaded<'a>,
         statements: &'a [Stmt],
     ) -> Result<Turn, AllocError>
         ensures { let s = state_of self.old in
-            Turns (step.stmts_next named (body_forms program.now) (stmts_form statements.now) (passed s))
+            Turns (step.stmts_next named loaded.now.program.now.types.items (body_forms loaded.now.program.now) (stmts_form statements.now) (passed s))
             s result (state_of self.new) }
     {
         match statements.split_first() {
@@ -122,7 +120,7 @@ impl<'a> Process<'a> {
                 self.pass();
                 Ok(QUIET)
             }
-            Some((first, rest)) => self.execute(program, first, Frame::Does(rest)),
+            Some((first, rest)) => self.execute(loaded, first, Frame::Does(rest)),
         }
     }
 
@@ -130,13 +128,13 @@ impl<'a> Process<'a> {
     #[tactic(auto, using(std::proofs::lemmas::Grind::common_steps, ada_program::specs::Form::statement_rules))]
     fn execute(
         &mut self,
-        program: &'a Program,
+        loaded: &Loaded<'a>,
         statement: &'a Stmt,
         rest: Frame<'a>,
     ) -> Result<Turn, AllocError>
         ensures { let s = state_of self.old in
             Turns
-            (step.stmt_next named (body_forms program.now) (stmt_form statement.now) (replaced (frame_of rest.entry) s))
+            (step.stmt_next named loaded.now.program.now.types.items (body_forms loaded.now.program.now) (stmt_form statement.now) (replaced (frame_of rest.entry) s))
             s result (state_of self.new) }
     {
         match statement {
@@ -146,7 +144,7 @@ impl<'a> Process<'a> {
             }
             Stmt::Assign { target, value } => self.assign(target, value, rest),
             Stmt::AssignRecord { target, items } => self.assign_record(target, items, rest),
-            Stmt::Free { access, path } => self.free(*access, path, rest),
+            Stmt::Free { access, path } => self.free(loaded, *access, path, rest),
             Stmt::Get(target) => self.get(target, rest),
             Stmt::PutImage(expression) => {
                 self.replace_by_three(Frame::Computes(expression), Frame::Writes, rest)?;
@@ -198,7 +196,7 @@ impl<'a> Process<'a> {
             }
             Stmt::Exit { condition, spot: _ } => self.exit(condition.as_ref(), rest),
             Stmt::Call { procedure, actuals } => {
-                self.call(program, *procedure, actuals.as_slice(), rest)
+                self.call(loaded.program, *procedure, actuals.as_slice(), rest)
             }
             Stmt::Return(_) => {
                 self.replace(rest)?;
@@ -243,88 +241,6 @@ impl<'a> Process<'a> {
             handlers,
         })?;
         self.enter()?;
-        Ok(QUIET)
-    }
-
-    /// What is assigned is evaluated (4.1, 4.8); null where nothing is written.
-    pub(crate) fn evaluate(
-        &mut self,
-        program: &Program,
-        right: Option<&'a Right>,
-    ) -> Result<Turn, AllocError>
-        ensures { let s = state_of self.old in let form = initial_form (option_copied right.entry) in
-            Turns (step.right_next named program.now.types.items form (passed s))
-            s result (state_of self.new) }
-    {
-        match right {
-            None => {
-                self.give(Value::Null)?;
-                Ok(QUIET)
-            }
-            Some(right) => self.value(program, right),
-        }
-    }
-
-    /// A right side is evaluated (4.1, 4.8): the items of an allocator before its object is asked for.
-    fn value(&mut self, program: &Program, right: &'a Right) -> Result<Turn, AllocError>
-        ensures { let s = state_of self.old in
-            Turns (step.right_next named program.now.types.items (right_form right.now) (passed s))
-            s result (state_of self.new) }
-    {
-        match right {
-            Right::Null => {
-                self.give(Value::Null)?;
-                Ok(QUIET)
-            }
-            Right::Path(path) => self.read(path),
-            Right::Allocator { access, items } => {
-                self.replace_by_two(
-                    Frame::Fills(items.as_slice()),
-                    Frame::Creates {
-                        access: *access,
-                        count: program.words(*access),
-                    },
-                )?;
-                Ok(QUIET)
-            }
-            Right::Default(access) => self.initialize(program, *access),
-            Right::Value(expression) => {
-                self.replace(Frame::Computes(expression))?;
-                Ok(QUIET)
-            }
-        }
-    }
-
-    /// The newest operand goes to a variable (5.2).
-    pub(crate) fn store(&mut self, variable: VariableNo) -> Turn
-        ensures { let s = passed (state_of self.old) in
-            IsTurn (step.moves Quiet (step.put variable.0 (step.newest named s) (step.popped s)))
-            (state_of self.old) result (state_of self.new) }
-    {
-        self.put_newest(variable);
-        QUIET
-    }
-
-    /// The newest operand goes to a variable, and what was to do that is taken off.
-    pub(crate) fn put_newest(&mut self, variable: VariableNo)
-        ensures { let s = passed (state_of self.old) in
-            state_of self.new ≡ step.put variable.0 (step.newest named s) (step.popped s) }
-    {
-        let value = self.newest();
-        self.pass();
-        self.pop();
-        self.put(variable, value);
-    }
-
-    /// A variable is created, with the newest operand for its value (3.3.1).
-    pub(crate) fn create(&mut self, variable: VariableNo) -> Result<Turn, AllocError>
-        ensures { let s = passed (state_of self.old) in
-            Turns
-            (step.moves Quiet (step.owned (declared variable.0) (step.put variable.0 (step.newest named s) (step.popped s))))
-            (state_of self.old) result (state_of self.new) }
-    {
-        self.put_newest(variable);
-        self.masters.own(Owned::Declared(variable))?;
         Ok(QUIET)
     }
 

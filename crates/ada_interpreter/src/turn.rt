@@ -5,7 +5,8 @@ ghost use Rattle.ada_meaning.specs.declared.request.Request.TheVariants.{Allocat
 
 use crate::newest::Destination;
 use ada_meaning::{Event, Halt, Id, Request};
-use ada_program::{Stmt, TypeNo};
+use ada_program::program::Expression;
+use ada_program::{Stmt, TypeNo, VariableNo};
 
 /// The answer of one turn.
 #[derive(Clone, Copy)]
@@ -20,6 +21,8 @@ pub(crate) enum Turn {
     Asks(Allocation),
     /// One of the objects of an item that is left is to be taken.
     Picks(Leaving),
+    /// One of the components that are open is to be treated next (7.6, 7.6.1).
+    PicksComponent(Open),
 }
 
 /// The step is made, and nothing can be seen.
@@ -64,6 +67,14 @@ pub(crate) struct Leaving {
     ghost some: { 0 < count },
 }
 
+/// The components that are open in a treatment that goes on: the first of what is left to do.
+#[derive(Clone, Copy)]
+pub(crate) struct Open {
+    /// How many there are.
+    pub(crate) count: usize,
+    ghost some: { 0 < count },
+}
+
 /// How far statements were run at once.
 #[derive(Clone, Copy)]
 pub(crate) struct Run {
@@ -82,4 +93,23 @@ pub(crate) enum NextTurn<'a> {
     Ends,
     /// Nothing is known.
     Unknown,
+}
+
+/// What a statement in which others stand begins with, where that is known at once.
+#[derive(Clone, Copy)]
+pub(crate) enum Inner<'a> {
+    /// The statements of a branch (5.3).
+    Branch(&'a [Stmt]),
+    /// The turns of a loop (5.5).
+    Turns {
+        condition: Option<&'a Expression>,
+        statements: &'a [Stmt],
+    },
+    /// The turns of a `for` loop, for each value from the first to the last (5.5). There is one.
+    Counts {
+        parameter: VariableNo,
+        first: i32,
+        last: i32,
+        statements: &'a [Stmt],
+    },
 }

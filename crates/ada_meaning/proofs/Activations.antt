@@ -1,23 +1,28 @@
 -- Steps of expressions, allocators and Free keep the activations behind the running one, and its procedure and the number of its variables.
 
-use Rattle.std.proofs.Common.{◌≡◌, ℕ, zero, suc, Bool, true, false, if◌then◌else◌, List, [], ◌∷◌, length, Option, Some, None, Result, Ok, Err, refl, ap, ◌∙◌}
+use Rattle.std.proofs.Common.{◌≡◌, ℕ, zero, suc, Bool, true, false, ◌==◌, if◌then◌else◌, List, [], ◌∷◌, length, Option, Some, None, Result, Ok, Err, refl, ap, ◌∙◌}
 use Rattle.std.specs.List.{slice_get, slice_set}
 use Rattle.ada_program.specs.declared.program.TypeDefinition.{TypeDefinition}
 use Rattle.ada_program.specs.Form.{RecordPathForm, ExpressionForm, integer, boolean, reads, is_null, applied_to, chained, LinksForm, no_more_links, a_link, ItemForm, null_item, item_of_path, item_of_value, item_of_record, RightForm, nothing, value_of, allocates, allocates_default, computes}
+use Rattle.ada_parts.specs.declared.tasks.Next.{Next as Follows}
+use Rattle.ada_parts.specs.declared.tasks.Next.TheVariants.{Done, Pick, Perform}
+use Rattle.ada_parts.specs.Shape.{Shape as TypeShape}
+use Rattle.ada_parts.specs.Task.{Task, performed, taken as taken_task}
 use Rattle.ada_values.specs.declared.operator.BinaryOperator.{BinaryOperator}
 use Rattle.ada_values.specs.declared.fault.OperatorFault.{OperatorFault}
 use Rattle.ada_values.specs.declared.fault.OperatorFault.TheVariants.{Overflow, DivisionByZero, WrongType}
 use Rattle.ada_meaning.specs.declared.state.Value.{Value}
 use Rattle.ada_meaning.specs.declared.event.Cause.{Cause}
-use Rattle.ada_meaning.specs.declared.event.Halt.TheVariants.{Erroneous}
-use Rattle.ada_meaning.specs.declared.event.Why.TheVariants.{GivesElsewhere}
-use Rattle.ada_meaning.specs.Event.{Back}
-use Rattle.ada_meaning.specs.Frame.{Frame, is_master, Landing, passes_on, goes_behind, goes_in, landing}
+use Rattle.ada_meaning.specs.declared.event.Halt.TheVariants.{Erroneous, Stuck}
+use Rattle.ada_meaning.specs.declared.event.Birth.{Birth}
+use Rattle.ada_meaning.specs.declared.event.Why.TheVariants.{GivesElsewhere, FinalizesTwice}
+use Rattle.ada_meaning.specs.Event.{Back, Finalized}
+use Rattle.ada_meaning.specs.Frame.{Treatment, Frame, is_master, Landing, passes_on, goes_behind, goes_in, landing}
 use Rattle.ada_meaning.specs.Frame as frame
 use Rattle.ada_meaning.specs.State.{Activation, Destination}
-use Rattle.ada_meaning.specs.Heap.{Cell, Found, on_null, on_gone, on_other, finds}
-use Rattle.ada_meaning.specs.Step.{same_pool, told_back, record_in, copied_next, copies_next, halts, moves, tells, asks, picks, at, older, places_of, operands, with_places, with_operands, set_operands, popped, put, held, newest, reading, component_next, follow_next, path_next, selected, named_next, holder_next, first_in, record_holder_next, before_last, last_of, expression_next, null_test_next, is_decided, link_next, links_next, outcome_next, item_next, items_next, answered, new_next, right_next, free_next, end_next, given_back, back_next}
-use Rattle.ada_meaning.specs.Named.{State, Next, named, whole, inside, look, reads_boolean, on_object, returned}
+use Rattle.ada_meaning.specs.Heap.{PartState, Cell, Found, on_null, on_gone, on_other, finds}
+use Rattle.ada_meaning.specs.Step.{direction_of, treated_on, born_next, finalized_next, performed_next, treats_next, same_pool, told_back, record_in, copied_next, copies_next, halts, moves, tells, asks, picks, at, older, places_of, operands, with_places, with_operands, set_operands, popped, put, held, newest, reading, component_next, follow_next, path_next, selected, named_next, holder_next, first_in, record_holder_next, before_last, last_of, expression_next, null_test_next, is_decided, link_next, links_next, outcome_next, item_next, items_next, answered, new_next, right_next, free_next, end_next, given_back, back_next}
+use Rattle.ada_meaning.specs.Named.{State, Next, named, whole, inside, look, reads_boolean, on_object, returned, finalize}
 use Rattle.ada_meaning.specs.Run.{Event}
 
 -- What a body that runs on keeps: the activations behind its own, its procedure, and how many variables it has.
@@ -160,15 +165,16 @@ copies_keep o first count on_other s h = tt
 copies_keep o first count (finds cell) s h = copied_keeps o (record_in cell.values first count) s h
 
 pub answered_keeps :
-    {w : Shape} (access count words : ℕ) (home : Destination) (s : State) → shape s.activations ≡ w → (granted : Bool)
-    → shape (answered named access count words home s granted).activations ≡ w
-answered_keeps access count words home s h true = operands_kept _ s h
-answered_keeps access count words home s h false = operands_kept _ s h
+    {w : Shape} (types : List TypeDefinition) (access count words : ℕ) (home : Destination) (s : State) → shape s.activations ≡ w → (granted : Bool)
+    → shape (answered named types access count words home s granted).activations ≡ w
+answered_keeps types access count words home s h true = operands_kept _ s h
+answered_keeps types access count words home s h false = operands_kept _ s h
 
 pub new_keeps :
-    {w : Shape} (access count words : ℕ) (home : Option Destination) (s : State) → shape s.activations ≡ w → Keeps w (new_next named access count words home s)
-new_keeps access count words None s h = operands_kept _ s h
-new_keeps access count words (Some home) s h = answered_keeps access count words home s h
+    {w : Shape} (types : List TypeDefinition) (access count words : ℕ) (home : Option Destination) (s : State)
+    → shape s.activations ≡ w → Keeps w (new_next named types access count words home s)
+new_keeps types access count words None s h = operands_kept _ s h
+new_keeps types access count words (Some home) s h = answered_keeps types access count words home s h
 
 pub right_keeps : {w : Shape} (types : List TypeDefinition) (right : RightForm) (s : State) → shape s.activations ≡ w → Keeps w (right_next named types right s)
 right_keeps types nothing s h = operands_kept _ s h
@@ -179,11 +185,12 @@ right_keeps types (computes e) s h = h
 
 -- Free, and what it leads to.
 pub free_keeps :
-    {w : Shape} (access x : ℕ) (v : Value) (found : Found (Cell Value)) (s : State) → shape s.activations ≡ w → Keeps w (free_next named access x v found s)
-free_keeps access x v on_null s h = h
-free_keeps access x v on_gone s h = tt
-free_keeps access x v on_other s h = tt
-free_keeps access x v (finds cell) s h = h
+    {w : Shape} (types : List TypeDefinition) (access x : ℕ) (v : Value) (found : Found (Cell Value)) (s : State)
+    → shape s.activations ≡ w → Keeps w (free_next named types access x v found s)
+free_keeps types access x v on_null s h = h
+free_keeps types access x v on_gone s h = tt
+free_keeps types access x v on_other s h = tt
+free_keeps types access x v (finds cell) s h = h
 
 pub end_keeps : {w : Shape} (v : Value) (found : Found (Cell Value)) (s : State) → shape s.activations ≡ w → Keeps w (end_next named v found s)
 end_keeps v on_null s h = tt
@@ -209,3 +216,48 @@ back_keeps v cause pool on_null s h = tt
 back_keeps v cause pool on_gone s h = tt
 back_keeps v cause pool on_other s h = tt
 back_keeps v cause pool (finds cell) s h = given_back_keeps (same_pool pool cell.home.pool) v cause cell s h
+
+-- The treatment of an object.
+pub born_keeps :
+    {w : Shape} (v : Value) (of part : ℕ) (by : Birth) (state : Option PartState) (s : State) → shape s.activations ≡ w
+    → Keeps w (born_next named v of part by state s)
+born_keeps v of part by None s h = tt
+born_keeps v of part by (Some p) s h = h
+
+pub finalized_keeps :
+    {w : Shape} (v : Value) (of part : ℕ) (cause : Cause) (state : Option PartState) (s : State) → shape s.activations ≡ w
+    → Keeps w (finalized_next named v of part cause state s)
+finalized_keeps v of part cause None s h = tt
+finalized_keeps {w} v of part cause (Some p) s h = by_life p.alive
+  where
+    by_life :
+        (alive : Bool)
+        → Keeps w
+        (if alive then moves (Finalized v part p.turn of p.number cause) (record s { heap = finalize s.heap v part })
+        else halts (Erroneous FinalizesTwice))
+    by_life true = h
+    by_life false = tt
+
+pub performed_keeps :
+    {w : Shape} (v : Value) (treatment : Treatment) (of part : ℕ) (found : Found (Cell Value)) (s : State) → shape s.activations ≡ w
+    → Keeps w (performed_next named v treatment of part found s)
+performed_keeps v treatment of part on_null s h = tt
+performed_keeps v treatment of part on_gone s h = tt
+performed_keeps v treatment of part on_other s h = tt
+performed_keeps v (frame.begins by) of part (finds cell) s h = born_keeps v of part by (slice_get cell.parts part) s h
+performed_keeps v (frame.ends cause) of part (finds cell) s h = finalized_keeps v of part cause (slice_get cell.parts part) s h
+
+picked_keeps :
+    {w : Shape} (none : Bool) (count : ℕ) (taking : ℕ → State) → ((i : ℕ) → shape (taking i).activations ≡ w)
+    → Keeps w (if none then halts Stuck else picks count taking)
+picked_keeps true count taking h = tt
+picked_keeps false count taking h = h
+
+pub treats_keep :
+    {w : Shape} (shapes : List TypeShape) (v : Value) (treatment : Treatment) (tasks : List Task) (follows : Follows) (s : State) → shape s.activations ≡ w
+    → Keeps w (treats_next named shapes v treatment tasks follows s)
+treats_keep shapes v treatment tasks Done s h = h
+treats_keep shapes v treatment tasks (Pick count) s h =
+    picked_keeps (count == 0) count (λ i. treated_on named v treatment (taken_task shapes (direction_of treatment) tasks i) s) (λ i. h)
+treats_keep shapes v treatment tasks (Perform of part) s h =
+    performed_keeps v treatment of part (look s.heap v) (treated_on named v treatment (performed tasks) s) h

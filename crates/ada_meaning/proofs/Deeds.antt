@@ -1,13 +1,18 @@
 -- What one step does to the heap, and what follows for runs.
 
-use Rattle.std.proofs.Common.{◌≡◌, ℕ, ℤ, int_le, Bool, true, false, if◌then◌else◌, List, [], ◌∷◌, ◌++◌, Option, Some, None, Result, Ok, Err, refl, ap}
+use Rattle.std.proofs.Common.{◌≡◌, ℕ, ℤ, int_le, Bool, true, false, ◌==◌, if◌then◌else◌, List, [], ◌∷◌, ◌++◌, Option, Some, None, Result, Ok, Err, refl, ap}
 use Rattle.std.specs.List.{slice_get, slice_set, slice_index_or}
 use Rattle.ada_program.specs.declared.program.Program.{Program}
 use Rattle.ada_program.specs.declared.program.TypeDefinition.{TypeDefinition}
 use Rattle.ada_program.specs.Form.{RecordPathForm, ActualForm, ExpressionForm, integer, boolean, reads, is_null, applied_to, chained, LinksForm, no_more_links, a_link, ItemForm, null_item, item_of_path, item_of_value, item_of_record, RightForm, nothing, value_of, allocates, allocates_default, computes, StmtForm, skips, assigns, assigns_record, frees, gets, writes, writes_text, chooses, repeats, counts, exits, calls, raises, encloses, StmtsForm, no_stmts, a_stmt, BranchesForm, otherwise, a_branch, HandlersForm, DeclarationForm, creates_pool, collects, declares, declares_record}
 use Rattle.ada_program.specs.Form as form
 use Rattle.ada_program.specs.ProgramForm.{BodyForm, body_forms}
+use Rattle.ada_program.specs.Controlled.{shapes_of}
 use Rattle.ada_program.specs.Typed.{reached_of, words_of, width_of}
+use Rattle.ada_parts.specs.declared.tasks.Next.{Next as Follows}
+use Rattle.ada_parts.specs.declared.tasks.Next.TheVariants.{Done, Pick, Perform}
+use Rattle.ada_parts.specs.Shape.{Shape}
+use Rattle.ada_parts.specs.Task.{Task, performed, next as task_next, taken as taken_task}
 use Rattle.ada_values.specs.declared.operator.BinaryOperator.{BinaryOperator}
 use Rattle.ada_values.specs.declared.fault.OperatorFault.{OperatorFault}
 use Rattle.ada_values.specs.declared.fault.OperatorFault.TheVariants.{Overflow, DivisionByZero, WrongType}
@@ -16,17 +21,18 @@ use Rattle.ada_meaning.specs.declared.state.Value.{Value}
 use Rattle.ada_meaning.specs.declared.state.Value.TheVariants.{Null, Names, Scalar, Part}
 use Rattle.ada_meaning.specs.declared.state.Mode.{Mode}
 use Rattle.ada_meaning.specs.declared.state.Mode.TheVariants.{Running, Raising, Exiting, Returning}
+use Rattle.ada_meaning.specs.declared.event.Birth.{Birth}
 use Rattle.ada_meaning.specs.declared.event.Cause.{Cause}
 use Rattle.ada_meaning.specs.declared.event.Cause.TheVariants.{Leaving}
-use Rattle.ada_meaning.specs.declared.event.Halt.TheVariants.{Erroneous}
-use Rattle.ada_meaning.specs.declared.event.Why.TheVariants.{GivesElsewhere}
-use Rattle.ada_meaning.specs.Event.{Back, Quiet}
-use Rattle.ada_meaning.specs.Frame.{Frame, is_master, Landing, passes_on, goes_behind, goes_in, landing}
+use Rattle.ada_meaning.specs.declared.event.Halt.TheVariants.{Erroneous, Stuck}
+use Rattle.ada_meaning.specs.declared.event.Why.TheVariants.{GivesElsewhere, FinalizesTwice}
+use Rattle.ada_meaning.specs.Event.{Back, Finalized, Quiet}
+use Rattle.ada_meaning.specs.Frame.{Treatment, Frame, is_master, Landing, passes_on, goes_behind, goes_in, landing}
 use Rattle.ada_meaning.specs.Frame as frame
-use Rattle.ada_meaning.specs.State.{Owned, declared, collection, record_object, storage_pool, Item, Master, Destination, height, home_of}
-use Rattle.ada_meaning.specs.Heap.{Cell, Found, on_null, on_gone, on_other, finds}
-use Rattle.ada_meaning.specs.Step.{same_pool, told_back, record_cell, record_in, stored_from, newest_ones, without_newest, initial_values, copied_next, copies_next, record_target_next, record_stored_next, store_record_next, record_next, halts, moves, tells, asks, picks, at, popped, held, newest, reading, component_next, follow_next, path_next, selected, named_next, holder_next, first_in, record_holder_next, referred_next, refers_next, open_next, opened_next, opens_next, expression_next, null_test_next, is_decided, link_next, links_next, outcome_next, item_next, items_next, answered, new_next, new_cell, right_next, free_next, end_next, given_back, back_next, before_last, last_of, assign_next, target_next, stored_next, store_next, received_next, receive_next, frees_next, freed_next, free_component_next, free_in_next, branches_next, decided_next, turn_next, repeats_next, turned_next, count_turn_next, counts_next, ranges_next, gets_next, exit_next, exited_next, call_next, stmt_next, stmts_next, line_next, declaration_next, declarations_next, members_next, item_leave_next, master_leave_next, leave_next, frame_next, landed, pass_next, running_next, jump_next, mode_next}
-use Rattle.ada_meaning.specs.Named.{Object, State, Next, next, named, whole, inside, look, lent, lent_by, reads_boolean, reads_null, reads_integer, unary_given, binary_given, members, object_at, changed, on_object, new_object, parted, finished, returned, an_integer}
+use Rattle.ada_meaning.specs.State.{Owned, declared, collection, record_object, storage_pool, Item, Master, Destination, height, home_of, counted}
+use Rattle.ada_meaning.specs.Heap.{PartState, Cell, Found, on_null, on_gone, on_other, finds}
+use Rattle.ada_meaning.specs.Step.{direction_of, treated_on, born_next, finalized_next, performed_next, treats_next, taken_out, same_pool, told_back, record_cell, record_in, stored_from, newest_ones, without_newest, initial_values, copied_next, copies_next, record_target_next, record_stored_next, store_record_next, record_next, halts, moves, tells, asks, picks, at, popped, held, newest, reading, component_next, follow_next, path_next, selected, named_next, holder_next, first_in, record_holder_next, referred_next, refers_next, open_next, opened_next, opens_next, expression_next, null_test_next, is_decided, link_next, links_next, outcome_next, item_next, items_next, answered, new_next, new_cell, right_next, free_next, end_next, given_back, back_next, before_last, last_of, assign_next, target_next, stored_next, store_next, received_next, receive_next, frees_next, freed_next, free_component_next, free_in_next, branches_next, decided_next, turn_next, repeats_next, turned_next, count_turn_next, counts_next, ranges_next, gets_next, exit_next, exited_next, call_next, stmt_next, stmts_next, line_next, declaration_next, declarations_next, members_next, item_leave_next, master_leave_next, leave_next, frame_next, landed, pass_next, running_next, jump_next, mode_next}
+use Rattle.ada_meaning.specs.Named.{bear, finalize, Object, State, Next, next, named, whole, inside, look, lent, lent_by, reads_boolean, reads_null, reads_integer, unary_given, binary_given, members, object_at, changed, on_object, new_object, parted, finished, returned, an_integer}
 use Rattle.ada_meaning.specs.Run.{Event, Choice, settled, grants, takes, Leads, Step}
 use Rattle.ada_meaning.specs.Law.{back_of}
 use Rattle.ada_meaning.proofs.Jumps.{unwound_to, unwound_by}
@@ -35,13 +41,15 @@ abbrev Heap : Type 0
 Heap = List Object
 
 -- What one step does to the heap: nothing, or one object more is there, or one leaves its collection, or it ceases to exist, or its words,
--- which were out, go back, or components of it, from one on, have other values.
+-- which were out, go back, or components of it, from one on, have other values, or a controlled part of it comes to have a value, or its value is finalized.
 pub data Deed (xs : Heap) (e : Event) (ys : Heap) : Type 0 where
   same : back_of e ≡ None → ys ≡ xs → Deed xs e ys
   adds : (object : Object) → back_of e ≡ None → ys ≡ xs ++ object ∷ [] → Deed xs e ys
   parts : (v : Value) → back_of e ≡ None → ys ≡ on_object parted xs v → Deed xs e ys
   finishes : (v : Value) → back_of e ≡ None → ys ≡ on_object finished xs v → Deed xs e ys
   fills : (o : Value) (c : ℕ) (vs : List Value) → back_of e ≡ None → ys ≡ stored_from named xs o c vs → Deed xs e ys
+  bears : (v : Value) (part number : ℕ) → back_of e ≡ None → ys ≡ bear xs v part number → Deed xs e ys
+  finalizes : (v : Value) (part : ℕ) → back_of e ≡ None → ys ≡ finalize xs v part → Deed xs e ys
   returns : (o : Id) (object : Object) → back_of e ≡ Some o → object_at xs o ≡ Some object → object.out ≡ true → ys ≡ slice_set xs o.0 (returned object) → Deed xs e ys
 
 -- What comes next does so, whatever is answered.
@@ -134,13 +142,17 @@ copies_do o first count on_gone s = tt
 copies_do o first count on_other s = tt
 copies_do o first count (finds cell) s = copied_does o (record_in cell.values first count) s
 
-answered_does : (access count words : ℕ) (home : Destination) (s : State) (granted : Bool) → Deed s.heap Quiet (answered named access count words home s granted).heap
-answered_does access count words home s true = adds (new_object (new_cell named access count home s)) refl refl
-answered_does access count words home s false = same refl refl
+answered_does :
+    (types : List TypeDefinition) (access count words : ℕ) (home : Destination) (s : State) (granted : Bool)
+    → Deed s.heap Quiet (answered named types access count words home s granted).heap
+answered_does types access count words home s true = adds (new_object (new_cell named types access count home s)) refl refl
+answered_does types access count words home s false = same refl refl
 
-new_does : (access count words : ℕ) (home : Option Destination) (s : State) → Does s.heap (new_next named access count words home s)
-new_does access count words None s = same refl refl
-new_does access count words (Some home) s = answered_does access count words home s
+new_does :
+    (types : List TypeDefinition) (access count words : ℕ) (home : Option Destination) (s : State)
+    → Does s.heap (new_next named types access count words home s)
+new_does types access count words None s = same refl refl
+new_does types access count words (Some home) s = answered_does types access count words home s
 
 right_does : (types : List TypeDefinition) (right : RightForm) (s : State) → Does s.heap (right_next named types right s)
 right_does types nothing s = same refl refl
@@ -150,11 +162,13 @@ right_does types (allocates_default access) s = same refl refl
 right_does types (computes e) s = same refl refl
 
 -- Free, and what it leads to.
-free_does : (access x : ℕ) (v : Value) (found : Found (Cell Value)) (s : State) → Does s.heap (free_next named access x v found s)
-free_does access x v on_null s = same refl refl
-free_does access x v on_gone s = tt
-free_does access x v on_other s = tt
-free_does access x v (finds cell) s = parts v refl refl
+free_does :
+    (types : List TypeDefinition) (access x : ℕ) (v : Value) (found : Found (Cell Value)) (s : State)
+    → Does s.heap (free_next named types access x v found s)
+free_does types access x v on_null s = same refl refl
+free_does types access x v on_gone s = tt
+free_does types access x v on_other s = tt
+free_does types access x v (finds cell) s = parts v refl refl
 
 end_does : (v : Value) (found : Found (Cell Value)) (s : State) → Does s.heap (end_next named v found s)
 end_does v on_null s = tt
@@ -222,25 +236,31 @@ store_record_does o first count on_gone s = tt
 store_record_does o first count on_other s = tt
 store_record_does o first count (finds cell) s = record_stored_does o first (newest_ones named count s) (record_in cell.values first count) (without_newest named count s)
 
-frees_do : (cs : List ℕ) (access x : ℕ) (s : State) → Does s.heap (frees_next named cs access x s)
-frees_do [] access x s = free_does access x (held named s x) (look s.heap (held named s x)) s
-frees_do (c ∷ cs) access x s = holder_does c cs x (λ last. frame.FreesIn access last) s
+frees_do : (types : List TypeDefinition) (cs : List ℕ) (access x : ℕ) (s : State) → Does s.heap (frees_next named types cs access x s)
+frees_do types [] access x s = free_does types access x (held named s x) (look s.heap (held named s x)) s
+frees_do types (c ∷ cs) access x s = holder_does c cs x (λ last. frame.FreesIn access last) s
 
-freed_does : (access : ℕ) (o : Value) (c : ℕ) (v : Value) (found : Found (Cell Value)) (s : State) → Does s.heap (freed_next named access o c v found s)
-freed_does access o c v on_null s = same refl refl
-freed_does access o c v on_gone s = tt
-freed_does access o c v on_other s = tt
-freed_does access o c v (finds cell) s = parts v refl refl
+freed_does :
+    (types : List TypeDefinition) (access : ℕ) (o : Value) (c : ℕ) (v : Value) (found : Found (Cell Value)) (s : State)
+    → Does s.heap (freed_next named types access o c v found s)
+freed_does types access o c v on_null s = same refl refl
+freed_does types access o c v on_gone s = tt
+freed_does types access o c v on_other s = tt
+freed_does types access o c v (finds cell) s = parts v refl refl
 
-free_component_does : (access : ℕ) (o : Value) (c : ℕ) (held : Option Value) (s : State) → Does s.heap (free_component_next named access o c held s)
-free_component_does access o c None s = tt
-free_component_does access o c (Some v) s = freed_does access o c v (look s.heap v) s
+free_component_does :
+    (types : List TypeDefinition) (access : ℕ) (o : Value) (c : ℕ) (held : Option Value) (s : State)
+    → Does s.heap (free_component_next named types access o c held s)
+free_component_does types access o c None s = tt
+free_component_does types access o c (Some v) s = freed_does types access o c v (look s.heap v) s
 
-free_in_does : (access : ℕ) (o : Value) (c : ℕ) (found : Found (Cell Value)) (s : State) → Does s.heap (free_in_next named access o c found s)
-free_in_does access o c on_null s = same refl refl
-free_in_does access o c on_gone s = tt
-free_in_does access o c on_other s = tt
-free_in_does access o c (finds cell) s = free_component_does access o c (slice_get cell.values c) s
+free_in_does :
+    (types : List TypeDefinition) (access : ℕ) (o : Value) (c : ℕ) (found : Found (Cell Value)) (s : State)
+    → Does s.heap (free_in_next named types access o c found s)
+free_in_does types access o c on_null s = same refl refl
+free_in_does types access o c on_gone s = tt
+free_in_does types access o c on_other s = tt
+free_in_does types access o c (finds cell) s = free_component_does types access o c (slice_get cell.values c) s
 
 branches_do : (branches : BranchesForm) (s : State) → Does s.heap (branches_next named branches s)
 branches_do (otherwise fs) s = same refl refl
@@ -335,34 +355,34 @@ call_does : (procedure : ℕ) (actuals : List ActualForm) (body : Option BodyFor
 call_does procedure actuals None s = tt
 call_does procedure actuals (Some b) s = same refl refl
 
-stmt_does : (bodies : List BodyForm) (f : StmtForm) (s : State) → Does s.heap (stmt_next named bodies f s)
-stmt_does bodies skips s = same refl refl
-stmt_does bodies (assigns target right) s = assign_does target.selectors target.root right s
-stmt_does bodies (assigns_record target items) s =
+stmt_does : (types : List TypeDefinition) (bodies : List BodyForm) (f : StmtForm) (s : State) → Does s.heap (stmt_next named types bodies f s)
+stmt_does types bodies skips s = same refl refl
+stmt_does types bodies (assigns target right) s = assign_does target.selectors target.root right s
+stmt_does types bodies (assigns_record target items) s =
     record_holder_does target (λ first. frame.TargetsRecord first target.record_type items) s
-stmt_does bodies (frees access path) s = frees_do path.selectors access path.root s
-stmt_does bodies (gets target) s = gets_do target.selectors target.root s.input s
-stmt_does bodies (writes e) s = same refl refl
-stmt_does bodies (writes_text text) s = same refl refl
-stmt_does bodies (chooses branches) s = branches_do branches s
-stmt_does bodies (repeats condition fs end_spot) s = same refl refl
-stmt_does bodies (counts x low high fs end_spot) s = same refl refl
-stmt_does bodies (exits condition spot) s = exit_does condition s
-stmt_does bodies (calls procedure actuals) s = call_does procedure actuals (slice_get bodies procedure) s
-stmt_does bodies (form.returns spot) s = same refl refl
-stmt_does bodies (raises e) s = same refl refl
-stmt_does bodies (encloses ds fs hs) s = same refl refl
+stmt_does types bodies (frees access path) s = frees_do types path.selectors access path.root s
+stmt_does types bodies (gets target) s = gets_do target.selectors target.root s.input s
+stmt_does types bodies (writes e) s = same refl refl
+stmt_does types bodies (writes_text text) s = same refl refl
+stmt_does types bodies (chooses branches) s = branches_do branches s
+stmt_does types bodies (repeats condition fs end_spot) s = same refl refl
+stmt_does types bodies (counts x low high fs end_spot) s = same refl refl
+stmt_does types bodies (exits condition spot) s = exit_does condition s
+stmt_does types bodies (calls procedure actuals) s = call_does procedure actuals (slice_get bodies procedure) s
+stmt_does types bodies (form.returns spot) s = same refl refl
+stmt_does types bodies (raises e) s = same refl refl
+stmt_does types bodies (encloses ds fs hs) s = same refl refl
 
-stmts_do : (bodies : List BodyForm) (fs : StmtsForm) (s : State) → Does s.heap (stmts_next named bodies fs s)
-stmts_do bodies no_stmts s = same refl refl
-stmts_do bodies (a_stmt f fs) s = stmt_does bodies f (at (frame.Does fs ∷ s.control) s)
+stmts_do : (types : List TypeDefinition) (bodies : List BodyForm) (fs : StmtsForm) (s : State) → Does s.heap (stmts_next named types bodies fs s)
+stmts_do types bodies no_stmts s = same refl refl
+stmts_do types bodies (a_stmt f fs) s = stmt_does types bodies f (at (frame.Does fs ∷ s.control) s)
 
 line_does : (read : Option ℤ) (s : State) → Does s.heap (line_next named read s)
 line_does None s = tt
 line_does (Some i) s = same refl refl
 
 record_does : (types : List TypeDefinition) (x t : ℕ) (initial : Option (List ItemForm)) (s : State) → Does s.heap (record_next named types x t initial s)
-record_does types x t None s = adds (new_object (record_cell named t (height s.masters) (initial_values named (reached_of types t)))) refl refl
+record_does types x t None s = adds (new_object (record_cell named types t (height s.masters) (initial_values named (reached_of types t)))) refl refl
 record_does types x t (Some items) s = same refl refl
 
 declaration_does : (types : List TypeDefinition) (d : DeclarationForm) (s : State) → Does s.heap (declaration_next named types d s)
@@ -376,28 +396,82 @@ declarations_do types [] fs hs s = same refl refl
 declarations_do types (d ∷ ds) fs hs s = declaration_does types d (at (frame.Elaborates ds fs hs ∷ s.control) s)
 
 -- The leaving of a master.
-members_do : (cause : Cause) (pool : Option ℕ) (vs : List Value) (s : State) → Does s.heap (members_next named cause pool vs s)
-members_do cause pool [] s = same refl refl
-members_do cause pool (v ∷ vs) s = λ i. parts (slice_index_or (v ∷ vs) i Null) refl refl
+taken_does :
+    (types : List TypeDefinition) (cause : Cause) (pool : Option ℕ) (v : Value) (found : Found (Cell Value)) (s : State)
+    → Deed s.heap Quiet (taken_out named types cause pool v found s).heap
+taken_does types cause pool v on_null s = parts v refl refl
+taken_does types cause pool v on_gone s = parts v refl refl
+taken_does types cause pool v on_other s = parts v refl refl
+taken_does types cause pool v (finds cell) s = parts v refl refl
 
-item_leave_does : (m : ℕ) (item : Item) (owned : Owned) (s : State) → Does s.heap (item_leave_next named m item owned s)
-item_leave_does m item (declared x) s = same refl refl
-item_leave_does m item (collection access pool) s = members_do (Leaving m item.number) pool (members s.heap item.number) s
-item_leave_does m item (record_object t) s = members_do (Leaving m item.number) None (members s.heap item.number) s
-item_leave_does m item (storage_pool declaration number) s = same refl refl
+members_do :
+    (types : List TypeDefinition) (cause : Cause) (pool : Option ℕ) (vs : List Value) (s : State)
+    → Does s.heap (members_next named types cause pool vs s)
+members_do types cause pool [] s = same refl refl
+members_do types cause pool (v ∷ vs) s =
+    λ i. taken_does types cause pool (slice_index_or (v ∷ vs) i Null) (look s.heap (slice_index_or (v ∷ vs) i Null)) s
 
-master_leave_does : (mode : Mode) (m : ℕ) (items : List Item) (s : State) → Does s.heap (master_leave_next named mode m items s)
-master_leave_does mode m [] s = same refl refl
-master_leave_does mode m (item ∷ items) s = item_leave_does m item item.owned (at (frame.Leaves mode ∷ s.control) s)
+item_leave_does : (types : List TypeDefinition) (m : ℕ) (item : Item) (owned : Owned) (s : State) → Does s.heap (item_leave_next named types m item owned s)
+item_leave_does types m item (declared x) s = same refl refl
+item_leave_does types m item (collection access pool) s = members_do types (Leaving m item.number) pool (members s.heap item.number) s
+item_leave_does types m item (record_object t) s = members_do types (Leaving m item.number) None (members s.heap item.number) s
+item_leave_does types m item (storage_pool declaration number) s = same refl refl
 
-leave_does : (mode : Mode) (ms : List Master) (s : State) → Does s.heap (leave_next named mode ms s)
-leave_does mode [] s = tt
-leave_does mode (m ∷ ms) s = master_leave_does mode m.number m.items s
+master_leave_does :
+    (types : List TypeDefinition) (mode : Mode) (m : ℕ) (items : List Item) (s : State)
+    → Does s.heap (master_leave_next named types mode m items s)
+master_leave_does types mode m [] s = same refl refl
+master_leave_does types mode m (item ∷ items) s = item_leave_does types m item item.owned (at (frame.Leaves mode ∷ s.control) s)
+
+leave_does : (types : List TypeDefinition) (mode : Mode) (ms : List Master) (s : State) → Does s.heap (leave_next named types mode ms s)
+leave_does types mode [] s = tt
+leave_does types mode (m ∷ ms) s = master_leave_does types mode m.number m.items s
+
+-- The treatment of an object.
+born_does : (v : Value) (of part : ℕ) (by : Birth) (state : Option PartState) (s : State) → Does s.heap (born_next named v of part by state s)
+born_does v of part by None s = tt
+born_does v of part by (Some p) s = bears v part (counted s.born) refl refl
+
+finalized_does : (v : Value) (of part : ℕ) (cause : Cause) (state : Option PartState) (s : State) → Does s.heap (finalized_next named v of part cause state s)
+finalized_does v of part cause None s = tt
+finalized_does v of part cause (Some p) s = by_life p.alive
+  where
+    by_life :
+        (alive : Bool)
+        → Does s.heap
+        (if alive then moves (Finalized v part p.turn of p.number cause) (record s { heap = finalize s.heap v part })
+        else halts (Erroneous FinalizesTwice))
+    by_life true = finalizes v part refl refl
+    by_life false = tt
+
+performed_does :
+    (v : Value) (treatment : Treatment) (of part : ℕ) (found : Found (Cell Value)) (s : State)
+    → Does s.heap (performed_next named v treatment of part found s)
+performed_does v treatment of part on_null s = tt
+performed_does v treatment of part on_gone s = tt
+performed_does v treatment of part on_other s = tt
+performed_does v (frame.begins by) of part (finds cell) s = born_does v of part by (slice_get cell.parts part) s
+performed_does v (frame.ends cause) of part (finds cell) s = finalized_does v of part cause (slice_get cell.parts part) s
+
+picked_does :
+    (none : Bool) (count : ℕ) (taking : ℕ → State) (s : State) → ((i : ℕ) → (taking i).heap ≡ s.heap)
+    → Does s.heap (if none then halts Stuck else picks count taking)
+picked_does true count taking s h = tt
+picked_does false count taking s h = λ i. same refl (h i)
+
+treats_do :
+    (shapes : List Shape) (v : Value) (treatment : Treatment) (tasks : List Task) (follows : Follows) (s : State)
+    → Does s.heap (treats_next named shapes v treatment tasks follows s)
+treats_do shapes v treatment tasks Done s = same refl refl
+treats_do shapes v treatment tasks (Pick count) s =
+    picked_does (count == 0) count (λ i. treated_on named v treatment (taken_task shapes (direction_of treatment) tasks i) s) s (λ i. refl)
+treats_do shapes v treatment tasks (Perform of part) s =
+    performed_does v treatment of part (look s.heap v) (treated_on named v treatment (performed tasks) s)
 
 -- Each frame that is taken off.
 frame_does : (types : List TypeDefinition) (bodies : List BodyForm) (f : Frame Value) (s : State) → Does s.heap (frame_next named types bodies f s)
 frame_does types bodies (frame.Elaborates ds fs hs) s = declarations_do types ds fs hs s
-frame_does types bodies (frame.Does fs) s = stmts_do bodies fs s
+frame_does types bodies (frame.Does fs) s = stmts_do types bodies fs s
 frame_does types bodies (frame.Decides fs branches) s = decided_does fs branches (reads_boolean (newest named s)) (popped s)
 frame_does types bodies (frame.Repeats condition fs) s = repeats_do condition fs s
 frame_does types bodies (frame.Turns condition fs) s = turned_does condition fs (reads_boolean (newest named s)) (popped s)
@@ -407,7 +481,7 @@ frame_does types bodies (frame.Counts x value last fs) s = counts_do x value las
 frame_does types bodies frame.Exits s = exited_does (reads_boolean (newest named s)) (popped s)
 frame_does types bodies (frame.Handles hs) s = same refl refl
 frame_does types bodies frame.Closes s = same refl refl
-frame_does types bodies (frame.Leaves mode) s = leave_does mode s.masters s
+frame_does types bodies (frame.Leaves mode) s = leave_does types mode s.masters s
 frame_does types bodies (frame.Calls procedure b actuals) s = same refl refl
 frame_does types bodies (frame.Returns actuals references) s = same refl refl
 frame_does types bodies (frame.Evaluates right) s = right_does types right s
@@ -424,7 +498,7 @@ frame_does types bodies (frame.Applies operator) s = outcome_does (binary_given 
 frame_does types bodies (frame.AppliesAlone operator) s = outcome_does (unary_given operator (newest named s)) (popped s)
 frame_does types bodies (frame.Fills items) s = items_do items s
 frame_does types bodies (frame.Copies first t) s = copies_do (newest named s) first (width_of types t) (look s.heap (newest named s)) (popped s)
-frame_does types bodies (frame.Creates access count) s = new_does access count (words_of types access) (home_of access s.masters) s
+frame_does types bodies (frame.Creates access count) s = new_does types access count (words_of types access) (home_of access s.masters) s
 frame_does types bodies (frame.Stores x) s = same refl refl
 frame_does types bodies (frame.Targets c right) s = target_does (newest named s) c right (look s.heap (newest named s)) (popped s)
 frame_does types bodies (frame.StoresIn object c) s = store_does object c (newest named s) (look s.heap object) (popped s)
@@ -432,10 +506,11 @@ frame_does types bodies (frame.TargetsRecord first t items) s =
     record_target_does (newest named s) first (width_of types t) items (look s.heap (newest named s)) (popped s)
 frame_does types bodies (frame.StoresRecord object first count) s = store_record_does object first count (look s.heap object) s
 frame_does types bodies (frame.Receives c) s = receive_does (newest named s) c (look s.heap (newest named s)) (popped s)
-frame_does types bodies (frame.FreesIn access c) s = free_in_does access (newest named s) c (look s.heap (newest named s)) (popped s)
+frame_does types bodies (frame.FreesIn access c) s = free_in_does types access (newest named s) c (look s.heap (newest named s)) (popped s)
 frame_does types bodies (frame.Declares x) s = same refl refl
 frame_does types bodies (frame.DeclaresRecord x t) s =
-    adds (new_object (record_cell named t (height s.masters) (newest_ones named (words_of types t) s))) refl refl
+    adds (new_object (record_cell named types t (height s.masters) (newest_ones named (words_of types t) s))) refl refl
+frame_does types bodies (frame.Treats v treatment tasks) s = treats_do (shapes_of types) v treatment tasks (task_next tasks) s
 frame_does types bodies frame.Writes s = line_does (reads_integer (newest named s)) (popped s)
 frame_does types bodies (frame.Ends v) s = end_does v (look s.heap v) s
 frame_does types bodies (frame.GivesBack v cause pool) s = back_does v cause pool s

@@ -67,10 +67,13 @@ module _ (types : List TypeDefinition) (bodies : List BodyForm) (access : ℕ) (
   unfolding next
   first_step kinds s reached runs is active = rw (runs, is, active, reached) refl
 
-  granted_makes : (kinds : List ComponentKind) (s after : State) (home : Option Destination) (e : Event) → Leads (new_next named access (length kinds) (length kinds) home (at behind (ready_to_create kinds s))) (grants true) e after → (object : Object) × (after.heap ≡ s.heap ++ object ∷ []) × (object.cell.access ≡ access) × HoldAtFirst kinds object.cell.values
+  granted_makes :
+      (kinds : List ComponentKind) (s after : State) (home : Option Destination) (e : Event)
+      → Leads (new_next named types access (length kinds) (length kinds) home (at behind (ready_to_create kinds s))) (grants true) e after
+      → (object : Object) × (after.heap ≡ s.heap ++ object ∷ []) × (object.cell.access ≡ access) × HoldAtFirst kinds object.cell.values
   granted_makes kinds s after None e leads = absurd leads
   granted_makes kinds s after (Some home) e leads =
-      let cell = new_cell named access (length kinds) home (at behind (ready_to_create kinds s)) in
+      let cell = new_cell named types access (length kinds) home (at behind (ready_to_create kinds s)) in
       (new_object cell, ap (λ (t : State). t.heap) leads.1, refl, filled kinds running.operands)
 
   second_step :
@@ -99,5 +102,5 @@ module _ (types : List TypeDefinition) (bodies : List BodyForm) (x t : ℕ) (ds 
 pub makes_records : MakesRecords
 makes_records program x t kinds ds fs hs behind before after running suspended event reached runs is active step =
     let moved = rw (record_step program.types.items (body_forms program) x t ds fs hs behind before runs is) at step in
-    let cell = record_cell named t (height before.masters) (initial_values named (reached_of program.types.items t)) in
+    let cell = record_cell named program.types.items t (height before.masters) (initial_values named (reached_of program.types.items t)) in
     (new_object cell, ap (λ (u : State). u.heap) moved.1, refl, refl, rw (reached) (hold_at_first kinds), ap (λ (u : State). u.activations) moved.1 ∙ rw (active) refl)

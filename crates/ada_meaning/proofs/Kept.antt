@@ -1,12 +1,14 @@
 -- Steps of statements, declarations and the leaving of masters keep the activations behind the running one.
 
 use Rattle.std.proofs.Common.{◌≡◌, ℕ, ℤ, int_le, Bool, true, false, if◌then◌else◌, List, [], ◌∷◌, Option, Some, None}
-use Rattle.std.specs.List.{slice_get}
+use Rattle.std.specs.List.{slice_get, slice_index_or}
 use Rattle.ada_program.specs.declared.program.TypeDefinition.{TypeDefinition}
 use Rattle.ada_program.specs.Form.{ActualForm, ExpressionForm, integer, boolean, reads, is_null, applied_to, chained, LinksForm, no_more_links, a_link, ItemForm, null_item, item_of_path, item_of_value, item_of_record, RightForm, nothing, value_of, allocates, allocates_default, computes, StmtForm, skips, assigns, assigns_record, frees, gets, writes, writes_text, chooses, repeats, counts, exits, calls, raises, encloses, StmtsForm, no_stmts, a_stmt, BranchesForm, otherwise, a_branch, HandlersForm, DeclarationForm, creates_pool, collects, declares, declares_record}
 use Rattle.ada_program.specs.Form as form
 use Rattle.ada_program.specs.ProgramForm.{BodyForm}
+use Rattle.ada_program.specs.Controlled.{shapes_of}
 use Rattle.ada_program.specs.Typed.{words_of, width_of}
+use Rattle.ada_parts.specs.Task.{next as task_next}
 use Rattle.ada_meaning.specs.declared.state.Value.{Value}
 use Rattle.ada_meaning.specs.declared.state.Value.TheVariants.{Null}
 use Rattle.ada_meaning.specs.declared.state.Mode.{Mode}
@@ -17,9 +19,9 @@ use Rattle.ada_meaning.specs.Frame.{Frame, is_master, Landing, passes_on, goes_b
 use Rattle.ada_meaning.specs.Frame as frame
 use Rattle.ada_meaning.specs.State.{Owned, declared, collection, record_object, storage_pool, Item, Master, home_of}
 use Rattle.ada_meaning.specs.Heap.{Cell, Found, on_null, on_gone, on_other, finds}
-use Rattle.ada_meaning.specs.Step.{referred_next, refers_next, open_next, opened_next, opens_next, record_in, newest_ones, without_newest, record_target_next, record_stored_next, store_record_next, record_next, moves, at, computed, popped, held, newest, assign_next, target_next, stored_next, store_next, received_next, receive_next, frees_next, freed_next, free_component_next, free_in_next, branches_next, decided_next, turn_next, repeats_next, turned_next, count_turn_next, counts_next, ranges_next, gets_next, exit_next, exited_next, call_next, stmt_next, stmts_next, line_next, declaration_next, declarations_next, members_next, item_leave_next, master_leave_next, leave_next, frame_next}
+use Rattle.ada_meaning.specs.Step.{referred_next, refers_next, open_next, opened_next, opens_next, record_in, newest_ones, without_newest, record_target_next, record_stored_next, store_record_next, record_next, moves, at, computed, popped, held, newest, assign_next, target_next, stored_next, store_next, received_next, receive_next, frees_next, freed_next, free_component_next, free_in_next, branches_next, decided_next, turn_next, repeats_next, turned_next, count_turn_next, counts_next, ranges_next, gets_next, exit_next, exited_next, call_next, stmt_next, stmts_next, line_next, declaration_next, declarations_next, taken_out, members_next, item_leave_next, master_leave_next, leave_next, frame_next}
 use Rattle.ada_meaning.specs.Named.{State, named, refer, look, lent, reads_boolean, reads_null, reads_integer, unary_given, binary_given, members}
-use Rattle.ada_meaning.proofs.Activations.{Shape, shape, Keeps, operands_kept, less, put_kept, path_keeps, holder_keeps, record_holder_keeps, expression_keeps, null_test_keeps, links_keep, outcome_keeps, items_keep, copies_keep, new_keeps, right_keeps, free_keeps, end_keeps, back_keeps}
+use Rattle.ada_meaning.proofs.Activations.{Shape, shape, Keeps, operands_kept, less, put_kept, path_keeps, holder_keeps, record_holder_keeps, expression_keeps, null_test_keeps, links_keep, outcome_keeps, items_keep, copies_keep, new_keeps, right_keeps, free_keeps, end_keeps, back_keeps, treats_keep}
 
 -- Statements and declarations.
 assign_keeps : {w : Shape} (cs : List ℕ) (x : ℕ) (right : RightForm) (s : State) → shape s.activations ≡ w → Keeps w (assign_next named cs x right s)
@@ -70,31 +72,33 @@ store_record_keeps o first count on_other s h = tt
 store_record_keeps o first count (finds cell) s h =
     record_stored_keeps o first (newest_ones named count s) (record_in cell.values first count) (without_newest named count s) (operands_kept _ s h)
 
-frees_keep : {w : Shape} (cs : List ℕ) (access x : ℕ) (s : State) → shape s.activations ≡ w → Keeps w (frees_next named cs access x s)
-frees_keep [] access x s h = free_keeps access x (held named s x) (look s.heap (held named s x)) s h
-frees_keep (c ∷ cs) access x s h = holder_keeps c cs x (λ last. frame.FreesIn access last) s h
+frees_keep :
+    {w : Shape} (types : List TypeDefinition) (cs : List ℕ) (access x : ℕ) (s : State) → shape s.activations ≡ w
+    → Keeps w (frees_next named types cs access x s)
+frees_keep types [] access x s h = free_keeps types access x (held named s x) (look s.heap (held named s x)) s h
+frees_keep types (c ∷ cs) access x s h = holder_keeps c cs x (λ last. frame.FreesIn access last) s h
 
 freed_keeps :
-    {w : Shape} (access : ℕ) (o : Value) (c : ℕ) (v : Value) (found : Found (Cell Value)) (s : State) → shape s.activations ≡ w
-    → Keeps w (freed_next named access o c v found s)
-freed_keeps access o c v on_null s h = h
-freed_keeps access o c v on_gone s h = tt
-freed_keeps access o c v on_other s h = tt
-freed_keeps access o c v (finds cell) s h = h
+    {w : Shape} (types : List TypeDefinition) (access : ℕ) (o : Value) (c : ℕ) (v : Value) (found : Found (Cell Value)) (s : State) → shape s.activations ≡ w
+    → Keeps w (freed_next named types access o c v found s)
+freed_keeps types access o c v on_null s h = h
+freed_keeps types access o c v on_gone s h = tt
+freed_keeps types access o c v on_other s h = tt
+freed_keeps types access o c v (finds cell) s h = h
 
 free_component_keeps :
-    {w : Shape} (access : ℕ) (o : Value) (c : ℕ) (held : Option Value) (s : State) → shape s.activations ≡ w
-    → Keeps w (free_component_next named access o c held s)
-free_component_keeps access o c None s h = tt
-free_component_keeps access o c (Some v) s h = freed_keeps access o c v (look s.heap v) s h
+    {w : Shape} (types : List TypeDefinition) (access : ℕ) (o : Value) (c : ℕ) (held : Option Value) (s : State) → shape s.activations ≡ w
+    → Keeps w (free_component_next named types access o c held s)
+free_component_keeps types access o c None s h = tt
+free_component_keeps types access o c (Some v) s h = freed_keeps types access o c v (look s.heap v) s h
 
 free_in_keeps :
-    {w : Shape} (access : ℕ) (o : Value) (c : ℕ) (found : Found (Cell Value)) (s : State) → shape s.activations ≡ w
-    → Keeps w (free_in_next named access o c found s)
-free_in_keeps access o c on_null s h = operands_kept _ s h
-free_in_keeps access o c on_gone s h = tt
-free_in_keeps access o c on_other s h = tt
-free_in_keeps access o c (finds cell) s h = free_component_keeps access o c (slice_get cell.values c) s h
+    {w : Shape} (types : List TypeDefinition) (access : ℕ) (o : Value) (c : ℕ) (found : Found (Cell Value)) (s : State) → shape s.activations ≡ w
+    → Keeps w (free_in_next named types access o c found s)
+free_in_keeps types access o c on_null s h = operands_kept _ s h
+free_in_keeps types access o c on_gone s h = tt
+free_in_keeps types access o c on_other s h = tt
+free_in_keeps types access o c (finds cell) s h = free_component_keeps types access o c (slice_get cell.values c) s h
 
 branches_keep : {w : Shape} (branches : BranchesForm) (s : State) → shape s.activations ≡ w → Keeps w (branches_next named branches s)
 branches_keep (otherwise fs) s h = h
@@ -203,27 +207,31 @@ call_keeps :
 call_keeps procedure actuals None s h = tt
 call_keeps procedure actuals (Some b) s h = h
 
-stmt_keeps : {w : Shape} (bodies : List BodyForm) (f : StmtForm) (s : State) → shape s.activations ≡ w → Keeps w (stmt_next named bodies f s)
-stmt_keeps bodies skips s h = h
-stmt_keeps bodies (assigns target right) s h = assign_keeps target.selectors target.root right s h
-stmt_keeps bodies (assigns_record target items) s h =
+stmt_keeps :
+    {w : Shape} (types : List TypeDefinition) (bodies : List BodyForm) (f : StmtForm) (s : State) → shape s.activations ≡ w
+    → Keeps w (stmt_next named types bodies f s)
+stmt_keeps types bodies skips s h = h
+stmt_keeps types bodies (assigns target right) s h = assign_keeps target.selectors target.root right s h
+stmt_keeps types bodies (assigns_record target items) s h =
     record_holder_keeps target (λ first. frame.TargetsRecord first target.record_type items) s h
-stmt_keeps bodies (frees access path) s h = frees_keep path.selectors access path.root s h
-stmt_keeps bodies (gets target) s h = gets_keep target.selectors target.root s.input s h
-stmt_keeps bodies (writes e) s h = h
-stmt_keeps bodies (writes_text text) s h = h
-stmt_keeps bodies (chooses branches) s h = branches_keep branches s h
-stmt_keeps bodies (repeats condition fs end_spot) s h = h
-stmt_keeps bodies (counts x low high fs end_spot) s h = h
-stmt_keeps bodies (exits condition spot) s h = exit_keeps condition s h
-stmt_keeps bodies (calls procedure actuals) s h = call_keeps procedure actuals (slice_get bodies procedure) s h
-stmt_keeps bodies (form.returns spot) s h = operands_kept _ s h
-stmt_keeps bodies (raises e) s h = operands_kept _ s h
-stmt_keeps bodies (encloses ds fs hs) s h = h
+stmt_keeps types bodies (frees access path) s h = frees_keep types path.selectors access path.root s h
+stmt_keeps types bodies (gets target) s h = gets_keep target.selectors target.root s.input s h
+stmt_keeps types bodies (writes e) s h = h
+stmt_keeps types bodies (writes_text text) s h = h
+stmt_keeps types bodies (chooses branches) s h = branches_keep branches s h
+stmt_keeps types bodies (repeats condition fs end_spot) s h = h
+stmt_keeps types bodies (counts x low high fs end_spot) s h = h
+stmt_keeps types bodies (exits condition spot) s h = exit_keeps condition s h
+stmt_keeps types bodies (calls procedure actuals) s h = call_keeps procedure actuals (slice_get bodies procedure) s h
+stmt_keeps types bodies (form.returns spot) s h = operands_kept _ s h
+stmt_keeps types bodies (raises e) s h = operands_kept _ s h
+stmt_keeps types bodies (encloses ds fs hs) s h = h
 
-stmts_keep : {w : Shape} (bodies : List BodyForm) (fs : StmtsForm) (s : State) → shape s.activations ≡ w → Keeps w (stmts_next named bodies fs s)
-stmts_keep bodies no_stmts s h = h
-stmts_keep bodies (a_stmt f fs) s h = stmt_keeps bodies f (at (frame.Does fs ∷ s.control) s) h
+stmts_keep :
+    {w : Shape} (types : List TypeDefinition) (bodies : List BodyForm) (fs : StmtsForm) (s : State) → shape s.activations ≡ w
+    → Keeps w (stmts_next named types bodies fs s)
+stmts_keep types bodies no_stmts s h = h
+stmts_keep types bodies (a_stmt f fs) s h = stmt_keeps types bodies f (at (frame.Does fs ∷ s.control) s) h
 
 line_keeps : {w : Shape} (read : Option ℤ) (s : State) → shape s.activations ≡ w → Keeps w (line_next named read s)
 line_keeps None s h = tt
@@ -249,25 +257,40 @@ declarations_keep types [] fs hs s h = h
 declarations_keep types (d ∷ ds) fs hs s h = declaration_keeps types d (at (frame.Elaborates ds fs hs ∷ s.control) s) h
 
 -- The leaving of a master.
-members_keep :
-    {w : Shape} (cause : Cause) (pool : Option ℕ) (vs : List Value) (s : State) → shape s.activations ≡ w → Keeps w (members_next named cause pool vs s)
-members_keep cause pool [] s h = h
-members_keep cause pool (v ∷ vs) s h = λ i. h
+taken_keeps :
+    {w : Shape} (types : List TypeDefinition) (cause : Cause) (pool : Option ℕ) (v : Value) (found : Found (Cell Value)) (s : State)
+    → shape s.activations ≡ w → shape (taken_out named types cause pool v found s).activations ≡ w
+taken_keeps types cause pool v on_null s h = h
+taken_keeps types cause pool v on_gone s h = h
+taken_keeps types cause pool v on_other s h = h
+taken_keeps types cause pool v (finds cell) s h = h
 
-item_leave_keeps : {w : Shape} (m : ℕ) (item : Item) (owned : Owned) (s : State) → shape s.activations ≡ w → Keeps w (item_leave_next named m item owned s)
-item_leave_keeps m item (declared x) s h = h
-item_leave_keeps m item (collection access pool) s h = members_keep (Leaving m item.number) pool (members s.heap item.number) s h
-item_leave_keeps m item (record_object t) s h = members_keep (Leaving m item.number) None (members s.heap item.number) s h
-item_leave_keeps m item (storage_pool declaration number) s h = h
+members_keep :
+    {w : Shape} (types : List TypeDefinition) (cause : Cause) (pool : Option ℕ) (vs : List Value) (s : State) → shape s.activations ≡ w
+    → Keeps w (members_next named types cause pool vs s)
+members_keep types cause pool [] s h = h
+members_keep types cause pool (v ∷ vs) s h =
+    λ i. taken_keeps types cause pool (slice_index_or (v ∷ vs) i Null) (look s.heap (slice_index_or (v ∷ vs) i Null)) s h
+
+item_leave_keeps :
+    {w : Shape} (types : List TypeDefinition) (m : ℕ) (item : Item) (owned : Owned) (s : State) → shape s.activations ≡ w
+    → Keeps w (item_leave_next named types m item owned s)
+item_leave_keeps types m item (declared x) s h = h
+item_leave_keeps types m item (collection access pool) s h = members_keep types (Leaving m item.number) pool (members s.heap item.number) s h
+item_leave_keeps types m item (record_object t) s h = members_keep types (Leaving m item.number) None (members s.heap item.number) s h
+item_leave_keeps types m item (storage_pool declaration number) s h = h
 
 master_leave_keeps :
-    {w : Shape} (mode : Mode) (m : ℕ) (items : List Item) (s : State) → shape s.activations ≡ w → Keeps w (master_leave_next named mode m items s)
-master_leave_keeps mode m [] s h = h
-master_leave_keeps mode m (item ∷ items) s h = item_leave_keeps m item item.owned (at (frame.Leaves mode ∷ s.control) s) h
+    {w : Shape} (types : List TypeDefinition) (mode : Mode) (m : ℕ) (items : List Item) (s : State) → shape s.activations ≡ w
+    → Keeps w (master_leave_next named types mode m items s)
+master_leave_keeps types mode m [] s h = h
+master_leave_keeps types mode m (item ∷ items) s h = item_leave_keeps types m item item.owned (at (frame.Leaves mode ∷ s.control) s) h
 
-leave_keeps : {w : Shape} (mode : Mode) (ms : List Master) (s : State) → shape s.activations ≡ w → Keeps w (leave_next named mode ms s)
-leave_keeps mode [] s h = tt
-leave_keeps mode (m ∷ ms) s h = master_leave_keeps mode m.number m.items s h
+leave_keeps :
+    {w : Shape} (types : List TypeDefinition) (mode : Mode) (ms : List Master) (s : State) → shape s.activations ≡ w
+    → Keeps w (leave_next named types mode ms s)
+leave_keeps types mode [] s h = tt
+leave_keeps types mode (m ∷ ms) s h = master_leave_keeps types mode m.number m.items s h
 
 -- Each frame that is taken off.
 -- Neither the beginning nor the end of a call's body.
@@ -280,7 +303,7 @@ pub frame_keeps :
     {w : Shape} (types : List TypeDefinition) (bodies : List BodyForm) (f : Frame Value) (s : State) → IsWithin f → shape s.activations ≡ w
     → Keeps w (frame_next named types bodies f s)
 frame_keeps types bodies (frame.Elaborates ds fs hs) s i h = declarations_keep types ds fs hs s h
-frame_keeps types bodies (frame.Does fs) s i h = stmts_keep bodies fs s h
+frame_keeps types bodies (frame.Does fs) s i h = stmts_keep types bodies fs s h
 frame_keeps types bodies (frame.Decides fs branches) s i h = decided_keeps fs branches (reads_boolean (newest named s)) (popped s) (less s h)
 frame_keeps types bodies (frame.Repeats condition fs) s i h = repeats_keep condition fs s h
 frame_keeps types bodies (frame.Turns condition fs) s i h = turned_keeps condition fs (reads_boolean (newest named s)) (popped s) (less s h)
@@ -290,7 +313,7 @@ frame_keeps types bodies (frame.Counts x value last fs) s i h = counts_keep x va
 frame_keeps types bodies frame.Exits s i h = exited_keeps (reads_boolean (newest named s)) (popped s) (less s h)
 frame_keeps types bodies (frame.Handles hs) s i h = h
 frame_keeps types bodies frame.Closes s i h = h
-frame_keeps types bodies (frame.Leaves mode) s i h = leave_keeps mode s.masters s h
+frame_keeps types bodies (frame.Leaves mode) s i h = leave_keeps types mode s.masters s h
 frame_keeps types bodies (frame.Calls procedure b actuals) s i h = absurd i
 frame_keeps types bodies (frame.Returns actuals references) s i h = absurd i
 frame_keeps types bodies (frame.Evaluates right) s i h = right_keeps types right s h
@@ -309,7 +332,7 @@ frame_keeps types bodies (frame.AppliesAlone operator) s i h = outcome_keeps (un
 frame_keeps types bodies (frame.Fills items) s i h = items_keep items s h
 frame_keeps types bodies (frame.Copies first t) s i h =
     copies_keep (newest named s) first (width_of types t) (look s.heap (newest named s)) (popped s) (less s h)
-frame_keeps types bodies (frame.Creates access count) s i h = new_keeps access count (words_of types access) (home_of access s.masters) s h
+frame_keeps types bodies (frame.Creates access count) s i h = new_keeps types access count (words_of types access) (home_of access s.masters) s h
 frame_keeps types bodies (frame.Stores x) s i h = put_kept _ _ (popped s) (less s h)
 frame_keeps types bodies (frame.Targets c right) s i h = target_keeps (newest named s) c right (look s.heap (newest named s)) (popped s) (less s h)
 frame_keeps types bodies (frame.StoresIn object c) s i h = store_keeps object c (newest named s) (look s.heap object) (popped s) (less s h)
@@ -317,9 +340,10 @@ frame_keeps types bodies (frame.TargetsRecord first t items) s i h =
     record_target_keeps (newest named s) first (width_of types t) items (look s.heap (newest named s)) (popped s) (less s h)
 frame_keeps types bodies (frame.StoresRecord object first count) s i h = store_record_keeps object first count (look s.heap object) s h
 frame_keeps types bodies (frame.Receives c) s i h = receive_keeps (newest named s) c (look s.heap (newest named s)) (popped s) (less s h)
-frame_keeps types bodies (frame.FreesIn access c) s i h = free_in_keeps access (newest named s) c (look s.heap (newest named s)) (popped s) (less s h)
+frame_keeps types bodies (frame.FreesIn access c) s i h = free_in_keeps types access (newest named s) c (look s.heap (newest named s)) (popped s) (less s h)
 frame_keeps types bodies (frame.Declares x) s i h = put_kept _ _ (popped s) (less s h)
 frame_keeps types bodies (frame.DeclaresRecord x t) s i h = put_kept _ _ (without_newest named (words_of types t) s) (operands_kept _ s h)
+frame_keeps types bodies (frame.Treats v treatment tasks) s i h = treats_keep (shapes_of types) v treatment tasks (task_next tasks) s h
 frame_keeps types bodies frame.Writes s i h = line_keeps (reads_integer (newest named s)) (popped s) (less s h)
 frame_keeps types bodies (frame.Ends v) s i h = end_keeps v (look s.heap v) s h
 frame_keeps types bodies (frame.GivesBack v cause pool) s i h = back_keeps v cause pool (lent s.heap v) s h

@@ -1,3 +1,5 @@
+-- treatments, and tables of types
+pub mod Treatments
 -- the members of a collection, and what becomes of them
 pub mod Members
 -- what a jump does to activations where it passes a frame

@@ -9,12 +9,13 @@ use Rattle.ada_meaning.specs.declared.state.Id.{Id}
 use Rattle.ada_meaning.specs.declared.state.Value.{Value}
 use Rattle.ada_meaning.specs.declared.state.Value.TheVariants.{Null, Names, Scalar, Part}
 use Rattle.ada_meaning.specs.declared.state.Stage.TheVariants.{Gone}
-use Rattle.ada_meaning.specs.Named.{Object, State, named, object_at, changed, on_object, parted, finished, returned, filled, store}
+use Rattle.ada_meaning.specs.Heap.{PartState}
+use Rattle.ada_meaning.specs.Named.{Object, State, named, object_at, changed, on_object, parted, finished, returned, filled, born_part, finalized_part, treated, store}
 use Rattle.ada_meaning.specs.Step.{stored_from}
 use Rattle.ada_meaning.specs.Run.{Event, Choice, Step, Run, here, there}
 use Rattle.ada_meaning.specs.Law.{back_of, Differ, BackTwoObjects}
 use Rattle.ada_meaning.specs.Life.{Remains, KeepsObjects}
-use Rattle.ada_meaning.proofs.Deeds.{Deed, same, adds, parts, finishes, fills, returns, step_deed}
+use Rattle.ada_meaning.proofs.Deeds.{Deed, same, adds, parts, finishes, fills, bears, finalizes, returns, step_deed}
 
 abbrev Heap : Type 0
 Heap = List Object
@@ -34,6 +35,9 @@ remains_filled c v x = record { access = refl; number = refl; home = refl; gone 
 
 remains_returned : (x : Object) → Remains x (returned x)
 remains_returned x = record { access = refl; number = refl; home = refl; gone = λ g. g; unlisted = λ u. u; back = λ b. refl }
+
+remains_treated : (change : PartState → PartState) (part : ℕ) (x : Object) → Remains x (treated change part x)
+remains_treated change part x = record { access = refl; number = refl; home = refl; gone = λ g. g; unlisted = λ u. u; back = λ b. b }
 
 remains_later : (x y z : Object) → Remains x y → Remains y z → Remains x z
 remains_later x y z a b = record {
@@ -86,6 +90,10 @@ deed_keeps xs e ys (adds x b is) = subst (λ (zs : Heap). KeepsObjects xs zs) (s
 deed_keeps xs e ys (parts v b is) = subst (λ (zs : Heap). KeepsObjects xs zs) (sym is) (keeps_on parted xs v remains_parted)
 deed_keeps xs e ys (finishes v b is) = subst (λ (zs : Heap). KeepsObjects xs zs) (sym is) (keeps_on finished xs v remains_finished)
 deed_keeps xs e ys (fills o c vs b is) = subst (λ (zs : Heap). KeepsObjects xs zs) (sym is) (keeps_stored xs o c vs)
+deed_keeps xs e ys (bears v part number b is) =
+    subst (λ (zs : Heap). KeepsObjects xs zs) (sym is) (keeps_on (treated (born_part number) part) xs v (remains_treated (born_part number) part))
+deed_keeps xs e ys (finalizes v part b is) =
+    subst (λ (zs : Heap). KeepsObjects xs zs) (sym is) (keeps_on (treated finalized_part part) xs v (remains_treated finalized_part part))
 deed_keeps xs e ys (returns o x b was out is) = subst (λ (zs : Heap). KeepsObjects xs zs) (sym is) (keeps_set xs o.0 x (returned x) was (remains_returned x))
 
 -- Over any run each name keeps its object.
@@ -123,6 +131,8 @@ deed_back xs e ys o (adds x b is) back = absurd (cc)
 deed_back xs e ys o (parts v b is) back = absurd (cc)
 deed_back xs e ys o (finishes v b is) back = absurd (cc)
 deed_back xs e ys o (fills v c vs b is) back = absurd (cc)
+deed_back xs e ys o (bears v part number b is) back = absurd (cc)
+deed_back xs e ys o (finalizes v part b is) back = absurd (cc)
 deed_back xs e ys o (returns other x b was out is) back =
     let one : other ≡ o = cc in
     let at_other : IsBackAt ys other = (returned x, (ap (λ (zs : Heap). object_at zs other) is ∙ set_at xs other.0 x (returned x) was, refl)) in
@@ -134,6 +144,8 @@ deed_differs xs e ys o x (adds y b is) at_o back = rw b tt
 deed_differs xs e ys o x (parts v b is) at_o back = rw b tt
 deed_differs xs e ys o x (finishes v b is) at_o back = rw b tt
 deed_differs xs e ys o x (fills v c vs b is) at_o back = rw b tt
+deed_differs xs e ys o x (bears v part number b is) at_o back = rw b tt
+deed_differs xs e ys o x (finalizes v part b is) at_o back = rw b tt
 deed_differs xs e ys o x (returns other y b was out is) at_o back =
     rw b (λ (one : o ≡ other).
     let twice : Some x ≡ Some y = sym at_o ∙ ap (object_at xs) one ∙ was in

@@ -327,7 +327,7 @@ copies_are_alike program source target first to t behind before mid later after 
 
 -- What the law refuses, and what it lets pass: two objects, of which one's first two components are copied to another's first two.
 abbrev two_objects : (vs us : List Value) → Heap
-two_objects vs us = new_object (record_cell named 0 0 vs) ∷ new_object (record_cell named 0 0 us) ∷ []
+two_objects vs us = new_object (record_cell named [] 0 0 vs) ∷ new_object (record_cell named [] 0 0 us) ∷ []
 
 abbrev CopiesPair : Heap → Heap → Type 0
 CopiesPair before after = IsCopied before after (record { 0 = 0 }) (record { 0 = 1 }) 0 0 2
@@ -336,7 +336,7 @@ pair_passes : (a b c d e : Value) → CopiesPair (two_objects (a ∷ b ∷ []) (
 pair_passes a b c d e =
     let vs = a ∷ b ∷ [] in
     let us = c ∷ d ∷ e ∷ [] in
-    stored_whole (two_objects vs us) (record { 0 = 0 }) (record { 0 = 1 }) (new_object (record_cell named 0 0 vs)) (new_object (record_cell named 0 0 us)) vs (c ∷ d ∷ []) 0 0 2 refl refl (part_of vs 0 2 vs refl) (part_of us 0 2 (c ∷ d ∷ []) refl)
+    stored_whole (two_objects vs us) (record { 0 = 0 }) (record { 0 = 1 }) (new_object (record_cell named [] 0 0 vs)) (new_object (record_cell named [] 0 0 us)) vs (c ∷ d ∷ []) 0 0 2 refl refl (part_of vs 0 2 vs refl) (part_of us 0 2 (c ∷ d ∷ []) refl)
 
 -- The components in reverse order.
 reverse_refused : (a b c d e : Value) → a ≢ b → CopiesPair (two_objects (a ∷ b ∷ []) (c ∷ d ∷ e ∷ [])) (two_objects (a ∷ b ∷ []) (b ∷ a ∷ e ∷ [])) → ⊥
@@ -357,6 +357,6 @@ elsewhere_refused a b c d e apart copied = let first : Some c ≡ Some a = copie
 -- With another object changed, too: the source itself.
 source_refused : (a b c d e f : Value) → a ≢ f → CopiesPair (two_objects (a ∷ b ∷ []) (c ∷ d ∷ e ∷ [])) (two_objects (f ∷ b ∷ []) (a ∷ b ∷ e ∷ [])) → ⊥
 source_refused a b c d e f apart copied =
-    let source : Some (new_object (record_cell named 0 0 (f ∷ b ∷ []))) ≡ Some (new_object (record_cell named 0 0 (a ∷ b ∷ []))) = copied.elsewhere (record { 0 = 0 }) (λ same. let never : 0 ≡ 1 = ap (λ (o : Id). o.0) same in absurd (omega (arith, never))) in
+    let source : Some (new_object (record_cell named [] 0 0 (f ∷ b ∷ []))) ≡ Some (new_object (record_cell named [] 0 0 (a ∷ b ∷ []))) = copied.elsewhere (record { 0 = 0 }) (λ same. let never : 0 ≡ 1 = ap (λ (o : Id). o.0) same in absurd (omega (arith, never))) in
     let first : Some f ≡ Some a = ap (λ (at_o : Option Object). component_in at_o 0) source in
     apart (cc)

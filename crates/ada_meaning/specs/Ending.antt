@@ -1,7 +1,13 @@
 -- Statements keep beginning, or the run ends: each step that begins none makes a number smaller, the weight of its state.
 
-use Rattle.std.specs.Prelude.{◌≡◌, ◌≢◌, ℕ, Bool, true, false, ◌||◌, ◌+◌, ◌<◌, ◌≤◌, if◌then◌else◌, List, [], ◌∷◌, length, Option, Some, None}
+use Rattle.std.specs.Prelude.{◌≡◌, ◌≢◌, ℕ, Bool, true, false, ◌||◌, ◌+◌, ◌==◌, ◌<◌, ◌≤◌, if◌then◌else◌, List, [], ◌∷◌, length, Option, Some, None}
+use Rattle.std.specs.List.{sum_by}
 use Rattle.ada_program.specs.declared.program.Program.{Program}
+use Rattle.ada_program.specs.declared.program.TypeDefinition.{TypeDefinition}
+use Rattle.ada_program.specs.Controlled.{shapes_of}
+use Rattle.ada_parts.specs.declared.tasks.Direction.TheVariants.{WholeFirst}
+use Rattle.ada_parts.specs.Shape.{Shape, own_parts}
+use Rattle.ada_parts.specs.Task.{Task, performs, treats}
 use Rattle.ada_program.specs.Form.{PathForm, ExpressionForm, integer, boolean, reads, is_null, applied_to, chained, LinksForm, no_more_links, a_link, ItemForm, null_item, item_of_path, item_of_value, item_of_record, RightForm, nothing, value_of, allocates, allocates_default, computes, a_stmt, BranchesForm, otherwise, a_branch, DeclarationForm, creates_pool, collects, declares, declares_record}
 use Rattle.ada_meaning.specs.declared.event.Halt.TheVariants.{Memory}
 use Rattle.ada_meaning.specs.declared.state.Value.{Value}
@@ -11,7 +17,7 @@ use Rattle.ada_program.specs.ProgramForm.{body_forms}
 use Rattle.ada_meaning.specs.Frame.{Frame, is_master, is_loop, is_return}
 use Rattle.ada_meaning.specs.Frame as frame
 use Rattle.ada_meaning.specs.State.{Master, begins}
-use Rattle.ada_meaning.specs.Step.{halts, moves, tells, asks, picks}
+use Rattle.ada_meaning.specs.Step.{halts, moves, tells, asks, picks, all_tasks}
 use Rattle.ada_meaning.specs.Named.{Object, State, Next, next}
 use Rattle.ada_meaning.specs.Run.{Event, Choice, Step}
 
@@ -46,13 +52,38 @@ abbrev pub items_weight : List ItemForm → ℕ
 items_weight [] = 1
 items_weight (i ∷ is) = item_weight i + items_weight is
 
--- What is assigned: a new object weighs 3, since it is to be ended, too.
-abbrev pub right_weight : RightForm → ℕ
-right_weight nothing = 1
-right_weight (value_of path) = path_weight path
-right_weight (allocates access items) = 5 + items_weight items
-right_weight (allocates_default access) = 5
-right_weight (computes e) = 1 + expression_weight e
+-- The steps that the treatment of a record takes at most: one for each call, and one for each component that is picked (7.6, 7.6.1).
+abbrev pub steps_of : List Shape → (of : ℕ) → ℕ
+steps_of [] t = 0
+steps_of (shape ∷ older) t =
+    if t == length older then own_parts shape + sum_by (λ c. 1 + steps_of older c) shape.components else steps_of older t
+
+-- As many as the treatment of a record of any type may take.
+abbrev pub steps_of_any : List Shape → ℕ
+steps_of_any [] = 0
+steps_of_any (shape ∷ older) = own_parts shape + sum_by (λ c. 1 + steps_of older c) shape.components + steps_of_any older
+
+-- What is left of a treatment.
+abbrev pub tasks_weight : List Shape → List Task → ℕ
+tasks_weight shapes [] = 0
+tasks_weight shapes (performs of part ∷ tasks) = 1 + tasks_weight shapes tasks
+tasks_weight shapes (treats components ∷ tasks) = sum_by (λ c. 1 + steps_of shapes c.of) components + tasks_weight shapes tasks
+
+-- The treatment of an object: of one that the values of an access type name, or of the one that is known by a type.
+abbrev pub treatment_weight : List TypeDefinition → (access : ℕ) → ℕ
+treatment_weight types access = 1 + tasks_weight (shapes_of types) (all_tasks types access WholeFirst)
+
+-- A new object: it is initialized, and is to be finalized and to be ended, too.
+abbrev pub new_weight : List TypeDefinition → (access : ℕ) → ℕ
+new_weight types access = 3 + (treatment_weight types access + treatment_weight types access)
+
+-- What is assigned.
+abbrev pub right_weight : List TypeDefinition → RightForm → ℕ
+right_weight types nothing = 1
+right_weight types (value_of path) = path_weight path
+right_weight types (allocates access items) = 2 + new_weight types access + items_weight items
+right_weight types (allocates_default access) = 2 + new_weight types access
+right_weight types (computes e) = 1 + expression_weight e
 
 -- The conditions of an `if`, up to the first statement behind them.
 abbrev pub branches_weight : BranchesForm → ℕ
@@ -69,61 +100,62 @@ abbrev pub initial_weight : Option (List ItemForm) → ℕ
 initial_weight None = 0
 initial_weight (Some items) = 1 + items_weight items
 
--- A declaration: the item that it makes weighs 1, since it is to be left, too, and a record object 3 more, since it is to be ended.
-abbrev pub declaration_weight : DeclarationForm → ℕ
-declaration_weight (creates_pool pool) = 2
-declaration_weight (collects access) = 2
-declaration_weight (declares x right) = 3 + right_weight right
-declaration_weight (declares_record x object initial) = 5 + initial_weight initial
+-- A declaration: the item that it makes weighs 1, since it is to be left, too, and a record object as much as any new object.
+abbrev pub declaration_weight : List TypeDefinition → DeclarationForm → ℕ
+declaration_weight types (creates_pool pool) = 2
+declaration_weight types (collects access) = 2
+declaration_weight types (declares x right) = 3 + right_weight types right
+declaration_weight types (declares_record x object initial) = 2 + new_weight types object + initial_weight initial
 
 -- Declarations, and a step where none is left.
-abbrev pub declarations_weight : List DeclarationForm → ℕ
-declarations_weight [] = 1
-declarations_weight (d ∷ ds) = declaration_weight d + declarations_weight ds
+abbrev pub declarations_weight : List TypeDefinition → List DeclarationForm → ℕ
+declarations_weight types [] = 1
+declarations_weight types (d ∷ ds) = declaration_weight types d + declarations_weight types ds
 
 -- A frame: as much as it may lead to before a statement begins.
-abbrev pub frame_weight : {V : Type 0} → Frame V → ℕ
-frame_weight (frame.Elaborates ds fs hs) = 5 + declarations_weight ds
-frame_weight (frame.Does fs) = 1
-frame_weight (frame.Handles hs) = 2
-frame_weight frame.Closes = 2
-frame_weight (frame.Leaves mode) = 1
-frame_weight (frame.Calls procedure b actuals) = 7 + length actuals + declarations_weight b.declarations
-frame_weight (frame.Returns actuals references) = 1 + length references
-frame_weight (frame.Decides fs branches) = 1 + branches_weight branches
-frame_weight (frame.Repeats condition fs) = 3 + condition_weight condition
-frame_weight (frame.Turns condition fs) = 3
-frame_weight (frame.Ranges x fs) = 3
-frame_weight (frame.Counts x value last fs) = 3
-frame_weight frame.Exits = 1
-frame_weight (frame.Evaluates right) = right_weight right
-frame_weight (frame.Computes e) = expression_weight e
-frame_weight (frame.Follows cs) = 1 + length cs
-frame_weight (frame.TestsNull equal) = 1
-frame_weight (frame.Refers p) = 1 + path_weight p.object
-frame_weight (frame.RefersIn first t) = 1
-frame_weight (frame.Opens path) = 1 + path_weight path
-frame_weight (frame.OpensIn c) = 1
-frame_weight (frame.Continues links) = links_weight links
-frame_weight (frame.Applies operator) = 1
-frame_weight (frame.AppliesAlone operator) = 1
-frame_weight (frame.Fills items) = items_weight items
-frame_weight (frame.Copies first t) = 1
-frame_weight (frame.Creates access count) = 4
-frame_weight (frame.Stores x) = 1
-frame_weight (frame.Targets c right) = 2 + right_weight right
-frame_weight (frame.StoresIn o c) = 1
-frame_weight (frame.TargetsRecord first t items) = 2 + items_weight items
-frame_weight (frame.StoresRecord o first count) = 1
-frame_weight (frame.Receives c) = 1
-frame_weight (frame.FreesIn access c) = 4
-frame_weight (frame.Declares x) = 2
-frame_weight (frame.DeclaresRecord x t) = 5
-frame_weight frame.Writes = 1
-frame_weight (frame.Ends v) = 1
-frame_weight (frame.GivesBack v cause pool) = 1
-frame_weight (frame.Clears x) = 1
-frame_weight (frame.ClearsIn o c) = 1
+abbrev pub frame_weight : {V : Type 0} → List TypeDefinition → Frame V → ℕ
+frame_weight types (frame.Elaborates ds fs hs) = 5 + declarations_weight types ds
+frame_weight types (frame.Does fs) = 1
+frame_weight types (frame.Handles hs) = 2
+frame_weight types frame.Closes = 2
+frame_weight types (frame.Leaves mode) = 1
+frame_weight types (frame.Calls procedure b actuals) = 7 + length actuals + declarations_weight types b.declarations
+frame_weight types (frame.Returns actuals references) = 1 + length references
+frame_weight types (frame.Decides fs branches) = 1 + branches_weight branches
+frame_weight types (frame.Repeats condition fs) = 3 + condition_weight condition
+frame_weight types (frame.Turns condition fs) = 3
+frame_weight types (frame.Ranges x fs) = 3
+frame_weight types (frame.Counts x value last fs) = 3
+frame_weight types frame.Exits = 1
+frame_weight types (frame.Evaluates right) = right_weight types right
+frame_weight types (frame.Computes e) = expression_weight e
+frame_weight types (frame.Follows cs) = 1 + length cs
+frame_weight types (frame.TestsNull equal) = 1
+frame_weight types (frame.Refers p) = 1 + path_weight p.object
+frame_weight types (frame.RefersIn first t) = 1
+frame_weight types (frame.Opens path) = 1 + path_weight path
+frame_weight types (frame.OpensIn c) = 1
+frame_weight types (frame.Continues links) = links_weight links
+frame_weight types (frame.Applies operator) = 1
+frame_weight types (frame.AppliesAlone operator) = 1
+frame_weight types (frame.Fills items) = items_weight items
+frame_weight types (frame.Copies first t) = 1
+frame_weight types (frame.Creates access count) = 1 + new_weight types access
+frame_weight types (frame.Stores x) = 1
+frame_weight types (frame.Targets c right) = 2 + right_weight types right
+frame_weight types (frame.StoresIn o c) = 1
+frame_weight types (frame.TargetsRecord first t items) = 2 + items_weight items
+frame_weight types (frame.StoresRecord o first count) = 1
+frame_weight types (frame.Receives c) = 1
+frame_weight types (frame.FreesIn access c) = 5 + steps_of_any (shapes_of types)
+frame_weight types (frame.Declares x) = 2
+frame_weight types (frame.DeclaresRecord x t) = 2 + new_weight types t
+frame_weight types (frame.Treats v treatment tasks) = 1 + tasks_weight (shapes_of types) tasks
+frame_weight types frame.Writes = 1
+frame_weight types (frame.Ends v) = 1
+frame_weight types (frame.GivesBack v cause pool) = 1
+frame_weight types (frame.Clears x) = 1
+frame_weight types (frame.ClearsIn o c) = 1
 
 -- Are these handlers?
 abbrev pub has_handlers : {V : Type 0} → Frame V → Bool
@@ -160,28 +192,28 @@ behind_weight f passed exited returned run = run
 
 abbrev mutual
   -- What is left to do before a statement begins.
-  pub run_weight : List (Frame Value) → ℕ
-  run_weight [] = 0
-  run_weight (f ∷ k) = frame_weight f + behind_weight f (passed_weight k) (exit_weight k) (return_weight k) (run_weight k)
+  pub run_weight : List TypeDefinition → List (Frame Value) → ℕ
+  run_weight types [] = 0
+  run_weight types (f ∷ k) = frame_weight types f + behind_weight f (passed_weight k) (exit_weight types k) (return_weight types k) (run_weight types k)
 
   -- The weight of what is left while an exit is on its way: it lands behind a loop.
-  pub exit_weight : List (Frame Value) → ℕ
-  exit_weight [] = 0
-  exit_weight (f ∷ k) = pass_weight f + (if is_loop f then run_weight k else exit_weight k)
+  pub exit_weight : List TypeDefinition → List (Frame Value) → ℕ
+  exit_weight types [] = 0
+  exit_weight types (f ∷ k) = pass_weight f + (if is_loop f then run_weight types k else exit_weight types k)
 
   -- The weight of what is left while a return is on its way: it lands behind the call of its body.
-  pub return_weight : List (Frame Value) → ℕ
-  return_weight [] = 0
-  return_weight (f ∷ k) = pass_weight f + (if is_return f then run_weight k else return_weight k)
+  pub return_weight : List TypeDefinition → List (Frame Value) → ℕ
+  return_weight types [] = 0
+  return_weight types (f ∷ k) = pass_weight f + (if is_return f then run_weight types k else return_weight types k)
 
--- The objects that are in their collections: each is yet to be ended and given back.
-abbrev pub object_weight : Object → ℕ
-object_weight object = if object.listed then 3 else 0
+-- The objects that are in their collections: each is yet to be finalized, ended and given back.
+abbrev pub object_weight : List TypeDefinition → Object → ℕ
+object_weight types object = if object.listed then 3 + treatment_weight types object.cell.access else 0
 
 -- All objects.
-abbrev pub heap_weight : List Object → ℕ
-heap_weight [] = 0
-heap_weight (object ∷ objects) = object_weight object + heap_weight objects
+abbrev pub heap_weight : List TypeDefinition → List Object → ℕ
+heap_weight types [] = 0
+heap_weight types (object ∷ objects) = object_weight types object + heap_weight types objects
 
 -- The items of the masters: each is yet to be left.
 abbrev pub masters_weight : List Master → ℕ
@@ -189,13 +221,15 @@ masters_weight [] = 0
 masters_weight (m ∷ ms) = length m.items + masters_weight ms
 
 -- The weight of a state: more than the steps that any run can make from it before a statement begins.
-unfoldable pub weight : State → ℕ
-weight s = heap_weight s.heap + masters_weight s.masters + by_mode s.mode (passed_weight s.control) (exit_weight s.control) (return_weight s.control) (run_weight s.control)
+unfoldable pub weight : List TypeDefinition → State → ℕ
+weight types s =
+    heap_weight types s.heap + masters_weight s.masters
+    + by_mode s.mode (passed_weight s.control) (exit_weight types s.control) (return_weight types s.control) (run_weight types s.control)
 
 -- Each step that begins no statement makes the state lighter, whatever is granted and picked: a loop over a machine comes to the next
 -- statement, or to the end.
 abbrev pub StepsMakeLighter : Type 0
-StepsMakeLighter = (program : Program) (s : State) (choice : Choice) (event : Event) (after : State) → begins s ≡ false → Step program s choice event after → weight after < weight s
+StepsMakeLighter = (program : Program) (s : State) (choice : Choice) (event : Event) (after : State) → begins s ≡ false → Step program s choice event after → weight program.types.items after < weight program.types.items s
 
 -- The definition itself never wants memory, and where members are to be picked there is one.
 abbrev pub GoesOn : Next → Type 0
@@ -216,4 +250,4 @@ pub data WithinStatement (program : Program) : State → List Event → State �
 
 -- So many of them at most follow one another: a run begins another statement, or ends.
 abbrev pub StatementsEnd : Type 0
-StatementsEnd = (program : Program) (s last : State) (events : List Event) → WithinStatement program s events last → length events ≤ weight s
+StatementsEnd = (program : Program) (s last : State) (events : List Event) → WithinStatement program s events last → length events ≤ weight program.types.items s

@@ -10,7 +10,14 @@ use Rattle.ada_program.specs.Handling.{handler_of}
 use Rattle.ada_program.specs.ProgramForm.{BodyForm}
 use Rattle.ada_meaning.specs.declared.state.Mode.{Mode}
 use Rattle.ada_meaning.specs.declared.state.Mode.TheVariants.{Running, Raising, Exiting, Returning}
+use Rattle.ada_meaning.specs.declared.event.Birth.{Birth}
 use Rattle.ada_meaning.specs.declared.event.Cause.{Cause}
+use Rattle.ada_parts.specs.Task.{Task}
+
+-- What is done to the controlled parts of an object (7.6, 7.6.1): they come to have values, or their values are finalized.
+pub data Treatment : Type 0 where
+  begins : Birth → Treatment
+  ends : Cause → Treatment
 
 -- One thing that is left to do.
 pub data Frame (V : Type 0) : Type 0 where
@@ -91,6 +98,8 @@ pub data Frame (V : Type 0) : Type 0 where
   Declares : (variable : ℕ) → Frame V
   -- the newest operands are the components of a record object, which then is created (3.3.1)
   DeclaresRecord : (variable object_type : ℕ) → Frame V
+  -- the controlled parts of an object are initialized, or finalized (7.6, 7.6.1): this is left of that
+  Treats : V → Treatment → List Task → Frame V
   -- the newest operand is to be written (A.10.7)
   Writes : Frame V
   -- an object ceases to exist (13.11.2)

@@ -12,13 +12,21 @@ pub record Home : Type 0 where
   pub pool : Option ℕ
   pub subpool : Option ℕ
 
--- What lies in an object (3.3, 4.8): its access type, or the type that it is known by; its trace number, 0 where it is declared; its home and its
--- components.
+-- A controlled part of an object (7.6): whether it has a value now, how many values it had before that, and the trace number of its newest value, 0
+-- where it has had none.
+pub record PartState : Type 0 where
+  pub alive : Bool
+  pub turn : ℕ
+  pub number : ℕ
+
+-- What lies in an object (3.3, 4.8): its access type, or the type that it is known by; its trace number, 0 where it is declared; its home; its
+-- components; and its controlled parts, by their numbers (7.6).
 pub record Cell (V : Type 0) : Type 0 where
   pub access : ℕ
   pub number : ℕ
   pub home : Home
   pub values : List V
+  pub parts : List PartState
 
 -- What a value leads to: nothing where it is null; an object that is gone; no object at all where it is no access value; or a cell.
 pub data Found (X : Type 0) : Type 0 where
@@ -54,6 +62,9 @@ pub record Ops (V H : Type 0) : Type 0 where
   pub created : H → (words : ℕ) → V
   -- a component of the object that a value gives access to gets another value
   pub store : H → V → (component : ℕ) → V → H
+  -- a controlled part of the object that a value gives access to comes to have a value, with a trace number; its value is finalized (7.6, 7.6.1)
+  pub bear : H → V → (part number : ℕ) → H
+  pub finalize : H → V → (part : ℕ) → H
   -- an object leaves its collection; it ceases to exist; its words go back
   pub part : H → V → H
   pub finish : H → V → H

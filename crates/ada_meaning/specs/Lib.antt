@@ -18,6 +18,8 @@ pub mod Run
 pub mod Chosen
 -- the laws of storage, and what a safe program is (7.6.1, 13.11.2)
 pub mod Law
+-- the laws of finalization (7.6, 7.6.1)
+pub mod Finalization
 -- laws of names and objects over any run (4.8, 7.6.1, 13.11.2)
 pub mod Life
 -- what objects of allocators without items hold when they come to be (4.8)

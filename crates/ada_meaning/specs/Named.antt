@@ -17,7 +17,7 @@ use Rattle.ada_meaning.specs.declared.state.Value.TheVariants.{Null, Names, Scal
 use Rattle.ada_meaning.specs.declared.state.Stage.{Stage}
 use Rattle.ada_meaning.specs.declared.state.Stage.TheVariants.{Building, Existing, Gone}
 use Rattle.ada_meaning.specs.State.{State as StateOver}
-use Rattle.ada_meaning.specs.Heap.{Cell, Found, on_null, on_gone, on_other, finds, Ops}
+use Rattle.ada_meaning.specs.Heap.{PartState, Cell, Found, on_null, on_gone, on_other, finds, Ops}
 use Rattle.ada_meaning.specs.Step.{Next as NextOver, mode_next}
 
 -- An allocated object (3.3, 4.8): what lies in it, its stage, whether it is in its collection, and whether its words are still out.
@@ -102,6 +102,24 @@ returned object = record object { out = false }
 abbrev pub filled : ℕ → Value → Object → Object
 filled c v object = record object { cell = record (object.cell) { values = slice_set object.cell.values c v } }
 
+-- A part that comes to have a value (7.6), and one whose value is finalized (7.6.1).
+abbrev pub born_part : (number : ℕ) → PartState → PartState
+born_part number p = record { alive = true; turn = p.turn; number = number }
+
+-- The state of a part once its value is finalized.
+abbrev pub finalized_part : PartState → PartState
+finalized_part p = record { alive = false; turn = p.turn + 1; number = p.number }
+
+-- The parts of an object once one of them has changed, if there is that one.
+abbrev pub with_part : (PartState → PartState) → (part : ℕ) → Option PartState → List PartState → List PartState
+with_part change part None parts = parts
+with_part change part (Some p) parts = slice_set parts part (change p)
+
+-- An object once one of its parts has changed.
+abbrev pub treated : (PartState → PartState) → (part : ℕ) → Object → Object
+treated change part object =
+    record object { cell = record (object.cell) { parts = with_part change part (slice_get object.cell.parts part) object.cell.parts } }
+
 -- The object that a value names changes.
 abbrev pub on_object : (Object → Object) → List Object → Value → List Object
 on_object change objects Null = objects
@@ -112,6 +130,14 @@ on_object change objects (Part o first) = objects
 -- A component of the object that a value names gets another value (5.2).
 abbrev pub store : List Object → Value → ℕ → Value → List Object
 store objects o c v = on_object (filled c v) objects o
+
+-- A controlled part of the object that a value names comes to have a value; its value is finalized.
+abbrev pub bear : List Object → Value → (part number : ℕ) → List Object
+bear objects o part number = on_object (treated (born_part number) part) objects o
+
+-- The objects once the value of a part is finalized.
+abbrev pub finalize : List Object → Value → (part : ℕ) → List Object
+finalize objects o part = on_object (treated finalized_part part) objects o
 
 -- The members of a collection (7.6.1): the objects in it whose home it is, newest first.
 abbrev pub is_member : ℕ → Object → Bool
@@ -232,6 +258,8 @@ named = record {
   create = create;
   created = created;
   store = store;
+  bear = bear;
+  finalize = finalize;
   part = on_object parted;
   finish = on_object finished;
   back = on_object returned;

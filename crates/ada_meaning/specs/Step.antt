@@ -1,6 +1,6 @@
 -- The small steps: what a state does next, form by form in the order of the manual. They are generic in what a value is and in the heap.
 
-use Rattle.std.specs.Prelude.{ℕ, ◌+◌, ◌==◌, ℤ, pos, ◌+ℤ◌, int_le, Bool, true, false, not, if◌then◌else◌, List, [], ◌∷◌, ◌++◌, length, map, take, drop, reverse, Option, Some, None, Result, Ok, Err}
+use Rattle.std.specs.Prelude.{ℕ, ◌+◌, ◌==◌, ℤ, pos, ◌+ℤ◌, int_le, Bool, true, false, not, if◌then◌else◌, List, [], ◌∷◌, ◌++◌, length, map, replicate, take, drop, reverse, Option, Some, None, Result, Ok, Err}
 use Rattle.std.specs.List.{slice_get, slice_index_or, slice_set}
 use Rattle.ada_values.specs.declared.operator.BinaryOperator.{BinaryOperator}
 use Rattle.ada_values.specs.declared.operator.BinaryOperator.TheVariants as binary
@@ -13,7 +13,16 @@ use Rattle.ada_program.specs.declared.program.VariableKind.{VariableKind}
 use Rattle.ada_program.specs.declared.program.VariableKind.TheVariants as variable
 use Rattle.ada_program.specs.Form.{RecordPathForm, ActualForm, in_value, in_null, in_access, in_record, in_out_path, in_out_access, in_out_component, in_out_record, ExpressionForm, integer, boolean, reads, is_null, applied_to, chained, LinksForm, no_more_links, a_link, ItemForm, null_item, item_of_path, item_of_value, item_of_record, RightForm, nothing, value_of, allocates, allocates_default, computes, StmtForm, skips, assigns, assigns_record, frees, gets, writes, writes_text, chooses, repeats, counts, exits, calls, returns, raises, encloses, StmtsForm, no_stmts, a_stmt, BranchesForm, otherwise, a_branch, HandlersForm, DeclarationForm, creates_pool, collects, declares, declares_record}
 use Rattle.ada_program.specs.ProgramForm.{VariableForm, BodyForm}
-use Rattle.ada_program.specs.Typed.{reached_of, words_of, width_of, pool_named}
+use Rattle.ada_program.specs.Typed.{designated_of, reached_of, words_of, width_of, pool_named}
+use Rattle.ada_program.specs.Controlled.{shapes_of}
+use Rattle.ada_parts.specs.declared.tasks.Direction.{Direction}
+use Rattle.ada_parts.specs.declared.tasks.Direction.TheVariants.{PartsFirst, WholeFirst}
+use Rattle.ada_parts.specs.declared.tasks.Next.{Next as Follows}
+use Rattle.ada_parts.specs.declared.tasks.Next.TheVariants.{Done, Pick, Perform}
+use Rattle.ada_parts.specs.Shape.{Shape, parts_of}
+use Rattle.ada_parts.specs.Task.{Task, opened, performed, next as task_next, taken as taken_task}
+use Rattle.ada_meaning.specs.declared.event.Birth.{Birth}
+use Rattle.ada_meaning.specs.declared.event.Birth.TheVariants.{Creation}
 use Rattle.ada_meaning.specs.declared.state.Mode.{Mode}
 use Rattle.ada_meaning.specs.declared.state.Mode.TheVariants.{Running, Raising, Exiting, Returning}
 use Rattle.ada_meaning.specs.declared.event.Cause.{Cause}
@@ -23,12 +32,12 @@ use Rattle.ada_program.specs.declared.program.Exception.TheVariants.{ConstraintE
 use Rattle.ada_meaning.specs.declared.event.Halt.{Halt}
 use Rattle.ada_meaning.specs.declared.event.Halt.TheVariants.{Finished, Unhandled, Erroneous, Stuck}
 use Rattle.ada_meaning.specs.declared.event.Line.TheVariants.{Image, Literal}
-use Rattle.ada_meaning.specs.declared.event.Why.TheVariants.{FollowsGone, EndsTwice, GivesElsewhere}
-use Rattle.ada_meaning.specs.Event.{Event, Back, Followed, Left, Line, Quiet, Request, Allocate, GiveBack, New, Gone}
-use Rattle.ada_meaning.specs.Frame.{Frame, evaluating, is_master, Landing, passes_on, goes_behind, goes_in, landing}
+use Rattle.ada_meaning.specs.declared.event.Why.TheVariants.{FollowsGone, EndsTwice, GivesElsewhere, FinalizesTwice}
+use Rattle.ada_meaning.specs.Event.{Event, Born, Finalized, Back, Followed, Left, Line, Quiet, Request, Allocate, GiveBack, New, Gone}
+use Rattle.ada_meaning.specs.Frame.{Treatment, begins, ends, Frame, evaluating, is_master, Landing, passes_on, goes_behind, goes_in, landing}
 use Rattle.ada_meaning.specs.Frame as frame
 use Rattle.ada_meaning.specs.State.{Activation, Owned, declared, collection, record_object, storage_pool, Item, Master, State, Destination, height, home_of, pools_in, pool_for, pool_freed_to, counted}
-use Rattle.ada_meaning.specs.Heap.{Cell, Found, on_null, on_gone, on_other, finds, Ops}
+use Rattle.ada_meaning.specs.Heap.{PartState, Cell, Found, on_null, on_gone, on_other, finds, Ops}
 
 -- What a state does next: it halts; or one event comes, perhaps with something told to the pools; or a request to a pool is open; or one of
 -- some members is to be taken, counted from 0.
@@ -40,6 +49,42 @@ pub data Next (V H : Type 0) : Type 0 where
   picks : ℕ → (ℕ → State V H) → Next V H
 
 -- Words of a state.
+
+-- In which order a treatment takes a record and its components (7.6, 7.6.1).
+abbrev pub direction_of : Treatment → Direction
+direction_of (begins by) = PartsFirst
+direction_of (ends cause) = WholeFirst
+
+-- All that is to be done for an object of a record type: nothing, if there is no such type.
+abbrev pub tasks_for : List Shape → Direction → Option ℕ → List Task
+tasks_for shapes direction None = []
+tasks_for shapes direction (Some t) = opened shapes direction t 0
+
+-- How many controlled parts such an object has.
+abbrev pub parts_for : List Shape → Option ℕ → ℕ
+parts_for shapes None = 0
+parts_for shapes (Some t) = parts_of shapes t
+
+-- How many controlled parts the objects have that an access type's values name, or the one that is known by a type.
+abbrev pub parts_held : List TypeDefinition → (access : ℕ) → ℕ
+parts_held types access = parts_for (shapes_of types) (designated_of types access)
+
+-- All that is to be done for an object that is initialized, or finalized: one that an access type's values name, or the one that is known by a type.
+abbrev pub all_tasks : List TypeDefinition → (access : ℕ) → Direction → List Task
+all_tasks types access direction = tasks_for (shapes_of types) direction (designated_of types access)
+
+-- The controlled parts of a new object: none has a value yet.
+abbrev pub new_parts : (count : ℕ) → List PartState
+new_parts count = replicate count (record { alive = false; turn = 0; number = 0 })
+
+-- An object is treated before what comes behind, if anything is to be done.
+abbrev pub treating : {V : Type 0} → V → Treatment → List Task → List (Frame V) → List (Frame V)
+treating v treatment [] k = k
+treating v treatment (task ∷ tasks) k = frame.Treats v treatment (task ∷ tasks) ∷ k
+
+-- An object is finalized before what comes behind (7.6.1).
+abbrev pub finalizing : {V : Type 0} → List TypeDefinition → V → Cell V → Cause → List (Frame V) → List (Frame V)
+finalizing types v cell cause k = treating v (ends cause) (all_tasks types cell.access WholeFirst) k
 
 -- Are these one pool, or none?
 abbrev pub same_pool : Option ℕ → Option ℕ → Bool
@@ -388,30 +433,68 @@ module _ {V H : Type 0} (ops : Ops V H) where
   abbrev pub without_newest : (count : ℕ) → State V H → State V H
   without_newest count s = set_operands (drop count (operands s)) s
 
+  -- Controlled parts (7.6, 7.6.1).
+
+  -- What is left of the treatment of an object goes on.
+  abbrev pub treated_on : V → Treatment → List Task → State V H → State V H
+  treated_on v treatment tasks s = at (treating v treatment tasks s.control) s
+
+  -- A part comes to have a value (7.6): its operation does nothing.
+  abbrev pub born_next : V → (of part : ℕ) → Birth → Option PartState → State V H → Next V H
+  born_next v of part by None s = halts Stuck
+  born_next v of part by (Some p) s =
+      moves (Born v part p.turn of (counted s.born) by) (record s { born = counted s.born; heap = ops.bear s.heap v part (counted s.born) })
+
+  -- The value of a part is finalized (7.6.1): to finalize one that does not exist is erroneous.
+  abbrev pub finalized_next : V → (of part : ℕ) → Cause → Option PartState → State V H → Next V H
+  finalized_next v of part cause None s = halts Stuck
+  finalized_next v of part cause (Some p) s =
+      if p.alive then moves (Finalized v part p.turn of p.number cause) (record s { heap = ops.finalize s.heap v part }) else halts (Erroneous FinalizesTwice)
+
+  -- The operation of a part is called.
+  abbrev pub performed_next : V → Treatment → (of part : ℕ) → Found (Cell V) → State V H → Next V H
+  performed_next v treatment of part on_null s = halts Stuck
+  performed_next v treatment of part on_gone s = halts (Erroneous FinalizesTwice)
+  performed_next v treatment of part on_other s = halts Stuck
+  performed_next v (begins by) of part (finds cell) s = born_next v of part by (slice_get cell.parts part) s
+  performed_next v (ends cause) of part (finds cell) s = finalized_next v of part cause (slice_get cell.parts part) s
+
+  -- The next step of a treatment, by what comes next of what is left.
+  abbrev pub treats_next : List Shape → V → Treatment → List Task → Follows → State V H → Next V H
+  treats_next shapes v treatment tasks Done s = moves Quiet s
+  treats_next shapes v treatment tasks (Pick count) s =
+      if count == 0 then halts Stuck else picks count (λ i. treated_on v treatment (taken_task shapes (direction_of treatment) tasks i) s)
+  treats_next shapes v treatment tasks (Perform of part) s =
+      performed_next v treatment of part (ops.look s.heap v) (treated_on v treatment (performed tasks) s)
+
   -- The new object: its components are the newest operands, in the order in which they were computed.
-  abbrev pub new_cell : (access count : ℕ) → Destination → State V H → Cell V
-  new_cell access count home s = record {
+  abbrev pub new_cell : List TypeDefinition → (access count : ℕ) → Destination → State V H → Cell V
+  new_cell types access count home s = record {
     access = access;
     number = counted s.allocated;
     home = record { item = home.item; pool = Some home.pool; subpool = None };
     values = newest_ones count s;
+    parts = new_parts (parts_held types access);
   }
 
   -- A granted allocator: the object exists, and the value that names it is the newest operand. A refused one raises Storage_Error (11.1).
-  abbrev pub granted : (access count words : ℕ) → Destination → State V H → State V H
-  granted access count words home s = record (set_operands (ops.created s.heap words ∷ drop count (operands s)) s) {
-    allocated = counted s.allocated;
-    heap = ops.create s.heap words (new_cell access count home s);
-  }
+  abbrev pub granted : List TypeDefinition → (access count words : ℕ) → Destination → State V H → State V H
+  granted types access count words home s =
+      treated_on (ops.created s.heap words) (begins Creation) (all_tasks types access PartsFirst)
+      (record (set_operands (ops.created s.heap words ∷ drop count (operands s)) s) {
+        allocated = counted s.allocated;
+        heap = ops.create s.heap words (new_cell types access count home s);
+      })
 
-  abbrev pub answered : (access count words : ℕ) → Destination → State V H → Bool → State V H
-  answered access count words home s true = granted access count words home s
-  answered access count words home s false = raised StorageError s
+  abbrev pub answered : List TypeDefinition → (access count words : ℕ) → Destination → State V H → Bool → State V H
+  answered types access count words home s true = granted types access count words home s
+  answered types access count words home s false = raised StorageError s
 
   -- A pool is asked for the words of an object whose type has an open collection, the pool of that; where there is none, Storage_Error is raised.
-  abbrev pub new_next : (access count words : ℕ) → Option Destination → State V H → Next V H
-  new_next access count words None s = moves Quiet (raised StorageError s)
-  new_next access count words (Some home) s = asks (Allocate home.pool 0 words (ops.created s.heap words)) (answered access count words home s)
+  abbrev pub new_next : List TypeDefinition → (access count words : ℕ) → Option Destination → State V H → Next V H
+  new_next types access count words None s = moves Quiet (raised StorageError s)
+  new_next types access count words (Some home) s =
+      asks (Allocate home.pool 0 words (ops.created s.heap words)) (answered types access count words home s)
 
   -- What a component holds at first where no value is given (3.3.1, 3.8): null, if it holds access values.
   abbrev pub initial_value : ComponentKind → V
@@ -439,18 +522,19 @@ module _ {V H : Type 0} (ops : Ops V H) where
 
   -- A Free of an object begins (13.11.2): it leaves its collection, is to cease to exist, its words are to go back to the pool of the access type,
   -- and then what held its name becomes null.
-  abbrev pub freeing : (access : ℕ) → V → (clears : Frame V) → State V H → State V H
-  freeing access v clears s = numbered (record s {
+  abbrev pub freeing : List TypeDefinition → (access : ℕ) → V → Cell V → (clears : Frame V) → State V H → State V H
+  freeing types access v cell clears s = numbered (record s {
     heap = ops.part s.heap v;
-    control = frame.Ends v ∷ frame.GivesBack v (Freeing s.next) (Some (pool_freed_to (home_of access s.masters))) ∷ clears ∷ s.control;
+    control = finalizing types v cell (Freeing s.next)
+        (frame.Ends v ∷ frame.GivesBack v (Freeing s.next) (Some (pool_freed_to (home_of access s.masters))) ∷ clears ∷ s.control);
   })
 
   -- Free (X) (13.11.2): null has no effect.
-  abbrev pub free_next : (access x : ℕ) → V → Found (Cell V) → State V H → Next V H
-  free_next access x v on_null s = moves Quiet s
-  free_next access x v on_gone s = halts (Erroneous EndsTwice)
-  free_next access x v on_other s = halts Stuck
-  free_next access x v (finds cell) s = moves Quiet (freeing access v (frame.Clears x) s)
+  abbrev pub free_next : List TypeDefinition → (access x : ℕ) → V → Found (Cell V) → State V H → Next V H
+  free_next types access x v on_null s = moves Quiet s
+  free_next types access x v on_gone s = halts (Erroneous EndsTwice)
+  free_next types access x v on_other s = halts Stuck
+  free_next types access x v (finds cell) s = moves Quiet (freeing types access v cell (frame.Clears x) s)
 
   -- An object ceases to exist (13.11.2): twice is erroneous.
   abbrev pub end_next : V → Found (Cell V) → State V H → Next V H
@@ -522,28 +606,28 @@ module _ {V H : Type 0} (ops : Ops V H) where
   store_record_next o first count (finds cell) s =
       record_stored_next o first (newest_ones count s) (record_in cell.values first count) (without_newest count s)
 
-  abbrev pub frees_next : List ℕ → (access x : ℕ) → State V H → Next V H
-  frees_next [] access x s = free_next access x (held s x) (ops.look s.heap (held s x)) s
-  frees_next (c ∷ cs) access x s = holder_next c cs x (λ last. frame.FreesIn access last) s
+  abbrev pub frees_next : List TypeDefinition → List ℕ → (access x : ℕ) → State V H → Next V H
+  frees_next types [] access x s = free_next types access x (held s x) (ops.look s.heap (held s x)) s
+  frees_next types (c ∷ cs) access x s = holder_next c cs x (λ last. frame.FreesIn access last) s
 
   -- Free (P.C): the object that P leads to is found first, as that of a target. What its component gives access to is freed as by Free (X), and
   -- the component becomes null.
-  abbrev pub freed_next : (access : ℕ) → V → (c : ℕ) → V → Found (Cell V) → State V H → Next V H
-  freed_next access o c v on_null s = moves (Followed o) s
-  freed_next access o c v on_gone s = halts (Erroneous EndsTwice)
-  freed_next access o c v on_other s = halts Stuck
-  freed_next access o c v (finds cell) s =
-      moves (Followed o) (freeing access v (frame.ClearsIn o c) s)
+  abbrev pub freed_next : List TypeDefinition → (access : ℕ) → V → (c : ℕ) → V → Found (Cell V) → State V H → Next V H
+  freed_next types access o c v on_null s = moves (Followed o) s
+  freed_next types access o c v on_gone s = halts (Erroneous EndsTwice)
+  freed_next types access o c v on_other s = halts Stuck
+  freed_next types access o c v (finds cell) s =
+      moves (Followed o) (freeing types access v cell (frame.ClearsIn o c) s)
 
-  abbrev pub free_component_next : (access : ℕ) → V → (c : ℕ) → Option V → State V H → Next V H
-  free_component_next access o c None s = halts Stuck
-  free_component_next access o c (Some v) s = freed_next access o c v (ops.look s.heap v) s
+  abbrev pub free_component_next : List TypeDefinition → (access : ℕ) → V → (c : ℕ) → Option V → State V H → Next V H
+  free_component_next types access o c None s = halts Stuck
+  free_component_next types access o c (Some v) s = freed_next types access o c v (ops.look s.heap v) s
 
-  abbrev pub free_in_next : (access : ℕ) → V → (c : ℕ) → Found (Cell V) → State V H → Next V H
-  free_in_next access o c on_null s = moves Quiet (raised ConstraintError s)
-  free_in_next access o c on_gone s = halts (Erroneous FollowsGone)
-  free_in_next access o c on_other s = halts Stuck
-  free_in_next access o c (finds cell) s = free_component_next access o c (slice_get cell.values c) s
+  abbrev pub free_in_next : List TypeDefinition → (access : ℕ) → V → (c : ℕ) → Found (Cell V) → State V H → Next V H
+  free_in_next types access o c on_null s = moves Quiet (raised ConstraintError s)
+  free_in_next types access o c on_gone s = halts (Erroneous FollowsGone)
+  free_in_next types access o c on_other s = halts Stuck
+  free_in_next types access o c (finds cell) s = free_component_next types access o c (slice_get cell.values c) s
 
   -- Branches (5.3): the conditions are evaluated one after another, until one is true.
   abbrev pub branches_next : BranchesForm → State V H → Next V H
@@ -699,27 +783,27 @@ module _ {V H : Type 0} (ops : Ops V H) where
   call_next procedure actuals None s = halts Stuck
   call_next procedure actuals (Some b) s = moves Quiet (at (computing actuals (frame.Calls procedure b actuals ∷ s.control)) s)
 
-  abbrev pub stmt_next : List BodyForm → StmtForm → State V H → Next V H
-  stmt_next bodies skips s = moves Quiet s
-  stmt_next bodies (assigns target right) s = assign_next target.selectors target.root right s
-  stmt_next bodies (assigns_record target items) s = record_holder_next target (λ first. frame.TargetsRecord first target.record_type items) s
-  stmt_next bodies (frees access path) s = frees_next path.selectors access path.root s
-  stmt_next bodies (gets target) s = gets_next target.selectors target.root s.input s
-  stmt_next bodies (writes e) s = moves Quiet (at (frame.Computes e ∷ frame.Writes ∷ s.control) s)
-  stmt_next bodies (writes_text text) s = moves (Line (Literal (record { 0 = text }))) s
-  stmt_next bodies (chooses branches) s = branches_next branches s
-  stmt_next bodies (repeats condition fs end_spot) s = moves Quiet (at (frame.Repeats condition fs ∷ s.control) s)
-  stmt_next bodies (counts x low high fs end_spot) s =
+  abbrev pub stmt_next : List TypeDefinition → List BodyForm → StmtForm → State V H → Next V H
+  stmt_next types bodies skips s = moves Quiet s
+  stmt_next types bodies (assigns target right) s = assign_next target.selectors target.root right s
+  stmt_next types bodies (assigns_record target items) s = record_holder_next target (λ first. frame.TargetsRecord first target.record_type items) s
+  stmt_next types bodies (frees access path) s = frees_next types path.selectors access path.root s
+  stmt_next types bodies (gets target) s = gets_next target.selectors target.root s.input s
+  stmt_next types bodies (writes e) s = moves Quiet (at (frame.Computes e ∷ frame.Writes ∷ s.control) s)
+  stmt_next types bodies (writes_text text) s = moves (Line (Literal (record { 0 = text }))) s
+  stmt_next types bodies (chooses branches) s = branches_next branches s
+  stmt_next types bodies (repeats condition fs end_spot) s = moves Quiet (at (frame.Repeats condition fs ∷ s.control) s)
+  stmt_next types bodies (counts x low high fs end_spot) s =
       moves Quiet (at (frame.Computes low ∷ frame.Computes high ∷ frame.Ranges x fs ∷ s.control) s)
-  stmt_next bodies (exits condition spot) s = exit_next condition s
-  stmt_next bodies (calls procedure actuals) s = call_next procedure actuals (slice_get bodies procedure) s
-  stmt_next bodies (returns spot) s = moves Quiet (jumping Returning s)
-  stmt_next bodies (raises e) s = moves Quiet (raised e s)
-  stmt_next bodies (encloses ds fs hs) s = moves Quiet (entered (at (frame.Elaborates ds fs hs ∷ s.control) s))
+  stmt_next types bodies (exits condition spot) s = exit_next condition s
+  stmt_next types bodies (calls procedure actuals) s = call_next procedure actuals (slice_get bodies procedure) s
+  stmt_next types bodies (returns spot) s = moves Quiet (jumping Returning s)
+  stmt_next types bodies (raises e) s = moves Quiet (raised e s)
+  stmt_next types bodies (encloses ds fs hs) s = moves Quiet (entered (at (frame.Elaborates ds fs hs ∷ s.control) s))
 
-  abbrev pub stmts_next : List BodyForm → StmtsForm → State V H → Next V H
-  stmts_next bodies no_stmts s = moves Quiet s
-  stmts_next bodies (a_stmt f fs) s = stmt_next bodies f (at (frame.Does fs ∷ s.control) s)
+  abbrev pub stmts_next : List TypeDefinition → List BodyForm → StmtsForm → State V H → Next V H
+  stmts_next types bodies no_stmts s = moves Quiet s
+  stmts_next types bodies (a_stmt f fs) s = stmt_next types bodies f (at (frame.Does fs ∷ s.control) s)
 
   -- The line of an Integer (3.5, A.10.7).
   abbrev pub line_next : Option ℤ → State V H → Next V H
@@ -727,19 +811,21 @@ module _ {V H : Type 0} (ops : Ops V H) where
   line_next (Some i) s = moves (Line (Image i)) s
 
   -- A record object (3.3.1): its home is its own item, and its components hold these values.
-  abbrev pub record_cell : (object_type item : ℕ) → List V → Cell V
-  record_cell t item values = record {
+  abbrev pub record_cell : List TypeDefinition → (object_type item : ℕ) → List V → Cell V
+  record_cell types t item values = record {
     access = t;
     number = 0;
     home = record { item = item; pool = None; subpool = None };
     values = values;
+    parts = new_parts (parts_held types t);
   }
 
-  -- The variable holds the name of the object, which is there from now on, and which the innermost master owns.
+  -- The variable holds the name of the object, which is there from now on, and which the innermost master owns. Its controlled parts are initialized next.
   abbrev pub made : List TypeDefinition → (x object_type : ℕ) → List V → State V H → State V H
   made types x t values s =
-      owned (record_object t) (put x (ops.created s.heap (words_of types t))
-      (record s { heap = ops.create s.heap (words_of types t) (record_cell t (height s.masters) values) }))
+      treated_on (ops.created s.heap (words_of types t)) (begins Creation) (all_tasks types t PartsFirst)
+      (owned (record_object t) (put x (ops.created s.heap (words_of types t))
+      (record s { heap = ops.create s.heap (words_of types t) (record_cell types t (height s.masters) values) })))
 
   -- Where no initial value is written, its components hold what their declarations say; else the items of its initial value come first.
   abbrev pub record_next : List TypeDefinition → (x object_type : ℕ) → (initial : Option (List ItemForm)) → State V H → Next V H
@@ -765,34 +851,39 @@ module _ {V H : Type 0} (ops : Ops V H) where
   -- The leaving of a master (7.6.1), newest item first: the objects of a collection go in an arbitrary order, and the collection after them, and
   -- so does a record object; a pool goes, and that is told (13.11); when no item is left, the master is left. The object that is taken leaves its
   -- collection at once.
-  abbrev pub taken : Cause → (pool : Option ℕ) → List V → State V H → ℕ → State V H
-  taken cause pool vs s i = record s {
-    heap = ops.part s.heap (slice_index_or vs i ops.null);
-    control = frame.Ends (slice_index_or vs i ops.null) ∷ frame.GivesBack (slice_index_or vs i ops.null) cause pool ∷ s.control;
+  abbrev pub taken_out : List TypeDefinition → Cause → (pool : Option ℕ) → V → Found (Cell V) → State V H → State V H
+  taken_out types cause pool v (finds cell) s = record s {
+    heap = ops.part s.heap v;
+    control = finalizing types v cell cause (frame.Ends v ∷ frame.GivesBack v cause pool ∷ s.control);
   }
+  taken_out types cause pool v found s = record s { heap = ops.part s.heap v; control = frame.Ends v ∷ frame.GivesBack v cause pool ∷ s.control }
 
-  abbrev pub members_next : Cause → (pool : Option ℕ) → List V → State V H → Next V H
-  members_next cause pool [] s = moves Quiet (record s { masters = shorter s.masters })
-  members_next cause pool (v ∷ vs) s = picks (length (v ∷ vs)) (taken cause pool (v ∷ vs) s)
+  abbrev pub taken : List TypeDefinition → Cause → (pool : Option ℕ) → List V → State V H → ℕ → State V H
+  taken types cause pool vs s i =
+      taken_out types cause pool (slice_index_or vs i ops.null) (ops.look s.heap (slice_index_or vs i ops.null)) s
 
-  abbrev pub item_leave_next : ℕ → Item → Owned → State V H → Next V H
-  item_leave_next m item (declared x) s = moves Quiet (record s { masters = shorter s.masters })
-  item_leave_next m item (collection access pool) s = members_next (Leaving m item.number) pool (ops.members s.heap item.number) s
-  item_leave_next m item (record_object t) s = members_next (Leaving m item.number) None (ops.members s.heap item.number) s
-  item_leave_next m item (storage_pool declaration number) s = tells (Gone number) Quiet (record s { masters = shorter s.masters })
+  abbrev pub members_next : List TypeDefinition → Cause → (pool : Option ℕ) → List V → State V H → Next V H
+  members_next types cause pool [] s = moves Quiet (record s { masters = shorter s.masters })
+  members_next types cause pool (v ∷ vs) s = picks (length (v ∷ vs)) (taken types cause pool (v ∷ vs) s)
 
-  abbrev pub master_leave_next : Mode → ℕ → List Item → State V H → Next V H
-  master_leave_next mode m [] s = moves (Left m) (record s { masters = older s.masters; mode = mode })
-  master_leave_next mode m (item ∷ items) s = item_leave_next m item item.owned (at (frame.Leaves mode ∷ s.control) s)
+  abbrev pub item_leave_next : List TypeDefinition → ℕ → Item → Owned → State V H → Next V H
+  item_leave_next types m item (declared x) s = moves Quiet (record s { masters = shorter s.masters })
+  item_leave_next types m item (collection access pool) s = members_next types (Leaving m item.number) pool (ops.members s.heap item.number) s
+  item_leave_next types m item (record_object t) s = members_next types (Leaving m item.number) None (ops.members s.heap item.number) s
+  item_leave_next types m item (storage_pool declaration number) s = tells (Gone number) Quiet (record s { masters = shorter s.masters })
 
-  abbrev pub leave_next : Mode → List Master → State V H → Next V H
-  leave_next mode [] s = halts Stuck
-  leave_next mode (m ∷ ms) s = master_leave_next mode m.number m.items s
+  abbrev pub master_leave_next : List TypeDefinition → Mode → ℕ → List Item → State V H → Next V H
+  master_leave_next types mode m [] s = moves (Left m) (record s { masters = older s.masters; mode = mode })
+  master_leave_next types mode m (item ∷ items) s = item_leave_next types m item item.owned (at (frame.Leaves mode ∷ s.control) s)
+
+  abbrev pub leave_next : List TypeDefinition → Mode → List Master → State V H → Next V H
+  leave_next types mode [] s = halts Stuck
+  leave_next types mode (m ∷ ms) s = master_leave_next types mode m.number m.items s
 
   -- What a frame does that has been taken off, where no exception is on its way.
   abbrev pub frame_next : List TypeDefinition → List BodyForm → Frame V → State V H → Next V H
   frame_next types bodies (frame.Elaborates ds fs hs) s = declarations_next types ds fs hs s
-  frame_next types bodies (frame.Does fs) s = stmts_next bodies fs s
+  frame_next types bodies (frame.Does fs) s = stmts_next types bodies fs s
   frame_next types bodies (frame.Decides fs branches) s = decided_next fs branches (ops.reads_boolean (newest s)) (popped s)
   frame_next types bodies (frame.Repeats condition fs) s = repeats_next condition fs s
   frame_next types bodies (frame.Turns condition fs) s = turned_next condition fs (ops.reads_boolean (newest s)) (popped s)
@@ -802,7 +893,7 @@ module _ {V H : Type 0} (ops : Ops V H) where
   frame_next types bodies frame.Exits s = exited_next (ops.reads_boolean (newest s)) (popped s)
   frame_next types bodies (frame.Handles hs) s = moves Quiet s
   frame_next types bodies frame.Closes s = moves Quiet (at (frame.Leaves Running ∷ s.control) s)
-  frame_next types bodies (frame.Leaves mode) s = leave_next mode s.masters s
+  frame_next types bodies (frame.Leaves mode) s = leave_next types mode s.masters s
   frame_next types bodies (frame.Calls procedure b actuals) s = moves Quiet (begun procedure b actuals (newest_ones (operand_count actuals) s) s)
   frame_next types bodies (frame.Returns actuals references) s = moves Quiet (returned actuals references s)
   frame_next types bodies (frame.Evaluates right) s = right_next types right s
@@ -818,7 +909,7 @@ module _ {V H : Type 0} (ops : Ops V H) where
   frame_next types bodies (frame.AppliesAlone operator) s = outcome_next (ops.unary operator (newest s)) (popped s)
   frame_next types bodies (frame.Fills items) s = items_next items s
   frame_next types bodies (frame.Copies first t) s = copies_next (newest s) first (width_of types t) (ops.look s.heap (newest s)) (popped s)
-  frame_next types bodies (frame.Creates access count) s = new_next access count (words_of types access) (home_of access s.masters) s
+  frame_next types bodies (frame.Creates access count) s = new_next types access count (words_of types access) (home_of access s.masters) s
   frame_next types bodies (frame.Stores x) s = moves Quiet (put x (newest s) (popped s))
   frame_next types bodies (frame.Targets c right) s = target_next (newest s) c right (ops.look s.heap (newest s)) (popped s)
   frame_next types bodies (frame.StoresIn o c) s = store_next o c (newest s) (ops.look s.heap o) (popped s)
@@ -826,10 +917,11 @@ module _ {V H : Type 0} (ops : Ops V H) where
       record_target_next (newest s) first (width_of types t) items (ops.look s.heap (newest s)) (popped s)
   frame_next types bodies (frame.StoresRecord o first count) s = store_record_next o first count (ops.look s.heap o) s
   frame_next types bodies (frame.Receives c) s = receive_next (newest s) c (ops.look s.heap (newest s)) (popped s)
-  frame_next types bodies (frame.FreesIn access c) s = free_in_next access (newest s) c (ops.look s.heap (newest s)) (popped s)
+  frame_next types bodies (frame.FreesIn access c) s = free_in_next types access (newest s) c (ops.look s.heap (newest s)) (popped s)
   frame_next types bodies (frame.Declares x) s = moves Quiet (owned (declared x) (put x (newest s) (popped s)))
   frame_next types bodies (frame.DeclaresRecord x t) s =
       moves Quiet (made types x t (newest_ones (words_of types t) s) (without_newest (words_of types t) s))
+  frame_next types bodies (frame.Treats v treatment tasks) s = treats_next (shapes_of types) v treatment tasks (task_next tasks) s
   frame_next types bodies frame.Writes s = line_next (ops.reads_integer (newest s)) (popped s)
   frame_next types bodies (frame.Ends v) s = end_next v (ops.look s.heap v) s
   frame_next types bodies (frame.GivesBack v cause pool) s = back_next v cause pool (ops.lent s.heap v) s

@@ -3,14 +3,15 @@
 use Rattle.std.proofs.Common.{◌≡◌, ℕ, ◌+◌, Bool, List, [], ◌∷◌, refl}
 use Rattle.std.specs.Prelude.{Option, Some, None}
 use Rattle.ada_program.specs.declared.program.TypeDefinition.{TypeDefinition}
+use Rattle.ada_parts.specs.Task.{Task}
 use Rattle.ada_meaning.specs.declared.state.Value.{Value}
 use Rattle.ada_meaning.specs.declared.state.Mode.{Mode}
 use Rattle.ada_meaning.specs.declared.state.Mode.TheVariants.{Running}
 use Rattle.ada_meaning.specs.declared.event.Cause.TheVariants.{Leaving}
-use Rattle.ada_meaning.specs.Frame.{Frame, Leaves, Ends, GivesBack}
+use Rattle.ada_meaning.specs.Frame.{Treatment, ends, Frame, Leaves, Treats, Ends, GivesBack}
 use Rattle.ada_meaning.specs.Event.{Born, Finalized, Back, Followed, Left, Line, Quiet, Request}
 use Rattle.ada_meaning.specs.State.{Owned, Master, height}
-use Rattle.ada_meaning.specs.Step.{halts, moves, tells, asks, picks, owning, shorter}
+use Rattle.ada_meaning.specs.Step.{treating, halts, moves, tells, asks, picks, owning, shorter}
 use Rattle.ada_meaning.specs.Named.{State, Next}
 use Rattle.ada_meaning.specs.Run.{Event, Choice, settled, grants, takes, Leads}
 use Rattle.ada_meaning.specs.Law.{AtItem, leaving_of, left_by, master_in}
@@ -20,31 +21,64 @@ use Rattle.ada_order.proofs.Pools.{IsDue, NoPoolTold, IsBegun, NewestIsGone}
 abbrev pub Control : Type 0
 Control = List (Frame Value)
 
--- Nothing is given back at a leaving by this frame.
+-- Nothing is finalized at a leaving by this treatment.
+abbrev pub NoLeaving : Treatment → Type 0
+NoLeaving (ends (Leaving m i)) = ⊥
+NoLeaving treatment = Unit {0}
+
+-- Nothing is finalized or given back at a leaving by this frame.
 abbrev pub IsPlain : Frame Value → Type 0
 IsPlain (GivesBack v (Leaving m i) pool) = ⊥
+IsPlain (Treats v treatment tasks) = NoLeaving treatment
 IsPlain f = Unit {0}
 
 abbrev pub Plain : Control → Type 0
 Plain [] = Unit {0}
 Plain (f ∷ k) = IsPlain f × Plain k
 
--- What is left to do: nothing is given back at a leaving; or an object of the newest item is ended and given back, and then the leaving of the
--- innermost master goes on.
+-- What is left to do: nothing is given back at a leaving; or an object of the newest item is finalized, ended and given back, and then the leaving
+-- of the innermost master goes on.
 pub data Stands (ms : List Master) : Mode → Control → Type 0 where
   plainly : {mode : Mode} {k : Control} → Plain k → Stands ms mode k
+  treated :
+      (v : Value) (m i : ℕ) (tasks : List Task) (pool : Option ℕ) (mode : Mode) (k : Control) → Newest m i ms → Plain k
+      → Stands ms Running (Treats v (ends (Leaving m i)) tasks ∷ Ends v ∷ GivesBack v (Leaving m i) pool ∷ Leaves mode ∷ k)
   ending : (v : Value) (m i : ℕ) (pool : Option ℕ) (mode : Mode) (k : Control) → Newest m i ms → Plain k → Stands ms Running (Ends v ∷ GivesBack v (Leaving m i) pool ∷ Leaves mode ∷ k)
   backing : (v : Value) (m i : ℕ) (pool : Option ℕ) (mode : Mode) (k : Control) → Newest m i ms → Plain k → Stands ms Running (GivesBack v (Leaving m i) pool ∷ Leaves mode ∷ k)
 
 -- The innermost master is being left.
 abbrev pub LeavesFirst : Control → Type 0
 LeavesFirst (Leaves mode ∷ k) = Unit {0}
+LeavesFirst (Treats v (ends (Leaving m i)) tasks ∷ k) = Unit {0}
 LeavesFirst (Ends v ∷ GivesBack w (Leaving m i) pool ∷ k) = Unit {0}
 LeavesFirst (GivesBack v (Leaving m i) pool ∷ k) = Unit {0}
 LeavesFirst k = ⊥
 
 abbrev pub IsLeaving : Mode → Control → Type 0
 IsLeaving mode k = (mode ≡ Running) × LeavesFirst k
+
+-- What a treatment puts in front, where it has anything to do.
+pub treating_plain :
+    (v : Value) (treatment : Treatment) (tasks : List Task) (k : Control) → NoLeaving treatment → Plain k
+    → Plain (treating v treatment tasks k)
+treating_plain v treatment [] k is p = p
+treating_plain v treatment (task ∷ tasks) k is p = (is, p)
+
+-- What is behind the finalization of an object at a leaving.
+abbrev pub to_end : Value → (m i : ℕ) → (pool : Option ℕ) → Mode → Control → Control
+to_end v m i pool mode k = Ends v ∷ GivesBack v (Leaving m i) pool ∷ Leaves mode ∷ k
+
+pub treating_stands :
+    {ms : List Master} (v : Value) (m i : ℕ) (tasks : List Task) (pool : Option ℕ) (mode : Mode) (k : Control) → Newest m i ms → Plain k
+    → Stands ms Running (treating v (ends (Leaving m i)) tasks (to_end v m i pool mode k))
+treating_stands v m i [] pool mode k newest p = ending v m i pool mode k newest p
+treating_stands v m i (task ∷ tasks) pool mode k newest p = treated v m i (task ∷ tasks) pool mode k newest p
+
+pub treating_leaves :
+    (v : Value) (m i : ℕ) (tasks : List Task) (pool : Option ℕ) (mode : Mode) (k : Control)
+    → IsLeaving Running (treating v (ends (Leaving m i)) tasks (to_end v m i pool mode k))
+treating_leaves v m i [] pool mode k = (refl, tt)
+treating_leaves v m i (task ∷ tasks) pool mode k = (refl, tt)
 
 -- A step that leaves no master, and what it tells: all masters stay, perhaps with a number used up; or the innermost one owns one item more, which is due; or one is entered.
 pub data Work (types : List TypeDefinition) (ms : List Master) (n : ℕ) (told : Option (Request Value)) (e : Event) (after : State) : Type 0 where
@@ -53,12 +87,16 @@ pub data Work (types : List TypeDefinition) (ms : List Master) (n : ℕ) (told :
   owns : (what : Owned) → IsDue types ms what → IsBegun what told → left_by e ≡ None → Plain after.control → after.masters ≡ owning (record { number = height ms; owned = what }) ms → after.next ≡ n → Work types ms n told e after
   enters : NoPoolTold told → left_by e ≡ None → Plain after.control → after.masters ≡ record { number = n; items = [] } ∷ ms → after.next ≡ n + 1 → Work types ms n told e after
 
--- A step at the leaving of the innermost master: its items stay, or it loses the newest one, or an object of that one is given back; or the
+-- A step at the leaving of the innermost master: its items stay, or it loses the newest one, or a part of an object of that one is finalized, or its
+-- words go back; or the
 -- master, which has no item, has been left.
 pub data Leave (ms : List Master) (n : ℕ) (told : Option (Request Value)) (e : Event) (after : State) : Type 0 where
   waits : NoPoolTold told → left_by e ≡ None → IsLeaving after.mode after.control → Stands after.masters after.mode after.control → after.masters ≡ ms → after.next ≡ n → Leave ms n told e after
   shortens : NewestIsGone ms told → left_by e ≡ None → IsLeaving after.mode after.control → Plain after.control → after.masters ≡ shorter ms → after.next ≡ n → Leave ms n told e after
-  gives : (m i : ℕ) → NoPoolTold told → leaving_of e ≡ Some (record { master = m; item = i }) → left_by e ≡ Some m → Newest m i ms → IsLeaving after.mode after.control → Plain after.control → after.masters ≡ ms → after.next ≡ n → Leave ms n told e after
+  gives :
+      (m i : ℕ) → NoPoolTold told → leaving_of e ≡ Some (record { master = m; item = i }) → left_by e ≡ Some m → Newest m i ms
+      → IsLeaving after.mode after.control → Stands after.masters after.mode after.control → after.masters ≡ ms → after.next ≡ n
+      → Leave ms n told e after
   left : (m : ℕ) (rest : List Master) → NoPoolTold told → e ≡ Left m → ms ≡ record { number = m; items = [] } ∷ rest → Plain after.control → after.masters ≡ rest → after.next ≡ n → Leave ms n told e after
 
 -- Either, by whether a master is being left before.

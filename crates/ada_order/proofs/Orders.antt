@@ -41,7 +41,7 @@ work_keeps s e after k (enters none is p ms n) = record { stands = plainly p; co
 leave_keeps : {types : List TypeDefinition} {told : Option (Request Value)} (s : State) (e : Event) (after : State) → Kept types s → Leave s.masters s.next told e after → Kept types after
 leave_keeps s e after k (waits none is on stands ms n) = record { stands = stands; counted = rw ms k.counted; entered = rw (ms, n) k.entered; pools = rw ms k.pools }
 leave_keeps {types} s e after k (shortens gone is on p ms n) = record { stands = plainly p; counted = rw ms (counted_shorter s.masters k.counted); entered = rw (ms, n) (entered_shorter s.next s.masters k.entered); pools = rw ms (fit_shorter types s.masters k.pools) }
-leave_keeps s e after k (gives m i none at_item is newest on p ms n) = record { stands = plainly p; counted = rw ms k.counted; entered = rw (ms, n) k.entered; pools = rw ms k.pools }
+leave_keeps s e after k (gives m i none at_item is newest on p ms n) = record { stands = p; counted = rw ms k.counted; entered = rw (ms, n) k.entered; pools = rw ms k.pools }
 leave_keeps {types} s e after k (left m rest none is was p ms n) =
     let fit : PoolsFit types (items_of (record { number = m; items = [] } ∷ rest)) = rw was at k.pools in
     let c : Counted (items_of (record { number = m; items = [] } ∷ rest)) = rw was at k.counted in

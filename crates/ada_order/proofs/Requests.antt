@@ -1,12 +1,17 @@
 -- Each step, from any state: what it asks of the pools, and tells them, and for which objects words are out.
 
-use Rattle.std.proofs.Common.{◌≡◌, ◌≢◌, ℕ, zero, suc, ◌+◌, ℤ, int_le, Bool, true, false, if◌then◌else◌, List, [], ◌∷◌, ◌++◌, drop, Option, Some, None, Result, Ok, Err, refl, sym, ap, ◌∙◌, subst}
+use Rattle.std.proofs.Common.{◌≡◌, ◌≢◌, ℕ, zero, suc, ◌+◌, ℤ, int_le, Bool, true, false, ◌==◌, if◌then◌else◌, List, [], ◌∷◌, ◌++◌, drop, Option, Some, None, Result, Ok, Err, refl, sym, ap, ◌∙◌, subst}
 use Rattle.std.specs.List.{slice_get, slice_set, slice_index_or}
 use Rattle.ada_program.specs.declared.program.Program.{Program}
 use Rattle.ada_program.specs.declared.program.TypeDefinition.{TypeDefinition}
 use Rattle.ada_program.specs.Form.{RecordPathForm, ActualForm, ExpressionForm, integer, boolean, reads, is_null, applied_to, chained, LinksForm, no_more_links, a_link, ItemForm, null_item, item_of_path, item_of_value, item_of_record, RightForm, nothing, value_of, allocates, allocates_default, computes, StmtForm, skips, assigns, assigns_record, frees, gets, writes, writes_text, chooses, repeats, counts, exits, calls, raises, encloses, StmtsForm, no_stmts, a_stmt, BranchesForm, otherwise, a_branch, HandlersForm, DeclarationForm, creates_pool, collects, declares, declares_record}
 use Rattle.ada_program.specs.Form as form
 use Rattle.ada_program.specs.ProgramForm.{BodyForm, body_forms}
+use Rattle.ada_program.specs.Controlled.{shapes_of}
+use Rattle.ada_parts.specs.declared.tasks.Next.{Next as Follows}
+use Rattle.ada_parts.specs.declared.tasks.Next.TheVariants.{Done, Pick, Perform}
+use Rattle.ada_parts.specs.Shape.{Shape}
+use Rattle.ada_parts.specs.Task.{Task, performed, next as task_next, taken as taken_task}
 use Rattle.ada_program.specs.Typed.{reached_of, words_of, width_of}
 use Rattle.ada_values.specs.declared.operator.BinaryOperator.{BinaryOperator}
 use Rattle.ada_values.specs.declared.fault.OperatorFault.{OperatorFault}
@@ -16,17 +21,18 @@ use Rattle.ada_meaning.specs.declared.state.Value.{Value}
 use Rattle.ada_meaning.specs.declared.state.Value.TheVariants.{Null, Names, Scalar, Part}
 use Rattle.ada_meaning.specs.declared.state.Mode.{Mode}
 use Rattle.ada_meaning.specs.declared.state.Mode.TheVariants.{Running, Raising, Exiting, Returning}
+use Rattle.ada_meaning.specs.declared.event.Birth.{Birth}
 use Rattle.ada_meaning.specs.declared.event.Cause.{Cause}
 use Rattle.ada_meaning.specs.declared.event.Cause.TheVariants.{Leaving}
-use Rattle.ada_meaning.specs.declared.event.Halt.TheVariants.{Erroneous}
-use Rattle.ada_meaning.specs.declared.event.Why.TheVariants.{GivesElsewhere}
-use Rattle.ada_meaning.specs.Event.{Back, Quiet}
-use Rattle.ada_meaning.specs.Frame.{Frame, is_master, Landing, passes_on, goes_behind, goes_in, landing}
+use Rattle.ada_meaning.specs.declared.event.Halt.TheVariants.{Erroneous, Stuck}
+use Rattle.ada_meaning.specs.declared.event.Why.TheVariants.{GivesElsewhere, FinalizesTwice}
+use Rattle.ada_meaning.specs.Event.{Back, Finalized, Quiet}
+use Rattle.ada_meaning.specs.Frame.{Treatment, Frame, is_master, Landing, passes_on, goes_behind, goes_in, landing}
 use Rattle.ada_meaning.specs.Frame as frame
-use Rattle.ada_meaning.specs.State.{Activation, Owned, declared, collection, record_object, storage_pool, Item, Master, Destination, height, home_of}
-use Rattle.ada_meaning.specs.Heap.{Cell, Found, on_null, on_gone, on_other, finds}
-use Rattle.ada_meaning.specs.Step.{first_or, operands_of, with_operands, operands, same_pool, told_back, record_cell, record_in, stored_from, newest_ones, without_newest, initial_values, copied_next, copies_next, record_target_next, record_stored_next, store_record_next, record_next, halts, moves, at, popped, held, newest, component_next, follow_next, path_next, selected, named_next, holder_next, first_in, record_holder_next, referred_next, refers_next, open_next, opened_next, opens_next, expression_next, null_test_next, is_decided, link_next, links_next, outcome_next, item_next, items_next, new_next, new_cell, right_next, free_next, end_next, given_back, back_next, before_last, last_of, assign_next, target_next, stored_next, store_next, received_next, receive_next, frees_next, freed_next, free_component_next, free_in_next, branches_next, decided_next, turn_next, repeats_next, turned_next, count_turn_next, counts_next, ranges_next, gets_next, exit_next, exited_next, call_next, stmt_next, stmts_next, line_next, declaration_next, declarations_next, members_next, item_leave_next, master_leave_next, leave_next, frame_next, landed, pass_next, running_next, jump_next, mode_next}
-use Rattle.ada_meaning.specs.Named.{Object, State, Next, next, named, whole, inside, look, lent, lent_by, reads_boolean, reads_null, reads_integer, unary_given, binary_given, members, object_at, changed, on_object, new_object, parted, finished, returned, filled, store, an_integer}
+use Rattle.ada_meaning.specs.State.{Activation, Owned, declared, collection, record_object, storage_pool, Item, Master, Destination, height, home_of, counted}
+use Rattle.ada_meaning.specs.Heap.{PartState, Cell, Found, on_null, on_gone, on_other, finds}
+use Rattle.ada_meaning.specs.Step.{direction_of, treated_on, born_next, finalized_next, performed_next, treats_next, taken_out, picks, first_or, operands_of, with_operands, operands, same_pool, told_back, record_cell, record_in, stored_from, newest_ones, without_newest, initial_values, copied_next, copies_next, record_target_next, record_stored_next, store_record_next, record_next, halts, moves, at, popped, held, newest, component_next, follow_next, path_next, selected, named_next, holder_next, first_in, record_holder_next, referred_next, refers_next, open_next, opened_next, opens_next, expression_next, null_test_next, is_decided, link_next, links_next, outcome_next, item_next, items_next, new_next, new_cell, right_next, free_next, end_next, given_back, back_next, before_last, last_of, assign_next, target_next, stored_next, store_next, received_next, receive_next, frees_next, freed_next, free_component_next, free_in_next, branches_next, decided_next, turn_next, repeats_next, turned_next, count_turn_next, counts_next, ranges_next, gets_next, exit_next, exited_next, call_next, stmt_next, stmts_next, line_next, declaration_next, declarations_next, members_next, item_leave_next, master_leave_next, leave_next, frame_next, landed, pass_next, running_next, jump_next, mode_next}
+use Rattle.ada_meaning.specs.Named.{born_part, finalized_part, treated, finalize, Object, State, Next, next, named, whole, inside, look, lent, lent_by, reads_boolean, reads_null, reads_integer, unary_given, binary_given, members, object_at, changed, on_object, new_object, parted, finished, returned, filled, store, an_integer}
 use Rattle.ada_meaning.proofs.Jumps.{unwound_to, unwound_by}
 use Rattle.ada_order.specs.Requests.{next_name, lent_from, SameAreLent, GoesBack, RequestsFit}
 
@@ -59,6 +65,9 @@ finished_same xs v = on_object_same finished xs v (λ x. refl)
 
 filled_same : (xs : Heap) (o : Value) (c : ℕ) (v : Value) → SameAreLent xs (store xs o c v)
 filled_same xs o c v = on_object_same (filled c v) xs o (λ x. refl)
+
+part_same : (change : PartState → PartState) (part : ℕ) (xs : Heap) (v : Value) → SameAreLent xs (on_object (treated change part) xs v)
+part_same change part xs v = on_object_same (treated change part) xs v (λ x. refl)
 
 stored_same : (xs : Heap) (o : Value) (c : ℕ) (vs : List Value) → SameAreLent xs (stored_from named xs o c vs)
 stored_same xs o c [] = λ p. refl
@@ -184,9 +193,11 @@ module _ (types : List TypeDefinition) where
   copies_fit o first count (finds cell) s = copied_fits o (record_in cell.values first count) s
 
   -- An allocator asks for its object.
-  asks_for : (access count : ℕ) (home : Destination) (s : State) → home_of access s.masters ≡ Some home → Fits s (new_next named access count (words_of types access) (Some home) s)
+  asks_for :
+      (access count : ℕ) (home : Destination) (s : State) → home_of access s.masters ≡ Some home
+      → Fits s (new_next named types access count (words_of types access) (Some home) s)
   asks_for access count home s is = record {
-    cell = new_cell named access count home s;
+    cell = new_cell named types access count home s;
     home = home;
     is_open = is;
     housed = refl;
@@ -197,7 +208,9 @@ module _ (types : List TypeDefinition) where
     raised = refl;
   }
 
-  new_fits : (access count : ℕ) (home : Option Destination) (s : State) → home_of access s.masters ≡ home → Fits s (new_next named access count (words_of types access) home s)
+  new_fits :
+      (access count : ℕ) (home : Option Destination) (s : State) → home_of access s.masters ≡ home
+      → Fits s (new_next named types access count (words_of types access) home s)
   new_fits access count None s is = (tt, λ o. refl)
   new_fits access count (Some home) s is = asks_for access count home s is
 
@@ -209,7 +222,7 @@ module _ (types : List TypeDefinition) where
   right_fits (computes e) s = (tt, λ o. refl)
 
   -- Free, and what it leads to.
-  free_fits : (access x : ℕ) (v : Value) (found : Found (Cell Value)) (s : State) → Fits s (free_next named access x v found s)
+  free_fits : (access x : ℕ) (v : Value) (found : Found (Cell Value)) (s : State) → Fits s (free_next named types access x v found s)
   free_fits access x v on_null s = (tt, λ o. refl)
   free_fits access x v on_gone s = tt
   free_fits access x v on_other s = tt
@@ -282,21 +295,21 @@ module _ (types : List TypeDefinition) where
   store_record_fits o first count on_other s = tt
   store_record_fits o first count (finds cell) s = record_stored_fits o first (newest_ones named count s) (record_in cell.values first count) (without_newest named count s)
 
-  frees_fit : (cs : List ℕ) (access x : ℕ) (s : State) → Fits s (frees_next named cs access x s)
+  frees_fit : (cs : List ℕ) (access x : ℕ) (s : State) → Fits s (frees_next named types cs access x s)
   frees_fit [] access x s = free_fits access x (held named s x) (look s.heap (held named s x)) s
   frees_fit (c ∷ cs) access x s = holder_fits c cs x (λ last. frame.FreesIn access last) s
 
-  freed_fits : (access : ℕ) (o : Value) (c : ℕ) (v : Value) (found : Found (Cell Value)) (s : State) → Fits s (freed_next named access o c v found s)
+  freed_fits : (access : ℕ) (o : Value) (c : ℕ) (v : Value) (found : Found (Cell Value)) (s : State) → Fits s (freed_next named types access o c v found s)
   freed_fits access o c v on_null s = (tt, λ o. refl)
   freed_fits access o c v on_gone s = tt
   freed_fits access o c v on_other s = tt
   freed_fits access o c v (finds cell) s = (tt, parted_same s.heap v)
 
-  free_component_fits : (access : ℕ) (o : Value) (c : ℕ) (held : Option Value) (s : State) → Fits s (free_component_next named access o c held s)
+  free_component_fits : (access : ℕ) (o : Value) (c : ℕ) (held : Option Value) (s : State) → Fits s (free_component_next named types access o c held s)
   free_component_fits access o c None s = tt
   free_component_fits access o c (Some v) s = freed_fits access o c v (look s.heap v) s
 
-  free_in_fits : (access : ℕ) (o : Value) (c : ℕ) (found : Found (Cell Value)) (s : State) → Fits s (free_in_next named access o c found s)
+  free_in_fits : (access : ℕ) (o : Value) (c : ℕ) (found : Found (Cell Value)) (s : State) → Fits s (free_in_next named types access o c found s)
   free_in_fits access o c on_null s = (tt, λ o. refl)
   free_in_fits access o c on_gone s = tt
   free_in_fits access o c on_other s = tt
@@ -395,7 +408,7 @@ module _ (types : List TypeDefinition) where
   call_fits procedure actuals None s = tt
   call_fits procedure actuals (Some b) s = (tt, λ o. refl)
 
-  stmt_fits : (bodies : List BodyForm) (f : StmtForm) (s : State) → Fits s (stmt_next named bodies f s)
+  stmt_fits : (bodies : List BodyForm) (f : StmtForm) (s : State) → Fits s (stmt_next named types bodies f s)
   stmt_fits bodies skips s = (tt, λ o. refl)
   stmt_fits bodies (assigns target right) s = assign_fits target.selectors target.root right s
   stmt_fits bodies (assigns_record target items) s =
@@ -413,7 +426,7 @@ module _ (types : List TypeDefinition) where
   stmt_fits bodies (raises e) s = (tt, λ o. refl)
   stmt_fits bodies (encloses ds fs hs) s = (tt, λ o. refl)
 
-  stmts_fit : (bodies : List BodyForm) (fs : StmtsForm) (s : State) → Fits s (stmts_next named bodies fs s)
+  stmts_fit : (bodies : List BodyForm) (fs : StmtsForm) (s : State) → Fits s (stmts_next named types bodies fs s)
   stmts_fit bodies no_stmts s = (tt, λ o. refl)
   stmts_fit bodies (a_stmt f fs) s = stmt_fits bodies f (at (frame.Does fs ∷ s.control) s)
 
@@ -422,7 +435,7 @@ module _ (types : List TypeDefinition) where
   line_fits (Some i) s = (tt, λ o. refl)
 
   record_fits : (x t : ℕ) (initial : Option (List ItemForm)) (s : State) → Fits s (record_next named types x t initial s)
-  record_fits x t None s = (tt, added_same s.heap (record_cell named t (height s.masters) (initial_values named (reached_of types t))) refl)
+  record_fits x t None s = (tt, added_same s.heap (record_cell named types t (height s.masters) (initial_values named (reached_of types t))) refl)
   record_fits x t (Some items) s = (tt, λ o. refl)
 
   declaration_fits : (d : DeclarationForm) (s : State) → Fits s (declaration_next named types d s)
@@ -436,23 +449,73 @@ module _ (types : List TypeDefinition) where
   declarations_fit (d ∷ ds) fs hs s = declaration_fits d (at (frame.Elaborates ds fs hs ∷ s.control) s)
 
   -- The leaving of a master.
-  members_fit : (cause : Cause) (pool : Option ℕ) (vs : List Value) (s : State) → Fits s (members_next named cause pool vs s)
-  members_fit cause pool [] s = (tt, λ o. refl)
-  members_fit cause pool (v ∷ vs) s = λ i. parted_same s.heap (slice_index_or (v ∷ vs) i Null)
+  taken_fits :
+      (cause : Cause) (pool : Option ℕ) (v : Value) (found : Found (Cell Value)) (s : State)
+      → SameAreLent s.heap (taken_out named types cause pool v found s).heap
+  taken_fits cause pool v on_null s = parted_same s.heap v
+  taken_fits cause pool v on_gone s = parted_same s.heap v
+  taken_fits cause pool v on_other s = parted_same s.heap v
+  taken_fits cause pool v (finds cell) s = parted_same s.heap v
 
-  item_leave_fits : (m : ℕ) (item : Item) (owned : Owned) (s : State) → Fits s (item_leave_next named m item owned s)
+  members_fit : (cause : Cause) (pool : Option ℕ) (vs : List Value) (s : State) → Fits s (members_next named types cause pool vs s)
+  members_fit cause pool [] s = (tt, λ o. refl)
+  members_fit cause pool (v ∷ vs) s =
+      λ i. taken_fits cause pool (slice_index_or (v ∷ vs) i Null) (look s.heap (slice_index_or (v ∷ vs) i Null)) s
+
+  item_leave_fits : (m : ℕ) (item : Item) (owned : Owned) (s : State) → Fits s (item_leave_next named types m item owned s)
   item_leave_fits m item (declared x) s = (tt, λ o. refl)
   item_leave_fits m item (collection access pool) s = members_fit (Leaving m item.number) pool (members s.heap item.number) s
   item_leave_fits m item (record_object t) s = members_fit (Leaving m item.number) None (members s.heap item.number) s
   item_leave_fits m item (storage_pool declaration number) s = (refl, refl)
 
-  master_leave_fits : (mode : Mode) (m : ℕ) (items : List Item) (s : State) → Fits s (master_leave_next named mode m items s)
+  master_leave_fits : (mode : Mode) (m : ℕ) (items : List Item) (s : State) → Fits s (master_leave_next named types mode m items s)
   master_leave_fits mode m [] s = (tt, λ o. refl)
   master_leave_fits mode m (item ∷ items) s = item_leave_fits m item item.owned (at (frame.Leaves mode ∷ s.control) s)
 
-  leave_fits : (mode : Mode) (ms : List Master) (s : State) → Fits s (leave_next named mode ms s)
+  leave_fits : (mode : Mode) (ms : List Master) (s : State) → Fits s (leave_next named types mode ms s)
   leave_fits mode [] s = tt
   leave_fits mode (m ∷ ms) s = master_leave_fits mode m.number m.items s
+
+  -- The treatment of an object.
+  born_fits : (v : Value) (of part : ℕ) (by : Birth) (state : Option PartState) (s : State) → Fits s (born_next named v of part by state s)
+  born_fits v of part by None s = tt
+  born_fits v of part by (Some state) s = (tt, part_same (born_part (counted s.born)) part s.heap v)
+
+  finalized_fits : (v : Value) (of part : ℕ) (cause : Cause) (state : Option PartState) (s : State) → Fits s (finalized_next named v of part cause state s)
+  finalized_fits v of part cause None s = tt
+  finalized_fits v of part cause (Some state) s = by_life state.alive
+    where
+      by_life :
+          (alive : Bool)
+          → Fits s
+          (if alive then moves (Finalized v part state.turn of state.number cause) (record s { heap = finalize s.heap v part })
+          else halts (Erroneous FinalizesTwice))
+      by_life true = (tt, part_same finalized_part part s.heap v)
+      by_life false = tt
+
+  performed_fits :
+      (v : Value) (treatment : Treatment) (of part : ℕ) (found : Found (Cell Value)) (s : State)
+      → Fits s (performed_next named v treatment of part found s)
+  performed_fits v treatment of part on_null s = tt
+  performed_fits v treatment of part on_gone s = tt
+  performed_fits v treatment of part on_other s = tt
+  performed_fits v (frame.begins by) of part (finds cell) s = born_fits v of part by (slice_get cell.parts part) s
+  performed_fits v (frame.ends cause) of part (finds cell) s = finalized_fits v of part cause (slice_get cell.parts part) s
+
+  picked_fits :
+      (none : Bool) (count : ℕ) (taking : ℕ → State) (s : State) → ((i : ℕ) → SameAreLent s.heap (taking i).heap)
+      → Fits s (if none then halts Stuck else picks count taking)
+  picked_fits true count taking s each = tt
+  picked_fits false count taking s each = each
+
+  treats_fit :
+      (shapes : List Shape) (v : Value) (treatment : Treatment) (tasks : List Task) (follows : Follows) (s : State)
+      → Fits s (treats_next named shapes v treatment tasks follows s)
+  treats_fit shapes v treatment tasks Done s = (tt, λ o. refl)
+  treats_fit shapes v treatment tasks (Pick count) s =
+      picked_fits (count == 0) count (λ i. treated_on named v treatment (taken_task shapes (direction_of treatment) tasks i) s) s (λ i o. refl)
+  treats_fit shapes v treatment tasks (Perform of part) s =
+      performed_fits v treatment of part (look s.heap v) (treated_on named v treatment (performed tasks) s)
 
   -- Each frame that is taken off.
   frame_fits : (bodies : List BodyForm) (f : Frame Value) (s : State) → Fits s (frame_next named types bodies f s)
@@ -495,7 +558,8 @@ module _ (types : List TypeDefinition) where
   frame_fits bodies (frame.FreesIn access c) s = free_in_fits access (newest named s) c (look s.heap (newest named s)) (popped s)
   frame_fits bodies (frame.Declares x) s = (tt, λ o. refl)
   frame_fits bodies (frame.DeclaresRecord x t) s =
-      (tt, added_same s.heap (record_cell named t (height s.masters) (newest_ones named (words_of types t) s)) refl)
+      (tt, added_same s.heap (record_cell named types t (height s.masters) (newest_ones named (words_of types t) s)) refl)
+  frame_fits bodies (frame.Treats v treatment tasks) s = treats_fit (shapes_of types) v treatment tasks (task_next tasks) s
   frame_fits bodies frame.Writes s = line_fits (reads_integer (newest named s)) (popped s)
   frame_fits bodies (frame.Ends v) s = end_fits v (look s.heap v) s
   frame_fits bodies (frame.GivesBack v cause pool) s = back_fits v cause pool s

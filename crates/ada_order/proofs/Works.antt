@@ -1,12 +1,18 @@
 -- Each step that leaves no master.
 
-use Rattle.std.proofs.Common.{◌≡◌, ℕ, ◌+◌, ℤ, Bool, true, false, if◌then◌else◌, List, [], ◌∷◌, Option, Some, None, Result, Ok, Err, refl}
+use Rattle.std.proofs.Common.{◌≡◌, ℕ, ◌+◌, ℤ, Bool, true, false, ◌==◌, if◌then◌else◌, List, [], ◌∷◌, Option, Some, None, Result, Ok, Err, refl}
 use Rattle.std.specs.Prelude.{int_le}
 use Rattle.std.specs.List.{slice_get}
 use Rattle.ada_program.specs.declared.program.TypeDefinition.{TypeDefinition}
 use Rattle.ada_program.specs.Form.{RecordPathForm, ActualForm, in_value, in_null, in_access, in_record, in_out_path, in_out_access, in_out_component, in_out_record, ExpressionForm, integer, boolean, reads, is_null, applied_to, chained, LinksForm, no_more_links, a_link, ItemForm, null_item, item_of_path, item_of_value, item_of_record, RightForm, nothing, value_of, allocates, allocates_default, computes, StmtForm, skips, assigns, assigns_record, frees, gets, writes, writes_text, chooses, repeats, counts, exits, calls, raises, encloses, StmtsForm, no_stmts, a_stmt, BranchesForm, otherwise, a_branch, HandlersForm, DeclarationForm, creates_pool, collects, declares, declares_record}
 use Rattle.ada_program.specs.Form as form
 use Rattle.ada_program.specs.ProgramForm.{BodyForm}
+use Rattle.ada_program.specs.Controlled.{shapes_of}
+use Rattle.ada_parts.specs.declared.tasks.Direction.TheVariants.{PartsFirst, WholeFirst}
+use Rattle.ada_parts.specs.declared.tasks.Next.{Next as Follows}
+use Rattle.ada_parts.specs.declared.tasks.Next.TheVariants.{Done, Pick, Perform}
+use Rattle.ada_parts.specs.Shape.{Shape}
+use Rattle.ada_parts.specs.Task.{Task, performed, next as task_next, taken as taken_task}
 use Rattle.ada_program.specs.Typed.{words_of, width_of, pool_named}
 use Rattle.ada_values.specs.declared.operator.BinaryOperator.{BinaryOperator}
 use Rattle.ada_values.specs.declared.fault.OperatorFault.{OperatorFault}
@@ -15,21 +21,23 @@ use Rattle.ada_meaning.specs.declared.state.Value.{Value}
 use Rattle.ada_meaning.specs.declared.state.Value.TheVariants.{Null}
 use Rattle.ada_meaning.specs.declared.state.Mode.{Mode}
 use Rattle.ada_meaning.specs.declared.state.Mode.TheVariants.{Running, Raising, Exiting, Returning}
+use Rattle.ada_meaning.specs.declared.event.Birth.{Birth}
+use Rattle.ada_meaning.specs.declared.event.Birth.TheVariants.{Creation}
 use Rattle.ada_meaning.specs.declared.event.Cause.{Cause}
 use Rattle.ada_meaning.specs.declared.event.Cause.TheVariants.{Leaving, Freeing, Assigning, Undoing}
-use Rattle.ada_meaning.specs.declared.event.Halt.TheVariants.{Erroneous}
-use Rattle.ada_meaning.specs.declared.event.Why.TheVariants.{GivesElsewhere}
-use Rattle.ada_meaning.specs.Event.{Quiet}
-use Rattle.ada_meaning.specs.Frame.{Frame, is_master, Landing, passes_on, goes_behind, goes_in, landing}
+use Rattle.ada_meaning.specs.declared.event.Halt.TheVariants.{Erroneous, Stuck}
+use Rattle.ada_meaning.specs.declared.event.Why.TheVariants.{GivesElsewhere, FinalizesTwice}
+use Rattle.ada_meaning.specs.Event.{Finalized, Quiet}
+use Rattle.ada_meaning.specs.Frame.{Treatment, Frame, is_master, Landing, passes_on, goes_behind, goes_in, landing}
 use Rattle.ada_meaning.specs.Frame as frame
 use Rattle.ada_meaning.specs.State.{declared, collection, record_object, storage_pool, Destination, home_of, pools_in, pool_for}
-use Rattle.ada_meaning.specs.Heap.{Cell, Found, on_null, on_gone, on_other, finds}
-use Rattle.ada_meaning.specs.Step.{record_in, newest_ones, without_newest, copied_next, copies_next, record_target_next, record_stored_next, store_record_next, record_next, halts, at, popped, held, newest, reading, component_next, follow_next, path_next, selected, named_next, holder_next, first_in, record_holder_next, referred_next, refers_next, open_next, opened_next, opens_next, storing, expression_next, null_test_next, is_decided, link_next, links_next, outcome_next, item_next, items_next, answered, new_next, right_next, free_next, end_next, same_pool, told_back, given_back, back_next, before_last, last_of, assign_next, target_next, stored_next, store_next, received_next, receive_next, frees_next, freed_next, free_component_next, free_in_next, branches_next, decided_next, turn_next, repeats_next, turned_next, count_turn_next, counts_next, ranges_next, gets_next, exit_next, exited_next, computing, call_next, stmt_next, stmts_next, line_next, declaration_next, declarations_next, frame_next, landed, unwound, pass_next, jump_next}
-use Rattle.ada_meaning.specs.Named.{Object, State, Next, named, whole, inside, look, lent, reads_boolean, reads_null, reads_integer, unary_given, binary_given}
+use Rattle.ada_meaning.specs.Heap.{PartState, Cell, Found, on_null, on_gone, on_other, finds}
+use Rattle.ada_meaning.specs.Step.{direction_of, all_tasks, treated_on, born_next, finalized_next, performed_next, treats_next, moves, picks, record_in, newest_ones, without_newest, copied_next, copies_next, record_target_next, record_stored_next, store_record_next, record_next, halts, at, popped, held, newest, reading, component_next, follow_next, path_next, selected, named_next, holder_next, first_in, record_holder_next, referred_next, refers_next, open_next, opened_next, opens_next, storing, expression_next, null_test_next, is_decided, link_next, links_next, outcome_next, item_next, items_next, answered, new_next, right_next, free_next, end_next, same_pool, told_back, given_back, back_next, before_last, last_of, assign_next, target_next, stored_next, store_next, received_next, receive_next, frees_next, freed_next, free_component_next, free_in_next, branches_next, decided_next, turn_next, repeats_next, turned_next, count_turn_next, counts_next, ranges_next, gets_next, exit_next, exited_next, computing, call_next, stmt_next, stmts_next, line_next, declaration_next, declarations_next, frame_next, landed, unwound, pass_next, jump_next}
+use Rattle.ada_meaning.specs.Named.{finalize, Object, State, Next, named, whole, inside, look, lent, reads_boolean, reads_null, reads_integer, unary_given, binary_given}
 use Rattle.ada_meaning.specs.Run.{Event}
 use Rattle.ada_meaning.specs.Law.{left_by}
 use Rattle.ada_meaning.proofs.Jumps.{unwound_to, unwound_by}
-use Rattle.ada_order.proofs.Controls.{IsPlain, Plain, Work, stays, numbers, owns, enters, Does}
+use Rattle.ada_order.proofs.Controls.{NoLeaving, treating_plain, IsPlain, Plain, Work, stays, numbers, owns, enters, Does}
 
 -- What stays plain: the actual parameters of a call, and the components that get something back behind its body.
 computing_is_plain : (actuals : List ActualForm) (k : List (Frame Value)) → Plain k → Plain (computing named actuals k)
@@ -51,6 +59,7 @@ storing_is_plain (r ∷ rs) k p = (tt, storing_is_plain rs k p)
 abbrev pub IsWork : Frame Value → Type 0
 IsWork (frame.Leaves mode) = ⊥
 IsWork (frame.GivesBack v (Leaving m i) pool) = ⊥
+IsWork (frame.Treats v treatment tasks) = NoLeaving treatment
 IsWork f = Unit {0}
 
 back_is_plain : (v : Value) (cause : Cause) (pool : Option ℕ) → IsWork (frame.GivesBack v cause pool) → IsPlain (frame.GivesBack v cause pool)
@@ -158,11 +167,14 @@ module _ (types : List TypeDefinition) where
   copies_work o first count on_other s p = tt
   copies_work o first count (finds cell) s p = copied_works o (record_in cell.values first count) s p
 
-  answered_works : (access count words : ℕ) (home : Destination) (s : State) (granted : Bool) → Plain s.control → Work types s.masters s.next None Quiet (answered named access count words home s granted)
-  answered_works access count words home s true p = stays tt refl p refl refl
+  answered_works :
+      (access count words : ℕ) (home : Destination) (s : State) (granted : Bool) → Plain s.control
+      → Work types s.masters s.next None Quiet (answered named types access count words home s granted)
+  answered_works access count words home s true p =
+      stays tt refl (treating_plain _ (frame.begins Creation) (all_tasks types access PartsFirst) s.control tt p) refl refl
   answered_works access count words home s false p = stays tt refl p refl refl
 
-  new_works : (access count words : ℕ) (home : Option Destination) (s : State) → Plain s.control → Works s (new_next named access count words home s)
+  new_works : (access count words : ℕ) (home : Option Destination) (s : State) → Plain s.control → Works s (new_next named types access count words home s)
   new_works access count words None s p = stays tt refl p refl refl
   new_works access count words (Some home) s p = λ granted. answered_works access count words home s granted p
 
@@ -174,11 +186,12 @@ module _ (types : List TypeDefinition) where
   right_works (computes e) s p = stays tt refl (tt, p) refl refl
 
   -- Free, and what it leads to.
-  free_works : (access x : ℕ) (v : Value) (found : Found (Cell Value)) (s : State) → Plain s.control → Works s (free_next named access x v found s)
+  free_works : (access x : ℕ) (v : Value) (found : Found (Cell Value)) (s : State) → Plain s.control → Works s (free_next named types access x v found s)
   free_works access x v on_null s p = stays tt refl p refl refl
   free_works access x v on_gone s p = tt
   free_works access x v on_other s p = tt
-  free_works access x v (finds cell) s p = numbers tt refl (tt, (tt, (tt, p))) refl refl
+  free_works access x v (finds cell) s p =
+      numbers tt refl (treating_plain v (frame.ends (Freeing s.next)) (all_tasks types cell.access WholeFirst) _ tt (tt, (tt, (tt, p)))) refl refl
 
   end_works : (v : Value) (found : Found (Cell Value)) (s : State) → Plain s.control → Works s (end_next named v found s)
   end_works v on_null s p = tt
@@ -202,6 +215,58 @@ module _ (types : List TypeDefinition) where
   back_works v cause pool on_gone s is p = tt
   back_works v cause pool on_other s is p = tt
   back_works v cause pool (finds cell) s is p = given_works (same_pool pool cell.home.pool) v cause pool cell s is p
+
+  -- The treatment of an object, but at a leaving.
+  born_works : (v : Value) (of part : ℕ) (by : Birth) (state : Option PartState) (s : State) → Plain s.control → Works s (born_next named v of part by state s)
+  born_works v of part by None s p = tt
+  born_works v of part by (Some state) s p = stays tt refl p refl refl
+
+  finalized_works :
+      (v : Value) (of part : ℕ) (cause : Cause) (state : Option PartState) (s : State) → NoLeaving (frame.ends cause) → Plain s.control
+      → Works s (finalized_next named v of part cause state s)
+  finalized_works v of part cause None s is p = tt
+  finalized_works v of part cause (Some state) s is p = by_life state.alive
+    where
+      untold : (cause : Cause) → NoLeaving (frame.ends cause) → left_by (Finalized v part state.turn of state.number cause) ≡ None
+      untold (Leaving m i) is = absurd is
+      untold (Freeing number) is = refl
+      untold (Assigning number) is = refl
+      untold (Undoing number) is = refl
+
+      by_life :
+          (alive : Bool)
+          → Works s
+          (if alive then moves (Finalized v part state.turn of state.number cause) (record s { heap = finalize s.heap v part })
+          else halts (Erroneous FinalizesTwice))
+      by_life true = stays tt (untold cause is) p refl refl
+      by_life false = tt
+
+  performed_works :
+      (v : Value) (treatment : Treatment) (of part : ℕ) (found : Found (Cell Value)) (s : State) → NoLeaving treatment → Plain s.control
+      → Works s (performed_next named v treatment of part found s)
+  performed_works v treatment of part on_null s is p = tt
+  performed_works v treatment of part on_gone s is p = tt
+  performed_works v treatment of part on_other s is p = tt
+  performed_works v (frame.begins by) of part (finds cell) s is p = born_works v of part by (slice_get cell.parts part) s p
+  performed_works v (frame.ends cause) of part (finds cell) s is p = finalized_works v of part cause (slice_get cell.parts part) s is p
+
+  picked_works :
+      (none : Bool) (count : ℕ) (taking : ℕ → State) (s : State) → ((i : ℕ) → Work types s.masters s.next None Quiet (taking i))
+      → Works s (if none then halts Stuck else picks count taking)
+  picked_works true count taking s each = tt
+  picked_works false count taking s each = each
+
+  treats_work :
+      (shapes : List Shape) (v : Value) (treatment : Treatment) (tasks : List Task) (follows : Follows) (s : State) → NoLeaving treatment → Plain s.control
+      → Works s (treats_next named shapes v treatment tasks follows s)
+  treats_work shapes v treatment tasks Done s is p = stays tt refl p refl refl
+  treats_work shapes v treatment tasks (Pick count) s is p =
+      let left : ℕ → List Task = λ i. taken_task shapes (direction_of treatment) tasks i in
+      picked_works (count == 0) count (λ i. treated_on named v treatment (left i) s) s
+      (λ i. stays tt refl (treating_plain v treatment (left i) s.control is p) refl refl)
+  treats_work shapes v treatment tasks (Perform of part) s is p =
+      performed_works v treatment of part (look s.heap v) (treated_on named v treatment (performed tasks) s) is
+      (treating_plain v treatment (performed tasks) s.control is p)
 
   -- Statements and declarations.
   assign_works : (cs : List ℕ) (x : ℕ) (right : RightForm) (s : State) → Plain s.control → Works s (assign_next named cs x right s)
@@ -242,21 +307,28 @@ module _ (types : List TypeDefinition) where
   store_record_works o first count (finds cell) s p =
       record_stored_works o first (newest_ones named count s) (record_in cell.values first count) (without_newest named count s) p
 
-  frees_work : (cs : List ℕ) (access x : ℕ) (s : State) → Plain s.control → Works s (frees_next named cs access x s)
+  frees_work : (cs : List ℕ) (access x : ℕ) (s : State) → Plain s.control → Works s (frees_next named types cs access x s)
   frees_work [] access x s p = free_works access x (held named s x) (look s.heap (held named s x)) s p
   frees_work (c ∷ cs) access x s p = holder_works c cs x (λ last. frame.FreesIn access last) s (λ n. tt) p
 
-  freed_works : (access : ℕ) (o : Value) (c : ℕ) (v : Value) (found : Found (Cell Value)) (s : State) → Plain s.control → Works s (freed_next named access o c v found s)
+  freed_works :
+      (access : ℕ) (o : Value) (c : ℕ) (v : Value) (found : Found (Cell Value)) (s : State) → Plain s.control
+      → Works s (freed_next named types access o c v found s)
   freed_works access o c v on_null s p = stays tt refl p refl refl
   freed_works access o c v on_gone s p = tt
   freed_works access o c v on_other s p = tt
-  freed_works access o c v (finds cell) s p = numbers tt refl (tt, (tt, (tt, p))) refl refl
+  freed_works access o c v (finds cell) s p =
+      numbers tt refl (treating_plain v (frame.ends (Freeing s.next)) (all_tasks types cell.access WholeFirst) _ tt (tt, (tt, (tt, p)))) refl refl
 
-  free_component_works : (access : ℕ) (o : Value) (c : ℕ) (before : Option Value) (s : State) → Plain s.control → Works s (free_component_next named access o c before s)
+  free_component_works :
+      (access : ℕ) (o : Value) (c : ℕ) (before : Option Value) (s : State) → Plain s.control
+      → Works s (free_component_next named types access o c before s)
   free_component_works access o c None s p = tt
   free_component_works access o c (Some v) s p = freed_works access o c v (look s.heap v) s p
 
-  free_in_works : (access : ℕ) (o : Value) (c : ℕ) (found : Found (Cell Value)) (s : State) → Plain s.control → Works s (free_in_next named access o c found s)
+  free_in_works :
+      (access : ℕ) (o : Value) (c : ℕ) (found : Found (Cell Value)) (s : State) → Plain s.control
+      → Works s (free_in_next named types access o c found s)
   free_in_works access o c on_null s p = stays tt refl p refl refl
   free_in_works access o c on_gone s p = tt
   free_in_works access o c on_other s p = tt
@@ -355,7 +427,7 @@ module _ (types : List TypeDefinition) where
   call_works procedure actuals None s p = tt
   call_works procedure actuals (Some b) s p = stays tt refl (computing_is_plain actuals _ (tt, p)) refl refl
 
-  stmt_works : (bodies : List BodyForm) (f : StmtForm) (s : State) → Plain s.control → Works s (stmt_next named bodies f s)
+  stmt_works : (bodies : List BodyForm) (f : StmtForm) (s : State) → Plain s.control → Works s (stmt_next named types bodies f s)
   stmt_works bodies skips s p = stays tt refl p refl refl
   stmt_works bodies (assigns target right) s p = assign_works target.selectors target.root right s p
   stmt_works bodies (assigns_record target items) s p =
@@ -373,7 +445,7 @@ module _ (types : List TypeDefinition) where
   stmt_works bodies (raises e) s p = stays tt refl p refl refl
   stmt_works bodies (encloses ds fs hs) s p = enters tt refl (tt, p) refl refl
 
-  stmts_work : (bodies : List BodyForm) (fs : StmtsForm) (s : State) → Plain s.control → Works s (stmts_next named bodies fs s)
+  stmts_work : (bodies : List BodyForm) (fs : StmtsForm) (s : State) → Plain s.control → Works s (stmts_next named types bodies fs s)
   stmts_work bodies no_stmts s p = stays tt refl p refl refl
   stmts_work bodies (a_stmt f fs) s p = stmt_works bodies f (at (frame.Does fs ∷ s.control) s) (tt, p)
 
@@ -382,7 +454,8 @@ module _ (types : List TypeDefinition) where
   line_works (Some i) s p = stays tt refl p refl refl
 
   record_works : (x t : ℕ) (initial : Option (List ItemForm)) (s : State) → Plain s.control → Works s (record_next named types x t initial s)
-  record_works x t None s p = owns (record_object t) tt tt refl p refl refl
+  record_works x t None s p =
+      owns (record_object t) tt tt refl (treating_plain _ (frame.begins Creation) (all_tasks types t PartsFirst) s.control tt p) refl refl
   record_works x t (Some items) s p = stays tt refl (tt, (tt, p)) refl refl
 
   declaration_works : (d : DeclarationForm) (s : State) → Plain s.control → Works s (declaration_next named types d s)
@@ -434,7 +507,9 @@ module _ (types : List TypeDefinition) where
   frame_works bodies (frame.Receives c) s is p = receive_works (newest named s) c (look s.heap (newest named s)) (popped s) p
   frame_works bodies (frame.FreesIn access c) s is p = free_in_works access (newest named s) c (look s.heap (newest named s)) (popped s) p
   frame_works bodies (frame.Declares x) s is p = owns (declared x) tt tt refl p refl refl
-  frame_works bodies (frame.DeclaresRecord x t) s is p = owns (record_object t) tt tt refl p refl refl
+  frame_works bodies (frame.DeclaresRecord x t) s is p =
+      owns (record_object t) tt tt refl (treating_plain _ (frame.begins Creation) (all_tasks types t PartsFirst) s.control tt p) refl refl
+  frame_works bodies (frame.Treats v treatment tasks) s is p = treats_work (shapes_of types) v treatment tasks (task_next tasks) s is p
   frame_works bodies frame.Writes s is p = line_works (reads_integer (newest named s)) (popped s) p
   frame_works bodies (frame.Ends v) s is p = end_works v (look s.heap v) s p
   frame_works bodies (frame.GivesBack v cause pool) s is p = back_works v cause pool (lent s.heap v) s (back_is_plain v cause pool is) p

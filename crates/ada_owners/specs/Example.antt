@@ -33,7 +33,13 @@ id n = record { 0 = n }
 -- A node with this Next, at a stage, in its collection or not.
 abbrev pub node : Value → Stage → Bool → Object
 node next stage listed = record {
-  cell = record { access = 0; number = 1; home = record { item = 0; pool = Some 0; subpool = None }; values = Scalar (scalar.Integer (pos 7)) ∷ next ∷ [] };
+  cell = record {
+    access = 0;
+    number = 1;
+    home = record { item = 0; pool = Some 0; subpool = None };
+    values = Scalar (scalar.Integer (pos 7)) ∷ next ∷ [];
+    parts = [];
+  };
   stage = stage;
   listed = listed;
   out = listed;

@@ -8,6 +8,8 @@ pub mod Handling
 pub mod ProgramForm
 -- what the types of a program give
 pub mod Typed
+-- which types are controlled, and which components have controlled parts (7.6)
+pub mod Controlled
 -- what a well-formed program is
 pub mod WellFormed
 -- where collections are created

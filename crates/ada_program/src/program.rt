@@ -125,6 +125,9 @@ pub enum PartKind {
     Elementary(ComponentKind),
     /// A record, of a type that is declared before.
     Record(TypeNo),
+    /// The parent part of a type that is derived from `Ada.Finalization.Limited_Controlled` (3.4, 7.6): the type is
+    /// controlled. It has no name, and no component lies in it.
+    Parent,
 }
 
 /// What an elementary component holds, and what it holds at first where no value is given.

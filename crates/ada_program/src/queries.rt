@@ -25,7 +25,7 @@ impl Program {
     }
 
     /// The record type of the objects that the type's values name.
-    fn record_of(&self, access: TypeNo) -> Option<TypeNo>
+    pub fn record_of(&self, access: TypeNo) -> Option<TypeNo>
         ensures { option_map (λ t. t.0) result ≡ designated_of self.now.types.items access.0 }
     {
         match self.types.get(access.0)? {

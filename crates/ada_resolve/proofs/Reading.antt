@@ -68,7 +68,7 @@ use Rattle.ada_resolve.proofs.WellFormed.Remarks.{Quiet, quiet_unless}
 use Rattle.ada_resolve.proofs.WellFormed.Values.{access_designates}
 use Rattle.ada_resolve.proofs.WellFormed.Names.{EntityFits, IsVariableIn, PartsFit, visible_fits, kind_there, text_same}
 use Rattle.ada_resolve.proofs.WellFormed.Meanings.{MeantFits, path_fits}
-use Rattle.ada_resolve.proofs.WellFormed.Selected.{IsNamedOf, name_at, has_record, designated_same}
+use Rattle.ada_resolve.proofs.WellFormed.Selected.{IsNamedOf, IsSelectable, is_selectable, name_at, has_record, designated_same}
 use Rattle.ada_resolve.proofs.WellFormed.Forms.{object_stays, record_stays}
 use Rattle.ada_resolve.proofs.WellFormed.Growing.{designated_stays}
 use Rattle.ada_resolve.proofs.WellFormed.Tables.{get_other}
@@ -137,10 +137,10 @@ component_found at text cs found e =
     let there = subst (λ (o : Option (ℕ × KnownComponent)). IsNamedOf text cs at o) e (name_at at text cs) in
     (there.0, there.2, there.3 ∙ same_part text there.1 found.1 there.4 there.5)
 
--- the component that is found has the name
+-- the component that is found has the name, and a name can select it
 abbrev IsNamed : Context → ℕ → List ℕ → Option (ℕ × KnownComponent) → Type 0
 IsNamed p t text None = ⊥
-IsNamed p t text (Some found) = IsComponentNamed p t text found.1.kind found.1.first
+IsNamed p t text (Some found) = IsComponentNamed p t text found.1.kind found.1.first × IsSelectable found.1.kind
 
 within_read : (k : Known) (p : Context) (spot : Spot) (t : ℕ) (c : Ident) → Ahead k p → Quiet (component_within_remark k spot (Some t) c) → IsNamed p t c.text (component_in k (Some t) c)
 within_read k p spot t c w q = complete_or (is_incomplete_type k t) q
@@ -150,7 +150,7 @@ within_read k p spot t c w q = complete_or (is_incomplete_type k t) q
     found_or (Some found) is q =
         let at = component_found 0 c.text (components_of k.types t) found is in
         let there = has_record k.types t at.0 (the_part c.text found.1) at.2 in
-        (there.0, there.1, there.2, at.0, record_stays k.types p.types w.types t there.0 there.1 there.2 there.3, there.4)
+        ((there.0, there.1, there.2, at.0, record_stays k.types p.types w.types t there.0 there.1 there.2 there.3, there.4), is_selectable found.1.kind c q)
 
     complete_or : (b : Bool) → Quiet (cond b (wrong spot WrongType) (component_wanted (component_named 0 c.text (components_of k.types t)) c)) → IsNamed p t c.text (cond b None (component_named 0 c.text (components_of k.types t)))
     complete_or true q = absurd q
@@ -176,20 +176,22 @@ IsThere (reached.Object t first) = Unit {0}
 
 held_there : (p : Context) (t before : ℕ) (text : List ℕ) (o : Option (ℕ × KnownComponent)) → IsNamed p t text o → IsThere (held_in before o)
 held_there p t before text None h = absurd h
-held_there p t before text (Some found) h = by_kind found.1.kind
+held_there p t before text (Some found) h = by_kind found.1.kind h.1
   where
-    by_kind : (kind : PartKind) → IsThere (held_by kind (before + found.1.first))
-    by_kind (part.Elementary kind) = tt
-    by_kind (part.Record inner) = tt
+    by_kind : (kind : PartKind) → IsSelectable kind → IsThere (held_by kind (before + found.1.first))
+    by_kind (part.Elementary kind) s = tt
+    by_kind (part.Record inner) s = tt
+    by_kind part.Parent s = absurd s
 
 -- a component of an object, and what is selected from it
 held_read : (p : Context) (t before : ℕ) (c : Ident) (ss : List SelectorTree) (cs : List ℕ) (end : Way) (o : Option (ℕ × KnownComponent)) → IsNamed p t c.text o → AreReadBehind p (held_in before o) ss cs end → AreSelectorsRead p (at_object t before) (component c ∷ ss) (number_in before o ++ cs) end
 held_read p t before c ss cs end None h r = absurd h
-held_read p t before c ss cs end (Some found) h r = by_kind found.1.kind h r
+held_read p t before c ss cs end (Some found) h r = by_kind found.1.kind h.0 r
   where
     by_kind : (kind : PartKind) → IsComponentNamed p t c.text kind found.1.first → AreReadBehind p (held_by kind (before + found.1.first)) ss cs end → AreSelectorsRead p (at_object t before) (component c ∷ ss) (number_by kind (before + found.1.first) ++ cs) end
     by_kind (part.Elementary kind) h r = to_value h r
     by_kind (part.Record inner) h r = to_record h r
+    by_kind part.Parent h r = absurd r
 
 -- the type that an access type designates
 pub type_designated : (k : Known) (p : Context) (t d : ℕ) → Ahead k p → fits.designated_type k.types t ≡ Some d → fits.designated_type p.types t ≡ Some d
@@ -405,6 +407,7 @@ record_given p e t m spot f r q = absurd q
 
 item_read : (p : Context) (variables : List VariableForm) (e : ExpressionTree) (k : PartKind) (m : Meant) (spot : Spot) → IsMeant m → MeantRead p e m → Quiet (fits_remark variables k m spot) → IsGiven p k e (item_meant m)
 item_read p variables e (part.Record t) m spot f r q = record_given p e t m spot f r q
+item_read p variables e part.Parent m spot f r q = absurd q
 item_read p variables e (part.Elementary k) (integer_value form) spot f r q = to_elementary r
 item_read p variables e (part.Elementary k) (boolean_value form) spot f r q = to_elementary r
 item_read p variables e (part.Elementary k) (access_value path t) spot f r q = to_elementary r

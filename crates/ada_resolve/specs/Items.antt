@@ -50,13 +50,14 @@ item_meant (aggregate_value t items) = items
 item_meant (lent_value t) = []
 
 -- A value is of its component's type: an access component is given null, or what a path of that very type names, which is no borrower as a whole,
--- and a record component a record of that very type.
+-- and a record component a record of that very type. The parent part is given nothing (3.4): it has no component.
 abbrev pub fits_remark : List VariableForm → PartKind → Meant → Spot → Remark
 fits_remark variables (part.Elementary (kind.Integer initial)) value spot = integer_wanted value spot
 fits_remark variables (part.Elementary (kind.Boolean initial)) value spot = boolean_wanted value spot
 fits_remark variables (part.Elementary (kind.Access t)) value spot =
     access_wanted t value spot also owner_wanted variables value spot
 fits_remark variables (part.Record t) value spot = record_value_wanted t value spot
+fits_remark variables part.Parent value spot = wrong spot WrongType
 
 -- No component has that name (4.1.3), or there are too many items.
 abbrev pub no_component : Option Ident → ExpressionTree → Remark

@@ -167,10 +167,11 @@ IsElementaryRead p c (component.Boolean b) =
     (c.type_name.text ≡ codes "BOOLEAN") × (value : Ident) × (c.initial ≡ Some (static_name value)) × (value.text ≡ truth_name b)
 IsElementaryRead p c (component.Access t) = IsAccessNamed p c.type_name.text t.0 × (c.initial ≡ None)
 
--- What a component is (3.8): an elementary one, or a record of a type that is complete before.
+-- What a component is (3.8): an elementary one, or a record of a type that is complete before. No component is written for a parent part (3.4).
 abbrev pub IsKindRead : Context → ComponentTree → PartKind → Type 0
 IsKindRead p c (part.Elementary kind) = IsElementaryRead p c kind
 IsKindRead p c (part.Record t) = IsFullRecordNamed p c.type_name.text t.0 × (c.initial ≡ None)
+IsKindRead p c part.Parent = ⊥
 
 -- Components, one for one: each has its name, and is what is written (3.8).
 abbrev pub AreComponentsRead : Context → List ComponentTree → List PartForm → Type 0

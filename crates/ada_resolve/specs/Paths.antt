@@ -149,10 +149,12 @@ abbrev pub first_behind : Reached → ℕ
 first_behind (reached.Object t first) = first
 first_behind other = 0
 
--- What a component reaches (4.1.3), whose first elementary component has this number: the value of an elementary one, or a record.
+-- What a component reaches (4.1.3), whose first elementary component has this number: the value of an elementary one, or a record. The
+-- parent part has no name, so nothing leads to it (3.4).
 abbrev pub held_by : PartKind → ℕ → Reached
 held_by (part.Elementary kind) first = reached.Value (held_kind kind)
 held_by (part.Record t) first = reached.Object t first
+held_by part.Parent first = reached.Nothing
 
 -- What a component reaches, where it is found: it lies behind as many elementary components.
 abbrev pub held_in : ℕ → Option (ℕ × KnownComponent) → Reached
@@ -179,10 +181,11 @@ abbrev pub selectors_reached : Known → Reached → List SelectorTree → Reach
 selectors_reached known at [] = at
 selectors_reached known at (s ∷ ss) = selectors_reached known (selector_reached known at s) ss
 
--- The number of an elementary component, which is this one: a record has none of its own.
+-- The number of an elementary component, which is this one: a record has none of its own, nor has the parent part.
 abbrev pub number_by : PartKind → ℕ → List ℕ
 number_by (part.Elementary kind) first = first ∷ []
 number_by (part.Record t) first = []
+number_by part.Parent first = []
 
 -- The number of a component, where it is found: it lies behind as many elementary components.
 abbrev pub number_in : ℕ → Option (ℕ × KnownComponent) → List ℕ
@@ -266,9 +269,15 @@ path_meant known path =
     if is_library_root path.root.text then unknown
     else named_meant known path.root path.selectors
 
+-- A component that a name can select is wanted (4.1.3): the parent part has no name (3.4).
+abbrev pub selectable_wanted : PartKind → Ident → Remark
+selectable_wanted (part.Elementary kind) c = fine
+selectable_wanted (part.Record t) c = fine
+selectable_wanted part.Parent c = wrong c.spot (no_component_rule c.text)
+
 -- A component of that name is wanted (4.1.3).
 abbrev pub component_wanted : Option (ℕ × KnownComponent) → Ident → Remark
-component_wanted (Some found) c = fine
+component_wanted (Some found) c = selectable_wanted found.1.kind c
 component_wanted None c = wrong c.spot (no_component_rule c.text)
 
 -- What is wrong with selecting a component from an object of a type: there is a type, which is complete (3.10.1) and has the component.

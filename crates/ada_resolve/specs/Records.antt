@@ -91,10 +91,11 @@ kind_of_component known c = kind_in (visible known c.type_name.text) known c.ini
 abbrev pub size_of_component : Known → ComponentTree → ℕ
 size_of_component known c = size_in (visible known c.type_name.text)
 
--- The elementary components of a component (3.8): itself, or those of its record type.
+-- The elementary components of a component (3.8): itself, or those of its record type. The parent part of a controlled type has none (7.6).
 abbrev pub kinds_within : List TypeForm → PartKind → List ComponentKind
 kinds_within types (part.Elementary kind) = kind ∷ []
 kinds_within types (part.Record t) = elementary_of types t.0
+kinds_within types part.Parent = []
 
 -- What a record type is made of: its components as they are declared, its elementary components at any depth, each in order, and how many
 -- components it has at any depth.

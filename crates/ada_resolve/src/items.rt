@@ -297,6 +297,7 @@ fn fits(variables: &[Variable], kind: PartKind, value: &Meant, spot: Spot, notes
             value.owner_wanted(variables, spot, notes);
         }
         PartKind::Record(number) => value.record_wanted(number, spot, notes),
+        PartKind::Parent => notes.note(spot, NameRule::WrongType),
     }
 }
 

@@ -148,6 +148,7 @@ impl<'t> Resolver<'t> {
                 Some(inner) => components.extend(inner),
                 None => Ok(()),
             },
+            PartKind::Parent => Ok(()),
         }
     }
 

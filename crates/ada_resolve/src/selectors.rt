@@ -5,7 +5,7 @@ ghost use Rattle.ada_tree.specs.Names.{ident_of, selector_of};
 ghost use Rattle.ada_program.specs.WellFormed as fits;
 ghost use Rattle.ada_resolve.specs.Look.{Looks, selector_look, selectors_look};
 ghost use Rattle.ada_resolve.specs.Method.{known, IsNoted, Selects};
-ghost use Rattle.ada_resolve.specs.Paths.{all_remark, complete_behind, component_behind, component_behind_remark, component_in, component_selected, component_within_remark, components_selected, first_behind, object_behind, object_in, record_type_wanted};
+ghost use Rattle.ada_resolve.specs.Paths.{all_remark, complete_behind, component_behind, component_behind_remark, component_in, component_selected, component_wanted, component_within_remark, components_selected, first_behind, object_behind, object_in, record_type_wanted};
 ghost use Rattle.ada_resolve.specs.View.{itself, optional_number};
 
 use crate::components::KnownComponent;
@@ -78,6 +78,7 @@ impl<'t> Resolver<'t> {
                             Ok(Reached::Value(held_kind(kind)))
                         }
                         PartKind::Record(number) => Ok(Reached::Object { number, first }),
+                        PartKind::Parent => Ok(Reached::Nothing),
                     }
                 }
                 None => Ok(Reached::Nothing),
@@ -132,9 +133,7 @@ impl<'t> Resolver<'t> {
         match number {
             Some(number) if !self.is_incomplete(number) => {
                 let found = self.component_of(number, name.text);
-                if found.is_none() {
-                    notes.note(name.spot, no_component_rule(name.text));
-                }
+                component_wanted(found, name, notes);
                 found
             }
             Some(_) | None => {
@@ -200,6 +199,19 @@ impl Reached {
         if let Reached::Value(VariableKind::Record(_)) = self {
             notes.note(spot, NameRule::NotInProfile);
         }
+    }
+}
+
+/// A component of that name is wanted (4.1.3); the parent part has no name (3.4).
+fn component_wanted(found: Option<(usize, KnownComponent)>, name: Identifier<'_>, notes: &mut Notes)
+    ensures { IsNoted notes (component_wanted found (ident_of name.entry)) }
+{
+    match found {
+        Some((_, component)) => match component.kind {
+            PartKind::Elementary(_) | PartKind::Record(_) => {}
+            PartKind::Parent => notes.note(name.spot, no_component_rule(name.text)),
+        },
+        None => notes.note(name.spot, no_component_rule(name.text)),
     }
 }
 

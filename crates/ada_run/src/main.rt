@@ -1,6 +1,6 @@
 //! `ada_run check [--source FILE]` and
-//! `ada_run run [--source FILE] [--input FILE] [--standard WORDS] [--steps N] [--refuse K] [NAME=WORDS]...`: checks a
-//! source, or runs it on its input if it is accepted.
+//! `ada_run run [--source FILE] [--input FILE] [--standard WORDS] [--steps N] [--refuse K] [--trace] [NAME=WORDS]...`:
+//! checks a source, or runs it on its input if it is accepted.
 //!
 //! The exit status tells how that ended, even where the standard error cannot be written.
 #![tactic(auto)]

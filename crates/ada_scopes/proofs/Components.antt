@@ -230,6 +230,7 @@ target_parting types n access c target (m ∷ ms) opens records names has = elim
 goes_leaving : (types : List TypeForm) (callees : Callees) (ss : Scopes) (k : List (Frame Value)) → Goes types callees ss k → is_leaving k ≡ true
 goes_leaving types callees ss [] goes = absurd goes
 goes_leaving types callees ss (frame.Leaves mode ∷ k) goes = refl
+goes_leaving types callees ss (frame.Treats v treatment tasks ∷ k) goes = goes_leaving types callees ss k goes
 goes_leaving types callees ss (frame.Ends v ∷ k) goes = goes_leaving types callees ss k goes
 goes_leaving types callees ss (frame.GivesBack v cause pool ∷ k) goes = goes_leaving types callees ss k goes
 goes_leaving types callees ss (f ∷ k) goes = absurd goes

@@ -3,6 +3,7 @@
 
 use Rattle.std.proofs.Common.{◌≡◌, ℕ, zero, suc, ◌+◌, ◌≤◌, Bool, true, false, List, [], ◌∷◌, ◌++◌, Some, None, arith, refl, sym, ap, inl}
 use Rattle.std.specs.List.{list_all}
+use Rattle.ada_parts.specs.Task.{Task}
 use Rattle.ada_program.specs.Form.{DeclarationForm, StmtsForm, HandlersForm}
 use Rattle.ada_program.specs.ProgramForm.{TypeForm}
 use Rattle.ada_program.specs.WellFormed.{is_access, reached_components, is_object, collections_first}
@@ -10,10 +11,10 @@ use Rattle.ada_program.specs.Nested.{Callees, collected, are_open}
 use Rattle.ada_meaning.specs.declared.state.Value.{Value}
 use Rattle.ada_meaning.specs.declared.state.Mode.TheVariants.{Running}
 use Rattle.ada_meaning.specs.Heap.{Cell}
-use Rattle.ada_meaning.specs.Frame.{Frame, is_master}
+use Rattle.ada_meaning.specs.Frame.{Frame, Treatment, is_master}
 use Rattle.ada_meaning.specs.Frame as frame
 use Rattle.ada_meaning.specs.State.{Owned, declared, collection, record_object, storage_pool, Item, Master}
-use Rattle.ada_meaning.specs.Step.{older, owning, shorter}
+use Rattle.ada_meaning.specs.Step.{older, owning, shorter, treating}
 use Rattle.ada_meaning.specs.Named.{Object, State, new_object}
 use Rattle.ada_meaning.specs.Law.{items_of}
 use Rattle.ada_scopes.proofs.Counts.{times, times_append, Within, open_within, opened, Scopes, scopes, all_of, scopes_declared, scopes_recorded, fewer, fewer_older}
@@ -69,9 +70,19 @@ Nests types callees ss (f ∷ k) = FrameNests types callees ss f × Nests types 
 abbrev pub Goes : List TypeForm → Callees → Scopes → List (Frame Value) → Type 0
 Goes types callees ss [] = ⊥
 Goes types callees ss (frame.Leaves mode ∷ k) = Nests types callees (older ss) k
+Goes types callees ss (frame.Treats v treatment tasks ∷ k) = Goes types callees ss k
 Goes types callees ss (frame.Ends v ∷ k) = Goes types callees ss k
 Goes types callees ss (frame.GivesBack v cause pool ∷ k) = Goes types callees ss k
 Goes types callees ss (f ∷ k) = ⊥
+
+-- An object is treated before what is left to do (7.6, 7.6.1).
+pub nests_treating : (types : List TypeForm) (callees : Callees) (ss : Scopes) (v : Value) (treatment : Treatment) (tasks : List Task) (k : List (Frame Value)) → Nests types callees ss k → Nests types callees ss (treating v treatment tasks k)
+nests_treating types callees ss v treatment [] k n = n
+nests_treating types callees ss v treatment (task ∷ tasks) k n = (tt, n)
+
+pub goes_treating : (types : List TypeForm) (callees : Callees) (ss : Scopes) (v : Value) (treatment : Treatment) (tasks : List Task) (k : List (Frame Value)) → Goes types callees ss k → Goes types callees ss (treating v treatment tasks k)
+goes_treating types callees ss v treatment [] k goes = goes
+goes_treating types callees ss v treatment (task ∷ tasks) k goes = goes
 
 -- What the components of an access type's objects name lies in collections that are open.
 abbrev pub NeedsOpen : List TypeForm → List ℕ → List ℕ → Type 0

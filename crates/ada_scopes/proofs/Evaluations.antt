@@ -1,6 +1,6 @@
 -- What comes next while forms are evaluated, while components are stored in and while objects go: a state that nests leads to one that nests.
 
-use Rattle.std.proofs.Common.{◌≡◌, ℕ, ◌<◌, ◌+◌, Bool, true, false, if◌then◌else◌, List, [], ◌∷◌, Option, Some, None, Result, Ok, Err, refl}
+use Rattle.std.proofs.Common.{◌≡◌, ℕ, ◌<◌, ◌+◌, Bool, true, false, if◌then◌else◌, List, [], ◌∷◌, length, Option, Some, None, Result, Ok, Err, refl}
 use Rattle.std.specs.List.{slice_get}
 use Rattle.ada_program.specs.declared.program.TypeDefinition.{TypeDefinition}
 use Rattle.ada_program.specs.Form.{RecordPathForm, ExpressionForm, integer, boolean, reads, is_null, applied_to, chained, LinksForm, no_more_links, a_link, ItemForm, null_item, item_of_path, item_of_value, item_of_record, RightForm, nothing, value_of, allocates, allocates_default, computes}
@@ -9,7 +9,11 @@ use Rattle.ada_program.specs.Nested.{Callees}
 use Rattle.ada_values.specs.declared.operator.BinaryOperator.{BinaryOperator}
 use Rattle.ada_values.specs.declared.fault.OperatorFault.{OperatorFault}
 use Rattle.ada_values.specs.declared.fault.OperatorFault.TheVariants.{Overflow, DivisionByZero, WrongType}
+use Rattle.ada_parts.specs.declared.tasks.Direction.TheVariants.{PartsFirst, WholeFirst}
+use Rattle.ada_meaning.specs.declared.event.Birth.TheVariants.{Creation}
+use Rattle.ada_meaning.specs.declared.event.Cause.TheVariants.{Freeing}
 use Rattle.ada_meaning.specs.declared.state.Value.{Value}
+use Rattle.ada_meaning.specs.declared.state.Value.TheVariants.{Names}
 use Rattle.ada_meaning.specs.declared.state.Mode.TheVariants.{Running}
 use Rattle.ada_meaning.specs.declared.event.Cause.{Cause}
 use Rattle.ada_meaning.specs.declared.event.Halt.TheVariants.{Erroneous}
@@ -17,15 +21,15 @@ use Rattle.ada_meaning.specs.declared.event.Why.TheVariants.{GivesElsewhere}
 use Rattle.ada_meaning.specs.Event.{Back}
 use Rattle.ada_meaning.specs.Frame.{Frame, is_master, is_loop, is_return, Landing, passes_on, goes_behind, goes_in, handler_landing, landing}
 use Rattle.ada_meaning.specs.Frame as frame
-use Rattle.ada_meaning.specs.State.{Destination, home_of}
+use Rattle.ada_meaning.specs.State.{Destination, home_of, pool_freed_to}
 use Rattle.ada_meaning.specs.Heap.{Cell, Found, on_null, on_gone, on_other, finds}
-use Rattle.ada_meaning.specs.Step.{halts, moves, tells, asks, picks, at, held, newest, reading, component_next, follow_next, path_next, before_last, last_of, selected, named_next, holder_next, first_in, record_holder_next, referred_next, refers_next, open_next, opened_next, opens_next, expression_next, null_test_next, is_decided, link_next, links_next, outcome_next, item_next, items_next, copied_next, copies_next, newest_ones, without_newest, record_in, record_target_next, stored_from, record_stored_next, store_record_next, new_cell, answered, new_next, right_next, free_next, end_next, same_pool, told_back, given_back, back_next, freeing, freed_next, free_component_next, free_in_next}
+use Rattle.ada_meaning.specs.Step.{halts, moves, tells, asks, picks, all_tasks, at, held, newest, reading, component_next, follow_next, path_next, before_last, last_of, selected, named_next, holder_next, first_in, record_holder_next, referred_next, refers_next, open_next, opened_next, opens_next, expression_next, null_test_next, is_decided, link_next, links_next, outcome_next, item_next, items_next, copied_next, copies_next, newest_ones, without_newest, record_in, record_target_next, stored_from, record_stored_next, store_record_next, new_cell, answered, new_next, right_next, free_next, end_next, same_pool, told_back, given_back, back_next, freeing, freed_next, free_component_next, free_in_next}
 use Rattle.ada_meaning.specs.Named.{Object, State, Next, named, whole, inside, look, parted, finished, filled, returned, on_object, reads_boolean}
 use Rattle.ada_meaning.specs.Run.{Event}
 use Rattle.ada_meaning.specs.Law.{items_of}
 use Rattle.ada_scopes.proofs.Counts.{scopes}
 use Rattle.ada_scopes.proofs.Homes.{KeepsHome, home_has, housed_on, housed_new}
-use Rattle.ada_scopes.proofs.Control.{Nests, Goes, Whole, Parting, Nested, standing, whole_heap, parting_heap}
+use Rattle.ada_scopes.proofs.Control.{Nests, Goes, Whole, Parting, Nested, standing, whole_heap, parting_heap, nests_treating}
 
 -- What comes next nests, whatever is answered.
 abbrev pub Good : List TypeForm → Callees → Next → Type 0
@@ -167,15 +171,17 @@ module _ (types : List TypeForm) (callees : Callees) where
   store_record_good o first count on_other s h = tt
   store_record_good o first count (finds cell) s h = record_stored_good o first (newest_ones named count s) (record_in cell.values first count) (without_newest named count s) h
 
-  answered_good : (access count words : ℕ) (home : Destination) (s : State) (granted : Bool) → home_of access s.masters ≡ Some home → Stands types callees s → Nested types callees (answered named access count words home s granted)
-  answered_good access count words home s true is h =
-      let cell = new_cell named access count home s in
-      standing (whole_heap types s.masters s.heap _ (housed_new s.heap cell (items_of s.masters) (home_has access home s.masters is) h.0.housed) h.0) h.1
-  answered_good access count words home s false is h = standing h.0 h.1
+  answered_good : (definitions : List TypeDefinition) (access count words : ℕ) (home : Destination) (s : State) (granted : Bool) → home_of access s.masters ≡ Some home → Stands types callees s → Nested types callees (answered named definitions access count words home s granted)
+  answered_good definitions access count words home s true is h =
+      let cell = new_cell named definitions access count home s in
+      let name = Names (record { 0 = length s.heap }) in
+      standing (whole_heap types s.masters s.heap _ (housed_new s.heap cell (items_of s.masters) (home_has access home s.masters is) h.0.housed) h.0)
+      (nests_treating types callees (scopes s.masters) name (frame.begins Creation) (all_tasks definitions access PartsFirst) s.control h.1)
+  answered_good definitions access count words home s false is h = standing h.0 h.1
 
-  pub new_good : (access count words : ℕ) (home : Option Destination) (s : State) → home_of access s.masters ≡ home → Stands types callees s → Good types callees (new_next named access count words home s)
-  new_good access count words None s is h = standing h.0 h.1
-  new_good access count words (Some home) s is h = λ granted. answered_good access count words home s granted is h
+  pub new_good : (definitions : List TypeDefinition) (access count words : ℕ) (home : Option Destination) (s : State) → home_of access s.masters ≡ home → Stands types callees s → Good types callees (new_next named definitions access count words home s)
+  new_good definitions access count words None s is h = standing h.0 h.1
+  new_good definitions access count words (Some home) s is h = λ granted. answered_good definitions access count words home s granted is h
 
   -- What is passed by reference, and the components that get something back.
   referred_good : (o : Value) (first : ℕ) (found : Option (List Value)) (s : State) → Stands types callees s → Good types callees (referred_next named o first found s)
@@ -210,30 +216,33 @@ module _ (types : List TypeForm) (callees : Callees) where
   right_good definitions (computes e) s h = standing h.0 (tt, h.1)
 
   -- Free, and what it leads to.
-  freeing_good : (access : ℕ) (v : Value) (clears : Frame Value) (s : State) → Whole types s.masters s.heap → Nests types callees (scopes s.masters) (clears ∷ s.control) → Nested types callees (freeing named access v clears s)
-  freeing_good access v clears s w n = standing (whole_on parted v s keeps_parted w) (tt, (tt, n))
+  freeing_good : (definitions : List TypeDefinition) (access : ℕ) (v : Value) (cell : Cell Value) (clears : Frame Value) (s : State) → Whole types s.masters s.heap → Nests types callees (scopes s.masters) (clears ∷ s.control) → Nested types callees (freeing named definitions access v cell clears s)
+  freeing_good definitions access v cell clears s w n =
+      let back = frame.GivesBack v (Freeing s.next) (Some (pool_freed_to (home_of access s.masters))) in
+      standing (whole_on parted v s keeps_parted w)
+      (nests_treating types callees (scopes s.masters) v (frame.ends (Freeing s.next)) (all_tasks definitions cell.access WholeFirst) (frame.Ends v ∷ back ∷ clears ∷ s.control) (tt, (tt, n)))
 
-  pub free_good : (access x : ℕ) (v : Value) (found : Found (Cell Value)) (s : State) → Stands types callees s → Good types callees (free_next named access x v found s)
-  free_good access x v on_null s h = standing h.0 h.1
-  free_good access x v on_gone s h = tt
-  free_good access x v on_other s h = tt
-  free_good access x v (finds cell) s h = freeing_good access v (frame.Clears x) s h.0 (tt, h.1)
+  pub free_good : (definitions : List TypeDefinition) (access x : ℕ) (v : Value) (found : Found (Cell Value)) (s : State) → Stands types callees s → Good types callees (free_next named definitions access x v found s)
+  free_good definitions access x v on_null s h = standing h.0 h.1
+  free_good definitions access x v on_gone s h = tt
+  free_good definitions access x v on_other s h = tt
+  free_good definitions access x v (finds cell) s h = freeing_good definitions access v cell (frame.Clears x) s h.0 (tt, h.1)
 
-  freed_good : (access : ℕ) (o : Value) (c : ℕ) (v : Value) (found : Found (Cell Value)) (s : State) → Stands types callees s → Good types callees (freed_next named access o c v found s)
-  freed_good access o c v on_null s h = standing h.0 h.1
-  freed_good access o c v on_gone s h = tt
-  freed_good access o c v on_other s h = tt
-  freed_good access o c v (finds cell) s h = freeing_good access v (frame.ClearsIn o c) s h.0 (tt, h.1)
+  freed_good : (definitions : List TypeDefinition) (access : ℕ) (o : Value) (c : ℕ) (v : Value) (found : Found (Cell Value)) (s : State) → Stands types callees s → Good types callees (freed_next named definitions access o c v found s)
+  freed_good definitions access o c v on_null s h = standing h.0 h.1
+  freed_good definitions access o c v on_gone s h = tt
+  freed_good definitions access o c v on_other s h = tt
+  freed_good definitions access o c v (finds cell) s h = freeing_good definitions access v cell (frame.ClearsIn o c) s h.0 (tt, h.1)
 
-  free_component_good : (access : ℕ) (o : Value) (c : ℕ) (found : Option Value) (s : State) → Stands types callees s → Good types callees (free_component_next named access o c found s)
-  free_component_good access o c None s h = tt
-  free_component_good access o c (Some v) s h = freed_good access o c v (look s.heap v) s h
+  free_component_good : (definitions : List TypeDefinition) (access : ℕ) (o : Value) (c : ℕ) (found : Option Value) (s : State) → Stands types callees s → Good types callees (free_component_next named definitions access o c found s)
+  free_component_good definitions access o c None s h = tt
+  free_component_good definitions access o c (Some v) s h = freed_good definitions access o c v (look s.heap v) s h
 
-  pub free_in_good : (access : ℕ) (o : Value) (c : ℕ) (found : Found (Cell Value)) (s : State) → Stands types callees s → Good types callees (free_in_next named access o c found s)
-  free_in_good access o c on_null s h = standing h.0 h.1
-  free_in_good access o c on_gone s h = tt
-  free_in_good access o c on_other s h = tt
-  free_in_good access o c (finds cell) s h = free_component_good access o c (slice_get cell.values c) s h
+  pub free_in_good : (definitions : List TypeDefinition) (access : ℕ) (o : Value) (c : ℕ) (found : Found (Cell Value)) (s : State) → Stands types callees s → Good types callees (free_in_next named definitions access o c found s)
+  free_in_good definitions access o c on_null s h = standing h.0 h.1
+  free_in_good definitions access o c on_gone s h = tt
+  free_in_good definitions access o c on_other s h = tt
+  free_in_good definitions access o c (finds cell) s h = free_component_good definitions access o c (slice_get cell.values c) s h
 
   pub end_good : (v : Value) (found : Found (Cell Value)) (s : State) → Stands types callees s → Good types callees (end_next named v found s)
   end_good v on_null s h = tt

@@ -3,6 +3,9 @@
 use Rattle.std.proofs.Common.{◌≡◌, ℕ, Bool, true, false, if◌then◌else◌, List, [], ◌∷◌, Option, Some, None, refl, sym, subst}
 use Rattle.std.specs.List.{slice_index_or}
 use Rattle.ada_program.specs.declared.program.TypeDefinition.{TypeDefinition}
+use Rattle.ada_parts.specs.declared.tasks.Direction.TheVariants.{WholeFirst}
+use Rattle.ada_parts.specs.Task.{next as task_next}
+use Rattle.ada_program.specs.Controlled.{shapes_of}
 use Rattle.ada_program.specs.ProgramForm.{TypeForm, BodyForm}
 use Rattle.ada_program.specs.Nested.{Callees}
 use Rattle.ada_meaning.specs.declared.state.Value.{Value}
@@ -18,12 +21,13 @@ use Rattle.ada_meaning.specs.Frame.{Frame, is_master, is_loop, is_return, Landin
 use Rattle.ada_meaning.specs.Frame as frame
 use Rattle.ada_meaning.specs.State.{Owned, declared, collection, record_object, storage_pool, Item, Master}
 use Rattle.ada_meaning.specs.Heap.{Cell, Found, on_null, on_gone, on_other, finds}
-use Rattle.ada_meaning.specs.Step.{halts, at, older, shorter, end_next, same_pool, told_back, given_back, back_next, members_next, item_leave_next, master_leave_next, leave_next, running_next}
+use Rattle.ada_meaning.specs.Step.{halts, all_tasks, taken_out, at, older, shorter, end_next, same_pool, told_back, given_back, back_next, members_next, item_leave_next, master_leave_next, leave_next, running_next}
 use Rattle.ada_meaning.specs.Named.{Object, State, named, look, lent, parted, finished, returned, on_object, members}
 use Rattle.ada_meaning.specs.Run.{Event}
 use Rattle.ada_scopes.proofs.Counts.{scopes, older_shorter, scopes_older}
 use Rattle.ada_scopes.proofs.Homes.{IsEmpty, housed_shorter}
-use Rattle.ada_scopes.proofs.Control.{Nests, Goes, Whole, Parting, Nested, standing, parting, lone_shorter}
+use Rattle.ada_scopes.proofs.Control.{Nests, Goes, Whole, Parting, Nested, standing, parting, lone_shorter, goes_treating}
+use Rattle.ada_scopes.proofs.Treatments.{treating_good}
 use Rattle.ada_scopes.proofs.Evaluations.{Good, Parts, keeps_parted, keeps_finished, keeps_returned, parting_on}
 
 module _ (types : List TypeForm) (callees : Callees) where
@@ -42,33 +46,45 @@ module _ (types : List TypeForm) (callees : Callees) where
       parting (subst (λ (xs : List Master). Parting types (shorter xs) s.heap) (sym is) (parting_shorter m item items ms s.heap empty (subst (λ (xs : List Master). Parting types xs s.heap) is p))) runs
       (rw (older_shorter s.masters) n)
 
-  members_good : (mode : Mode) (m : ℕ) (pool : Option ℕ) (item : Item) (items : List Item) (ms : List Master) (vs : List Value) (s : State) → (members s.heap item.number ≡ [] → IsEmpty s.heap item item.owned) → members s.heap item.number ≡ vs → s.masters ≡ record { number = m; items = item ∷ items } ∷ ms → Parting types s.masters s.heap → s.mode ≡ Running → Nests types callees (older (scopes s.masters)) s.control → Good types callees (members_next named (Leaving m item.number) pool vs (at (frame.Leaves mode ∷ s.control) s))
-  members_good mode m pool item items ms [] s own none is p runs n = shorter_good mode m item items ms s is (own none) p runs n
-  members_good mode m pool item items ms (v ∷ vs) s own some is p runs n =
-      λ i lt. parting (parting_on types callees parted (slice_index_or (v ∷ vs) i Null) s keeps_parted p) runs n
+  -- The object that is taken is treated before it ends, if it is there.
+  taken_good : (definitions : List TypeDefinition) (mode : Mode) (cause : Cause) (pool : Option ℕ) (v : Value) (found : Found (Cell Value)) (s : State) → Parting types s.masters s.heap → s.mode ≡ Running → Nests types callees (older (scopes s.masters)) s.control → Nested types callees (taken_out named definitions cause pool v found (at (frame.Leaves mode ∷ s.control) s))
+  taken_good definitions mode cause pool v on_null s p runs n = parting (parting_on types callees parted v s keeps_parted p) runs n
+  taken_good definitions mode cause pool v on_gone s p runs n = parting (parting_on types callees parted v s keeps_parted p) runs n
+  taken_good definitions mode cause pool v on_other s p runs n = parting (parting_on types callees parted v s keeps_parted p) runs n
+  taken_good definitions mode cause pool v (finds cell) s p runs n =
+      parting (parting_on types callees parted v s keeps_parted p) runs
+      (goes_treating types callees (scopes s.masters) v (frame.ends cause) (all_tasks definitions cell.access WholeFirst)
+      (frame.Ends v ∷ frame.GivesBack v cause pool ∷ frame.Leaves mode ∷ s.control) n)
 
-  item_leave_good : (mode : Mode) (m : ℕ) (item : Item) (items : List Item) (ms : List Master) (owned : Owned) (s : State) → item.owned ≡ owned → s.masters ≡ record { number = m; items = item ∷ items } ∷ ms → Parting types s.masters s.heap → s.mode ≡ Running → Nests types callees (older (scopes s.masters)) s.control → Good types callees (item_leave_next named m item owned (at (frame.Leaves mode ∷ s.control) s))
-  item_leave_good mode m item items ms (declared x) s own is p runs n =
+  members_good : (definitions : List TypeDefinition) (mode : Mode) (m : ℕ) (pool : Option ℕ) (item : Item) (items : List Item) (ms : List Master) (vs : List Value) (s : State) → (members s.heap item.number ≡ [] → IsEmpty s.heap item item.owned) → members s.heap item.number ≡ vs → s.masters ≡ record { number = m; items = item ∷ items } ∷ ms → Parting types s.masters s.heap → s.mode ≡ Running → Nests types callees (older (scopes s.masters)) s.control → Good types callees (members_next named definitions (Leaving m item.number) pool vs (at (frame.Leaves mode ∷ s.control) s))
+  members_good definitions mode m pool item items ms [] s own none is p runs n = shorter_good mode m item items ms s is (own none) p runs n
+  members_good definitions mode m pool item items ms (v ∷ vs) s own some is p runs n =
+      λ i lt.
+      let one = slice_index_or (v ∷ vs) i Null in
+      taken_good definitions mode (Leaving m item.number) pool one (look s.heap one) s p runs n
+
+  item_leave_good : (definitions : List TypeDefinition) (mode : Mode) (m : ℕ) (item : Item) (items : List Item) (ms : List Master) (owned : Owned) (s : State) → item.owned ≡ owned → s.masters ≡ record { number = m; items = item ∷ items } ∷ ms → Parting types s.masters s.heap → s.mode ≡ Running → Nests types callees (older (scopes s.masters)) s.control → Good types callees (item_leave_next named definitions m item owned (at (frame.Leaves mode ∷ s.control) s))
+  item_leave_good definitions mode m item items ms (declared x) s own is p runs n =
       shorter_good mode m item items ms s is (subst (λ (o : Owned). IsEmpty s.heap item o) (sym own) tt) p runs n
-  item_leave_good mode m item items ms (storage_pool declaration number) s own is p runs n =
+  item_leave_good definitions mode m item items ms (storage_pool declaration number) s own is p runs n =
       shorter_good mode m item items ms s is (subst (λ (o : Owned). IsEmpty s.heap item o) (sym own) tt) p runs n
-  item_leave_good mode m item items ms (collection access pool) s own is p runs n =
-      members_good mode m pool item items ms (members s.heap item.number) s (λ none. subst (λ (o : Owned). IsEmpty s.heap item o) (sym own) none) refl is p runs n
-  item_leave_good mode m item items ms (record_object t) s own is p runs n =
-      members_good mode m None item items ms (members s.heap item.number) s (λ none. subst (λ (o : Owned). IsEmpty s.heap item o) (sym own) none) refl is p runs n
+  item_leave_good definitions mode m item items ms (collection access pool) s own is p runs n =
+      members_good definitions mode m pool item items ms (members s.heap item.number) s (λ none. subst (λ (o : Owned). IsEmpty s.heap item o) (sym own) none) refl is p runs n
+  item_leave_good definitions mode m item items ms (record_object t) s own is p runs n =
+      members_good definitions mode m None item items ms (members s.heap item.number) s (λ none. subst (λ (o : Owned). IsEmpty s.heap item o) (sym own) none) refl is p runs n
 
   whole_left : (m : ℕ) (ms : List Master) (heap : List Object) → Parting types (record { number = m; items = [] } ∷ ms) heap → Whole types ms heap
   whole_left m ms heap p = record { lone = p.lone; needs = p.needs; housed = p.housed; fit = p.fit; records = p.records }
 
-  master_leave_good : (mode : Mode) (m : ℕ) (items : List Item) (ms : List Master) (s : State) → s.masters ≡ record { number = m; items = items } ∷ ms → Parting types s.masters s.heap → s.mode ≡ Running → Nests types callees (older (scopes s.masters)) s.control → Good types callees (master_leave_next named mode m items s)
-  master_leave_good mode m [] ms s is p runs n =
+  master_leave_good : (definitions : List TypeDefinition) (mode : Mode) (m : ℕ) (items : List Item) (ms : List Master) (s : State) → s.masters ≡ record { number = m; items = items } ∷ ms → Parting types s.masters s.heap → s.mode ≡ Running → Nests types callees (older (scopes s.masters)) s.control → Good types callees (master_leave_next named definitions mode m items s)
+  master_leave_good definitions mode m [] ms s is p runs n =
       standing (subst (λ (xs : List Master). Whole types (older xs) s.heap) (sym is) (whole_left m ms s.heap (subst (λ (xs : List Master). Parting types xs s.heap) is p)))
       (rw (scopes_older s.masters) n)
-  master_leave_good mode m (item ∷ items) ms s is p runs n = item_leave_good mode m item items ms item.owned s refl is p runs n
+  master_leave_good definitions mode m (item ∷ items) ms s is p runs n = item_leave_good definitions mode m item items ms item.owned s refl is p runs n
 
-  leave_good : (mode : Mode) (ms : List Master) (s : State) → s.masters ≡ ms → Parting types s.masters s.heap → s.mode ≡ Running → Nests types callees (older (scopes s.masters)) s.control → Good types callees (leave_next named mode ms s)
-  leave_good mode [] s is p runs n = tt
-  leave_good mode (m ∷ ms) s is p runs n = master_leave_good mode m.number m.items ms s is p runs n
+  leave_good : (definitions : List TypeDefinition) (mode : Mode) (ms : List Master) (s : State) → s.masters ≡ ms → Parting types s.masters s.heap → s.mode ≡ Running → Nests types callees (older (scopes s.masters)) s.control → Good types callees (leave_next named definitions mode ms s)
+  leave_good definitions mode [] s is p runs n = tt
+  leave_good definitions mode (m ∷ ms) s is p runs n = master_leave_good definitions mode m.number m.items ms s is p runs n
 
   -- An object that has been taken ends, and its words go back.
   ending_good : (v : Value) (found : Found (Cell Value)) (s : State) → Parts types callees s → Good types callees (end_next named v found s)
@@ -93,7 +109,9 @@ module _ (types : List TypeForm) (callees : Callees) where
 
   pub parts_good : (bodies : List BodyForm) (definitions : List TypeDefinition) (k : List (Frame Value)) (s : State) → s.mode ≡ Running → Parting types s.masters s.heap → Goes types callees (scopes s.masters) k → Good types callees (running_next named definitions bodies k s)
   parts_good bodies definitions [] s runs p goes = absurd goes
-  parts_good bodies definitions (frame.Leaves mode ∷ k) s runs p goes = leave_good mode s.masters (at k s) refl p runs goes
+  parts_good bodies definitions (frame.Leaves mode ∷ k) s runs p goes = leave_good definitions mode s.masters (at k s) refl p runs goes
+  parts_good bodies definitions (frame.Treats v treatment tasks ∷ k) s runs p goes =
+      treating_good types callees (shapes_of definitions) v treatment tasks (task_next tasks) (at k s) (p, runs, goes)
   parts_good bodies definitions (frame.Ends v ∷ k) s runs p goes = ending_good v (look s.heap v) (at k s) (p, runs, goes)
   parts_good bodies definitions (frame.GivesBack v cause pool ∷ k) s runs p goes = backing_good v cause pool (lent s.heap v) (at k s) (p, runs, goes)
   parts_good bodies definitions (f ∷ k) s runs p goes = absurd goes

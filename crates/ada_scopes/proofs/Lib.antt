@@ -10,6 +10,8 @@ pub mod Control
 pub mod Homes
 -- what comes next while forms are evaluated nests
 pub mod Evaluations
+-- controlled parts are treated
+pub mod Treatments
 -- so it does while a master is being left
 pub mod Leavings
 -- each step leads from nested states to nested states

@@ -1,6 +1,6 @@
 -- Each step of a state that nests leads to one that nests, whatever is answered.
 
-use Rattle.std.proofs.Common.{◌≡◌, ℕ, ℤ, ◌≤◌, ◌+◌, ◌==◌, Bool, true, false, if◌then◌else◌, List, [], ◌∷◌, ◌++◌, Option, Some, None, arith, refl, sym, ap, subst}
+use Rattle.std.proofs.Common.{◌≡◌, ℕ, ℤ, ◌≤◌, ◌+◌, ◌==◌, Bool, true, false, if◌then◌else◌, List, [], ◌∷◌, ◌++◌, length, Option, Some, None, arith, refl, sym, ap, subst}
 use Rattle.std.specs.Prelude.{int_le}
 use Rattle.std.proofs.lemmas.Bool.{eq-eqb}
 use Rattle.std.specs.List.{slice_get, list_all}
@@ -8,25 +8,30 @@ use Rattle.ada_program.specs.declared.program.TypeDefinition.{TypeDefinition}
 use Rattle.ada_program.specs.declared.program.Exception.{Exception}
 use Rattle.ada_program.specs.Form.{ActualForm, in_value, in_null, in_access, in_record, in_out_path, in_out_access, in_out_component, in_out_record, ExpressionForm, ItemForm, RightForm, StmtForm, skips, assigns, assigns_record, frees, gets, writes, writes_text, chooses, repeats, counts, exits, calls, returns, raises, encloses, StmtsForm, no_stmts, a_stmt, BranchesForm, otherwise, a_branch, HandlersForm, no_handlers, a_handler, DeclarationForm, creates_pool, collects, declares, declares_record}
 use Rattle.ada_program.specs.Handling.{some_takes, handler_of}
+use Rattle.ada_parts.specs.declared.tasks.Direction.TheVariants.{PartsFirst}
+use Rattle.ada_parts.specs.Task.{next as task_next}
+use Rattle.ada_program.specs.Controlled.{shapes_of}
+use Rattle.ada_meaning.specs.declared.event.Birth.TheVariants.{Creation}
 use Rattle.ada_program.specs.ProgramForm.{TypeForm, BodyForm}
 use Rattle.ada_program.specs.Typed.{reached_of, words_of, width_of, pool_named}
 use Rattle.ada_program.specs.WellFormed.{is_access, reached_components, is_object}
 use Rattle.ada_program.specs.Nested.{Callees, call_nests, collected, are_open}
 use Rattle.ada_meaning.specs.declared.state.Value.{Value}
-use Rattle.ada_meaning.specs.declared.state.Value.TheVariants.{Null}
+use Rattle.ada_meaning.specs.declared.state.Value.TheVariants.{Null, Names}
 use Rattle.ada_meaning.specs.declared.state.Mode.{Mode}
 use Rattle.ada_meaning.specs.declared.state.Mode.TheVariants.{Running, Raising, Exiting, Returning}
 use Rattle.ada_meaning.specs.Event.{Quiet}
 use Rattle.ada_meaning.specs.Frame.{Frame, is_master, is_loop, is_return, Landing, passes_on, goes_behind, goes_in, handler_landing, landing}
 use Rattle.ada_meaning.specs.Frame as frame
-use Rattle.ada_meaning.specs.State.{collection, storage_pool, Master, height, home_of, pools_in, pool_for}
+use Rattle.ada_meaning.specs.State.{collection, record_object, storage_pool, Master, height, home_of, pools_in, pool_for}
 use Rattle.ada_meaning.specs.Heap.{Cell, Found, on_null, on_gone, on_other, finds}
-use Rattle.ada_meaning.specs.Step.{moves, at, older, owning, popped, held, newest, newest_ones, without_newest, initial_values, record_cell, made, record_next, operand_count, references_in, storing, assign_next, target_next, stored_next, store_next, frees_next, branches_next, decided_next, turn_next, repeats_next, turned_next, count_turn_next, ranges_next, gets_next, received_next, receive_next, exit_next, exited_next, begun, computing, call_next, stmt_next, stmts_next, line_next, declarations_next, frame_next, resumed, returned, left_by, unwound, landed, pass_next, running_next, jump_next, mode_next}
+use Rattle.ada_meaning.specs.Step.{moves, all_tasks, at, older, owning, popped, held, newest, newest_ones, without_newest, initial_values, record_cell, made, record_next, operand_count, references_in, storing, assign_next, target_next, stored_next, store_next, frees_next, branches_next, decided_next, turn_next, repeats_next, turned_next, count_turn_next, ranges_next, gets_next, received_next, receive_next, exit_next, exited_next, begun, computing, call_next, stmt_next, stmts_next, line_next, declarations_next, frame_next, resumed, returned, left_by, unwound, landed, pass_next, running_next, jump_next, mode_next}
 use Rattle.ada_meaning.specs.Named.{Object, State, next, named, look, lent, an_integer, filled, reads_boolean, reads_null, reads_integer, unary_given, binary_given}
 use Rattle.ada_scopes.proofs.Counts.{one, times, opened, Scopes, scopes, all_of}
 use Rattle.ada_scopes.proofs.Texts.{StatementNests, StatementsNest, BranchesNest, HandlersNest, BodyNests, BodiesNest}
-use Rattle.ada_scopes.proofs.Control.{Alike, Where, HasOne, RecordHere, FrameNests, behind, Nests, Whole, Growing, Begins, Nested, standing, beginning, parting, whole_declared, nests_declared, whole_recorded, nests_recorded, whole_parts, grows, grown}
+use Rattle.ada_scopes.proofs.Control.{Alike, Where, HasOne, RecordHere, FrameNests, behind, Nests, Whole, Growing, Begins, Nested, standing, beginning, parting, whole_declared, nests_declared, whole_recorded, nests_recorded, nests_treating, whole_parts, grows, grown}
 use Rattle.ada_scopes.proofs.Evaluations.{Good, Stands, keeps_filled, whole_on, path_good, holder_good, record_holder_good, refers_good, open_good, opens_good, expression_good, null_test_good, links_good, outcome_good, items_good, copies_good, record_target_good, store_record_good, new_good, right_good, free_good, free_in_good, end_good, back_good}
+use Rattle.ada_scopes.proofs.Treatments.{treats_good}
 use Rattle.ada_scopes.proofs.Leavings.{parts_good}
 
 module _ (types : List TypeForm) (callees : Callees) (bodies : List BodyForm) (nesting : BodiesNest types callees bodies) where
@@ -54,9 +59,9 @@ module _ (types : List TypeForm) (callees : Callees) (bodies : List BodyForm) (n
   store_good o c v on_other s h = tt
   store_good o c v (finds cell) s h = stored_good o c v (slice_get cell.values c) s h
 
-  frees_good : (cs : List ℕ) (access x : ℕ) (s : State) → Stands types callees s → Good types callees (frees_next named cs access x s)
-  frees_good [] access x s h = free_good types callees access x (held named s x) (look s.heap (held named s x)) s h
-  frees_good (c ∷ cs) access x s h = holder_good types callees c cs x (λ last. frame.FreesIn access last) s (λ n. (tt, h.1)) h
+  frees_good : (definitions : List TypeDefinition) (cs : List ℕ) (access x : ℕ) (s : State) → Stands types callees s → Good types callees (frees_next named definitions cs access x s)
+  frees_good definitions [] access x s h = free_good types callees definitions access x (held named s x) (look s.heap (held named s x)) s h
+  frees_good definitions (c ∷ cs) access x s h = holder_good types callees c cs x (λ last. frame.FreesIn access last) s (λ n. (tt, h.1)) h
 
   branches_good : (branches : BranchesForm) (s : State) (around : List ℕ) → Alike around (all_of (scopes s.masters)) → BranchesNest types callees around branches → Stands types callees s → Good types callees (branches_next named branches s)
   branches_good (otherwise fs) s around alike nest h = standing h.0 ((around, alike, nest), h.1)
@@ -158,23 +163,23 @@ module _ (types : List TypeForm) (callees : Callees) (bodies : List BodyForm) (n
     nests = (tt, h.1);
   })
 
-  stmt_good : (f : StmtForm) (s : State) (around : List ℕ) → s.mode ≡ Running → Alike around (all_of (scopes s.masters)) → StatementNests types callees around f → Stands types callees s → Good types callees (stmt_next named bodies f s)
-  stmt_good skips s around runs alike nest h = standing h.0 h.1
-  stmt_good (assigns target right) s around runs alike nest h = assign_good target.selectors target.root right s h
-  stmt_good (assigns_record target items) s around runs alike nest h =
+  stmt_good : (definitions : List TypeDefinition) (f : StmtForm) (s : State) (around : List ℕ) → s.mode ≡ Running → Alike around (all_of (scopes s.masters)) → StatementNests types callees around f → Stands types callees s → Good types callees (stmt_next named definitions bodies f s)
+  stmt_good definitions skips s around runs alike nest h = standing h.0 h.1
+  stmt_good definitions (assigns target right) s around runs alike nest h = assign_good target.selectors target.root right s h
+  stmt_good definitions (assigns_record target items) s around runs alike nest h =
       record_holder_good types callees target (λ first. frame.TargetsRecord first target.record_type items) s (λ n. (tt, h.1)) h
-  stmt_good (frees access path) s around runs alike nest h = frees_good path.selectors access path.root s h
-  stmt_good (gets target) s around runs alike nest h = gets_good target.selectors target.root s.input s h
-  stmt_good (writes e) s around runs alike nest h = standing h.0 (tt, (tt, h.1))
-  stmt_good (writes_text text) s around runs alike nest h = standing h.0 h.1
-  stmt_good (chooses branches) s around runs alike nest h = branches_good branches s around alike nest h
-  stmt_good (repeats condition fs end_spot) s around runs alike nest h = standing h.0 ((around, alike, nest), h.1)
-  stmt_good (counts x low high fs end_spot) s around runs alike nest h = standing h.0 (tt, (tt, ((around, alike, nest), h.1)))
-  stmt_good (exits condition spot) s around runs alike nest h = exit_good condition s h
-  stmt_good (calls procedure actuals) s around runs alike nest h = call_good procedure actuals (slice_get bodies procedure) s around refl alike nest h
-  stmt_good (returns spot) s around runs alike nest h = standing h.0 h.1
-  stmt_good (raises e) s around runs alike nest h = standing h.0 h.1
-  stmt_good (encloses ds fs hs) s around runs alike nest h = beginning (record {
+  stmt_good definitions (frees access path) s around runs alike nest h = frees_good definitions path.selectors access path.root s h
+  stmt_good definitions (gets target) s around runs alike nest h = gets_good target.selectors target.root s.input s h
+  stmt_good definitions (writes e) s around runs alike nest h = standing h.0 (tt, (tt, h.1))
+  stmt_good definitions (writes_text text) s around runs alike nest h = standing h.0 h.1
+  stmt_good definitions (chooses branches) s around runs alike nest h = branches_good branches s around alike nest h
+  stmt_good definitions (repeats condition fs end_spot) s around runs alike nest h = standing h.0 ((around, alike, nest), h.1)
+  stmt_good definitions (counts x low high fs end_spot) s around runs alike nest h = standing h.0 (tt, (tt, ((around, alike, nest), h.1)))
+  stmt_good definitions (exits condition spot) s around runs alike nest h = exit_good condition s h
+  stmt_good definitions (calls procedure actuals) s around runs alike nest h = call_good procedure actuals (slice_get bodies procedure) s around refl alike nest h
+  stmt_good definitions (returns spot) s around runs alike nest h = standing h.0 h.1
+  stmt_good definitions (raises e) s around runs alike nest h = standing h.0 h.1
+  stmt_good definitions (encloses ds fs hs) s around runs alike nest h = beginning (record {
     m = record { number = s.next; items = [] };
     rest = s.masters;
     ds = ds;
@@ -191,9 +196,9 @@ module _ (types : List TypeForm) (callees : Callees) (bodies : List BodyForm) (n
     nests = h.1;
   })
 
-  stmts_good : (fs : StmtsForm) (s : State) → s.mode ≡ Running → StatementsHere s fs → Stands types callees s → Good types callees (stmts_next named bodies fs s)
-  stmts_good no_stmts s runs nest h = standing h.0 h.1
-  stmts_good (a_stmt f fs) s runs nest h = stmt_good f (at (frame.Does fs ∷ s.control) s) nest.0 runs nest.1 nest.2.0 (h.0, ((nest.0, nest.1, nest.2.1), h.1))
+  stmts_good : (definitions : List TypeDefinition) (fs : StmtsForm) (s : State) → s.mode ≡ Running → StatementsHere s fs → Stands types callees s → Good types callees (stmts_next named definitions bodies fs s)
+  stmts_good definitions no_stmts s runs nest h = standing h.0 h.1
+  stmts_good definitions (a_stmt f fs) s runs nest h = stmt_good definitions f (at (frame.Does fs ∷ s.control) s) nest.0 runs nest.1 nest.2.0 (h.0, ((nest.0, nest.1, nest.2.1), h.1))
 
   line_good : (read : Option ℤ) (s : State) → Stands types callees s → Good types callees (line_next named read s)
   line_good None s h = tt
@@ -203,8 +208,9 @@ module _ (types : List TypeForm) (callees : Callees) (bodies : List BodyForm) (n
   made_good : (definitions : List TypeDefinition) (x t : ℕ) (values : List Value) (s : State) → RecordHere types (all_of (scopes s.masters)) t → HasOne (scopes s.masters) → Stands types callees s → Nested types callees (made named definitions x t values s)
   made_good definitions x t values s opens some h =
       standing
-      (whole_recorded types (height s.masters) t s.masters s.heap (record_cell named t (height s.masters) values) opens.0 some refl refl refl opens.1 opens.2.0 opens.2.1 h.0)
-      (nests_recorded types callees (height s.masters) t s.masters s.control h.1)
+      (whole_recorded types (height s.masters) t s.masters s.heap (record_cell named definitions t (height s.masters) values) opens.0 some refl refl refl opens.1 opens.2.0 opens.2.1 h.0)
+      (nests_treating types callees (scopes (owning (record { number = height s.masters; owned = record_object t }) s.masters)) (Names (record { 0 = length s.heap })) (frame.begins Creation) (all_tasks definitions t PartsFirst) s.control
+      (nests_recorded types callees (height s.masters) t s.masters s.control h.1))
 
   record_good : (definitions : List TypeDefinition) (x t : ℕ) (initial : Option (List ItemForm)) (s : State) → RecordHere types (all_of (scopes s.masters)) t → HasOne (scopes s.masters) → Stands types callees s → Good types callees (record_next named definitions x t initial s)
   record_good definitions x t None s opens some h = made_good definitions x t (initial_values named (reached_of definitions t)) s opens some h
@@ -224,7 +230,7 @@ module _ (types : List TypeForm) (callees : Callees) (bodies : List BodyForm) (n
   -- Each frame that is taken off.
   frame_good : (definitions : List TypeDefinition) (f : Frame Value) (s : State) → s.mode ≡ Running → Whole types s.masters s.heap → FrameNests types callees (scopes s.masters) f → Nests types callees (behind (is_master f) (scopes s.masters)) s.control → Good types callees (frame_next named definitions bodies f s)
   frame_good definitions (frame.Elaborates ds fs hs) s runs w nest n = elaborated_good definitions ds fs hs s w nest n
-  frame_good definitions (frame.Does fs) s runs w nest n = stmts_good fs s runs nest (w, n)
+  frame_good definitions (frame.Does fs) s runs w nest n = stmts_good definitions fs s runs nest (w, n)
   frame_good definitions (frame.Decides fs branches) s runs w nest n = decided_good fs branches (reads_boolean (newest named s)) (popped s) nest (w, n)
   frame_good definitions (frame.Repeats condition fs) s runs w nest n = repeats_good condition fs s nest (w, n)
   frame_good definitions (frame.Turns condition fs) s runs w nest n = turned_good condition fs (reads_boolean (newest named s)) (popped s) nest (w, n)
@@ -251,10 +257,12 @@ module _ (types : List TypeForm) (callees : Callees) (bodies : List BodyForm) (n
   frame_good definitions (frame.AppliesAlone operator) s runs w nest n = outcome_good types callees (unary_given operator (newest named s)) (popped s) (w, n)
   frame_good definitions (frame.Fills items) s runs w nest n = items_good types callees items s (w, n)
   frame_good definitions (frame.Copies first t) s runs w nest n = copies_good types callees (newest named s) first (width_of definitions t) (look s.heap (newest named s)) (popped s) (w, n)
-  frame_good definitions (frame.Creates access count) s runs w nest n = new_good types callees access count (words_of definitions access) (home_of access s.masters) s refl (w, n)
+  frame_good definitions (frame.Creates access count) s runs w nest n = new_good types callees definitions access count (words_of definitions access) (home_of access s.masters) s refl (w, n)
   frame_good definitions (frame.Stores x) s runs w nest n = standing w n
   frame_good definitions (frame.Declares x) s runs w nest n =
       standing (whole_declared types (height s.masters) x s.masters s.heap w) (nests_declared types callees (height s.masters) x s.masters s.control n)
+  frame_good definitions (frame.Treats v treatment tasks) s runs w nest n =
+      treats_good types callees (shapes_of definitions) v treatment tasks (task_next tasks) s (w, n)
   frame_good definitions frame.Writes s runs w nest n = line_good (reads_integer (newest named s)) (popped s) (w, n)
   frame_good definitions (frame.Ends v) s runs w nest n = end_good types callees v (look s.heap v) s (w, n)
   frame_good definitions (frame.GivesBack v cause pool) s runs w nest n = back_good types callees v cause pool (lent s.heap v) s (w, n)
@@ -267,7 +275,7 @@ module _ (types : List TypeForm) (callees : Callees) (bodies : List BodyForm) (n
   frame_good definitions (frame.DeclaresRecord x t) s runs w nest n =
       made_good definitions x t (newest_ones named (words_of definitions t) s) (without_newest named (words_of definitions t) s) nest.0 nest.1 (w, n)
   frame_good definitions (frame.Receives c) s runs w nest n = receive_good (newest named s) c (look s.heap (newest named s)) (popped s) (w, n)
-  frame_good definitions (frame.FreesIn access c) s runs w nest n = free_in_good types callees access (newest named s) c (look s.heap (newest named s)) (popped s) (w, n)
+  frame_good definitions (frame.FreesIn access c) s runs w nest n = free_in_good types callees definitions access (newest named s) c (look s.heap (newest named s)) (popped s) (w, n)
   frame_good definitions (frame.ClearsIn o c) s runs w nest n = store_good o c Null (look s.heap o) s (w, n)
 
   stands_good : (definitions : List TypeDefinition) (k : List (Frame Value)) (s : State) → s.mode ≡ Running → Whole types s.masters s.heap → Nests types callees (scopes s.masters) k → Good types callees (running_next named definitions bodies k s)

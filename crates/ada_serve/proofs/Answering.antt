@@ -58,14 +58,14 @@ first_of kept all v e f =
     elim (fits MOST_KEPT all) [ inl whole ↦ subst (λ (source : List ℕ). IsFirst source v) (e ∙ whole) f | inr cut ↦ first_cut kept all v (too_long kept all e cut.0) cut.1 f ]
 
 -- the answer to a program that is run is what its run on the numbers of its input says
-run_answers : (IsInput : List ℕ → Type 0) (program : Program) (numbers : List ℤ) (limit : ℕ) (start : Runner) (old new : Option (List ℕ)) (result : Result Status ServeFault) → GivesNumbers IsInput numbers → SaysFront (HasRun program numbers limit start) old new result → SaysFront (IsRunAnswer IsInput program limit start) old new result
-run_answers IsInput program numbers limit start old new (Ok ending) given s = record { text = s.text; is = record { numbers = numbers; given = given; run = s.is }; written = s.written }
-run_answers IsInput program numbers limit start old new (Err fault) given (inl nothing) = inl nothing
-run_answers IsInput program numbers limit start old new (Err fault) given (inr s) = inr (record { text = s.text; status = s.status; is = record { numbers = numbers; given = given; run = s.is }; written = s.written })
+run_answers : (IsInput : List ℕ → Type 0) (program : Program) (trace : Bool) (numbers : List ℤ) (limit : ℕ) (start : Runner) (old new : Option (List ℕ)) (result : Result Status ServeFault) → GivesNumbers IsInput numbers → SaysFront (HasRun program trace numbers limit start) old new result → SaysFront (IsRunAnswer IsInput program trace limit start) old new result
+run_answers IsInput program trace numbers limit start old new (Ok ending) given s = record { text = s.text; is = record { numbers = numbers; given = given; run = s.is }; written = s.written }
+run_answers IsInput program trace numbers limit start old new (Err fault) given (inl nothing) = inl nothing
+run_answers IsInput program trace numbers limit start old new (Err fault) given (inr s) = inr (record { text = s.text; status = s.status; is = record { numbers = numbers; given = given; run = s.is }; written = s.written })
 
-pub answers_run : (IsInput : List ℕ → Type 0) (program other : Program) (numbers : List ℤ) (options : Options) (old new : Option (List ℕ)) (result : Result Status ServeFault) → options.run ≡ true → other ≡ program → GivesNumbers IsInput numbers → SaysFront (HasRun other numbers options.steps (runner_before other options)) old new result → SaysFront (IsProgramAnswer IsInput program options.run options.steps (runner_before program options)) old new result
+pub answers_run : (IsInput : List ℕ → Type 0) (program other : Program) (numbers : List ℤ) (options : Options) (old new : Option (List ℕ)) (result : Result Status ServeFault) → options.run ≡ true → other ≡ program → GivesNumbers IsInput numbers → SaysFront (HasRun other options.trace numbers options.steps (runner_before other options)) old new result → SaysFront (IsProgramAnswer IsInput program options.run options.trace options.steps (runner_before program options)) old new result
 answers_run IsInput program other numbers options old new result e same given h =
-    subst (λ (b : Bool). SaysFront (IsProgramAnswer IsInput program b options.steps (runner_before program options)) old new result) (sym e) (run_answers IsInput program numbers options.steps (runner_before program options) old new result given (subst (λ (p : Program). SaysFront (HasRun p numbers options.steps (runner_before p options)) old new result) same h))
+    subst (λ (b : Bool). SaysFront (IsProgramAnswer IsInput program b options.trace options.steps (runner_before program options)) old new result) (sym e) (run_answers IsInput program options.trace numbers options.steps (runner_before program options) old new result given (subst (λ (p : Program). SaysFront (HasRun p options.trace numbers options.steps (runner_before p options)) old new result) same h))
 
 -- what only writes has no fault of the input
 writes_alone : {W : Type 0} (P : Type 0) (writes : W → Option (List ℕ) → W → Type 0) (first last : W) (fault : ServeFault) → FaultWrites writes first last fault → IsOfInput fault → P
@@ -145,28 +145,28 @@ no_refused (halt.Erroneous why) e = cc
 no_refused halt.Stuck e = cc
 no_refused halt.Memory e = cc
 
-run_accepted : (program : Program) (numbers : List ℤ) (limit : ℕ) (start : Runner) (text : List ℕ) → HasRun program numbers limit start text status.Accepted → ⊥
-run_accepted program numbers limit start text (ended statements events runner last halt within run halts is e) = no_accepted halt e
-run_accepted program numbers limit start text (stopped events runner last run starts is e) = absurd (cc)
+run_accepted : (program : Program) (trace : Bool) (numbers : List ℤ) (limit : ℕ) (start : Runner) (text : List ℕ) → HasRun program trace numbers limit start text status.Accepted → ⊥
+run_accepted program trace numbers limit start text (ended statements events runner last halt within run halts is e) = no_accepted halt e
+run_accepted program trace numbers limit start text (stopped events runner last run starts is e) = absurd (cc)
 
-run_refused : (program : Program) (numbers : List ℤ) (limit : ℕ) (start : Runner) (text : List ℕ) → HasRun program numbers limit start text status.Refused → ⊥
-run_refused program numbers limit start text (ended statements events runner last halt within run halts is e) = no_refused halt e
-run_refused program numbers limit start text (stopped events runner last run starts is e) = absurd (cc)
+run_refused : (program : Program) (trace : Bool) (numbers : List ℤ) (limit : ℕ) (start : Runner) (text : List ℕ) → HasRun program trace numbers limit start text status.Refused → ⊥
+run_refused program trace numbers limit start text (ended statements events runner last halt within run halts is e) = no_refused halt e
+run_refused program trace numbers limit start text (stopped events runner last run starts is e) = absurd (cc)
 
 -- the input of a source that is run is read, and gives the numbers
-pub input_read : {I W : Type 0} (remaining : I → Option (List ℕ)) (reads : I → Option (List ℕ) → I → Type 0) (writes : W → Option (List ℕ) → W → Type 0) (first last : I) (before after : W) (program : Program) (numbers : List ℤ) (limit : ℕ) (start : Runner) (old new : Option (List ℕ)) (result : Result Status ServeFault) → GivesNumbers (IsRead remaining reads first last) numbers → SaysFront (HasRun program numbers limit start) old new result → OnlyWrites writes before after result → InputTurns remaining reads first last result
-input_read remaining reads writes first last before after program numbers limit start old new (Ok status.Accepted) g s o = absurd (run_accepted program numbers limit start s.text s.is)
-input_read remaining reads writes first last before after program numbers limit start old new (Ok status.Refused) g s o = absurd (run_refused program numbers limit start s.text s.is)
-input_read remaining reads writes first last before after program numbers limit start old new (Ok status.Finished) g s o = (numbers, g)
-input_read remaining reads writes first last before after program numbers limit start old new (Ok status.Unhandled) g s o = (numbers, g)
-input_read remaining reads writes first last before after program numbers limit start old new (Ok status.Stopped) g s o = (numbers, g)
-input_read remaining reads writes first last before after program numbers limit start old new (Ok status.Erroneous) g s o = (numbers, g)
-input_read remaining reads writes first last before after program numbers limit start old new (Err (BadInput place)) g s o = absurd o
-input_read remaining reads writes first last before after program numbers limit start old new (Err InputTooLong) g s o = absurd o
-input_read remaining reads writes first last before after program numbers limit start old new (Err ReadFailed) g s o = absurd o
-input_read remaining reads writes first last before after program numbers limit start old new (Err WriteFailed) g s o = inr (numbers, g)
-input_read remaining reads writes first last before after program numbers limit start old new (Err NoSuchPool) g s o = absurd o
-input_read remaining reads writes first last before after program numbers limit start old new (Err NoMemory) g s o = inr (inr (g.bytes, g.input))
+pub input_read : {I W : Type 0} (remaining : I → Option (List ℕ)) (reads : I → Option (List ℕ) → I → Type 0) (writes : W → Option (List ℕ) → W → Type 0) (first last : I) (before after : W) (program : Program) (trace : Bool) (numbers : List ℤ) (limit : ℕ) (start : Runner) (old new : Option (List ℕ)) (result : Result Status ServeFault) → GivesNumbers (IsRead remaining reads first last) numbers → SaysFront (HasRun program trace numbers limit start) old new result → OnlyWrites writes before after result → InputTurns remaining reads first last result
+input_read remaining reads writes first last before after program trace numbers limit start old new (Ok status.Accepted) g s o = absurd (run_accepted program trace numbers limit start s.text s.is)
+input_read remaining reads writes first last before after program trace numbers limit start old new (Ok status.Refused) g s o = absurd (run_refused program trace numbers limit start s.text s.is)
+input_read remaining reads writes first last before after program trace numbers limit start old new (Ok status.Finished) g s o = (numbers, g)
+input_read remaining reads writes first last before after program trace numbers limit start old new (Ok status.Unhandled) g s o = (numbers, g)
+input_read remaining reads writes first last before after program trace numbers limit start old new (Ok status.Stopped) g s o = (numbers, g)
+input_read remaining reads writes first last before after program trace numbers limit start old new (Ok status.Erroneous) g s o = (numbers, g)
+input_read remaining reads writes first last before after program trace numbers limit start old new (Err (BadInput place)) g s o = absurd o
+input_read remaining reads writes first last before after program trace numbers limit start old new (Err InputTooLong) g s o = absurd o
+input_read remaining reads writes first last before after program trace numbers limit start old new (Err ReadFailed) g s o = absurd o
+input_read remaining reads writes first last before after program trace numbers limit start old new (Err WriteFailed) g s o = inr (numbers, g)
+input_read remaining reads writes first last before after program trace numbers limit start old new (Err NoSuchPool) g s o = absurd o
+input_read remaining reads writes first last before after program trace numbers limit start old new (Err NoMemory) g s o = inr (inr (g.bytes, g.input))
 
 -- the input of a source that is refused is not called
 pub input_left : {I W : Type 0} (remaining : I → Option (List ℕ)) (reads : I → Option (List ℕ) → I → Type 0) (writes : W → Option (List ℕ) → W → Type 0) (input : I) (before after : W) (v : Verdict) (old new : Option (List ℕ)) (result : Result Status ServeFault) → SaysFront (IsRefusal v) old new result → OnlyWrites writes before after result → InputTurns remaining reads input input result
@@ -179,7 +179,7 @@ input_left remaining reads writes input before after v old new (Err NoSuchPool) 
 input_left remaining reads writes input before after v old new (Err NoMemory) s o = inl refl
 
 -- the answer to a source that is accepted, and to one that is refused
-pub serves_accepted : (IsSource IsInput : List ℕ → Type 0) (bytes : List ℕ) (program : Program) (options : Options) (old new : Option (List ℕ)) (result : Result Status ServeFault) → IsSource bytes → IsAccepted bytes program → SaysFront (IsProgramAnswer IsInput program options.run options.steps (runner_before program options)) old new result → Serves IsSource IsInput options old new result
+pub serves_accepted : (IsSource IsInput : List ℕ → Type 0) (bytes : List ℕ) (program : Program) (options : Options) (old new : Option (List ℕ)) (result : Result Status ServeFault) → IsSource bytes → IsAccepted bytes program → SaysFront (IsProgramAnswer IsInput program options.run options.trace options.steps (runner_before program options)) old new result → Serves IsSource IsInput options old new result
 serves_accepted IsSource IsInput bytes program options old new (Ok ending) r a s = (bytes, r, record { text = s.text; is = accepted program a s.is; written = s.written })
 serves_accepted IsSource IsInput bytes program options old new (Err fault) r a (inl nothing) = inl nothing
 serves_accepted IsSource IsInput bytes program options old new (Err fault) r a (inr s) = inr (bytes, r, record { text = s.text; status = s.status; is = accepted program a s.is; written = s.written })
@@ -202,17 +202,17 @@ halted goes program numbers events last (halt.Erroneous why) safe typed run ends
 halted goes program numbers events last halt.Stuck safe typed run ends e = typed numbers events last run ends
 halted goes program numbers events last halt.Memory safe typed run ends e = no_memory goes program last ends
 
-run_erroneous : StatesGoOn → (program : Program) (numbers : List ℤ) (limit : ℕ) (start : Runner) (text : List ℕ) → Safe program → NeverStuck program → HasRun program numbers limit start text status.Erroneous → ⊥
-run_erroneous goes program numbers limit start text safe typed (ended statements events runner last halt within run halts is e) = halted goes program numbers events last halt safe typed (is_run run) halts e
-run_erroneous goes program numbers limit start text safe typed (stopped events runner last run starts is e) = absurd (cc)
+run_erroneous : StatesGoOn → (program : Program) (trace : Bool) (numbers : List ℤ) (limit : ℕ) (start : Runner) (text : List ℕ) → Safe program → NeverStuck program → HasRun program trace numbers limit start text status.Erroneous → ⊥
+run_erroneous goes program trace numbers limit start text safe typed (ended statements events runner last halt within run halts is e) = halted goes program numbers events last halt safe typed (is_run run) halts e
+run_erroneous goes program trace numbers limit start text safe typed (stopped events runner last run starts is e) = absurd (cc)
 
-never_erroneous : StatesGoOn → (IsInput : List ℕ → Type 0) (program : Program) (run : Bool) (limit : ℕ) (start : Runner) (text : List ℕ) (ending : Status) → Safe program → NeverStuck program → IsProgramAnswer IsInput program run limit start text ending → ending ≢ status.Erroneous
-never_erroneous goes IsInput program false limit start text ending safe typed a e = let never : status.Accepted ≡ status.Erroneous = sym a.1 ∙ e in absurd (cc)
-never_erroneous goes IsInput program true limit start text ending safe typed a e = run_erroneous goes program a.numbers limit start text safe typed (subst (HasRun program a.numbers limit start text) e a.run)
+never_erroneous : StatesGoOn → (IsInput : List ℕ → Type 0) (program : Program) (run trace : Bool) (limit : ℕ) (start : Runner) (text : List ℕ) (ending : Status) → Safe program → NeverStuck program → IsProgramAnswer IsInput program run trace limit start text ending → ending ≢ status.Erroneous
+never_erroneous goes IsInput program false trace limit start text ending safe typed a e = let never : status.Accepted ≡ status.Erroneous = sym a.1 ∙ e in absurd (cc)
+never_erroneous goes IsInput program true trace limit start text ending safe typed a e = run_erroneous goes program trace a.numbers limit start text safe typed (subst (HasRun program trace a.numbers limit start text) e a.run)
 
-pub answer_not_erroneous : StatesGoOn → (IsInput : List ℕ → Type 0) (program : Program) (run : Bool) (limit : ℕ) (start : Runner) (old new : Option (List ℕ)) (result : Result Status ServeFault) → Safe program → NeverStuck program → SaysFront (IsProgramAnswer IsInput program run limit start) old new result → IfOk result (λ ending. ending ≢ status.Erroneous)
-answer_not_erroneous goes IsInput program run limit start old new (Ok ending) safe typed s = never_erroneous goes IsInput program run limit start s.text ending safe typed s.is
-answer_not_erroneous goes IsInput program run limit start old new (Err fault) safe typed s = tt
+pub answer_not_erroneous : StatesGoOn → (IsInput : List ℕ → Type 0) (program : Program) (run trace : Bool) (limit : ℕ) (start : Runner) (old new : Option (List ℕ)) (result : Result Status ServeFault) → Safe program → NeverStuck program → SaysFront (IsProgramAnswer IsInput program run trace limit start) old new result → IfOk result (λ ending. ending ≢ status.Erroneous)
+answer_not_erroneous goes IsInput program run trace limit start old new (Ok ending) safe typed s = never_erroneous goes IsInput program run trace limit start s.text ending safe typed s.is
+answer_not_erroneous goes IsInput program run trace limit start old new (Err fault) safe typed s = tt
 
 -- a source that is accepted is safe
 pub promises_accepted : (IsSource : List ℕ → Type 0) (bytes : List ℕ) (program : Program) (result : Result Status ServeFault) → IsSource bytes → IsAccepted bytes program → Safe program → PromisesSafe IsSource result

@@ -1,6 +1,6 @@
 -- The number that a word gives, by what `parse` answers.
 
-use Rattle.std.proofs.Common.{◌≡◌, ℕ, ◌<◌, ◌&&◌, if◌then◌else◌, Bool, true, false, List, [], ◌∷◌, Some, None, Result, Ok, Err, arith, rules, refl, sym, ◌∙◌, ap, nat_lt}
+use Rattle.std.proofs.Common.{◌≡◌, ℕ, ◌<◌, ◌&&◌, if◌then◌else◌, Bool, true, false, List, [], ◌∷◌, Some, None, Result, Ok, Err, arith, rules, refl, sym, ◌∙◌, nat_lt}
 use Rattle.std.specs.Char.{is_ascii_digit}
 use Rattle.std.specs.List.{list_all}
 use Rattle.std.specs.Str.Parse.{ParsesUnsigned}

@@ -25,7 +25,7 @@ use Rattle.ada_pools.specs.View.{runner_of}
 use Rattle.ada_serve.specs.declared.serve.Status.{Status}
 use Rattle.ada_serve.specs.declared.serve.Status.TheVariants.{Stopped}
 use Rattle.ada_serve.specs.declared.serve.ServeFault.{ServeFault}
-use Rattle.ada_serve.specs.Texts.{texts_of, exceptions_of, stopped_text}
+use Rattle.ada_serve.specs.Texts.{exceptions_of, stopped_text}
 use Rattle.ada_serve.specs.Runner.{RunnerAnswers, RunnerRun, event_text, lines_of, end_text, status_of, HasWritten, StepsOn, EndsIn, BreaksOff, before_it, in_line, in_end, HasRun, ended, stopped}
 use Rattle.ada_serve.specs.Written.{AppendsFront, Writes, Begins, Says, SaysFront}
 use Rattle.ada_serve.proofs.Writing.{appends_none, appends_both}
@@ -55,8 +55,8 @@ runners (picks n taken) before after (takes i) event last a l = (ap takes a.0, a
 
 -- What a machine does in one turn.
 
-pub steps_on : (program : Program) (s last : State) (before after : PoolChoices) (event : Event) (old new : Option (List ℕ)) → Makes PoolGrants PoolPicks (next program.types.items (body_forms program) s) before event last after → Appends old new (event_text (texts_of program) event) → StepsOn program (runner_of before) (runner_of after) s last old new
-steps_on program s last before after event old new m a = record {
+pub steps_on : (program : Program) (trace : Bool) (s last : State) (before after : PoolChoices) (event : Event) (old new : Option (List ℕ)) → Makes PoolGrants PoolPicks (next program.types.items (body_forms program) s) before event last after → Appends old new (event_text program trace event) → StepsOn program trace (runner_of before) (runner_of after) s last old new
+steps_on program trace s last before after event old new m a = record {
   choice = m.choice;
   event = event;
   runners = runners (next program.types.items (body_forms program) s) before after m.choice event last m.answers m.leads;
@@ -64,13 +64,13 @@ steps_on program s last before after event old new m a = record {
   line = a;
 }
 
-pub breaks_in_line : (program : Program) (s last : State) (before after : PoolChoices) (event : Event) (old new : Option (List ℕ)) → Makes PoolGrants PoolPicks (next program.types.items (body_forms program) s) before event last after → AppendsFront old new (event_text (texts_of program) event) → BreaksOff program (runner_of before) s old new
-breaks_in_line program s last before after event old new m a =
+pub breaks_in_line : (program : Program) (trace : Bool) (s last : State) (before after : PoolChoices) (event : Event) (old new : Option (List ℕ)) → Makes PoolGrants PoolPicks (next program.types.items (body_forms program) s) before event last after → AppendsFront old new (event_text program trace event) → BreaksOff program trace (runner_of before) s old new
+breaks_in_line program trace s last before after event old new m a =
     in_line m.choice event (runner_of after) last (runners (next program.types.items (body_forms program) s) before after m.choice event last m.answers m.leads) m.leads a
 
-pub breaks_in_end : (program : Program) (runner : Runner) (s : State) (halt : Halt) (old new : Option (List ℕ)) → (halt ≡ Memory) ⊎ Halts program s halt → AppendsFront old new (end_text (exceptions_of program) halt) → BreaksOff program runner s old new
-breaks_in_end program runner s halt old new (inl memory) a = before_it (subst (λ (h : Halt). AppendsFront old new (end_text (exceptions_of program) h)) memory a)
-breaks_in_end program runner s halt old new (inr is) a = in_end halt is a
+pub breaks_in_end : (program : Program) (trace : Bool) (runner : Runner) (s : State) (halt : Halt) (old new : Option (List ℕ)) → (halt ≡ Memory) ⊎ Halts program s halt → AppendsFront old new (end_text (exceptions_of program) halt) → BreaksOff program trace runner s old new
+breaks_in_end program trace runner s halt old new (inl memory) a = before_it (subst (λ (h : Halt). AppendsFront old new (end_text (exceptions_of program) h)) memory a)
+breaks_in_end program trace runner s halt old new (inr is) a = in_end halt is a
 
 pub ends_in : (program : Program) (s : State) (halt : Halt) (ending : Status) (old new : Option (List ℕ)) → (halt ≡ Memory) ⊎ Halts program s halt → (halt ≡ Memory → ⊥) → Appends old new (end_text (exceptions_of program) halt) → ending ≡ status_of halt → EndsIn program s old new ending
 ends_in program s halt ending old new (inl memory) isnt a e = absurd (isnt memory)
@@ -83,24 +83,24 @@ ends_of before halt after (inr is) = inr is.0
 
 -- One turn after another.
 
-written_first : (program : Program) (start : Runner) (first s : State) (old : Option (List ℕ)) → s ≡ first → HasWritten program start first 0 start s old old
-written_first program start first s old e = record {
+written_first : (program : Program) (trace : Bool) (start : Runner) (first s : State) (old : Option (List ℕ)) → s ≡ first → HasWritten program trace start first 0 start s old old
+written_first program trace start first s old e = record {
   events = [];
   run = subst (λ (last : State). RunnerRun program start first 0 [] start last) (sym e) begun;
   lines = appends_none old;
 }
 
-lines_more : (program : Program) (events : List Event) (event : Event) → lines_of program (events ++ event ∷ []) ≡ lines_of program events ++ event_text (texts_of program) event
-lines_more program events event = flat_map-append (event_text (texts_of program)) events (event ∷ []) ∙ ap (λ text. lines_of program events ++ text) (append-nil (event_text (texts_of program) event))
+lines_more : (program : Program) (trace : Bool) (events : List Event) (event : Event) → lines_of program trace (events ++ event ∷ []) ≡ lines_of program trace events ++ event_text program trace event
+lines_more program trace events event = flat_map-append (event_text program trace) events (event ∷ []) ∙ ap (λ text. lines_of program trace events ++ text) (append-nil (event_text program trace event))
 
 run_more : (program : Program) (start : Runner) (first s last : State) (statements : ℕ) (runner after : Runner) (events : List Event) (choice : Choice) (event : Event) → RunnerRun program start first statements events runner s → RunnerAnswers runner (next program.types.items (body_forms program) s) choice after → Step program s choice event last → RunnerRun program start first (begun_with (begins s) statements) (events ++ event ∷ []) after last
 run_more program start first s last statements runner after events choice event run is step = goes_on statements event s runner choice events run is step refl refl
 
-written_more : (program : Program) (start : Runner) (first s last : State) (statements begun_now : ℕ) (runner after : Runner) (old mid new : Option (List ℕ)) → HasWritten program start first statements runner s old mid → StepsOn program runner after s last mid new → begun_now ≡ begun_with (begins s) statements → HasWritten program start first begun_now after last old new
-written_more program start first s last statements begun_now runner after old mid new h m e = record {
+written_more : (program : Program) (trace : Bool) (start : Runner) (first s last : State) (statements begun_now : ℕ) (runner after : Runner) (old mid new : Option (List ℕ)) → HasWritten program trace start first statements runner s old mid → StepsOn program trace runner after s last mid new → begun_now ≡ begun_with (begins s) statements → HasWritten program trace start first begun_now after last old new
+written_more program trace start first s last statements begun_now runner after old mid new h m e = record {
   events = h.events ++ m.event ∷ [];
   run = subst (λ (n : ℕ). RunnerRun program start first n (h.events ++ m.event ∷ []) after last) (sym e) (run_more program start first s last statements runner after h.events m.choice m.event h.run m.runners m.step);
-  lines = subst (λ (text : List ℕ). Appends old new text) (sym (lines_more program h.events m.event)) (appends_both old mid new (lines_of program h.events) (event_text (texts_of program) m.event) h.lines m.line);
+  lines = subst (λ (text : List ℕ). Appends old new text) (sym (lines_more program trace h.events m.event)) (appends_both old mid new (lines_of program trace h.events) (event_text program trace m.event) h.lines m.line);
 }
 
 -- No state's run ends for want of memory.
@@ -123,55 +123,55 @@ has_step runner (asks request answered) goes = steps (grants (answer_to request 
 has_step runner (picks n taken) goes = steps (takes 0) Quiet runner (taken 0) (refl, refl) (goes, refl, refl)
 
 -- The text of a run goes on behind what these events write, up to its last line.
-record Continues (program : Program) (numbers : List ℤ) (limit : ℕ) (start : Runner) (before : List Event) : Type 0 where
+record Continues (program : Program) (trace : Bool) (numbers : List ℤ) (limit : ℕ) (start : Runner) (before : List Event) : Type 0 where
   tail : List ℕ
   status : Status
-  is : HasRun program numbers limit start (lines_of program before ++ tail) status
+  is : HasRun program trace numbers limit start (lines_of program trace before ++ tail) status
 
-one_before : (program : Program) (numbers : List ℤ) (limit : ℕ) (start : Runner) (before : List Event) (event : Event) → Continues program numbers limit start (before ++ event ∷ []) → Continues program numbers limit start before
-one_before program numbers limit start before event c =
-    let line : List ℕ = event_text (texts_of program) event in
-    let whole : lines_of program (before ++ event ∷ []) ++ c.tail ≡ lines_of program before ++ (line ++ c.tail) =
-    ap (λ (text : List ℕ). text ++ c.tail) (lines_more program before event) ∙ append_assoc (lines_of program before) line c.tail in
-    record { tail = line ++ c.tail; status = c.status; is = subst (λ (text : List ℕ). HasRun program numbers limit start text c.status) whole c.is }
+one_before : (program : Program) (trace : Bool) (numbers : List ℤ) (limit : ℕ) (start : Runner) (before : List Event) (event : Event) → Continues program trace numbers limit start (before ++ event ∷ []) → Continues program trace numbers limit start before
+one_before program trace numbers limit start before event c =
+    let line : List ℕ = event_text program trace event in
+    let whole : lines_of program trace (before ++ event ∷ []) ++ c.tail ≡ lines_of program trace before ++ (line ++ c.tail) =
+    ap (λ (text : List ℕ). text ++ c.tail) (lines_more program trace before event) ∙ append_assoc (lines_of program trace before) line c.tail in
+    record { tail = line ++ c.tail; status = c.status; is = subst (λ (text : List ℕ). HasRun program trace numbers limit start text c.status) whole c.is }
 
 -- A run that has begun so many statements, and comes to this state, goes on.
-abbrev GoesOnFrom : Program → (numbers : List ℤ) → (limit : ℕ) (start : Runner) (statements : ℕ) → State → Type 0
-GoesOnFrom program numbers limit start statements s = (before : List Event) (runner : Runner) → RunnerRun program start (first_state program numbers) statements before runner s → Continues program numbers limit start before
+abbrev GoesOnFrom : Program → (trace : Bool) → (numbers : List ℤ) → (limit : ℕ) (start : Runner) (statements : ℕ) → State → Type 0
+GoesOnFrom program trace numbers limit start statements s = (before : List Event) (runner : Runner) → RunnerRun program start (first_state program numbers) statements before runner s → Continues program trace numbers limit start before
 
 -- It goes on where each step that the runner can make goes on.
-by_step : StatesGoOn → (program : Program) (numbers : List ℤ) (limit : ℕ) (start : Runner) (statements : ℕ) (s : State) → statements ≤ limit → ((choice : Choice) (event : Event) (mid : State) → Step program s choice event mid → GoesOnFrom program numbers limit start (begun_with (begins s) statements) mid) → GoesOnFrom program numbers limit start statements s
-by_step goes program numbers limit start statements s within later before runner run =
+by_step : StatesGoOn → (program : Program) (trace : Bool) (numbers : List ℤ) (limit : ℕ) (start : Runner) (statements : ℕ) (s : State) → statements ≤ limit → ((choice : Choice) (event : Event) (mid : State) → Step program s choice event mid → GoesOnFrom program trace numbers limit start (begun_with (begins s) statements) mid) → GoesOnFrom program trace numbers limit start statements s
+by_step goes program trace numbers limit start statements s within later before runner run =
     elim (has_step runner (next program.types.items (body_forms program) s) (goes program s)) [
       | halted halt is ↦ record { tail = end_text (exceptions_of program) halt; status = status_of halt; is = ended statements before runner s halt within run is refl refl }
-      | steps choice event after mid is leads ↦ one_before program numbers limit start before event (later choice event mid leads (before ++ event ∷ []) after (run_more program start (first_state program numbers) s mid statements runner after before choice event run is leads))
+      | steps choice event after mid is leads ↦ one_before program trace numbers limit start before event (later choice event mid leads (before ++ event ∷ []) after (run_more program start (first_state program numbers) s mid statements runner after before choice event run is leads))
     ]
 
 -- So it goes on from each state if it does from each that begins a statement, since the steps before it make the state lighter.
-up_to_statement : StepsMakeLighter → StatesGoOn → (program : Program) (numbers : List ℤ) (limit : ℕ) (start : Runner) (statements : ℕ) → statements ≤ limit → ((s : State) → begins s ≡ true → GoesOnFrom program numbers limit start statements s) → (n : ℕ) (s : State) (starts : Bool) → begins s ≡ starts → weight s < n → GoesOnFrom program numbers limit start statements s
-up_to_statement lightens goes program numbers limit start statements within at_statement n s true b lighter = at_statement s b
-up_to_statement lightens goes program numbers limit start statements within at_statement zero s false b lighter = absurd (omega (arith, lighter))
-up_to_statement lightens goes program numbers limit start statements within at_statement (suc n) s false b lighter =
-    by_step goes program numbers limit start statements s within (λ choice event mid step.
-    rw b (up_to_statement lightens goes program numbers limit start statements within at_statement n mid (begins mid) refl (omega (arith, lighter, lightens program s choice event mid b step))))
+up_to_statement : StepsMakeLighter → StatesGoOn → (program : Program) (trace : Bool) (numbers : List ℤ) (limit : ℕ) (start : Runner) (statements : ℕ) → statements ≤ limit → ((s : State) → begins s ≡ true → GoesOnFrom program trace numbers limit start statements s) → (n : ℕ) (s : State) (starts : Bool) → begins s ≡ starts → weight program.types.items s < n → GoesOnFrom program trace numbers limit start statements s
+up_to_statement lightens goes program trace numbers limit start statements within at_statement n s true b lighter = at_statement s b
+up_to_statement lightens goes program trace numbers limit start statements within at_statement zero s false b lighter = absurd (omega (arith, lighter))
+up_to_statement lightens goes program trace numbers limit start statements within at_statement (suc n) s false b lighter =
+    by_step goes program trace numbers limit start statements s within (λ choice event mid step.
+    rw b (up_to_statement lightens goes program trace numbers limit start statements within at_statement n mid (begins mid) refl (omega (arith, lighter, lightens program s choice event mid b step))))
 
 -- And there it goes on, or is stopped.
-goes_on_from : StepsMakeLighter → StatesGoOn → (program : Program) (numbers : List ℤ) (limit : ℕ) (start : Runner) (statements left : ℕ) → statements + left ≡ limit → (s : State) → GoesOnFrom program numbers limit start statements s
-goes_on_from lightens goes program numbers limit start statements zero count s =
-    up_to_statement lightens goes program numbers limit start statements (omega (arith, count)) (λ s b before runner run.
+goes_on_from : StepsMakeLighter → StatesGoOn → (program : Program) (trace : Bool) (numbers : List ℤ) (limit : ℕ) (start : Runner) (statements left : ℕ) → statements + left ≡ limit → (s : State) → GoesOnFrom program trace numbers limit start statements s
+goes_on_from lightens goes program trace numbers limit start statements zero count s =
+    up_to_statement lightens goes program trace numbers limit start statements (omega (arith, count)) (λ s b before runner run.
     let all : statements ≡ limit = omega (arith, count) in
-    record { tail = stopped_text limit; status = Stopped; is = stopped before runner s (subst (λ (n : ℕ). RunnerRun program start (first_state program numbers) n before runner s) all run) b refl refl }) (suc (weight s)) s (begins s) refl (omega arith)
-goes_on_from lightens goes program numbers limit start statements (suc left) count s =
-    up_to_statement lightens goes program numbers limit start statements (omega (arith, count)) (λ s b.
-    by_step goes program numbers limit start statements s (omega (arith, count)) (λ choice event mid step.
-    rw b (goes_on_from lightens goes program numbers limit start (statements + 1) left (omega (arith, count)) mid))) (suc (weight s)) s (begins s) refl (omega arith)
+    record { tail = stopped_text limit; status = Stopped; is = stopped before runner s (subst (λ (n : ℕ). RunnerRun program start (first_state program numbers) n before runner s) all run) b refl refl }) (suc (weight program.types.items s)) s (begins s) refl (omega arith)
+goes_on_from lightens goes program trace numbers limit start statements (suc left) count s =
+    up_to_statement lightens goes program trace numbers limit start statements (omega (arith, count)) (λ s b.
+    by_step goes program trace numbers limit start statements s (omega (arith, count)) (λ choice event mid step.
+    rw b (goes_on_from lightens goes program trace numbers limit start (statements + 1) left (omega (arith, count)) mid))) (suc (weight program.types.items s)) s (begins s) refl (omega arith)
 
 -- Where a front of the lines of a run is written, a front of its whole text is.
-begins_run : StepsMakeLighter → StatesGoOn → (program : Program) (numbers : List ℤ) (limit : ℕ) (start : Runner) (statements : ℕ) (runner : Runner) (s : State) (events : List Event) (front rest : List ℕ) (old new : Option (List ℕ)) → statements ≤ limit → RunnerRun program start (first_state program numbers) statements events runner s → lines_of program events ≡ front ++ rest → Appends old new front → Begins (HasRun program numbers limit start) old new
-begins_run lightens goes program numbers limit start statements runner s events front rest old new within run split written =
-    let c = goes_on_from lightens goes program numbers limit start statements (limit - statements) (omega (arith, within)) s events runner run in
+begins_run : StepsMakeLighter → StatesGoOn → (program : Program) (trace : Bool) (numbers : List ℤ) (limit : ℕ) (start : Runner) (statements : ℕ) (runner : Runner) (s : State) (events : List Event) (front rest : List ℕ) (old new : Option (List ℕ)) → statements ≤ limit → RunnerRun program start (first_state program numbers) statements events runner s → lines_of program trace events ≡ front ++ rest → Appends old new front → Begins (HasRun program trace numbers limit start) old new
+begins_run lightens goes program trace numbers limit start statements runner s events front rest old new within run split written =
+    let c = goes_on_from lightens goes program trace numbers limit start statements (limit - statements) (omega (arith, within)) s events runner run in
     record {
-      text = lines_of program events ++ c.tail;
+      text = lines_of program trace events ++ c.tail;
       status = c.status;
       is = c.is;
       written = record { front = front; rest = rest ++ c.tail; split = ap (λ (text : List ℕ). text ++ c.tail) split ∙ append_assoc front rest c.tail; written = written };
@@ -187,70 +187,70 @@ front_more lines old mid new text h a = record {
 }
 
 -- A turn broke off.
-broken : StepsMakeLighter → StatesGoOn → (program : Program) (numbers : List ℤ) (limit : ℕ) (start : Runner) (statements : ℕ) (runner : Runner) (s : State) (old mid new : Option (List ℕ)) → HasWritten program start (first_state program numbers) statements runner s old mid → statements ≤ limit → begun_with (begins s) statements ≤ limit → BreaksOff program runner s mid new → Begins (HasRun program numbers limit start) old new
-broken lightens goes program numbers limit start statements runner s old mid new h within later (before_it a) =
-    let f = front_more (lines_of program h.events) old mid new [] h.lines a in
-    begins_run lightens goes program numbers limit start statements runner s h.events f.front f.rest old new within h.run (sym (append-nil (lines_of program h.events)) ∙ f.split) f.written
-broken lightens goes program numbers limit start statements runner s old mid new h within later (in_line choice event after last is step a) =
-    let f = front_more (lines_of program h.events) old mid new (event_text (texts_of program) event) h.lines a in
-    begins_run lightens goes program numbers limit start (begun_with (begins s) statements) after last (h.events ++ event ∷ []) f.front f.rest old new later
+broken : StepsMakeLighter → StatesGoOn → (program : Program) (trace : Bool) (numbers : List ℤ) (limit : ℕ) (start : Runner) (statements : ℕ) (runner : Runner) (s : State) (old mid new : Option (List ℕ)) → HasWritten program trace start (first_state program numbers) statements runner s old mid → statements ≤ limit → begun_with (begins s) statements ≤ limit → BreaksOff program trace runner s mid new → Begins (HasRun program trace numbers limit start) old new
+broken lightens goes program trace numbers limit start statements runner s old mid new h within later (before_it a) =
+    let f = front_more (lines_of program trace h.events) old mid new [] h.lines a in
+    begins_run lightens goes program trace numbers limit start statements runner s h.events f.front f.rest old new within h.run (sym (append-nil (lines_of program trace h.events)) ∙ f.split) f.written
+broken lightens goes program trace numbers limit start statements runner s old mid new h within later (in_line choice event after last is step a) =
+    let f = front_more (lines_of program trace h.events) old mid new (event_text program trace event) h.lines a in
+    begins_run lightens goes program trace numbers limit start (begun_with (begins s) statements) after last (h.events ++ event ∷ []) f.front f.rest old new later
     (run_more program start (first_state program numbers) s last statements runner after h.events choice event h.run is step)
-    (lines_more program h.events event ∙ f.split) f.written
-broken lightens goes program numbers limit start statements runner s old mid new h within later (in_end halt is a) = record {
-  text = lines_of program h.events ++ end_text (exceptions_of program) halt;
+    (lines_more program trace h.events event ∙ f.split) f.written
+broken lightens goes program trace numbers limit start statements runner s old mid new h within later (in_end halt is a) = record {
+  text = lines_of program trace h.events ++ end_text (exceptions_of program) halt;
   status = status_of halt;
   is = ended statements h.events runner s halt within h.run is refl refl;
-  written = front_more (lines_of program h.events) old mid new (end_text (exceptions_of program) halt) h.lines a;
+  written = front_more (lines_of program trace h.events) old mid new (end_text (exceptions_of program) halt) h.lines a;
 }
 
 -- The run has ended.
-finished : (program : Program) (numbers : List ℤ) (limit : ℕ) (start : Runner) (statements : ℕ) (runner : Runner) (s : State) (ending : Status) (old mid new : Option (List ℕ)) → HasWritten program start (first_state program numbers) statements runner s old mid → statements ≤ limit → EndsIn program s mid new ending → Says (HasRun program numbers limit start) old new ending
-finished program numbers limit start statements runner s ending old mid new h within e = record {
-  text = lines_of program h.events ++ end_text (exceptions_of program) e.halt;
+finished : (program : Program) (trace : Bool) (numbers : List ℤ) (limit : ℕ) (start : Runner) (statements : ℕ) (runner : Runner) (s : State) (ending : Status) (old mid new : Option (List ℕ)) → HasWritten program trace start (first_state program numbers) statements runner s old mid → statements ≤ limit → EndsIn program s mid new ending → Says (HasRun program trace numbers limit start) old new ending
+finished program trace numbers limit start statements runner s ending old mid new h within e = record {
+  text = lines_of program trace h.events ++ end_text (exceptions_of program) e.halt;
   is = ended statements h.events runner s e.halt within h.run e.halts refl e.ends;
-  written = appends_both old mid new (lines_of program h.events) (end_text (exceptions_of program) e.halt) h.lines e.line;
+  written = appends_both old mid new (lines_of program trace h.events) (end_text (exceptions_of program) e.halt) h.lines e.line;
 }
 
 -- The limit has stopped it.
-has_stopped : (program : Program) (numbers : List ℤ) (limit : ℕ) (start : Runner) (statements : ℕ) (runner : Runner) (s : State) (result : Result Status ServeFault) (old mid new : Option (List ℕ)) → HasWritten program start (first_state program numbers) statements runner s old mid → statements ≡ limit → begins s ≡ true → Writes mid new (stopped_text limit) result → IfOk result (λ ending. ending ≡ Stopped) → SaysFront (HasRun program numbers limit start) old new result
-has_stopped program numbers limit start statements runner s (Ok ending) old mid new h all b a e = record {
-  text = lines_of program h.events ++ stopped_text limit;
+has_stopped : (program : Program) (trace : Bool) (numbers : List ℤ) (limit : ℕ) (start : Runner) (statements : ℕ) (runner : Runner) (s : State) (result : Result Status ServeFault) (old mid new : Option (List ℕ)) → HasWritten program trace start (first_state program numbers) statements runner s old mid → statements ≡ limit → begins s ≡ true → Writes mid new (stopped_text limit) result → IfOk result (λ ending. ending ≡ Stopped) → SaysFront (HasRun program trace numbers limit start) old new result
+has_stopped program trace numbers limit start statements runner s (Ok ending) old mid new h all b a e = record {
+  text = lines_of program trace h.events ++ stopped_text limit;
   is = stopped h.events runner s (subst (λ (n : ℕ). RunnerRun program start (first_state program numbers) n h.events runner s) all h.run) b refl e;
-  written = appends_both old mid new (lines_of program h.events) (stopped_text limit) h.lines a;
+  written = appends_both old mid new (lines_of program trace h.events) (stopped_text limit) h.lines a;
 }
-has_stopped program numbers limit start statements runner s (Err fault) old mid new h all b a e = inr (record {
-  text = lines_of program h.events ++ stopped_text limit;
+has_stopped program trace numbers limit start statements runner s (Err fault) old mid new h all b a e = inr (record {
+  text = lines_of program trace h.events ++ stopped_text limit;
   status = Stopped;
   is = stopped h.events runner s (subst (λ (n : ℕ). RunnerRun program start (first_state program numbers) n h.events runner s) all h.run) b refl refl;
-  written = front_more (lines_of program h.events) old mid new (stopped_text limit) h.lines a;
+  written = front_more (lines_of program trace h.events) old mid new (stopped_text limit) h.lines a;
 })
 
 -- The loop of a run: all statements but those that are left began, and the lines so far are written.
-pub record Reaches (program : Program) (numbers : List ℤ) (limit : ℕ) (start : Runner) (left : ℕ) (runner : Runner) (s : State) (old new : Option (List ℕ)) : Type 0 where
+pub record Reaches (program : Program) (trace : Bool) (numbers : List ℤ) (limit : ℕ) (start : Runner) (left : ℕ) (runner : Runner) (s : State) (old new : Option (List ℕ)) : Type 0 where
   pub statements : ℕ
   pub count : statements + left ≡ limit
-  pub written : HasWritten program start (first_state program numbers) statements runner s old new
+  pub written : HasWritten program trace start (first_state program numbers) statements runner s old new
 
-pub reaches_first : (program : Program) (numbers : List ℤ) (limit : ℕ) (start runner : Runner) (s : State) (old : Option (List ℕ)) → s ≡ first_state program numbers → runner ≡ start → Reaches program numbers limit start limit runner s old old
-reaches_first program numbers limit start runner s old e same = record {
+pub reaches_first : (program : Program) (trace : Bool) (numbers : List ℤ) (limit : ℕ) (start runner : Runner) (s : State) (old : Option (List ℕ)) → s ≡ first_state program numbers → runner ≡ start → Reaches program trace numbers limit start limit runner s old old
+reaches_first program trace numbers limit start runner s old e same = record {
   statements = 0;
   count = omega arith;
-  written = subst (λ (r : Runner). HasWritten program start (first_state program numbers) 0 r s old old) (sym same) (written_first program start (first_state program numbers) s old e);
+  written = subst (λ (r : Runner). HasWritten program trace start (first_state program numbers) 0 r s old old) (sym same) (written_first program trace start (first_state program numbers) s old e);
 }
 
 -- A turn in which no statement begins, and one in which one does.
-pub reaches_step : (program : Program) (numbers : List ℤ) (limit : ℕ) (start : Runner) (left : ℕ) (runner after : Runner) (s last : State) (old mid new : Option (List ℕ)) → Reaches program numbers limit start left runner s old mid → begins s ≡ false → StepsOn program runner after s last mid new → Reaches program numbers limit start left after last old new
-reaches_step program numbers limit start left runner after s last old mid new h b m = record {
+pub reaches_step : (program : Program) (trace : Bool) (numbers : List ℤ) (limit : ℕ) (start : Runner) (left : ℕ) (runner after : Runner) (s last : State) (old mid new : Option (List ℕ)) → Reaches program trace numbers limit start left runner s old mid → begins s ≡ false → StepsOn program trace runner after s last mid new → Reaches program trace numbers limit start left after last old new
+reaches_step program trace numbers limit start left runner after s last old mid new h b m = record {
   statements = h.statements;
   count = h.count;
-  written = written_more program start (first_state program numbers) s last h.statements h.statements runner after old mid new h.written m (sym (ap (λ (starts : Bool). begun_with starts h.statements) b));
+  written = written_more program trace start (first_state program numbers) s last h.statements h.statements runner after old mid new h.written m (sym (ap (λ (starts : Bool). begun_with starts h.statements) b));
 }
 
-pub reaches_statement : (program : Program) (numbers : List ℤ) (limit : ℕ) (start : Runner) (left : ℕ) (runner after : Runner) (s last : State) (old mid new : Option (List ℕ)) → Reaches program numbers limit start left runner s old mid → begins s ≡ true → 0 < left → StepsOn program runner after s last mid new → Reaches program numbers limit start (left - 1) after last old new
-reaches_statement program numbers limit start left runner after s last old mid new h b some m = record {
+pub reaches_statement : (program : Program) (trace : Bool) (numbers : List ℤ) (limit : ℕ) (start : Runner) (left : ℕ) (runner after : Runner) (s last : State) (old mid new : Option (List ℕ)) → Reaches program trace numbers limit start left runner s old mid → begins s ≡ true → 0 < left → StepsOn program trace runner after s last mid new → Reaches program trace numbers limit start (left - 1) after last old new
+reaches_statement program trace numbers limit start left runner after s last old mid new h b some m = record {
   statements = h.statements + 1;
   count = omega (arith, some, h.count);
-  written = written_more program start (first_state program numbers) s last h.statements (h.statements + 1) runner after old mid new h.written m (sym (ap (λ (starts : Bool). begun_with starts h.statements) b));
+  written = written_more program trace start (first_state program numbers) s last h.statements (h.statements + 1) runner after old mid new h.written m (sym (ap (λ (starts : Bool). begun_with starts h.statements) b));
 }
 
 -- A turn that broke off, where a statement may begin if one does.
@@ -258,58 +258,58 @@ room : (starts : Bool) (statements left limit : ℕ) → statements + left ≡ l
 room true statements left limit count h = omega (arith, count, h)
 room false statements left limit count h = omega (arith, count)
 
-reaches_broken : StepsMakeLighter → StatesGoOn → (program : Program) (numbers : List ℤ) (limit : ℕ) (start : Runner) (left : ℕ) (runner : Runner) (s : State) (starts : Bool) (old mid new : Option (List ℕ)) → Reaches program numbers limit start left runner s old mid → begins s ≡ starts → begun_with starts 0 ≤ left → BreaksOff program runner s mid new → Begins (HasRun program numbers limit start) old new
-reaches_broken lightens goes program numbers limit start left runner s starts old mid new h b some m =
+reaches_broken : StepsMakeLighter → StatesGoOn → (program : Program) (trace : Bool) (numbers : List ℤ) (limit : ℕ) (start : Runner) (left : ℕ) (runner : Runner) (s : State) (starts : Bool) (old mid new : Option (List ℕ)) → Reaches program trace numbers limit start left runner s old mid → begins s ≡ starts → begun_with starts 0 ≤ left → BreaksOff program trace runner s mid new → Begins (HasRun program trace numbers limit start) old new
+reaches_broken lightens goes program trace numbers limit start left runner s starts old mid new h b some m =
     let later : begun_with (begins s) h.statements ≤ limit = rw b (room starts h.statements left limit h.count some) in
-    broken lightens goes program numbers limit start h.statements runner s old mid new h.written (omega (arith, h.count)) later m
+    broken lightens goes program trace numbers limit start h.statements runner s old mid new h.written (omega (arith, h.count)) later m
 
-pub step_broken : StepsMakeLighter → StatesGoOn → (program : Program) (numbers : List ℤ) (limit : ℕ) (start : Runner) (left : ℕ) (runner : Runner) (s : State) (old mid new : Option (List ℕ)) → Reaches program numbers limit start left runner s old mid → begins s ≡ false → BreaksOff program runner s mid new → Begins (HasRun program numbers limit start) old new
-step_broken lightens goes program numbers limit start left runner s old mid new h b m = reaches_broken lightens goes program numbers limit start left runner s false old mid new h b (omega arith) m
+pub step_broken : StepsMakeLighter → StatesGoOn → (program : Program) (trace : Bool) (numbers : List ℤ) (limit : ℕ) (start : Runner) (left : ℕ) (runner : Runner) (s : State) (old mid new : Option (List ℕ)) → Reaches program trace numbers limit start left runner s old mid → begins s ≡ false → BreaksOff program trace runner s mid new → Begins (HasRun program trace numbers limit start) old new
+step_broken lightens goes program trace numbers limit start left runner s old mid new h b m = reaches_broken lightens goes program trace numbers limit start left runner s false old mid new h b (omega arith) m
 
-pub statement_broken : StepsMakeLighter → StatesGoOn → (program : Program) (numbers : List ℤ) (limit : ℕ) (start : Runner) (left : ℕ) (runner : Runner) (s : State) (old mid new : Option (List ℕ)) → Reaches program numbers limit start left runner s old mid → begins s ≡ true → 0 < left → BreaksOff program runner s mid new → Begins (HasRun program numbers limit start) old new
-statement_broken lightens goes program numbers limit start left runner s old mid new h b some m = reaches_broken lightens goes program numbers limit start left runner s true old mid new h b (omega (arith, some)) m
+pub statement_broken : StepsMakeLighter → StatesGoOn → (program : Program) (trace : Bool) (numbers : List ℤ) (limit : ℕ) (start : Runner) (left : ℕ) (runner : Runner) (s : State) (old mid new : Option (List ℕ)) → Reaches program trace numbers limit start left runner s old mid → begins s ≡ true → 0 < left → BreaksOff program trace runner s mid new → Begins (HasRun program trace numbers limit start) old new
+statement_broken lightens goes program trace numbers limit start left runner s old mid new h b some m = reaches_broken lightens goes program trace numbers limit start left runner s true old mid new h b (omega (arith, some)) m
 
 -- The end, and the limit.
-pub reaches_end : (program : Program) (numbers : List ℤ) (limit : ℕ) (start : Runner) (left : ℕ) (runner : Runner) (s : State) (ending : Status) (old mid new : Option (List ℕ)) → Reaches program numbers limit start left runner s old mid → EndsIn program s mid new ending → Says (HasRun program numbers limit start) old new ending
-reaches_end program numbers limit start left runner s ending old mid new h e = finished program numbers limit start h.statements runner s ending old mid new h.written (omega (arith, h.count)) e
+pub reaches_end : (program : Program) (trace : Bool) (numbers : List ℤ) (limit : ℕ) (start : Runner) (left : ℕ) (runner : Runner) (s : State) (ending : Status) (old mid new : Option (List ℕ)) → Reaches program trace numbers limit start left runner s old mid → EndsIn program s mid new ending → Says (HasRun program trace numbers limit start) old new ending
+reaches_end program trace numbers limit start left runner s ending old mid new h e = finished program trace numbers limit start h.statements runner s ending old mid new h.written (omega (arith, h.count)) e
 
-pub reaches_limit : (program : Program) (numbers : List ℤ) (limit : ℕ) (start : Runner) (left : ℕ) (runner : Runner) (s : State) (result : Result Status ServeFault) (old mid new : Option (List ℕ)) → Reaches program numbers limit start left runner s old mid → begins s ≡ true → left ≡ 0 → Writes mid new (stopped_text limit) result → IfOk result (λ ending. ending ≡ Stopped) → SaysFront (HasRun program numbers limit start) old new result
-reaches_limit program numbers limit start left runner s result old mid new h b none a e = has_stopped program numbers limit start h.statements runner s result old mid new h.written (omega (arith, h.count, none)) b a e
+pub reaches_limit : (program : Program) (trace : Bool) (numbers : List ℤ) (limit : ℕ) (start : Runner) (left : ℕ) (runner : Runner) (s : State) (result : Result Status ServeFault) (old mid new : Option (List ℕ)) → Reaches program trace numbers limit start left runner s old mid → begins s ≡ true → left ≡ 0 → Writes mid new (stopped_text limit) result → IfOk result (λ ending. ending ≡ Stopped) → SaysFront (HasRun program trace numbers limit start) old new result
+reaches_limit program trace numbers limit start left runner s result old mid new h b none a e = has_stopped program trace numbers limit start h.statements runner s result old mid new h.written (omega (arith, h.count, none)) b a e
 
 -- A quiet step, and quiet steps one after another: nothing is asked, and nothing is written.
-quiet_step : (program : Program) (start : Runner) (first s last : State) (statements begun_now : ℕ) (runner : Runner) (old new : Option (List ℕ)) → HasWritten program start first statements runner s old new → next program.types.items (body_forms program) s ≡ moves Quiet last → begun_now ≡ begun_with (begins s) statements → HasWritten program start first begun_now runner last old new
-quiet_step program start first s last statements begun_now runner old new h is count =
-    let made : StepsOn program runner runner s last new new = record {
+quiet_step : (program : Program) (trace : Bool) (start : Runner) (first s last : State) (statements begun_now : ℕ) (runner : Runner) (old new : Option (List ℕ)) → HasWritten program trace start first statements runner s old new → next program.types.items (body_forms program) s ≡ moves Quiet last → begun_now ≡ begun_with (begins s) statements → HasWritten program trace start first begun_now runner last old new
+quiet_step program trace start first s last statements begun_now runner old new h is count =
+    let made : StepsOn program trace runner runner s last new new = record {
       choice = settled;
       event = Quiet;
       runners = subst (λ (coming : Next). RunnerAnswers runner coming settled runner) (sym is) refl;
       step = subst (λ (coming : Next). Leads coming settled Quiet last) (sym is) (refl, refl);
       line = appends_none new;
     } in
-    written_more program start first s last statements begun_now runner runner old new new h made count
+    written_more program trace start first s last statements begun_now runner runner old new new h made count
 
 begun_both : (starts : Bool) (n k : ℕ) → n + begun_with starts k ≡ begun_with starts (n + k)
 begun_both true n k = omega arith
 begun_both false n k = refl
 
-quiet_steps : (program : Program) (start : Runner) (first s last : State) (statements more : ℕ) (runner : Runner) (old new : Option (List ℕ)) → HasWritten program start first statements runner s old new → GoesQuietly program s more last → HasWritten program start first (statements + more) runner last old new
-quiet_steps program start first s last statements more runner old new h stays =
-    subst (λ (n : ℕ). HasWritten program start first n runner s old new) (sym (add-zero statements)) h
-quiet_steps program start first s last statements more runner old new h (goes_quietly_on counted mid so_far is count) =
-    quiet_step program start first mid last (statements + counted) (statements + more) runner old new
-    (quiet_steps program start first s mid statements counted runner old new h so_far) is
+quiet_steps : (program : Program) (trace : Bool) (start : Runner) (first s last : State) (statements more : ℕ) (runner : Runner) (old new : Option (List ℕ)) → HasWritten program trace start first statements runner s old new → GoesQuietly program s more last → HasWritten program trace start first (statements + more) runner last old new
+quiet_steps program trace start first s last statements more runner old new h stays =
+    subst (λ (n : ℕ). HasWritten program trace start first n runner s old new) (sym (add-zero statements)) h
+quiet_steps program trace start first s last statements more runner old new h (goes_quietly_on counted mid so_far is count) =
+    quiet_step program trace start first mid last (statements + counted) (statements + more) runner old new
+    (quiet_steps program trace start first s mid statements counted runner old new h so_far) is
     (ap (λ (n : ℕ). statements + n) count ∙ begun_both (begins mid) statements counted)
 
 -- Quiet steps in which so many statements begin that these are left.
-pub reaches_quietly : (program : Program) (numbers : List ℤ) (limit : ℕ) (start : Runner) (left after : ℕ) (runner : Runner) (s last : State) (old new : Option (List ℕ)) → Reaches program numbers limit start left runner s old new → GoesQuietly program s (left - after) last → after ≤ left → Reaches program numbers limit start after runner last old new
-reaches_quietly program numbers limit start left after runner s last old new h quiet within = record {
+pub reaches_quietly : (program : Program) (trace : Bool) (numbers : List ℤ) (limit : ℕ) (start : Runner) (left after : ℕ) (runner : Runner) (s last : State) (old new : Option (List ℕ)) → Reaches program trace numbers limit start left runner s old new → GoesQuietly program s (left - after) last → after ≤ left → Reaches program trace numbers limit start after runner last old new
+reaches_quietly program trace numbers limit start left after runner s last old new h quiet within = record {
   statements = h.statements + (left - after);
   count = omega (arith, h.count, within);
-  written = quiet_steps program start (first_state program numbers) s last h.statements (left - after) runner old new h.written quiet;
+  written = quiet_steps program trace start (first_state program numbers) s last h.statements (left - after) runner old new h.written quiet;
 }
 
 -- A fault between two turns.
-pub reaches_fault : StepsMakeLighter → StatesGoOn → (program : Program) (numbers : List ℤ) (limit : ℕ) (start : Runner) (left : ℕ) (runner : Runner) (s : State) (old new : Option (List ℕ)) → Reaches program numbers limit start left runner s old new → Begins (HasRun program numbers limit start) old new
-reaches_fault lightens goes program numbers limit start left runner s old new h =
-    let lines : List ℕ = lines_of program h.written.events in
-    begins_run lightens goes program numbers limit start h.statements runner s h.written.events lines [] old new (omega (arith, h.count)) h.written.run (sym (append-nil lines)) h.written.lines
+pub reaches_fault : StepsMakeLighter → StatesGoOn → (program : Program) (trace : Bool) (numbers : List ℤ) (limit : ℕ) (start : Runner) (left : ℕ) (runner : Runner) (s : State) (old new : Option (List ℕ)) → Reaches program trace numbers limit start left runner s old new → Begins (HasRun program trace numbers limit start) old new
+reaches_fault lightens goes program trace numbers limit start left runner s old new h =
+    let lines : List ℕ = lines_of program trace h.written.events in
+    begins_run lightens goes program trace numbers limit start h.statements runner s h.written.events lines [] old new (omega (arith, h.count)) h.written.run (sym (append-nil lines)) h.written.lines

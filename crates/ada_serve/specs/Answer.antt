@@ -41,21 +41,21 @@ pub record IsTooLong (IsInput : List ℕ → Type 0) : Type 0 where
   pub input : IsInput bytes
   pub longer : LONGEST_INPUT < length bytes
 
--- The answer to a program that is to be run: it runs on the numbers that its input gives.
-pub record IsRunAnswer (IsInput : List ℕ → Type 0) (program : Program) (limit : ℕ) (start : Runner) (text : List ℕ) (status : Status) : Type 0 where
+-- The answer to a program that is to be run, traced or not: it runs on the numbers that its input gives.
+pub record IsRunAnswer (IsInput : List ℕ → Type 0) (program : Program) (trace : Bool) (limit : ℕ) (start : Runner) (text : List ℕ) (status : Status) : Type 0 where
   pub numbers : List ℤ
   pub given : GivesNumbers IsInput numbers
-  pub run : HasRun program numbers limit start text status
+  pub run : HasRun program trace numbers limit start text status
 
 -- The answer to a program that is only checked, and to one that is to be run, and may begin so many statements. Only a run looks at the input.
-abbrev pub IsProgramAnswer : (IsInput : List ℕ → Type 0) → Program → (run : Bool) → (limit : ℕ) → Runner → List ℕ → Status → Type 0
-IsProgramAnswer IsInput program false limit start text status = (text ≡ accepted_text) × (status ≡ Accepted)
-IsProgramAnswer IsInput program true limit start text status = IsRunAnswer IsInput program limit start text status
+abbrev pub IsProgramAnswer : (IsInput : List ℕ → Type 0) → Program → (run trace : Bool) → (limit : ℕ) → Runner → List ℕ → Status → Type 0
+IsProgramAnswer IsInput program false trace limit start text status = (text ≡ accepted_text) × (status ≡ Accepted)
+IsProgramAnswer IsInput program true trace limit start text status = IsRunAnswer IsInput program trace limit start text status
 
 -- The answer to a source, with what is asked for: the refusal of its first fault; or its program is accepted: it is only checked, or it is
 -- run on the numbers of the input up to its end or to the limit of statements.
 pub data Answer (source : List ℕ) (IsInput : List ℕ → Type 0) (options : Options) (text : List ℕ) (status : Status) : Type 0 where
   refused : (verdict : Verdict) → IsFirst source verdict → IsRefusal verdict text status → Answer source IsInput options text status
   accepted : (program : Program) → IsAccepted source program
-      → IsProgramAnswer IsInput program options.run options.steps (runner_before program options) text status
+      → IsProgramAnswer IsInput program options.run options.trace options.steps (runner_before program options) text status
       → Answer source IsInput options text status

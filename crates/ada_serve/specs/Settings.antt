@@ -1,15 +1,10 @@
 -- What the program is asked to do.
 
-use Rattle.std.specs.Prelude.{◌≡◌, ℕ, ◌+◌, ◌*◌, ◌-◌, ◌≤◌, ◌==◌, ◌&&◌, nat_eq, nat_lt, Bool, false, not, List, [], ◌∷◌, if◌then◌else◌, Option, Some, None}
+use Rattle.std.specs.Prelude.{ℕ, ◌+◌, ◌*◌, ◌-◌, ◌≤◌, ◌==◌, ◌&&◌, nat_eq, nat_lt, Bool, not, List, [], ◌∷◌, if◌then◌else◌, Option, Some, None}
 use Rattle.std.specs.Char.{is_ascii_digit}
 use Rattle.std.specs.List.{list_all, list_any, position_or_len, before_first, after_first}
 use Rattle.std.specs.String.{string_bytes}
 use Rattle.ada_pools.specs.declared.sizes.PoolSize.{PoolSize}
-use Rattle.ada_serve.specs.declared.settings.Options.{Options}
-
--- The field that no word on the command line sets yet has its default.
-abbrev pub HasDefaults : Options → Type 0
-HasDefaults o = o.trace ≡ false
 
 -- The number that digits write behind those of another number.
 abbrev pub number_behind : ℕ → List ℕ → ℕ

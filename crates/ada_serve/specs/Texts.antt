@@ -1,12 +1,14 @@
 -- The lines of an answer.
 
-use Rattle.std.specs.Prelude.{ℕ, ℤ, List, [], ◌∷◌, ◌++◌, map, codes, decimal}
-use Rattle.std.specs.List.{slice_index_or}
+use Rattle.std.specs.Prelude.{ℕ, ℤ, Bool, true, false, List, [], ◌∷◌, ◌++◌, Option, Some, None, map, codes, decimal}
+use Rattle.std.specs.List.{slice_get, slice_index_or}
 use Rattle.std.specs.String.{string_bytes}
 use Rattle.std.specs.Fmt.{signed_decimal}
 use Rattle.std.specs.Prelude.{pos, negsuc}
 use Rattle.ada_program.specs.declared.program.Exception.{Exception}
 use Rattle.ada_program.specs.declared.program.Program.{Program}
+use Rattle.ada_program.specs.declared.program.TypeDefinition.{TypeDefinition}
+use Rattle.ada_program.specs.declared.program.TypeDefinition.TheVariants.{Record, Access, Object}
 use Rattle.ada_program.specs.Names.{exception_name}
 use Rattle.ada_meaning.specs.declared.event.Line.{Line}
 use Rattle.ada_meaning.specs.declared.event.Line.TheVariants.{Image, Literal}
@@ -37,6 +39,38 @@ text_at texts number = slice_index_or texts number []
 abbrev pub line_text : List (List ℕ) → Line → List ℕ
 line_text texts (Image value) = image value ++ line_feed
 line_text texts (Literal text) = text_at texts text.0 ++ line_feed
+
+-- The name of a type (3.2.1), in upper case: what only one record object is known by has none, nor has a type that is not there.
+abbrev pub name_of : Option TypeDefinition → List ℕ
+name_of None = []
+name_of (Some (Record name parts components)) = string_bytes name
+name_of (Some (Access name designated pool)) = string_bytes name
+name_of (Some (Object record_type)) = []
+
+-- The name of the type of this number in a program.
+abbrev pub name_of_type : Program → (type : ℕ) → List ℕ
+name_of_type program type = name_of (slice_get program.types.items type)
+
+-- A line of a trace: what happens, the name of a type, and the trace number of a value or an object of it.
+abbrev pub trace_text : (moment name : List ℕ) → (number : ℕ) → List ℕ
+trace_text moment name number = moment ++ name ++ codes " " ++ decimal number ++ line_feed
+
+-- A controlled value of a type has come to exist (7.6).
+abbrev pub born_text : Program → (type number : ℕ) → List ℕ
+born_text program type number = trace_text (codes "# born ") (name_of_type program type) number
+
+-- Finalize of a controlled value of a type begins (7.6.1).
+abbrev pub finalized_text : Program → (type number : ℕ) → List ℕ
+finalized_text program type number = trace_text (codes "# finalized ") (name_of_type program type) number
+
+-- The storage of an object of an access type goes back (13.11.2).
+abbrev pub back_text : Program → (access number : ℕ) → List ℕ
+back_text program access number = trace_text (codes "# back ") (name_of_type program access) number
+
+-- What is written of a line of a trace: the line, where a trace is asked for.
+abbrev pub traced : (trace : Bool) → List ℕ → List ℕ
+traced false text = []
+traced true text = text
 
 -- The line of a source that is refused: the place, the number and the name of the rule.
 abbrev pub refusal_text : Told → List ℕ

@@ -4,7 +4,7 @@ ghost use Rattle.std.specs.Prelude.{◌≡◌, ◌≤◌, false, None, IfOk, IfS
 ghost use Rattle.std.specs.Char.{is_ascii_digit};
 ghost use Rattle.std.specs.List.{All, list_all};
 ghost use Rattle.std.specs.Option.{option_map};
-ghost use Rattle.ada_serve.specs.Settings.{HasDefaults, HasSize, number_of, words_of, size_in, shown_size};
+ghost use Rattle.ada_serve.specs.Settings.{HasSize, number_of, words_of, size_in, shown_size};
 
 use crate::settings::{MOST_WORDS, Options, Paths};
 use ada_pools::PoolSize;
@@ -45,11 +45,11 @@ impl<T: Drop> From<AllocFailed<T>> for UsageFault {
 /// # Errors
 /// Where the words are no command of this program, or memory ran out.
 pub fn options<'a>(alloc: Global, words: &'a [&'a str]) -> Result<(Options, Paths<'a>), UsageFault>
-    ensures defaults { IfOk result (λ found. HasDefaults found.0) }
     ensures steps { IfOk result (λ found. 1 ≤ found.0.steps) }
     ensures standard { IfOk result (λ found. found.0.standard ≤ MOST_WORDS) }
     ensures sizes { IfOk result (λ found. All HasSize found.0.sizes.items) }
-    // Only a run has an input.
+    // Only a run is traced, and has an input.
+    ensures trace { IfOk result (λ found. found.0.run ≡ false → found.0.trace ≡ false) }
     ensures input { IfOk result (λ found. found.0.run ≡ false → found.1.input ≡ None) }
 {
     let mut command = command(alloc)?;
@@ -91,7 +91,7 @@ fn options_of(
     run: Option<&ArgMatches<'_>>,
 ) -> Result<Options, UsageFault>
     ensures check { IfOk result (λ options. options.run ≡ false → run.entry ≡ None) }
-    ensures defaults { IfOk result HasDefaults }
+    ensures trace { IfOk result (λ options. options.run ≡ false → options.trace ≡ false) }
     ensures steps { IfOk result (λ options. 1 ≤ options.steps) }
     ensures standard { IfOk result (λ options. options.standard ≤ MOST_WORDS) }
     ensures sizes { IfOk result (λ options. All HasSize options.sizes.items) }
@@ -136,6 +136,7 @@ fn options_of(
         &size,
         options.standard,
     )?;
+    options.trace = given.get_flag("trace");
     if let Some(words) = given.get_strs("sizes") {
         add_sizes(alloc, command, words, &mut options.sizes)?;
     }
@@ -277,7 +278,8 @@ fn no_size(alloc: Global, command: &mut Command<'_>, word: &str) -> Result<Error
 }
 
 /// `ada_run check [--source FILE]` and
-/// `ada_run run [--source FILE] [--input FILE] [--standard WORDS] [--steps N] [--refuse K] [NAME=WORDS]...`
+/// `ada_run run [--source FILE] [--input FILE] [--standard WORDS] [--steps N] [--refuse K] [--trace]
+/// [NAME=WORDS]...`
 fn command<'a>(alloc: Global) -> Result<Command<'a>, AllocError> {
     let check = Command::new(alloc, "check")
         .about("Checks a source")
@@ -289,6 +291,7 @@ fn command<'a>(alloc: Global) -> Result<Command<'a>, AllocError> {
         .arg(standard(alloc))?
         .arg(steps(alloc))?
         .arg(refuse(alloc))?
+        .arg(trace(alloc))?
         .arg(sizes(alloc))?;
     Command::new(alloc, "ada_run")
         .about("Checks and runs the use of storage in Ada programs")
@@ -345,6 +348,16 @@ fn refuse<'a>(alloc: Global) -> Arg<'a> {
             "The request for storage that is refused, 1 to 4294967295; none is where 0 or no number is given",
         )
         .action(ArgAction::Set)
+}
+
+/// `--trace`
+fn trace<'a>(alloc: Global) -> Arg<'a> {
+    Arg::new(alloc, "trace")
+        .long("trace")
+        .help(
+            "Write a line when a controlled value comes to exist or is finalized, and when storage goes back",
+        )
+        .action(ArgAction::SetTrue)
 }
 
 /// `[NAME=WORDS]...`

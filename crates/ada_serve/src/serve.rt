@@ -9,16 +9,16 @@ ghost use Rattle.ada_meaning.specs.Run.{first_state};
 ghost use Rattle.ada_pools.specs.View.{runner_of};
 ghost use Rattle.ada_serve.specs.Answer.{IsRefusal, IsProgramAnswer, GivesNumbers};
 ghost use Rattle.ada_serve.specs.Calls.{IsRead, IsKept, FaultReads, OnlyWrites, WriterEnds};
-ghost use Rattle.ada_serve.specs.Runner.{runner_before, end_text, status_of, event_text, TakesTurn, HasRun};
+ghost use Rattle.ada_serve.specs.Runner.{runner_before, end_text, status_of, event_text, TurnsOn, HasRun};
 ghost use Rattle.ada_serve.specs.Served.{PromisesSafe, IsOfInput, FaultGives, InputTurns, ReadersEnd, Serves, TellsPools};
-ghost use Rattle.ada_serve.specs.Texts.{texts_of, exceptions_of, stopped_text};
+ghost use Rattle.ada_serve.specs.Texts.{exceptions_of, stopped_text};
 ghost use Rattle.ada_serve.specs.Written.{Writes, SaysFront};
 ghost use Rattle.ada_typed.specs.Stuck.{NeverStuck};
 
 use crate::output::write_all;
 use crate::settings::Options;
 use crate::streams::{ByteReader, ByteWriter, Failed};
-use crate::texts::{put_line, put_refusal, put_stopped, put_unhandled};
+use crate::texts::{put_event, put_refusal, put_stopped, put_unhandled};
 use ada_input::{InputFault, numbers};
 use ada_interpreter::Machine;
 use ada_meaning::laws::{states_go_on, steps_make_lighter};
@@ -118,7 +118,8 @@ const MOST_KEPT: usize = 1_048_577;
 
 /// Writes the answer to a source: the line of its first fault, or `accepted`, or the lines of its run and how it ended.
 /// A run is stopped where it would begin one statement more than `options.steps`; its request for storage whose number
-/// is `options.refuse` is refused, and so is one for which its pool has no room.
+/// is `options.refuse` is refused, and so is one for which its pool has no room. With `options.trace` its lines tell, too,
+/// when the storage of an allocated object goes back.
 ///
 /// The input is read before the run begins, and each line is written as the run comes to it. A check, and a source that
 /// is refused, leave the input unread.
@@ -164,7 +165,7 @@ fn answer<I: ByteReader, W: ByteWriter>(
     out: &mut W,
 ) -> Result<Status, ServeFault>
     ensures text { SaysFront (IsProgramAnswer (IsRead I.remaining I.reads input.old input.new)
-        accepted.now options.now.run options.now.steps (runner_before accepted.now options.now))
+        accepted.now options.now.run options.now.trace options.now.steps (runner_before accepted.now options.now))
         (W.contents out.old) (W.contents out.new) result }
     ensures writer { WriterEnds W.writes out.old out.new result }
     ensures input { InputTurns I.remaining I.reads input.old input.new result }
@@ -251,8 +252,8 @@ fn run<W: ByteWriter>(
     options: &Options,
     out: &mut W,
 ) -> Result<Status, ServeFault>
-    ensures text { SaysFront (HasRun program.now numbers.items options.now.steps (runner_before program.now options.now))
-        (W.contents out.old) (W.contents out.new) result }
+    ensures text { SaysFront (HasRun program.now options.now.trace numbers.items options.now.steps
+        (runner_before program.now options.now)) (W.contents out.old) (W.contents out.new) result }
     ensures writer { OnlyWrites W.writes out.old out.new result }
 {
     let choices = PoolChoices::new(
@@ -278,8 +279,8 @@ fn take_turns<W: ByteWriter>(
     requires first { state_in machine.old ≡ first_state program.now (state_in machine.old).input }
     requires runs { halt_of machine.old ≡ None }
     requires same { program_of machine.old ≡ program.now }
-    ensures text { SaysFront (HasRun program.now (state_in machine.old).input options.now.steps (runner_of (choices_of machine.old)))
-        (W.contents out.old) (W.contents out.new) result }
+    ensures text { SaysFront (HasRun program.now options.now.trace (state_in machine.old).input options.now.steps
+        (runner_of (choices_of machine.old))) (W.contents out.old) (W.contents out.new) result }
     ensures writer { OnlyWrites W.writes out.old out.new result }
 {
     steps_make_lighter();
@@ -287,7 +288,7 @@ fn take_turns<W: ByteWriter>(
     let mut left = options.steps;
     'statements: loop {
         'steps: while !machine.begins() {
-            if let Some(status) = take_turn(machine, program, page, out)? {
+            if let Some(status) = take_turn(machine, program, options.trace, page, out)? {
                 return Ok(status);
             }
         }
@@ -295,7 +296,7 @@ fn take_turns<W: ByteWriter>(
             return stop(page, out, options.steps);
         }
         left -= 1;
-        if let Some(status) = take_turn(machine, program, page, out)? {
+        if let Some(status) = take_turn(machine, program, options.trace, page, out)? {
             return Ok(status);
         }
         left = machine.make_common_steps(left)?;
@@ -306,13 +307,13 @@ fn take_turns<W: ByteWriter>(
 fn take_turn<W: ByteWriter>(
     machine: &mut Machine<'_, PoolChoices>,
     program: &Program,
+    trace: bool,
     page: &mut Vec<u8>,
     out: &mut W,
 ) -> Result<Option<Status>, ServeFault>
     requires runs { halt_of machine.old ≡ None }
     requires same { program_of machine.old ≡ program.now }
-    ensures text { TakesTurn program.now (runner_of (choices_of machine.old)) (runner_of (choices_of machine.new)) (state_in machine.old) (state_in machine.new)
-        (W.contents out.old) (W.contents out.new) result }
+    ensures text { TurnsOn program.now trace machine.old machine.new (W.contents out.old) (W.contents out.new) result }
     ensures writer { OnlyWrites W.writes out.old out.new result }
     ensures runs { IfOk result (λ ended. ended ≡ None → halt_of machine.new ≡ None) }
     ensures same { program_of machine.new ≡ program.now }
@@ -320,7 +321,7 @@ fn take_turn<W: ByteWriter>(
     page.clear();
     match machine.step() {
         Ok(event) => {
-            write_event(page, program, out, event)?;
+            write_event(page, program, trace, out, event)?;
             Ok(None)
         }
         Err(halt) => Ok(Some(finish(page, program, out, halt)?)),
@@ -343,16 +344,15 @@ fn stop<W: ByteWriter>(page: &mut Vec<u8>, out: &mut W, limit: u32) -> Result<St
 fn write_event<W: ByteWriter>(
     page: &mut Vec<u8>,
     program: &Program,
+    trace: bool,
     out: &mut W,
     event: Event,
 ) -> Result<(), ServeFault>
     requires { page.old.items ≡ [] }
-    ensures text { Writes (W.contents out.old) (W.contents out.new) (event_text (texts_of program.now) (event_of event)) result }
+    ensures text { Writes (W.contents out.old) (W.contents out.new) (event_text program.now trace (event_of event)) result }
     ensures writer { OnlyWrites W.writes out.old out.new result }
 {
-    if let Event::Line(line) = event {
-        put_line(page, &program.texts, line)?;
-    }
+    put_event(page, program, trace, event)?;
     write_all(out, page)
 }
 

@@ -1,7 +1,6 @@
 //! What the program is asked to do.
 
-ghost use Rattle.std.specs.Prelude.{◌≡◌, []};
-ghost use Rattle.ada_serve.specs.Settings.{HasDefaults};
+ghost use Rattle.std.specs.Prelude.{◌≡◌, [], false};
 
 use ada_pools::PoolSize;
 use std::alloc::Global;
@@ -9,7 +8,7 @@ use std::alloc::Global;
 /// The greatest size of a pool, in words, and that of the standard pool where no other is given.
 pub const MOST_WORDS: u32 = 65_536;
 
-/// What the program is asked to do. `trace` has its default: no word on the command line sets it yet.
+/// What the program is asked to do.
 #[derive(Debug, Drop)]
 pub struct Options {
     /// Run the source if it is accepted, in place of only checking it.
@@ -22,7 +21,8 @@ pub struct Options {
     pub steps: u32,
     /// The number of the request for storage that is refused, counted from 1 over the run; 0 refuses none.
     pub refuse: u32,
-    /// Write a line when a controlled value comes to exist or is finalized, and when storage goes back.
+    /// Write a line when a controlled value comes to exist or is finalized, and when the storage of an allocated object goes
+    /// back.
     pub trace: bool,
 }
 
@@ -34,7 +34,7 @@ impl Options {
         ensures sizes { result.sizes.items ≡ [] }
         ensures steps { result.steps ≡ 1_000_000 }
         ensures refuse { result.refuse ≡ 0 }
-        ensures defaults { HasDefaults result }
+        ensures trace { result.trace ≡ false }
     {
         Options {
             run,

@@ -2,18 +2,104 @@
 
 ghost use Rattle.std.specs.Prelude.{◌≡◌, ◌++◌, map, OnOk, decimal};
 ghost use Rattle.std.specs.String.{string_bytes};
-ghost use Rattle.ada_serve.specs.Texts.{exceptions_of, image, line_text, refusal_text, stopped_text, text_at, unhandled_text};
+ghost use Rattle.ada_meaning.specs.Event.{event_of};
+ghost use Rattle.ada_serve.specs.Runner.{event_text};
+ghost use Rattle.ada_serve.specs.Texts.{image, line_text, name_of_type, text_at};
+ghost use Rattle.ada_serve.specs.Texts.{back_text, born_text, finalized_text, trace_text};
+ghost use Rattle.ada_serve.specs.Texts.{exceptions_of, refusal_text, stopped_text, unhandled_text};
 ghost use Rattle.ada_verdict.specs.Shown.{shown};
 
-use ada_meaning::Line;
-use ada_program::Program;
-use ada_program::program::{Exception, TextNo};
+use ada_meaning::{Event, Line};
+use ada_program::program::{Exception, TextNo, TypeDefinition};
+use ada_program::{Program, TypeNo};
 use ada_verdict::Refusal;
 use itoa::Buffer;
 use std::alloc::AllocError;
 
+/// Appends the line of an event that has one. Only a run that is traced has the lines of a trace.
+pub fn put_event(
+    page: &mut Vec<u8>,
+    program: &Program,
+    trace: bool,
+    event: Event,
+) -> Result<(), AllocError>
+    ensures { OnOk result (page.new.items ≡ page.old.items ++ event_text program.now trace (event_of event)) }
+{
+    match event {
+        Event::Born { record, number, .. } if trace => put_born(page, program, record, number),
+        Event::Finalized { record, number, .. } if trace => {
+            put_finalized(page, program, record, number)
+        }
+        Event::Back {
+            access,
+            number,
+            pool: Some(_),
+            ..
+        } if trace => put_back(page, program, access, number),
+        Event::Line(line) => put_line(page, &program.texts, line),
+        _ => Ok(()),
+    }
+}
+
+/// Appends that a controlled value of a type has come to exist.
+fn put_born(
+    page: &mut Vec<u8>,
+    program: &Program,
+    controlled: TypeNo,
+    number: u64,
+) -> Result<(), AllocError>
+    ensures { OnOk result (page.new.items ≡ page.old.items ++ born_text program.now controlled.0 number) }
+{
+    put_trace(page, "# born ", name_of(program, controlled), number)
+}
+
+/// Appends that Finalize of a controlled value of a type begins.
+fn put_finalized(
+    page: &mut Vec<u8>,
+    program: &Program,
+    controlled: TypeNo,
+    number: u64,
+) -> Result<(), AllocError>
+    ensures { OnOk result (page.new.items ≡ page.old.items ++ finalized_text program.now controlled.0 number) }
+{
+    put_trace(page, "# finalized ", name_of(program, controlled), number)
+}
+
+/// Appends that the storage of an object of an access type goes back.
+fn put_back(
+    page: &mut Vec<u8>,
+    program: &Program,
+    access: TypeNo,
+    number: u64,
+) -> Result<(), AllocError>
+    ensures { OnOk result (page.new.items ≡ page.old.items ++ back_text program.now access.0 number) }
+{
+    put_trace(page, "# back ", name_of(program, access), number)
+}
+
+/// Appends a line of a trace.
+fn put_trace(page: &mut Vec<u8>, moment: &str, name: &str, number: u64) -> Result<(), AllocError>
+    ensures { OnOk result (page.new.items ≡ page.old.items ++ trace_text moment.now name.now number) }
+{
+    page.extend_from_slice(moment.as_bytes())?;
+    page.extend_from_slice(name.as_bytes())?;
+    page.extend_from_slice(b" ")?;
+    put_number(page, number)?;
+    page.extend_from_slice(b"\n")
+}
+
+/// The name of the type of this number in upper case: the empty text, if only one record object is known by it.
+fn name_of<'a>(program: &'a Program, number: TypeNo) -> &'a str
+    ensures { result.now ≡ name_of_type program.now number.0 }
+{
+    match program.types.get(number.0) {
+        Some(TypeDefinition::Record { name, .. } | TypeDefinition::Access { name, .. }) => name,
+        Some(TypeDefinition::Object { .. }) | None => "",
+    }
+}
+
 /// Appends a line that a program with these string literals writes.
-pub fn put_line(page: &mut Vec<u8>, texts: &[String], line: Line) -> Result<(), AllocError>
+fn put_line(page: &mut Vec<u8>, texts: &[String], line: Line) -> Result<(), AllocError>
     ensures { OnOk result (page.new.items ≡ page.old.items ++ line_text (map string_bytes texts.now) line) }
 {
     match line {
@@ -45,7 +131,7 @@ fn put_text(page: &mut Vec<u8>, texts: &[String], number: TextNo) -> Result<(), 
 }
 
 /// Appends a number in decimal digits.
-fn put_number(page: &mut Vec<u8>, number: u32) -> Result<(), AllocError>
+fn put_number(page: &mut Vec<u8>, number: u64) -> Result<(), AllocError>
     ensures { OnOk result (page.new.items ≡ page.old.items ++ decimal number) }
 {
     let mut buffer = Buffer::new();
@@ -57,9 +143,9 @@ pub fn put_refusal(page: &mut Vec<u8>, refusal: Refusal) -> Result<(), AllocErro
     ensures { OnOk result (page.new.items ≡ page.old.items ++ refusal_text (shown refusal)) }
 {
     page.extend_from_slice(b"refused ")?;
-    put_number(page, refusal.spot.line)?;
+    put_number(page, u64::from(refusal.spot.line))?;
     page.extend_from_slice(b":")?;
-    put_number(page, refusal.spot.column)?;
+    put_number(page, u64::from(refusal.spot.column))?;
     page.extend_from_slice(b" ")?;
     page.extend_from_slice(refusal.name.as_bytes())?;
     page.extend_from_slice(b"\n")
@@ -83,6 +169,6 @@ pub fn put_stopped(page: &mut Vec<u8>, limit: u32) -> Result<(), AllocError>
     ensures { OnOk result (page.new.items ≡ page.old.items ++ stopped_text limit) }
 {
     page.extend_from_slice(b"stopped after ")?;
-    put_number(page, limit)?;
+    put_number(page, u64::from(limit))?;
     page.extend_from_slice(b"\n")
 }

@@ -1,9 +1,11 @@
 -- Allocators: their items are evaluated one by one, and then the new object comes to be.
 
-use Rattle.std.proofs.Common.{◌≡◌, ℕ, Bool, true, false, ◌&&◌, List, [], ◌∷◌, length, take, drop, reverse, refl, sym, ◌∙◌, inl}
+use Rattle.std.proofs.Common.{◌≡◌, ℕ, Bool, true, false, ◌&&◌, List, [], ◌∷◌, length, take, drop, reverse, refl, sym, ◌∙◌, inr}
 use Rattle.std.specs.Prelude.{Option, Some, None}
 use Rattle.std.specs.List.{slice_set}
 use Rattle.ada_text.specs.declared.spot.Spot.{Spot}
+use Rattle.ada_parts.specs.declared.tasks.Direction.TheVariants.{PartsFirst}
+use Rattle.ada_program.specs.declared.program.TypeDefinition.{TypeDefinition}
 use Rattle.ada_program.specs.declared.program.Exception.TheVariants.{ConstraintError, StorageError}
 use Rattle.ada_program.specs.declared.program.ComponentKind.{ComponentKind}
 use Rattle.ada_program.specs.declared.program.ComponentKind.TheVariants as component_kinds
@@ -17,12 +19,13 @@ use Rattle.ada_flow.specs.declared.rule.Region.TheVariants.{Whole}
 use Rattle.ada_flow.specs.Flow.{Holds, hold_at, variable_access, uses_in_item, copies_to, reaches_it, is_owning_record, is_target, lost_by, lost_behind, moved_behind, without_values, moved_by_items}
 use Rattle.ada_meaning.specs.declared.state.Value.{Value}
 use Rattle.ada_meaning.specs.declared.state.Value.TheVariants.{Null, Names, Scalar, Part}
-use Rattle.ada_meaning.specs.declared.state.Mode.TheVariants.{Running, Raising}
-use Rattle.ada_meaning.specs.Frame.{Computes, Fills, Copies, Creates, Stores, Declares, StoresIn, StoresRecord, DeclaresRecord}
+use Rattle.ada_meaning.specs.declared.state.Mode.TheVariants.{Raising}
+use Rattle.ada_meaning.specs.declared.event.Birth.TheVariants.{Creation}
+use Rattle.ada_meaning.specs.Frame.{Computes, Fills, Copies, Creates, Stores, Declares, StoresIn, StoresRecord, DeclaresRecord, begins}
 use Rattle.ada_meaning.specs.Event.{Quiet}
 use Rattle.ada_meaning.specs.Heap.{Cell}
 use Rattle.ada_meaning.specs.State.{Destination, Activation, home_of}
-use Rattle.ada_meaning.specs.Step.{path_next, items_next, new_next, new_cell, answered, selected, first_in, record_holder_next}
+use Rattle.ada_meaning.specs.Step.{all_tasks, path_next, items_next, new_next, new_cell, answered, selected, first_in, record_holder_next}
 use Rattle.ada_meaning.specs.Named.{Object, State, object_at, new_object, create, created, store, named, inside}
 use Rattle.ada_typed.specs.Holding.{HaveKinds, cells_of}
 use Rattle.ada_typed.proofs.Values.{OperandKind, AreComputed}
@@ -37,8 +40,8 @@ use Rattle.ada_sound.proofs.Stored.{Stored, stored_new, stored_filled}
 use Rattle.ada_sound.proofs.Alters.{alters_new}
 use Rattle.ada_sound.proofs.Fits.{Fit, Hand, stacked, none_spared, hold_in, place_at, component_access, is_object, plain_place, as_reliance, lose_all, put_owner, create_fit, insert_fit}
 use Rattle.ada_sound.proofs.Begins.{root_follows}
-use Rattle.ada_sound.proofs.Invariant.{begun, along, outers, HasRoom, RoomFor, Known, Control, Rooms, NoneBroken, MayRaise, back_onto, named_of, FilledBy, GoesInto, LeadsTo, Filling, FillsTo, Accepts, StoresTo, StoringIn, RunsOn, Working, ReadyIn, Stepped, Fine}
-use Rattle.ada_sound.proofs.Ready.{running, at_work, ready_on, jumps_less}
+use Rattle.ada_sound.proofs.Invariant.{begun, along, outers, HasRoom, RoomFor, Known, Control, Rooms, NoneBroken, MayRaise, back_onto, named_of, FilledBy, GoesInto, LeadsTo, Filling, FillsTo, Accepts, StoresTo, IsHolder, NamesTo, RunsOn, Working, Stepped, Fine}
+use Rattle.ada_sound.proofs.Ready.{running, at_work, ready_on, jumps_less, treats_ready}
 use Rattle.ada_sound.proofs.Followings.{first_kept}
 use Rattle.ada_sound.proofs.Roots.{root_object, object_there, rest_raises, record_raises, selected_raises}
 use Rattle.ada_sound.proofs.Filled.{Lends, kept_by, filled_length, filled_in_hand}
@@ -178,9 +181,9 @@ module _ (known : Known) (k : Control) (a : Activation Value) (rest : List (Acti
       record_item p items (record_fits cs p items fits) w (record_kept w.holds p (next_keeps known s.heap a.places (item_of_record p) items k a.operands w.rooms w.holds w.rest))
 
   -- A new object is granted, or refused.
-  module _ (access count words : ℕ) (home : Destination) (is_home : home_of access s.masters ≡ Some home) (w : Working known s.heap a.places s.masters (Filling known s.heap a.places access count [] k a.operands)) (kinds : HaveKinds known.program.types (cells_of s.heap) w.rest.leads.components (reverse (take count a.operands))) where
+  module _ (types : List TypeDefinition) (access count words : ℕ) (home : Destination) (is_home : home_of access s.masters ≡ Some home) (w : Working known s.heap a.places s.masters (Filling known s.heap a.places access count [] k a.operands)) (kinds : HaveKinds known.program.types (cells_of s.heap) w.rest.leads.components (reverse (take count a.operands))) where
     cell : Cell Value
-    cell = new_cell named access count home (running k a rest s)
+    cell = new_cell named types access count home (running k a rest s)
 
     -- What is known once the variables that the items move are lost.
     lost : Holds
@@ -224,44 +227,43 @@ module _ (known : Known) (k : Control) (a : Activation Value) (rest : List (Acti
         let after = hold_of (with_lent o c (as_reliance (outers known) lost)) in
         insert_fit words cell o object c found listed same (in_hand_by after (lends_some (outers known) s.heap a.places w.holds w.rest.target moved o object c found listed leads) count counted kinds) (lose_all moved w.fit)
 
-    stored_in : (o : Value) (c : ℕ) (k' : Control) → ((path : PathForm) → w.rest.target ≡ Some path → LeadsTo s.heap a.places o [] c path) → Accepts known s.heap o c (Some access) → RunsOn known k' w.rooms lost → StoringIn known o c (created s.heap words) k' (create s.heap words cell) a.places s.masters
+    stored_in : (o : Value) (c : ℕ) (k' : Control) → ((path : PathForm) → w.rest.target ≡ Some path → LeadsTo s.heap a.places o [] c path) → Accepts known s.heap o c (Some access) → RunsOn known k' w.rooms lost → IsHolder (create s.heap words cell) o × Working known (store (create s.heap words cell) o c (created s.heap words)) a.places s.masters (RunsOn known k')
     stored_in Null c k' leads into runs = absurd into
     stored_in (Scalar n) c k' leads into runs = absurd into
     stored_in (Part object_id base) c k' leads into runs = absurd into
     stored_in (Names o) c k' leads into runs =
         let found : object_at (create s.heap words cell) o ≡ Some into.0 = get_more s.heap (new_object cell) o.0 into.0 into.1 in
         let kept : Stored None (store (create s.heap words cell) (Names o) c (created s.heap words)) s.masters =
-        rw (store_is (create s.heap words cell) o into.0 found c (created s.heap words)) (stored_filled o into.0 c (created s.heap words) found stored) in
-        inl (
+        rw (store_is (create s.heap words cell) o into.0 found c (created s.heap words)) (stored_filled o into.0 c (created s.heap words) found stored) in (
           (into.0, found, into.2),
-          inl (record {
+          record {
             rooms = w.rooms;
             holds = lost;
             stored = kept;
             roomed = w.roomed;
             fit = inserted o into.0 c into.1 into.2 into.3 leads;
             rest = runs;
-          }),
+          },
         )
 
-    granted_ready : (k' : Control) (operands : List Value) → RoomFor k' w.rooms → GoesInto s.heap a.places w.rest.target k' → StoresTo k' (λ x k2. ((variable_access known.program.variables x ≡ Some access) × (is_object known.program.variables x ≡ false)) × RunsOn known k2 w.rooms (slice_set lost x (hold.Own Whole))) (λ o c k2. Accepts known s.heap o c (Some access) × RunsOn known k2 w.rooms lost) → ReadyIn known Running k' (create s.heap words cell) a.places (created s.heap words ∷ operands) s.masters
-    granted_ready [] operands room into to = absurd to
-    granted_ready (Stores x ∷ k') operands room into to = inl (owned_by x (RunsOn known k') (stores_none s.heap a.places w.rest.target x k' into) to.0.0 to.0.1 to.1)
-    granted_ready (Declares x ∷ k') operands room into to = owned_by x (λ rooms holds. HasRoom rooms × RunsOn known k' rooms holds) (declares_none s.heap a.places w.rest.target x k' into) to.0.0 to.0.1 (room, to.1)
-    granted_ready (StoresIn o c ∷ k') operands room into to = stored_in o c k' (λ path is. rw is at into) to.0 to.1
-    granted_ready (f ∷ k') operands room into to = absurd to
+    granted_names : (k' : Control) (operands : List Value) → RoomFor k' w.rooms → GoesInto s.heap a.places w.rest.target k' → StoresTo k' (λ x k2. ((variable_access known.program.variables x ≡ Some access) × (is_object known.program.variables x ≡ false)) × RunsOn known k2 w.rooms (slice_set lost x (hold.Own Whole))) (λ o c k2. Accepts known s.heap o c (Some access) × RunsOn known k2 w.rooms lost) → NamesTo known k' (create s.heap words cell) a.places (created s.heap words ∷ operands) s.masters
+    granted_names [] operands room into to = absurd to
+    granted_names (Stores x ∷ k') operands room into to = owned_by x (RunsOn known k') (stores_none s.heap a.places w.rest.target x k' into) to.0.0 to.0.1 to.1
+    granted_names (Declares x ∷ k') operands room into to = owned_by x (λ rooms holds. HasRoom rooms × RunsOn known k' rooms holds) (declares_none s.heap a.places w.rest.target x k' into) to.0.0 to.0.1 (room, to.1)
+    granted_names (StoresIn o c ∷ k') operands room into to = stored_in o c k' (λ path is. rw is at into) to.0 to.1
+    granted_names (f ∷ k') operands room into to = absurd to
 
-    answered_fine : (granted : Bool) → Stepped known s.heap Quiet (answered named access count words home (running k a rest s) granted)
+    answered_fine : (granted : Bool) → Stepped known s.heap Quiet (answered named types access count words home (running k a rest s) granted)
     unfolding cell lost
-    answered_fine true = record { ready = (tt, granted_ready k (drop count a.operands) w.rest.leads.room w.rest.into w.rest.leads.to); alters = alters_new s.heap Quiet (new_object cell) refl; says = tt }
+    answered_fine true = record { ready = (tt, treats_ready known (created s.heap words) (begins Creation) (all_tasks types access PartsFirst) k (create s.heap words cell) a.places (created s.heap words ∷ drop count a.operands) s.masters (inr (granted_names k (drop count a.operands) w.rest.leads.room w.rest.into w.rest.leads.to))); alters = alters_new s.heap Quiet (new_object cell) refl; says = tt }
     answered_fine false = jumps_less known k a rest s (Raising StorageError) (at_work w (w.rest.leads.refused refl))
 
-  creates_by : (access count words : ℕ) (home : Option Destination) → home_of access s.masters ≡ home → (w : Working known s.heap a.places s.masters (Filling known s.heap a.places access count [] k a.operands)) → HaveKinds known.program.types (cells_of s.heap) w.rest.leads.components (reverse (take count a.operands)) → Fine known s.heap s.masters (new_next named access count words home (running k a rest s))
-  creates_by access count words None e w kinds = jumps_less known k a rest s (Raising StorageError) (at_work w (w.rest.leads.refused refl))
-  creates_by access count words (Some home) e w kinds = answered_fine access count words home e w kinds
+  creates_by : (types : List TypeDefinition) (access count words : ℕ) (home : Option Destination) → home_of access s.masters ≡ home → (w : Working known s.heap a.places s.masters (Filling known s.heap a.places access count [] k a.operands)) → HaveKinds known.program.types (cells_of s.heap) w.rest.leads.components (reverse (take count a.operands)) → Fine known s.heap s.masters (new_next named types access count words home (running k a rest s))
+  creates_by types access count words None e w kinds = jumps_less known k a rest s (Raising StorageError) (at_work w (w.rest.leads.refused refl))
+  creates_by types access count words (Some home) e w kinds = answered_fine types access count words home e w kinds
 
-  pub creates_fine : (access count words : ℕ) (kinds : List OperandKind) → typed.Fits known.program (cells_of s.heap) kinds (Creates access count ∷ k) → AreComputed known.program.types (cells_of s.heap) kinds a.operands → Working known s.heap a.places s.masters (Filling known s.heap a.places access count [] k a.operands) → Fine known s.heap s.masters (new_next named access count words (home_of access s.masters) (running k a rest s))
-  creates_fine access count words kinds fits computed w =
+  pub creates_fine : (types : List TypeDefinition) (access count words : ℕ) (kinds : List OperandKind) → typed.Fits known.program (cells_of s.heap) kinds (Creates access count ∷ k) → AreComputed known.program.types (cells_of s.heap) kinds a.operands → Working known s.heap a.places s.masters (Filling known s.heap a.places access count [] k a.operands) → Fine known s.heap s.masters (new_next named types access count words (home_of access s.masters) (running k a rest s))
+  creates_fine types access count words kinds fits computed w =
       let split_kinds = (typed.split known.program.types (cells_of s.heap) fits.1 fits.0 a.operands (rw fits.2 at computed)).0 in
       let same : fits.1 ≡ w.rest.leads.components = let reached = fits.3 in let other = w.rest.leads.reached in cc (reached, other) in
-      creates_by access count words (home_of access s.masters) refl w (rw (← same, fits.4) split_kinds)
+      creates_by types access count words (home_of access s.masters) refl w (rw (← same, fits.4) split_kinds)

@@ -4,6 +4,8 @@ use Rattle.std.proofs.lemmas.Bool.{eq-eqb}
 use Rattle.std.proofs.Common.{◌≡◌, ◌≢◌, ℕ, zero, suc, Bool, true, false, List, [], ◌∷◌, ◌++◌, refl, sym, ap, ◌∙◌, inl, inr}
 use Rattle.std.specs.Prelude.{Option, Some, None}
 use Rattle.std.specs.List.{slice_set, slice_index_or}
+use Rattle.ada_parts.specs.declared.tasks.Direction.TheVariants.{WholeFirst}
+use Rattle.ada_program.specs.declared.program.TypeDefinition.{TypeDefinition}
 use Rattle.ada_flow.specs.Flow.{Holds, is_among}
 use Rattle.ada_meaning.specs.declared.state.Id.{Id}
 use Rattle.ada_meaning.specs.declared.state.Value.{Value}
@@ -14,10 +16,10 @@ use Rattle.ada_meaning.specs.declared.state.Mode.{Mode}
 use Rattle.ada_meaning.specs.declared.state.Mode.TheVariants.{Running}
 use Rattle.ada_meaning.specs.declared.event.Cause.{Cause}
 use Rattle.ada_meaning.specs.declared.event.Cause.TheVariants.{Leaving, Freeing, Assigning, Undoing}
-use Rattle.ada_meaning.specs.Frame.{Leaves, Ends, GivesBack, Clears, ClearsIn}
+use Rattle.ada_meaning.specs.Frame.{Leaves, Ends, GivesBack, Clears, ClearsIn, ends}
 use Rattle.ada_meaning.specs.Event.{Back, Left, Quiet}
 use Rattle.ada_meaning.specs.State.{Owned, declared, collection, record_object, storage_pool, Item, Master, Activation}
-use Rattle.ada_meaning.specs.Step.{same_pool, told_back, end_next, back_next, members_next, item_leave_next, master_leave_next, leave_next}
+use Rattle.ada_meaning.specs.Step.{all_tasks, taken_out, same_pool, told_back, end_next, back_next, members_next, item_leave_next, master_leave_next, leave_next}
 use Rattle.ada_meaning.specs.Named.{Object, State, object_at, look, lent, members, named, parted, finished, returned, filled, store}
 use Rattle.ada_meaning.specs.Run.{Event}
 use Rattle.ada_meaning.specs.Law.{leaving_by, LeavesHome, items_of}
@@ -29,12 +31,12 @@ use Rattle.ada_sound.proofs.Stored.{Stored, IsTaken, stored_part, stored_finish,
 use Rattle.ada_sound.proofs.Fits.{Fit, none_spared, going, weaker_fit, part_fit, finish_fit, back_fit, going_set, going_shorter, going_left}
 use Rattle.ada_sound.proofs.Alters.{alters_set}
 use Rattle.ada_sound.proofs.Invariant.{outers, below, Known, Control, Rooms, Roomed, OwnedAmong, NamesNone, RunsOn, Working, Parting, Freed, Clearing, ClearsTo, LeavesTo, Behind, ThenBack, Ending, EndingBy, Backing, BackingBy, ReadyIn, Stepped, Fine, innermost}
-use Rattle.ada_sound.proofs.Ready.{running, stays, goes_ready}
+use Rattle.ada_sound.proofs.Ready.{running, stays, goes_ready, treats_ready}
 use Rattle.ada_sound.proofs.Taken.{stored_after}
 use Rattle.ada_sound.proofs.Leavings.{NamedBelow, HeldIn, taken_unnamed, taken_unreferred}
 
 -- What is stored in one object stays where another one changes.
-swapped : {X : Type 0} (xs : List X) (i j : ℕ) (x y : X) → i ≢ j → slice_set (slice_set xs i x) j y ≡ slice_set (slice_set xs j y) i x
+pub swapped : {X : Type 0} (xs : List X) (i j : ℕ) (x y : X) → i ≢ j → slice_set (slice_set xs i x) j y ≡ slice_set (slice_set xs j y) i x
 swapped [] i j x y ne = refl
 swapped (z ∷ xs) zero zero x y ne = absurd (ne refl)
 swapped (z ∷ xs) zero (suc j) x y ne = refl
@@ -129,7 +131,7 @@ module _ (known : Known) where
     }
     leaves_set places ms (f ∷ k) c = absurd c
 
-    behind_set : (cause : Cause) (home : ℕ) (places : List Value) (ms : List Master) (k : Control) → Behind known cause home heap places ms k → Behind known cause home (slice_set heap o.0 y) places ms k
+    pub behind_set : (cause : Cause) (home : ℕ) (places : List Value) (ms : List Master) (k : Control) → Behind known cause home heap places ms k → Behind known cause home (slice_set heap o.0 y) places ms k
     behind_set (Leaving m item) home places ms k b = (b.0, leaves_set places ms k b.1)
     behind_set (Freeing number) home places ms k b = clears_set places ms k b
     behind_set (Assigning number) home places ms k b = absurd b
@@ -232,7 +234,7 @@ module _ (known : Known) where
     backs_fine (Part object_id base) cause pool k b = absurd b
 
   -- A master is left, newest item first.
-  module _ (mode : Mode) (k : Control) (a : Activation Value) (rest : List (Activation Value)) (s : State) (number : ℕ) (ms : List Master) where
+  module _ (types : List TypeDefinition) (mode : Mode) (k : Control) (a : Activation Value) (rest : List (Activation Value)) (s : State) (number : ℕ) (ms : List Master) where
     -- The state with these items of the master left, and what is known there: nothing that may go with it is owned.
     left_with : List Item → State
     left_with items = record (running (Leaves mode ∷ k) a rest s) { masters = record { number = number; items = items } ∷ ms }
@@ -245,8 +247,8 @@ module _ (known : Known) where
     none_owned item items access pool [] holds owns roomed r = absurd r
     none_owned item items access pool (gone ∷ rooms) holds owns roomed r = (gone.types, r.0, among_by item.owned access pool gone.types owns roomed.0.0)
 
-    -- A member is taken.
-    taken_fine : (item : Item) (items : List Item) (pool : Option ℕ) (v : Value) → HousesFrom item.owned pool → Left_with (item ∷ items) → HeldIn s.heap (record { number = number; items = item ∷ items } ∷ ms) → NamedBelow (outers known) s.heap (record { number = number; items = item ∷ items } ∷ ms) → IsTaken item.number s.heap v → Stepped known s.heap Quiet (record (running (Ends v ∷ GivesBack v (Leaving number item.number) pool ∷ Leaves mode ∷ k) a rest (left_with (item ∷ items))) { heap = named.part s.heap v })
+    -- A member is taken: its parts are finalized first.
+    taken_fine : (item : Item) (items : List Item) (pool : Option ℕ) (v : Value) → HousesFrom item.owned pool → Left_with (item ∷ items) → HeldIn s.heap (record { number = number; items = item ∷ items } ∷ ms) → NamedBelow (outers known) s.heap (record { number = number; items = item ∷ items } ∷ ms) → IsTaken item.number s.heap v → Stepped known s.heap Quiet (taken_out named types (Leaving number item.number) pool v (look s.heap v) (left_with (item ∷ items)))
     unfolding left_with Left_with
     taken_fine item items pool v from w held low (o, is, member) =
         let x = member.object in
@@ -256,35 +258,36 @@ module _ (known : Known) where
         let none = none_owned item items x.cell.access x.cell.home.pool w.rooms w.holds type w.roomed w.rest in
         let unnamed = taken_unnamed known.program.types known.program.variables (outers known) s.heap a.places w.holds number item items ms none.0 w.fit none.1 held low o x member.found member.listed member.home none.2 in
         let unreferred = taken_unreferred known.program.types known.program.variables (outers known) s.heap a.places w.holds number item items ms none.0 w.fit none.1 held low o x member.found member.listed member.home none.2 in
-        rw is (rw (member.found) (record {
+        let under : Ending known o (GivesBack (Names o) (Leaving number item.number) pool ∷ Leaves mode ∷ k) (slice_set s.heap o.0 (parted x)) a.places (record { number = number; items = item ∷ items } ∷ ms) = record {
+          object = parted x;
+          found = set_here s.heap o.0 x (parted x) member.found;
+          exists = exists;
+          parted = refl;
+          stored = stored_part o x member.found w.stored;
+          covered = tt;
+          rest = (
+            refl,
+            from x.cell.access x.cell.home.pool type,
+            (
+              sym member.home,
+              record {
+                rooms = w.rooms;
+                holds = w.holds;
+                roomed = w.roomed;
+                fit = going_set (outers known) s.heap (item ∷ items) o x (parted x) member.found refl (part_fit o x member.found unnamed unreferred w.fit);
+                rest = w.rest;
+              },
+            ),
+          );
+        } in
+        rw is (rw (member.found, exists) (rw (member.found) (record {
           ready = (
             tt,
-            record {
-              object = parted x;
-              found = set_here s.heap o.0 x (parted x) member.found;
-              exists = exists;
-              parted = refl;
-              stored = stored_part o x member.found w.stored;
-              covered = tt;
-              rest = (
-                refl,
-                from x.cell.access x.cell.home.pool type,
-                (
-                  sym member.home,
-                  record {
-                    rooms = w.rooms;
-                    holds = w.holds;
-                    roomed = w.roomed;
-                    fit = going_set (outers known) s.heap (item ∷ items) o x (parted x) member.found refl (part_fit o x member.found unnamed unreferred w.fit);
-                    rest = w.rest;
-                  },
-                ),
-              );
-            },
+            treats_ready known (Names o) (ends (Leaving number item.number)) (all_tasks types x.cell.access WholeFirst) (Ends (Names o) ∷ GivesBack (Names o) (Leaving number item.number) pool ∷ Leaves mode ∷ k) (slice_set s.heap o.0 (parted x)) a.places a.operands (record { number = number; items = item ∷ items } ∷ ms) (refl, under),
           );
           alters = alters_set s.heap Quiet o x (parted x) member.found (refl, refl, refl) (λ h. h) (λ h. inl h);
           says = tt;
-        }))
+        })))
 
     roomed_shorter : (item : Item) (items : List Item) (rooms : Rooms) (holds : Holds) → RunsOn known (Leaves mode ∷ k) rooms holds → Roomed (below known) (record { number = number; items = item ∷ items } ∷ ms) rooms → Roomed (below known) (record { number = number; items = items } ∷ ms) rooms
     roomed_shorter item items [] holds runs r = absurd runs
@@ -314,12 +317,12 @@ module _ (known : Known) where
         let type = newest_is x.cell.home.item x.cell.access x.cell.home.pool item (items ++ items_of ms) home w.stored.counted (sane.housed (exists_out o x found exists w.stored)) in
         none x.cell.access x.cell.home.pool type
 
-    members_fine : (item : Item) (items : List Item) (pool : Option ℕ) (vs : List Value) → HousesFrom item.owned pool → members s.heap item.number ≡ vs → Left_with (item ∷ items) → HeldIn s.heap (record { number = number; items = item ∷ items } ∷ ms) → NamedBelow (outers known) s.heap (record { number = number; items = item ∷ items } ∷ ms) → Fine known s.heap (record { number = number; items = item ∷ items } ∷ ms) (members_next named (Leaving number item.number) pool vs (left_with (item ∷ items)))
+    members_fine : (item : Item) (items : List Item) (pool : Option ℕ) (vs : List Value) → HousesFrom item.owned pool → members s.heap item.number ≡ vs → Left_with (item ∷ items) → HeldIn s.heap (record { number = number; items = item ∷ items } ∷ ms) → NamedBelow (outers known) s.heap (record { number = number; items = item ∷ items } ∷ ms) → Fine known s.heap (record { number = number; items = item ∷ items } ∷ ms) (members_next named types (Leaving number item.number) pool vs (left_with (item ∷ items)))
     unfolding left_with Left_with
     members_fine item items pool [] owns e w held low = shorter_fine item items (λ o x found listed home. none_is_left item.number s.heap o x e found listed home) w
     members_fine item items pool (v ∷ vs) owns e w held low = λ i lt. taken_fine item items pool (slice_index_or (v ∷ vs) i Null) owns w held low (rw e at (taken_is item.number s.heap i (rw e lt)))
 
-    item_fine : (item : Item) (items : List Item) (what : Owned) → item.owned ≡ what → Left_with (item ∷ items) → HeldIn s.heap (record { number = number; items = item ∷ items } ∷ ms) → NamedBelow (outers known) s.heap (record { number = number; items = item ∷ items } ∷ ms) → Fine known s.heap (record { number = number; items = item ∷ items } ∷ ms) (item_leave_next named number item what (left_with (item ∷ items)))
+    item_fine : (item : Item) (items : List Item) (what : Owned) → item.owned ≡ what → Left_with (item ∷ items) → HeldIn s.heap (record { number = number; items = item ∷ items } ∷ ms) → NamedBelow (outers known) s.heap (record { number = number; items = item ∷ items } ∷ ms) → Fine known s.heap (record { number = number; items = item ∷ items } ∷ ms) (item_leave_next named types number item what (left_with (item ∷ items)))
     unfolding left_with Left_with
     item_fine item items (declared y) is w held low = shorter_fine item items (has_none item items (λ t own h. rw is at h) w) w
     item_fine item items (storage_pool declaration pool) is w held low = shorter_fine item items (has_none item items (λ t own h. rw is at h) w) w
@@ -333,15 +336,15 @@ module _ (known : Known) where
         goes_ready known mode k s.heap a.places a.operands ms
         (record { rooms = rooms; holds = r.1.0; stored = stored_older (record { number = number; items = [] }) ms stored; roomed = roomed.1; fit = weaker_fit r.1.0 r.1.1 fit; rest = r.1.2 })
 
-    master_fine : (items : List Item) → Left_with items → HeldIn s.heap (record { number = number; items = items } ∷ ms) → NamedBelow (outers known) s.heap (record { number = number; items = items } ∷ ms) → Fine known s.heap (record { number = number; items = items } ∷ ms) (master_leave_next named mode number items (record (running k a rest s) { masters = record { number = number; items = items } ∷ ms }))
+    master_fine : (items : List Item) → Left_with items → HeldIn s.heap (record { number = number; items = items } ∷ ms) → NamedBelow (outers known) s.heap (record { number = number; items = items } ∷ ms) → Fine known s.heap (record { number = number; items = items } ∷ ms) (master_leave_next named types mode number items (record (running k a rest s) { masters = record { number = number; items = items } ∷ ms }))
     unfolding left_with Left_with
     master_fine [] w held low = stays known (Left number) _ (tt, gone_ready w.rooms w.holds w.stored (going_left w.fit) w.roomed w.rest) tt
     master_fine (item ∷ items) w held low = item_fine item items item.owned refl w held low
 
-    pub left_fine : (items : List Item) → Parting known s.heap a.places (record { number = number; items = items } ∷ ms) (RunsOn known (Leaves mode ∷ k)) → HeldIn s.heap (record { number = number; items = items } ∷ ms) → NamedBelow (outers known) s.heap (record { number = number; items = items } ∷ ms) → Fine known s.heap (record { number = number; items = items } ∷ ms) (master_leave_next named mode number items (record (running k a rest s) { masters = record { number = number; items = items } ∷ ms }))
+    pub left_fine : (items : List Item) → Parting known s.heap a.places (record { number = number; items = items } ∷ ms) (RunsOn known (Leaves mode ∷ k)) → HeldIn s.heap (record { number = number; items = items } ∷ ms) → NamedBelow (outers known) s.heap (record { number = number; items = items } ∷ ms) → Fine known s.heap (record { number = number; items = items } ∷ ms) (master_leave_next named types mode number items (record (running k a rest s) { masters = record { number = number; items = items } ∷ ms }))
     unfolding left_with Left_with
     left_fine items w held low = master_fine items w held low
 
-  pub leave_fine : (mode : Mode) (k : Control) (a : Activation Value) (rest : List (Activation Value)) (s : State) (ms : List Master) → Parting known s.heap a.places ms (RunsOn known (Leaves mode ∷ k)) → HeldIn s.heap ms → NamedBelow (outers known) s.heap ms → Fine known s.heap ms (leave_next named mode ms (record (running k a rest s) { masters = ms }))
-  leave_fine mode k a rest s [] w held low = tt
-  leave_fine mode k a rest s (m ∷ ms) w held low = left_fine mode k a rest s m.number ms m.items w held low
+  pub leave_fine : (types : List TypeDefinition) (mode : Mode) (k : Control) (a : Activation Value) (rest : List (Activation Value)) (s : State) (ms : List Master) → Parting known s.heap a.places ms (RunsOn known (Leaves mode ∷ k)) → HeldIn s.heap ms → NamedBelow (outers known) s.heap ms → Fine known s.heap ms (leave_next named types mode ms (record (running k a rest s) { masters = ms }))
+  leave_fine types mode k a rest s [] w held low = tt
+  leave_fine types mode k a rest s (m ∷ ms) w held low = left_fine types mode k a rest s m.number ms m.items w held low

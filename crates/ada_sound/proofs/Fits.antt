@@ -17,9 +17,9 @@ use Rattle.ada_flow.specs.Flow.{Holds, hold_at, variable_access, lost_by, is_as_
 use Rattle.ada_meaning.specs.declared.state.Id.{Id}
 use Rattle.ada_meaning.specs.declared.state.Value.{Value}
 use Rattle.ada_meaning.specs.declared.state.Value.TheVariants.{Null, Names, Scalar, Part}
-use Rattle.ada_meaning.specs.Heap.{Cell}
+use Rattle.ada_meaning.specs.Heap.{PartState, Cell}
 use Rattle.ada_meaning.specs.State.{Activation, Item}
-use Rattle.ada_meaning.specs.Named.{Object, object_at, changed, filled, create, created, store, parted, finished, returned}
+use Rattle.ada_meaning.specs.Named.{Object, object_at, changed, filled, create, created, store, parted, finished, returned, treated}
 use Rattle.ada_scopes.specs.Scopes.{is_number_of}
 use Rattle.ada_owners.specs.Places.{Place, variable, component, elsewhere, component_in, value_at, access_in, access_at, is_lent}
 use Rattle.ada_owners.specs.Reliance.{IsOf, Says, Owns, Borrows, Kinds, kind_of, Reliance, component_hold, hold_of, with_hold, with_lent, Fits, IsInHand, AreInHand}
@@ -666,6 +666,15 @@ back_fit {outer = outer} {heap = heap} o x found f = record {
   said = f.said;
   objects = f.objects;
   referred = λ k t is. same_access heap o x (returned x) found refl k ∙ f.referred k t is;
+}
+
+-- A controlled part of an object changes (7.6): nothing that is relied on does.
+pub treated_fit : {types : List TypeForm} {variables : List VariableForm} {outer : Outsiders} {spared : Id → Bool} {heap : List Object} {places : List Value} {holds : Holds} (change : PartState → PartState) (part : ℕ) (o : Id) (x : Object) → object_at heap o ≡ Some x → Fit types variables outer spared heap places holds → Fit types variables outer spared (slice_set heap o.0 (treated change part x)) places holds
+treated_fit {outer = outer} {heap = heap} change part o x found f = record {
+  owners = changes.looks_same heap o x found (treated change part x) refl (λ c. refl) f.owners;
+  said = f.said;
+  objects = f.objects;
+  referred = λ k t is. same_access heap o x (treated change part x) found refl k ∙ f.referred k t is;
 }
 
 -- Behind the end of an object less is known of its access type's aliases, and as much of all else.

@@ -2,6 +2,7 @@
 
 use Rattle.std.proofs.Common.{subst, ◌≡◌, ℕ, true, false, List, ◌∷◌, refl, sym, ◌∙◌, inl}
 use Rattle.std.specs.Prelude.{Some, None}
+use Rattle.std.specs.List.{slice_set}
 use Rattle.ada_text.specs.declared.spot.Spot.{Spot}
 use Rattle.ada_program.specs.Form.{StmtsForm}
 use Rattle.ada_flow.specs.declared.rule.Hold.{Hold}
@@ -10,10 +11,13 @@ use Rattle.ada_program.specs.WellFormed.{is_access}
 use Rattle.ada_flow.specs.Flow.{Holds, hold_at, variable_access, lost_by, freed, released}
 use Rattle.ada_meaning.specs.declared.state.Value.{Value}
 use Rattle.ada_meaning.specs.declared.state.Value.TheVariants.{Null, Names, Scalar, Part}
-use Rattle.ada_meaning.specs.Frame.{Does}
+use Rattle.ada_parts.specs.declared.tasks.Direction.TheVariants.{WholeFirst}
+use Rattle.ada_program.specs.declared.program.TypeDefinition.{TypeDefinition}
+use Rattle.ada_meaning.specs.declared.event.Cause.TheVariants.{Freeing}
+use Rattle.ada_meaning.specs.Frame.{Does, Ends, GivesBack, Clears, ends}
 use Rattle.ada_meaning.specs.Event.{Quiet}
-use Rattle.ada_meaning.specs.State.{Activation}
-use Rattle.ada_meaning.specs.Step.{free_next}
+use Rattle.ada_meaning.specs.State.{Activation, home_of, pool_freed_to}
+use Rattle.ada_meaning.specs.Step.{all_tasks, free_next}
 use Rattle.ada_meaning.specs.Named.{State, look, named, parted}
 use Rattle.ada_sound.proofs.Fits.{NoOuterAlias, is_object, IsOwn, IsSaid, place_at, null_fit, behind_fit, freed_unnamed, part_fit}
 use Rattle.ada_sound.proofs.Objects.{set_here}
@@ -21,8 +25,8 @@ use Rattle.ada_sound.proofs.Homes.{HaveHomes, freed_home}
 use Rattle.ada_sound.proofs.Stored.{stored_part}
 use Rattle.ada_sound.proofs.Alters.{alters_set}
 use Rattle.ada_sound.proofs.Taken.{root_access}
-use Rattle.ada_sound.proofs.Invariant.{CoveredIn, outers, Known, Control, Rooms, Goes, RunsOn, Working, Stepped, Fine}
-use Rattle.ada_sound.proofs.Ready.{running, runs_on}
+use Rattle.ada_sound.proofs.Invariant.{CoveredIn, outers, Known, Control, Rooms, Goes, RunsOn, Working, Ending, Stepped, Fine}
+use Rattle.ada_sound.proofs.Ready.{running, runs_on, treats_ready}
 
 -- An owner is not lost.
 own_kept : (h : Hold) (spot : Spot) → IsOwn h → lost_by h spot ≡ None
@@ -32,13 +36,13 @@ own_kept (hold.Own r) spot own = refl
 own_kept (hold.Alias r) spot own = absurd own
 own_kept hold.Lost spot own = absurd own
 
-module _ (known : Known) (a : Activation Value) (rest : List (Activation Value)) (s : State) (access x : ℕ) (none : is_object known.program.variables x ≡ false) (spot : Spot) (fs : StmtsForm) (k : Control) (raised : Rooms → Holds → Type 0) (homes : HaveHomes known.program.types s.heap s.masters) (own_type : ℕ) (by_own : own_type ≡ access) (of_type : variable_access known.program.variables x ≡ Some own_type) (is_type : is_access known.program.types own_type ≡ true) (spares : NoOuterAlias known.program.types (outers known) own_type × CoveredIn known.program own_type) (w : Working known s.heap a.places s.masters (λ rooms holds. Goes (released known.program.variables x spot holds (hold_at holds x)) (RunsOn known (Does fs ∷ k) rooms) (raised rooms))) where
+module _ (known : Known) (a : Activation Value) (rest : List (Activation Value)) (s : State) (types : List TypeDefinition) (access x : ℕ) (none : is_object known.program.variables x ≡ false) (spot : Spot) (fs : StmtsForm) (k : Control) (raised : Rooms → Holds → Type 0) (homes : HaveHomes known.program.types s.heap s.masters) (own_type : ℕ) (by_own : own_type ≡ access) (of_type : variable_access known.program.variables x ≡ Some own_type) (is_type : is_access known.program.types own_type ≡ true) (spares : NoOuterAlias known.program.types (outers known) own_type × CoveredIn known.program own_type) (w : Working known s.heap a.places s.masters (λ rooms holds. Goes (released known.program.variables x spot holds (hold_at holds x)) (RunsOn known (Does fs ∷ k) rooms) (raised rooms))) where
   -- X is null: nothing happens.
   free_null : place_at a.places x ≡ Null → RunsOn known (Does fs ∷ k) w.rooms (freed known.program.variables x w.holds) → Stepped known s.heap Quiet (running (Does fs ∷ k) a rest s)
   free_null is more = runs_on known (Does fs ∷ k) a rest s (record { rooms = w.rooms; holds = freed known.program.variables x w.holds; stored = w.stored; roomed = w.roomed; fit = null_fit x none is (behind_fit (variable_access known.program.variables x) w.fit); rest = more }) Quiet tt
 
   -- X owns an object: that leaves its collection, and nothing relies on it then.
-  free_value : (v : Value) → place_at a.places x ≡ v → IsOwn (hold_at w.holds x) → RunsOn known (Does fs ∷ k) w.rooms (freed known.program.variables x w.holds) → Fine known s.heap s.masters (free_next named access x v (look s.heap v) (running (Does fs ∷ k) a rest s))
+  free_value : (v : Value) → place_at a.places x ≡ v → IsOwn (hold_at w.holds x) → RunsOn known (Does fs ∷ k) w.rooms (freed known.program.variables x w.holds) → Fine known s.heap s.masters (free_next named types access x v (look s.heap v) (running (Does fs ∷ k) a rest s))
   free_value Null is own more = free_null is more
   free_value (Names o) is own more =
       let after = freed_unnamed x o (λ t same. (let one : own_type ≡ t = cc (of_type, same) in rw (← one) (is_type, spares.0))) none own is w.fit in
@@ -47,28 +51,29 @@ module _ (known : Known) (a : Activation Value) (rest : List (Activation Value))
       let exists = (w.stored.sane o there.0 found).listed_exists there.2 in
       let named = root_access w.fit x spot o there.0 (own_kept (hold_at w.holds x) spot own) is found in
       let one : own_type ≡ there.0.cell.access = cc (of_type, named) in
+      let under : Ending known o (GivesBack (Names o) (Freeing s.next) (Some (pool_freed_to (home_of access s.masters))) ∷ Clears x ∷ Does fs ∷ k) (slice_set s.heap o.0 (parted there.0)) a.places s.masters = record {
+        object = parted there.0;
+        found = set_here s.heap o.0 there.0 (parted there.0) found;
+        exists = exists;
+        parted = refl;
+        stored = stored_part o there.0 found w.stored;
+        covered = subst (λ (u : ℕ). CoveredIn known.program u) one spares.1;
+        rest = (
+          refl,
+          freed_home access o there.0 homes w.stored found exists (rw (← one) is_type) (sym one ∙ by_own),
+          record {
+            rooms = w.rooms;
+            holds = freed known.program.variables x w.holds;
+            roomed = w.roomed;
+            fit = part_fit o there.0 found after.1 after.3 after.0;
+            rest = more;
+          },
+        );
+      } in
       rw (found, exists) (rw found (record {
         ready = (
           tt,
-          record {
-            object = parted there.0;
-            found = set_here s.heap o.0 there.0 (parted there.0) found;
-            exists = exists;
-            parted = refl;
-            stored = stored_part o there.0 found w.stored;
-            covered = subst (λ (u : ℕ). CoveredIn known.program u) one spares.1;
-            rest = (
-              refl,
-              freed_home access o there.0 homes w.stored found exists (rw (← one) is_type) (sym one ∙ by_own),
-              record {
-                rooms = w.rooms;
-                holds = freed known.program.variables x w.holds;
-                roomed = w.roomed;
-                fit = part_fit o there.0 found after.1 after.3 after.0;
-                rest = more;
-              },
-            );
-          },
+          treats_ready known (Names o) (ends (Freeing s.next)) (all_tasks types there.0.cell.access WholeFirst) (Ends (Names o) ∷ GivesBack (Names o) (Freeing s.next) (Some (pool_freed_to (home_of access s.masters))) ∷ Clears x ∷ Does fs ∷ k) (slice_set s.heap o.0 (parted there.0)) a.places a.operands s.masters (refl, under),
         );
         alters = alters_set s.heap Quiet o there.0 (parted there.0) found (refl, refl, refl) (λ h. h) (λ h. inl h);
         says = tt;
@@ -76,12 +81,12 @@ module _ (known : Known) (a : Activation Value) (rest : List (Activation Value))
   free_value (Scalar n) is own more = tt
   free_value (Part object_id base) is own more = tt
 
-  free_hold : (h : Hold) → hold_at w.holds x ≡ h → Goes (released known.program.variables x spot w.holds h) (RunsOn known (Does fs ∷ k) w.rooms) (raised w.rooms) → IsSaid (place_at (outers known).given x) h (place_at a.places x) → Fine known s.heap s.masters (free_next named access x (place_at a.places x) (look s.heap (place_at a.places x)) (running (Does fs ∷ k) a rest s))
+  free_hold : (h : Hold) → hold_at w.holds x ≡ h → Goes (released known.program.variables x spot w.holds h) (RunsOn known (Does fs ∷ k) w.rooms) (raised w.rooms) → IsSaid (place_at (outers known).given x) h (place_at a.places x) → Fine known s.heap s.masters (free_next named types access x (place_at a.places x) (look s.heap (place_at a.places x)) (running (Does fs ∷ k) a rest s))
   free_hold hold.Null own more blank = rw blank (free_null blank more.0)
   free_hold (hold.Kept r) own more blank = free_value (place_at a.places x) refl (rw own tt) more.0
   free_hold (hold.Own r) own more blank = free_value (place_at a.places x) refl (rw own tt) more.0
   free_hold (hold.Alias r) own more blank = absurd more
   free_hold hold.Lost own more blank = absurd more
 
-  pub free_fine : Fine known s.heap s.masters (free_next named access x (place_at a.places x) (look s.heap (place_at a.places x)) (running (Does fs ∷ k) a rest s))
+  pub free_fine : Fine known s.heap s.masters (free_next named types access x (place_at a.places x) (look s.heap (place_at a.places x)) (running (Does fs ∷ k) a rest s))
   free_fine = free_hold (hold_at w.holds x) refl w.rest (w.fit.said x)

@@ -8,6 +8,7 @@ use Rattle.ada_program.specs.Form.{DeclarationForm, StmtsForm, BranchesForm, Han
 use Rattle.ada_program.specs.ProgramForm.{TypeForm, VariableForm}
 use Rattle.ada_flow.specs.Flow.{Holds, Outcome, goes, Around}
 use Rattle.ada_meaning.specs.declared.event.Why.{Why}
+use Rattle.ada_meaning.specs.declared.event.Why.TheVariants.{FinalizesTwice}
 use Rattle.ada_meaning.specs.Named.{State}
 use Rattle.ada_meaning.specs.Run.{Event, Run, first_state}
 use Rattle.ada_meaning.specs.Law.{BackTwoObjects, FinalizedTwoValues, FollowedBeforeBack, InReverseOrder, IsBackHome, items_of, Falls, MastersFall, Safe}
@@ -18,6 +19,7 @@ use Rattle.ada_sound.proofs.Pools.{pool_exists}
 use Rattle.ada_sound.proofs.Starts.{Sound, sound_first}
 use Rattle.ada_sound.proofs.Runs as runs
 use Rattle.ada_sound.proofs.Order as order
+use Rattle.ada_sound.proofs.Finalization as finalization
 use Rattle.ada_sound.proofs.Agreeing.{agrees_at}
 
 -- Every run of a program that is accepted keeps the invariant.
@@ -32,13 +34,14 @@ module _ (program : Program) (accepted : IsChecked program) where
   agrees input events last run begins = agrees_at program last (sound_last input events last run) begins
 
   pub never : (why : Why) → NeverErroneous why program
-  never why input events last run halted = runs.never_erroneous program last why (sound_last input events last run) halted
+  never FinalizesTwice input events last run halted = finalization.never_finalizes_twice program input events last run halted
+  never why input events last run halted = absurd (runs.none_is_next program last why (sound_last input events last run) halted)
 
   pub back_once : InEveryRun program (λ events last. AllPairs BackTwoObjects events)
   back_once input events last run = runs.back_once run (first input)
 
   pub finalized_once : InEveryRun program (λ events last. AllPairs FinalizedTwoValues events)
-  finalized_once input events last run = runs.finalized_once run (first input)
+  finalized_once input events last run = finalization.finalized_once program input events last run
 
   pub followed_before_back : InEveryRun program (λ events last. AllPairs FollowedBeforeBack events)
   followed_before_back input events last run = runs.followed_before_back run (first input)

@@ -28,7 +28,9 @@ use Rattle.ada_meaning.specs.declared.event.Cause.{Cause}
 use Rattle.ada_meaning.specs.declared.event.Cause.TheVariants.{Leaving, Freeing, Assigning, Undoing}
 use Rattle.ada_meaning.specs.declared.event.Halt.{Halt}
 use Rattle.ada_meaning.specs.declared.event.Halt.TheVariants.{Finished, Unhandled, Erroneous, Stuck, Memory}
-use Rattle.ada_meaning.specs.Frame.{Frame, Elaborates, Does, Decides, Repeats, Turns, Ranges, Counts, Exits, Handles, Closes, Leaves, Calls, Returns, Evaluates, Computes, Follows, TestsNull, Refers, RefersIn, Opens, OpensIn, Continues, Applies, AppliesAlone, Fills, Copies, Creates, Stores, Targets, StoresIn, TargetsRecord, StoresRecord, Receives, FreesIn, Declares, DeclaresRecord, Writes, Ends, GivesBack, Clears, ClearsIn}
+use Rattle.ada_meaning.specs.declared.event.Why.{Why}
+use Rattle.ada_meaning.specs.declared.event.Why.TheVariants.{FollowsGone, EndsTwice, GivesElsewhere, FinalizesTwice}
+use Rattle.ada_meaning.specs.Frame.{Frame, Elaborates, Does, Decides, Repeats, Turns, Ranges, Counts, Exits, Handles, Closes, Leaves, Calls, Returns, Evaluates, Computes, Follows, TestsNull, Refers, RefersIn, Opens, OpensIn, Continues, Applies, AppliesAlone, Fills, Copies, Creates, Stores, Targets, StoresIn, TargetsRecord, StoresRecord, Receives, FreesIn, Declares, DeclaresRecord, Treats, Writes, Ends, GivesBack, Clears, ClearsIn, Treatment, begins, ends}
 use Rattle.ada_meaning.specs.Event.{Born, Finalized, Back, Followed, Left, Line, Quiet}
 use Rattle.ada_meaning.specs.State.{Activation, Owned, declared, collection, record_object, storage_pool, Item, Master, height}
 use Rattle.ada_meaning.specs.Heap.{Home, finds}
@@ -1002,6 +1004,33 @@ HalfFollows known w cs (Targets c right ∷ k) heap places masters =
     (right ≡ nothing) × (o : Id) × (walk heap w cs ≡ finds (Names o)) × Clearing known (Names o) c k heap places masters
 HalfFollows known w cs (f ∷ k) heap places masters = ⊥
 
+-- Behind the initialization of an object that an allocator made stands what gets its name.
+abbrev pub NamesTo : Known → Control → List Object → (places operands : List Value) → List Master → Type 0
+NamesTo known [] heap places operands masters = ⊥
+NamesTo known (Stores x ∷ k) heap places operands masters =
+    Working known heap (slice_set places x (first_or Null operands)) masters (RunsOn known k)
+NamesTo known (Declares x ∷ k) heap places operands masters =
+    Working known heap (slice_set places x (first_or Null operands)) masters (λ rooms holds. HasRoom rooms × RunsOn known k rooms holds)
+NamesTo known (StoresIn o c ∷ k) heap places operands masters =
+    IsHolder heap o × Working known (store heap o c (first_or Null operands)) places masters (RunsOn known k)
+NamesTo known (f ∷ k) heap places operands masters = ⊥
+
+-- Behind that of a record object what is left goes on.
+abbrev pub BegunTo : Known → Control → List Object → (places operands : List Value) → List Master → Type 0
+BegunTo known k heap places operands masters =
+    Working known heap places masters (RunsOn known k) ⊎ NamesTo known k heap places operands masters
+
+-- Behind the finalization of an object stands its end.
+abbrev pub EndsTo : Known → Value → Control → List Object → List Value → List Master → Type 0
+EndsTo known v [] heap places masters = ⊥
+EndsTo known v (Ends w ∷ k) heap places masters = (w ≡ v) × EndingBy known w k heap places masters
+EndsTo known v (f ∷ k) heap places masters = ⊥
+
+-- An object is treated (7.6, 7.6.1): whatever is left of that, what is behind is ready.
+abbrev pub TreatsBy : Known → Value → Treatment → Control → List Object → (places operands : List Value) → List Master → Type 0
+TreatsBy known v (begins by) k heap places operands masters = BegunTo known k heap places operands masters
+TreatsBy known v (ends cause) k heap places operands masters = EndsTo known v k heap places masters
+
 -- What holds where a frame is next. What is awaited counts as stored already.
 abbrev pub ReadyBy : Known → Frame Value → Control → List Object → (places operands : List Value) → List Master → Type 0
 ReadyBy known (Elaborates ds fs hs) k heap places operands masters = Working known heap places masters (RunsOn known (Elaborates ds fs hs ∷ k))
@@ -1053,6 +1082,7 @@ ReadyBy known (FreesIn access c) k heap places operands masters =
 ReadyBy known (Declares x) k heap places operands masters =
     Working known heap (slice_set places x (first_or Null operands)) masters (λ rooms holds. HasRoom rooms × RunsOn known k rooms holds)
 ReadyBy known (DeclaresRecord x t) k heap places operands masters = Working known heap places masters (Recording known x t k)
+ReadyBy known (Treats v treatment tasks) k heap places operands masters = TreatsBy known v treatment k heap places operands masters
 ReadyBy known Writes k heap places operands masters = Working known heap places masters (RunsOn known k)
 ReadyBy known (Ends v) k heap places operands masters = EndingBy known v k heap places masters
 ReadyBy known (GivesBack v cause pool) k heap places operands masters = BackingBy known v cause pool k heap places masters
@@ -1180,8 +1210,8 @@ pub record IsFollowed (v : Value) (before : List Object) : Type 0 where
 
 -- What an event of a body says of the objects before it and of the state after it.
 abbrev pub Says : ProgramForm → Event → List Object → State → Type 0
-Says p (Born object part turn type number by) before after = ⊥
-Says p (Finalized object part turn type number cause) before after = ⊥
+Says p (Born object part turn type number by) before after = Unit {0}
+Says p (Finalized object part turn type number cause) before after = Unit {0}
 Says p (Back object access number pool subpool cause) before after = GoesBack p cause object access number pool subpool before after
 Says p (Followed object) before after = IsFollowed object before
 Says p (Left master) before after = Unit {0}
@@ -1194,11 +1224,18 @@ pub record Stepped (known : Known) (before : List Object) (e : Event) (after : S
   pub alters : Alters before e after.heap
   pub says : Says known.program e before after
 
--- No run ends at an erroneous action; where one comes to its end, no master is left.
+-- No erroneous action is next but perhaps that a value is finalized twice, of which a law for all programs says that it never is (7.6.1).
+abbrev pub MayBeNext : Why → Type 0
+MayBeNext FollowsGone = ⊥
+MayBeNext EndsTwice = ⊥
+MayBeNext GivesElsewhere = ⊥
+MayBeNext FinalizesTwice = Unit {0}
+
+-- No run ends at another erroneous action; where one comes to its end, no master is left.
 abbrev pub EndsWell : Halt → List Object → List Master → Type 0
 EndsWell Finished heap masters = Stored None heap masters × NoMaster masters
 EndsWell (Unhandled e) heap masters = Stored None heap masters × NoMaster masters
-EndsWell (Erroneous why) heap masters = ⊥
+EndsWell (Erroneous why) heap masters = MayBeNext why
 EndsWell Stuck heap masters = Unit {0}
 EndsWell Memory heap masters = Unit {0}
 

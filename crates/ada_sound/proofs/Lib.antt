@@ -78,6 +78,8 @@ pub mod Nestings
 pub mod Targets
 -- what ends
 pub mod Endings
+-- controlled parts are initialized and finalized
+pub mod Treatments
 -- what Free of a component does
 pub mod Releases
 -- record objects are declared
@@ -100,6 +102,8 @@ pub mod Steps
 pub mod Runs
 -- the laws of order
 pub mod Order
+-- the laws of finalization
+pub mod Finalization
 -- nothing relies on Integers and Booleans
 pub mod Scalars
 -- what the rules let through: what is moved
@@ -146,6 +150,8 @@ pub mod ExampleRecords
 pub mod ExampleCalls
 -- and those that declare pools
 pub mod ExamplePools
+-- and one with controlled record types
+pub mod ExampleControlled
 -- where a statement begins
 pub mod Agreeing
 -- what effects cover

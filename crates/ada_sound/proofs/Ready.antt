@@ -4,21 +4,22 @@ use Rattle.std.proofs.Common.{◌≡◌, ℕ, List, [], ◌∷◌, inl, inr}
 use Rattle.std.specs.List.{slice_set}
 use Rattle.ada_flow.specs.declared.rule.Hold.TheVariants as hold
 use Rattle.ada_flow.specs.Flow.{Holds}
+use Rattle.ada_parts.specs.Task.{Task}
 use Rattle.ada_meaning.specs.declared.state.Value.{Value}
 use Rattle.ada_meaning.specs.declared.state.Value.TheVariants.{Null}
 use Rattle.ada_meaning.specs.declared.state.Mode.{Mode}
 use Rattle.ada_meaning.specs.declared.state.Mode.TheVariants.{Running, Raising, Exiting, Returning}
-use Rattle.ada_meaning.specs.Frame.{Elaborates, Does, Decides, Repeats, Turns, Ranges, Counts, Exits, Handles, Closes, Leaves, Calls, Returns, Evaluates, Computes, TestsNull, Refers, Opens, Continues, Applies, AppliesAlone, Fills, Stores, StoresIn, Declares, Writes}
+use Rattle.ada_meaning.specs.Frame.{Elaborates, Does, Decides, Repeats, Turns, Ranges, Counts, Exits, Handles, Closes, Leaves, Calls, Returns, Evaluates, Computes, TestsNull, Refers, Opens, Continues, Applies, AppliesAlone, Fills, Stores, StoresIn, Declares, Writes, Ends, Treatment, begins, ends}
 use Rattle.ada_meaning.specs.Event.{Quiet}
 use Rattle.ada_meaning.specs.State.{Activation, Master}
-use Rattle.ada_meaning.specs.Step.{jumping}
+use Rattle.ada_meaning.specs.Step.{jumping, treating}
 use Rattle.ada_meaning.specs.Named.{Object, State}
 use Rattle.ada_meaning.specs.Run.{Event}
 use Rattle.ada_sound.proofs.Items.{NoMaster}
 use Rattle.ada_sound.proofs.Fits.{weaker_fit, spare_fit, put_lost, going}
 use Rattle.ada_sound.proofs.Orderings.{AsGood}
 use Rattle.ada_sound.proofs.Alters.{alters_same}
-use Rattle.ada_sound.proofs.Invariant.{StoresOn, Caller, below_callers, below, at_end, nowhere, Known, Control, Rooms, Roomed, To, RunsOn, GoesOn, PassesTo, Awaits, Working, Parting, HalfBy, Resumes, ReadyIn, Ready, Says, Stepped, By, innermost, ways}
+use Rattle.ada_sound.proofs.Invariant.{StoresOn, Caller, below_callers, below, at_end, nowhere, Known, Control, Rooms, Roomed, To, RunsOn, GoesOn, PassesTo, Awaits, Working, Parting, HalfBy, Resumes, NamesTo, BegunTo, EndsTo, TreatsBy, ReadyIn, Ready, Says, Stepped, By, innermost, ways}
 
 -- The state at work on something, with a running activation; and in another mode.
 abbrev pub running : Control → Activation Value → List (Activation Value) → State → State
@@ -93,6 +94,29 @@ module _ (known : Known) where
   pub resumes_ready : (k : Control) (heap : List Object) (places operands : List Value) (ms : List Master) → Resumes known heap places ms k → ReadyIn known Running k heap places operands ms
   resumes_ready k heap places operands ms (inl w) = runs_ready k heap places operands ms w
   resumes_ready k heap places operands ms (inr h) = half_ready k heap places operands ms h
+
+  -- What gets the name of a new object goes on, and so does what is behind a record object, and the end of an object.
+  names_ready : (k : Control) (heap : List Object) (places operands : List Value) (ms : List Master) → NamesTo known k heap places operands ms → ReadyIn known Running k heap places operands ms
+  names_ready [] heap places operands ms r = absurd r
+  names_ready (Stores x ∷ k) heap places operands ms r = inl r
+  names_ready (Declares x ∷ k) heap places operands ms r = r
+  names_ready (StoresIn o c ∷ k) heap places operands ms r = inl (r.0, inl r.1)
+  names_ready (f ∷ k) heap places operands ms r = absurd r
+
+  begun_ready : (k : Control) (heap : List Object) (places operands : List Value) (ms : List Master) → BegunTo known k heap places operands ms → ReadyIn known Running k heap places operands ms
+  begun_ready k heap places operands ms (inl w) = runs_ready k heap places operands ms w
+  begun_ready k heap places operands ms (inr r) = names_ready k heap places operands ms r
+
+  ends_ready : (v : Value) (k : Control) (heap : List Object) (places operands : List Value) (ms : List Master) → EndsTo known v k heap places ms → ReadyIn known Running k heap places operands ms
+  ends_ready v [] heap places operands ms r = absurd r
+  ends_ready v (Ends w ∷ k) heap places operands ms r = r.1
+  ends_ready v (f ∷ k) heap places operands ms r = absurd r
+
+  -- An object is treated first, if anything is to be done.
+  pub treats_ready : (v : Value) (treatment : Treatment) (tasks : List Task) (k : Control) (heap : List Object) (places operands : List Value) (ms : List Master) → TreatsBy known v treatment k heap places operands ms → ReadyIn known Running (treating v treatment tasks k) heap places operands ms
+  treats_ready v (begins by) [] k heap places operands ms r = begun_ready k heap places operands ms r
+  treats_ready v (ends cause) [] k heap places operands ms r = ends_ready v k heap places operands ms r
+  treats_ready v treatment (task ∷ tasks) k heap places operands ms r = r
 
   -- Any value is stored where nothing relies on it.
   pub lost_stored : (x : ℕ) (k : Control) (v : Value) (heap : List Object) (places : List Value) (ms : List Master) → Working known heap places ms (λ rooms holds. RunsOn known k rooms (slice_set holds x hold.Lost)) → Working known heap (slice_set places x v) ms (RunsOn known k)

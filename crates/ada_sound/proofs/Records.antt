@@ -6,6 +6,7 @@ use Rattle.std.specs.Prelude.{Option, Some, None}
 use Rattle.std.specs.List.{list_any, slice_get, slice_index_or, slice_set}
 use Rattle.ada_program.specs.declared.program.ComponentKind.{ComponentKind}
 use Rattle.ada_program.specs.declared.program.ComponentKind.TheVariants as component
+use Rattle.ada_parts.specs.declared.tasks.Direction.TheVariants.{PartsFirst}
 use Rattle.ada_program.specs.declared.program.TypeDefinition.{TypeDefinition}
 use Rattle.ada_program.specs.declared.program.VariableKind.{VariableKind}
 use Rattle.ada_program.specs.declared.program.VariableKind.TheVariants as variable
@@ -24,9 +25,10 @@ use Rattle.ada_meaning.specs.declared.state.Id.{Id}
 use Rattle.ada_meaning.specs.declared.state.Value.{Value}
 use Rattle.ada_meaning.specs.declared.state.Value.TheVariants.{Null, Names}
 use Rattle.ada_meaning.specs.Event.{Quiet}
-use Rattle.ada_meaning.specs.Frame.{Elaborates, Handles, Closes, Fills, DeclaresRecord}
+use Rattle.ada_meaning.specs.declared.event.Birth.TheVariants.{Creation}
+use Rattle.ada_meaning.specs.Frame.{Elaborates, Handles, Closes, Fills, DeclaresRecord, begins}
 use Rattle.ada_meaning.specs.State.{Activation, record_object, Master, height}
-use Rattle.ada_meaning.specs.Step.{owning, made, record_next, record_cell, initial_value, initial_values}
+use Rattle.ada_meaning.specs.Step.{all_tasks, owning, made, record_next, record_cell, initial_value, initial_values}
 use Rattle.ada_meaning.specs.Named.{Object, State, named, new_object, create, created}
 use Rattle.ada_meaning.specs.Law.{items_of}
 use Rattle.ada_owners.specs.Places.{Place}
@@ -40,7 +42,7 @@ use Rattle.ada_typed.proofs.Control as typed
 use Rattle.ada_sound.proofs.Fits.{Outsiders, bare, stacked, none_spared, place_at, hold_in, put_owner, create_fit}
 use Rattle.ada_sound.proofs.Alters.{alters_new}
 use Rattle.ada_sound.proofs.Invariant.{outers, below, Known, Control, Rooms, Roomed, Raised, Doing, Handled, Outside, Elaborating, Giving, MayOwn, Recording, RunsOn, Working, Stepped, Fine, ways}
-use Rattle.ada_sound.proofs.Ready.{running, at_work, runs_ready, ready_on}
+use Rattle.ada_sound.proofs.Ready.{running, at_work, treats_ready, ready_on}
 use Rattle.ada_sound.proofs.Outcomes.{using_goes, ends_goes}
 use Rattle.ada_sound.proofs.Followings.{first_kept}
 use Rattle.ada_sound.proofs.Copied.{items_keep, copied_plain}
@@ -124,7 +126,7 @@ module _ (known : Known) (rest : List (Activation Value)) (s : State) (types : L
   -- An object comes to be whose components name nothing, and its variable owns it.
   pub made_fine : (a : Activation Value) (k : Control) (values : List Value) (u : Value) → is_record_object t (variable_kind known.program.variables x) ≡ true → slice_get a.places x ≡ Some u → ((holding : Place → Hold) (kind : ℕ → Option ℕ) → AreInHand s.heap (stacked a.places (outers known)) holding kind 0 values) → Working known s.heap a.places s.masters (λ rooms holds. MayOwn rooms t × RunsOn known k rooms (slice_set holds x (hold.Own Whole))) → Stepped known s.heap Quiet (made named types x t values (running k a rest s))
   made_fine a k values u is there in_hand w =
-      let cell = record_cell named t (height s.masters) values in
+      let cell = record_cell named types t (height s.masters) values in
       let words = words_of types t in
       let kinds = λ (c : ℕ). access_of (kind_among (reached_components known.program.types t) c) in
       let both = create_fit words cell (in_hand (hold_in (outers known) none_spared w.holds) kinds) w.fit in
@@ -139,7 +141,7 @@ module _ (known : Known) (rest : List (Activation Value)) (s : State) (types : L
         rest = w.rest.1;
       } in
       record {
-        ready = (tt, runs_ready known k (create s.heap words cell) (slice_set a.places x (created s.heap words)) a.operands _ after);
+        ready = (tt, treats_ready known (created s.heap words) (begins Creation) (all_tasks types t PartsFirst) k (create s.heap words cell) (slice_set a.places x (created s.heap words)) a.operands (owning (record { number = height s.masters; owned = record_object t }) s.masters) (inl after));
         alters = alters_new s.heap Quiet (new_object cell) refl;
         says = tt;
       }

@@ -3,8 +3,10 @@
 use Rattle.std.proofs.Common.{subst, ◌≡◌, ◌≢◌, ℕ, Bool, true, false, ◌||◌, ◌==◌, List, [], ◌∷◌, ◌++◌, refl, sym, ap, ◌∙◌, ◌⊎◌, inl, inr}
 use Rattle.std.proofs.lemmas.Bool.{eqb-true, eq-eqb}
 use Rattle.std.specs.Prelude.{Option, Some, None}
-use Rattle.std.specs.List.{slice_get}
+use Rattle.std.specs.List.{slice_get, slice_set}
 use Rattle.ada_text.specs.declared.spot.Spot.{Spot}
+use Rattle.ada_parts.specs.declared.tasks.Direction.TheVariants.{WholeFirst}
+use Rattle.ada_program.specs.declared.program.TypeDefinition.{TypeDefinition}
 use Rattle.ada_program.specs.declared.program.Exception.{Exception}
 use Rattle.ada_program.specs.declared.program.Exception.TheVariants.{ConstraintError}
 use Rattle.ada_program.specs.declared.program.VariableKind.{VariableKind}
@@ -20,9 +22,10 @@ use Rattle.ada_meaning.specs.declared.state.Value.{Value}
 use Rattle.ada_meaning.specs.declared.state.Value.TheVariants.{Null, Names, Scalar, Part}
 use Rattle.ada_meaning.specs.declared.state.Mode.TheVariants.{Raising}
 use Rattle.ada_meaning.specs.Event.{Followed}
-use Rattle.ada_meaning.specs.Frame.{Does, FreesIn}
-use Rattle.ada_meaning.specs.State.{Activation}
-use Rattle.ada_meaning.specs.Step.{before_last, last_of, path_next, freed_next, free_component_next, free_in_next}
+use Rattle.ada_meaning.specs.declared.event.Cause.TheVariants.{Freeing}
+use Rattle.ada_meaning.specs.Frame.{Does, FreesIn, Ends, GivesBack, ClearsIn, ends}
+use Rattle.ada_meaning.specs.State.{Activation, home_of, pool_freed_to}
+use Rattle.ada_meaning.specs.Step.{all_tasks, before_last, last_of, path_next, freed_next, free_component_next, free_in_next}
 use Rattle.ada_meaning.specs.Named.{Object, State, object_at, look, named, parted, inside}
 use Rattle.ada_owners.specs.Keeping.{IsThere}
 use Rattle.ada_owners.specs.Places.{access_at}
@@ -34,8 +37,8 @@ use Rattle.ada_sound.proofs.Stored.{stored_part}
 use Rattle.ada_sound.proofs.Alters.{alters_set}
 use Rattle.ada_sound.proofs.Assigned.{this_is, freed_at}
 use Rattle.ada_sound.proofs.Homes.{HaveHomes, freed_home}
-use Rattle.ada_sound.proofs.Invariant.{Spares, CoveredIn, begun, outers, Known, Control, Goes, Raised, RunsOn, PassesNone, Releasing, Working, Stepped, Fine, ways}
-use Rattle.ada_sound.proofs.Ready.{running, at_work, stays, runs_ready, jumps_less}
+use Rattle.ada_sound.proofs.Invariant.{Spares, CoveredIn, begun, outers, Known, Control, Goes, Raised, RunsOn, PassesNone, Releasing, Working, Ending, Stepped, Fine, ways}
+use Rattle.ada_sound.proofs.Ready.{running, at_work, stays, runs_ready, jumps_less, treats_ready}
 use Rattle.ada_sound.proofs.Outcomes.{ends_goes}
 use Rattle.ada_sound.proofs.Roots.{access_leads, root_object, object_there, front_raises}
 use Rattle.ada_sound.proofs.Handings.{or_false}
@@ -143,7 +146,7 @@ module _ (known : Known) (a : Activation Value) (rest : List (Activation Value))
       }))
       (root_follows path.root path.spot kept.0 w.fit)
 
-  module _ (access c : ℕ) (k : Control) (below : List Value) (homes : HaveHomes known.program.types s.heap s.masters) where
+  module _ (types : List TypeDefinition) (access c : ℕ) (k : Control) (below : List Value) (homes : HaveHomes known.program.types s.heap s.masters) where
     -- The component is null: nothing happens.
     null_freed : (o : Id) → IsThere s.heap o → Working known s.heap a.places s.masters (Releasing known s.heap (Names o) [] access c k) → Stepped known s.heap (Followed (Names o)) (running k (record a { operands = below }) rest s)
     null_freed o there w =
@@ -163,7 +166,7 @@ module _ (known : Known) (a : Activation Value) (rest : List (Activation Value))
         let one : is_this t (Some u) ≡ true = eq-eqb u t same in
         cc (rw here at passes, one)
 
-    ends_next : (o : Id) (object : Object) (p : Id) (t : ℕ) → object_at s.heap o ≡ Some object → object.listed ≡ true → slice_get object.cell.values c ≡ Some (Names p) → (w : Working known s.heap a.places s.masters (Releasing known s.heap (Names o) [] access c k)) → w.rest.access ≡ Some t → access_at s.heap p ≡ Some t → Fine known s.heap s.masters (freed_next named access (Names o) c (Names p) (look s.heap (Names p)) (running k (record a { operands = below }) rest s))
+    ends_next : (o : Id) (object : Object) (p : Id) (t : ℕ) → object_at s.heap o ≡ Some object → object.listed ≡ true → slice_get object.cell.values c ≡ Some (Names p) → (w : Working known s.heap a.places s.masters (Releasing known s.heap (Names o) [] access c k)) → w.rest.access ≡ Some t → access_at s.heap p ≡ Some t → Fine known s.heap s.masters (freed_next named types access (Names o) c (Names p) (look s.heap (Names p)) (running k (record a { operands = below }) rest s))
     ends_next o object p t found listed at w is_t of_t =
         let there = listed_at s.heap p t of_t in
         let exists = (w.stored.sane p there.object there.found).listed_exists there.listed in
@@ -176,44 +179,45 @@ module _ (known : Known) (a : Activation Value) (rest : List (Activation Value))
         let after = part_fit p there.object elsewhere.1 unnamed.1 unnamed.2 unnamed.0 in
         let runs = rw is_t at w.rest.runs in
         let by_own : t ≡ access = let own = w.rest.frees_own in cc (is_t, own) in
+        let under : Ending known p (GivesBack (Names p) (Freeing s.next) (Some (pool_freed_to (home_of access s.masters))) ∷ ClearsIn (Names o) c ∷ k) (slice_set s.heap p.0 (parted there.object)) a.places s.masters = record {
+          object = parted there.object;
+          found = set_here s.heap p.0 there.object (parted there.object) there.found;
+          exists = exists;
+          parted = refl;
+          stored = stored_part p there.object there.found w.stored;
+          covered = subst (λ (u : ℕ). CoveredIn known.program u) (sym there.access) (w.rest.covered t is_t);
+          rest = (
+            refl,
+            freed_home access p there.object homes w.stored there.found exists (rw there.access (w.rest.own t is_t)) (there.access ∙ by_own),
+            (
+              (object, elsewhere.0, listed),
+              record {
+                rooms = w.rooms;
+                holds = behind_end known.program.variables (Some t) w.holds;
+                roomed = w.roomed;
+                fit = rw elsewhere.2 after;
+                rest = runs;
+              },
+            ),
+          );
+        } in
         rw (there.found, exists) (rw there.found (record {
           ready = (
             tt,
-            record {
-              object = parted there.object;
-              found = set_here s.heap p.0 there.object (parted there.object) there.found;
-              exists = exists;
-              parted = refl;
-              stored = stored_part p there.object there.found w.stored;
-              covered = subst (λ (u : ℕ). CoveredIn known.program u) (sym there.access) (w.rest.covered t is_t);
-              rest = (
-                refl,
-                freed_home access p there.object homes w.stored there.found exists (rw there.access (w.rest.own t is_t)) (there.access ∙ by_own),
-                (
-                  (object, elsewhere.0, listed),
-                  record {
-                    rooms = w.rooms;
-                    holds = behind_end known.program.variables (Some t) w.holds;
-                    roomed = w.roomed;
-                    fit = rw elsewhere.2 after;
-                    rest = runs;
-                  },
-                ),
-              );
-            },
+            treats_ready known (Names p) (ends (Freeing s.next)) (all_tasks types there.object.cell.access WholeFirst) (Ends (Names p) ∷ GivesBack (Names p) (Freeing s.next) (Some (pool_freed_to (home_of access s.masters))) ∷ ClearsIn (Names o) c ∷ k) (slice_set s.heap p.0 (parted there.object)) a.places below s.masters (refl, under),
           );
           alters = alters_set s.heap (Followed (Names o)) p there.object (parted there.object) there.found (refl, refl, refl) (λ h. h) (λ h. inl h);
           says = followed o (object, found, listed) w.stored;
         }))
 
-    object_freed : (o : Id) (object : Object) (p : Id) → object_at s.heap o ≡ Some object → object.listed ≡ true → slice_get object.cell.values c ≡ Some (Names p) → (w : Working known s.heap a.places s.masters (Releasing known s.heap (Names o) [] access c k)) → Fine known s.heap s.masters (freed_next named access (Names o) c (Names p) (look s.heap (Names p)) (running k (record a { operands = below }) rest s))
+    object_freed : (o : Id) (object : Object) (p : Id) → object_at s.heap o ≡ Some object → object.listed ≡ true → slice_get object.cell.values c ≡ Some (Names p) → (w : Working known s.heap a.places s.masters (Releasing known s.heap (Names o) [] access c k)) → Fine known s.heap s.masters (freed_next named types access (Names o) c (Names p) (look s.heap (Names p)) (running k (record a { operands = below }) rest s))
     object_freed o object p found listed at w = by w.rest.access refl (named_type o object p found listed at w)
       where
-        by : (kind : Option ℕ) → w.rest.access ≡ kind → IsOf (access_at s.heap) kind p → Fine known s.heap s.masters (freed_next named access (Names o) c (Names p) (look s.heap (Names p)) (running k (record a { operands = below }) rest s))
+        by : (kind : Option ℕ) → w.rest.access ≡ kind → IsOf (access_at s.heap) kind p → Fine known s.heap s.masters (freed_next named types access (Names o) c (Names p) (look s.heap (Names p)) (running k (record a { operands = below }) rest s))
         by None is of = absurd of
         by (Some t) is of = ends_next o object p t found listed at w is of
 
-    component_freed : (o : Id) (object : Object) (held : Option Value) → slice_get object.cell.values c ≡ held → object_at s.heap o ≡ Some object → object.listed ≡ true → Working known s.heap a.places s.masters (Releasing known s.heap (Names o) [] access c k) → Fine known s.heap s.masters (free_component_next named access (Names o) c held (running k (record a { operands = below }) rest s))
+    component_freed : (o : Id) (object : Object) (held : Option Value) → slice_get object.cell.values c ≡ held → object_at s.heap o ≡ Some object → object.listed ≡ true → Working known s.heap a.places s.masters (Releasing known s.heap (Names o) [] access c k) → Fine known s.heap s.masters (free_component_next named types access (Names o) c held (running k (record a { operands = below }) rest s))
     component_freed o object None at found listed w = tt
     component_freed o object (Some Null) at found listed w = null_freed o (object, found, listed) w
     component_freed o object (Some (Names p)) at found listed w = object_freed o object p found listed at w
@@ -221,7 +225,7 @@ module _ (known : Known) (a : Activation Value) (rest : List (Activation Value))
     component_freed o object (Some (Part object_id base)) at found listed w = tt
 
     -- The object of the component is there, or null raises Constraint_Error.
-    pub free_in_fine : (v : Value) → (w : Working known s.heap a.places s.masters (λ rooms holds. MayFollow s.heap v × Releasing known s.heap v [] access c k rooms holds)) → Fine known s.heap s.masters (free_in_next named access v c (look s.heap v) (running k (record a { operands = below }) rest s))
+    pub free_in_fine : (v : Value) → (w : Working known s.heap a.places s.masters (λ rooms holds. MayFollow s.heap v × Releasing known s.heap v [] access c k rooms holds)) → Fine known s.heap s.masters (free_in_next named types access v c (look s.heap v) (running k (record a { operands = below }) rest s))
     free_in_fine Null w = jumps_less known k (record a { operands = below }) rest s (Raising ConstraintError) (at_work w (raises_less known k w.rooms w.holds w.rest.1.access (w.rest.1.raises refl)))
     free_in_fine (Names o) w =
         let there : IsThere s.heap o = w.rest.0 in

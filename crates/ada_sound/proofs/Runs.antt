@@ -30,7 +30,7 @@ use Rattle.ada_program.specs.Typed.{components_of, reached_of}
 use Rattle.ada_meaning.specs.Step.{halts, moves, tells, asks, picks, older, frame_next, pass_next, jump_next, mode_next}
 use Rattle.ada_meaning.specs.Named.{Object, State, Next, named, object_at, next}
 use Rattle.ada_meaning.specs.Run.{Event, Choice, settled, grants, takes, Leads, Step, Run, here, there, Halts}
-use Rattle.ada_meaning.specs.Law.{named_by, back_of, followed_of, finalized_of, Differ, BackTwoObjects, FinalizedTwoValues, FollowedBeforeBack, leaving_by, IsBackHome, GoesHome, GivesBackOf, Happened, IsBack, HasEnded, items_of}
+use Rattle.ada_meaning.specs.Law.{named_by, back_of, followed_of, Differ, BackTwoObjects, FollowedBeforeBack, leaving_by, IsBackHome, GoesHome, GivesBackOf, Happened, IsBack, HasEnded, items_of}
 use Rattle.ada_typed.specs.Holding.{cells_of}
 use Rattle.ada_typed.proofs.Values.{AreFilled, filled_at, active_placed}
 use Rattle.ada_sound.proofs.GivenBack.{ArePlaced}
@@ -47,7 +47,7 @@ use Rattle.ada_sound.proofs.Defaults.{reached_same, Reaches}
 use Rattle.ada_sound.proofs.Items.{NoMaster, items_fall}
 use Rattle.ada_sound.proofs.Stored.{Stored}
 use Rattle.ada_sound.proofs.Alters.{BackIn, StaysItself, Alters}
-use Rattle.ada_sound.proofs.Invariant.{Known, Control, Caller, AreSuspended, Working, RunsOn, CallsOn, Spares, AllWait, LieBelow, Says, Stepped, EndsWell, Fine, outers, ArePassed}
+use Rattle.ada_sound.proofs.Invariant.{Known, Control, Caller, AreSuspended, Working, RunsOn, CallsOn, Spares, AllWait, LieBelow, Says, Stepped, MayBeNext, EndsWell, Fine, outers, ArePassed}
 use Rattle.ada_sound.proofs.Callers.{Suspension, rest_of, callers_of, known_in, AreOf, Stands}
 use Rattle.ada_sound.proofs.Bodies.{IsBody, seen_is, callee_get}
 use Rattle.ada_sound.proofs.Returns.{Crosses, same_types, left_fine}
@@ -81,8 +81,8 @@ named_out heap v id o x is found out named =
     some_same p q e = cc e
 
 back_out : (p : ProgramForm) (e : Event) (heap : List Object) (after : State) (o : Id) → Says p e heap after → back_of e ≡ Some o → OutIn heap o
-back_out p (Born v part turn type number by) heap after o says is = absurd says
-back_out p (Finalized v part turn type number cause) heap after o says is = absurd says
+back_out p (Born v part turn type number by) heap after o says is = absurd (cc is)
+back_out p (Finalized v part turn type number cause) heap after o says is = absurd (cc is)
 back_out p (Back v access number pool subpool cause) heap after o says is = named_out heap v says.id o says.object says.is says.found says.out is
 back_out p (Followed v) heap after o says is = absurd (cc is)
 back_out p (Left master) heap after o says is = absurd (cc is)
@@ -90,8 +90,8 @@ back_out p (Line line) heap after o says is = absurd (cc is)
 back_out p Quiet heap after o says is = absurd (cc is)
 
 followed_out : (p : ProgramForm) (e : Event) (heap : List Object) (after : State) (o : Id) → Says p e heap after → followed_of e ≡ Some o → OutIn heap o
-followed_out p (Born v part turn type number by) heap after o says is = absurd says
-followed_out p (Finalized v part turn type number cause) heap after o says is = absurd says
+followed_out p (Born v part turn type number by) heap after o says is = absurd (cc is)
+followed_out p (Finalized v part turn type number cause) heap after o says is = absurd (cc is)
 followed_out p (Back v access number pool subpool cause) heap after o says is = absurd (cc is)
 followed_out p (Followed v) heap after o says is = named_out heap v says.id o says.object says.is says.found says.out is
 followed_out p (Left master) heap after o says is = absurd (cc is)
@@ -100,8 +100,8 @@ followed_out p Quiet heap after o says is = absurd (cc is)
 
 -- What goes back is back after.
 back_in : (p : ProgramForm) (e : Event) (heap : List Object) (after : State) (o : Id) → Says p e heap after → back_of e ≡ Some o → BackIn after.heap o
-back_in p (Born v part turn type number by) heap after o says is = absurd says
-back_in p (Finalized v part turn type number cause) heap after o says is = absurd says
+back_in p (Born v part turn type number by) heap after o says is = absurd (cc is)
+back_in p (Finalized v part turn type number cause) heap after o says is = absurd (cc is)
 back_in p (Back v access number pool subpool cause) heap after o says is = let same : Some says.id ≡ Some o = rw says.is at is in rw (← some_same says.id o same) says.back
   where
     some_same : (p q : Id) → Some p ≡ Some q → p ≡ q
@@ -110,20 +110,6 @@ back_in p (Followed v) heap after o says is = absurd (cc is)
 back_in p (Left master) heap after o says is = absurd (cc is)
 back_in p (Line line) heap after o says is = absurd (cc is)
 back_in p Quiet heap after o says is = absurd (cc is)
-
--- Nothing is finalized yet.
-none_final : (p : ProgramForm) (e : Event) (heap : List Object) (after : State) → Says p e heap after → finalized_of e ≡ None
-none_final p (Born v part turn type number by) heap after says = absurd says
-none_final p (Finalized v part turn type number cause) heap after says = absurd says
-none_final p (Back v access number pool subpool cause) heap after says = refl
-none_final p (Followed v) heap after says = refl
-none_final p (Left master) heap after says = refl
-none_final p (Line line) heap after says = refl
-none_final p Quiet heap after says = refl
-
-none_differs : {X : Type 0} (a : Option X) → Differ a None
-none_differs None = tt
-none_differs (Some x) = tt
 
 -- What is out is not what is back.
 differ_out : (heap : List Object) (a b : Option Id) → ((o : Id) → a ≡ Some o → BackIn heap o) → ((o : Id) → b ≡ Some o → OutIn heap o) → Differ a b
@@ -140,8 +126,8 @@ differ_out heap (Some o) (Some p) back out = λ same.
 
 -- Words go home as an event says, and objects keep their homes.
 goes_home : (p : ProgramForm) (e : Event) (heap : List Object) (after : State) → Says p e heap after → IsBackHome heap e
-goes_home p (Born v part turn type number by) heap after says = absurd says
-goes_home p (Finalized v part turn type number cause) heap after says = absurd says
+goes_home p (Born v part turn type number by) heap after says = tt
+goes_home p (Finalized v part turn type number cause) heap after says = tt
 goes_home p (Back v access number pool subpool cause) heap after says = rw says.is (says.object, says.found, says.of_type, says.numbered, says.to_pool, says.to_subpool, says.home)
 goes_home p (Followed v) heap after says = tt
 goes_home p (Left master) heap after says = tt
@@ -421,9 +407,9 @@ pub sound_run : {program : Program} {s last : State} {events : List Event} → R
 sound_run here r = r
 sound_run {program} {s = s} (there {event = e} choice mid step run) r = sound_run run (sound_step program s choice e mid r step)
 
--- Nothing erroneous is next.
-pub never_erroneous : (program : Program) (s : State) (why : Why) → Sound program s → Halts program s (Erroneous why) → ⊥
-never_erroneous program s why r e = rw e at (step_fine program s r)
+-- No erroneous action is next, but perhaps that a value is finalized twice.
+pub none_is_next : (program : Program) (s : State) (why : Why) → Sound program s → Halts program s (Erroneous why) → MayBeNext why
+none_is_next program s why r e = rw e at (step_fine program s r)
 
 -- Where a run has come to its end, no master is left, and so all words are back.
 no_master : (ms : List Master) → NoMaster ms → ms ≡ []
@@ -497,10 +483,6 @@ back_once = all_pairs BackTwoObjects WentBack went_born (λ program d s choice e
 pub followed_before_back : {program : Program} {s last : State} {events : List Event} → Run program s events last → Sound program s → AllPairs FollowedBeforeBack events
 unfolding WentBack
 followed_before_back = all_pairs FollowedBeforeBack WentBack went_born (λ program d s choice e after r step h. let st = stepped program s choice e after r step in (differ_out s.heap (back_of d) (followed_of e) h (λ o is. followed_out st.body e s.heap after o st.says is), went_kept program d s e after st h))
-
--- A controlled value is finalized at most once: none is yet.
-pub finalized_once : {program : Program} {s last : State} {events : List Event} → Run program s events last → Sound program s → AllPairs FinalizedTwoValues events
-finalized_once = all_pairs FinalizedTwoValues (λ d s. Unit {0}) (λ program e before after st. tt) (λ program d s choice e after r step h. (rw (none_final (stepped program s choice e after r step).body e s.heap after (stepped program s choice e after r step).says) (none_differs (finalized_of d)), tt))
 
 -- Words go back home.
 pub back_home : {program : Program} {s last : State} {events : List Event} → Run program s events last → Sound program s → All (IsBackHome last.heap) events

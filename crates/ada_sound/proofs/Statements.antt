@@ -199,13 +199,13 @@ module _ (known : Known) where
         let cleared = begins_pair (assigns target right) fs in
         component_begins known a rest s cleared c cs target right fs k is whole (at_work w (w.rest, pairs_component c cs target right fs k is))
 
-    frees_fine : (cs : List ℕ) (access : ℕ) (path : PathForm) (fs : StmtsForm) (k : Control) → HaveHomes known.program.types s.heap s.masters → is_freed_by known.program.types access (path_access known.program.types known.program.variables path) ≡ true → is_this access (path_access known.program.types known.program.variables path) ≡ true → Spares known (λ t. is_this t (path_access known.program.types known.program.variables path)) → path.selectors ≡ cs → Working known s.heap a.places s.masters (λ rooms holds. Goes (frees_path known.program.types known.program.variables cs path holds) (RunsOn known (Does fs ∷ k) rooms) (Raised (free_among path) (ways known k rooms))) → Fine known s.heap s.masters (frees_next named cs access path.root (running (Does fs ∷ k) a rest s))
-    frees_fine [] access path fs k homes freed by_own spares is w =
+    frees_fine : (defined : List TypeDefinition) (cs : List ℕ) (access : ℕ) (path : PathForm) (fs : StmtsForm) (k : Control) → HaveHomes known.program.types s.heap s.masters → is_freed_by known.program.types access (path_access known.program.types known.program.variables path) ≡ true → is_this access (path_access known.program.types known.program.variables path) ≡ true → Spares known (λ t. is_this t (path_access known.program.types known.program.variables path)) → path.selectors ≡ cs → Working known s.heap a.places s.masters (λ rooms holds. Goes (frees_path known.program.types known.program.variables cs path holds) (RunsOn known (Does fs ∷ k) rooms) (Raised (free_among path) (ways known k rooms))) → Fine known s.heap s.masters (frees_next named defined cs access path.root (running (Does fs ∷ k) a rest s))
+    frees_fine defined [] access path fs k homes freed by_own spares is w =
         let own = freed_at known.program.types known.program.variables access path freed in
         let at : path_access known.program.types known.program.variables path ≡ Some access = this_is access (path_access known.program.types known.program.variables path) by_own in
         let one : own.0 ≡ access = let other = own.1 in cc (at, other) in
-        free_fine known a rest s access path.root (value_root known.program.types known.program.variables path own.0 is own.1) path.spot fs k (λ rooms. Raised (free_among path) (ways known k rooms)) homes own.0 one (sym (ap (λ (cs : List ℕ). access_of (selectors_kind known.program.types (variable_kind known.program.variables path.root) cs)) is) ∙ own.2) own.3 (spares own.0 (ap (is_this own.0) own.1 ∙ eq-eqb own.0 own.0 refl)) w
-    frees_fine (c ∷ cs) access path fs k homes freed by_own spares is w = free_begins known a rest s c cs access path fs k (free_among path) (λ may. may) freed by_own spares is w
+        free_fine known a rest s defined access path.root (value_root known.program.types known.program.variables path own.0 is own.1) path.spot fs k (λ rooms. Raised (free_among path) (ways known k rooms)) homes own.0 one (sym (ap (λ (cs : List ℕ). access_of (selectors_kind known.program.types (variable_kind known.program.variables path.root) cs)) is) ∙ own.2) own.3 (spares own.0 (ap (is_this own.0) own.1 ∙ eq-eqb own.0 own.0 refl)) w
+    frees_fine defined (c ∷ cs) access path fs k homes freed by_own spares is w = free_begins known a rest s c cs access path fs k (free_among path) (λ may. may) freed by_own spares is w
 
     gets_fine : (cs : List ℕ) (target : PathForm) (input : List ℤ) (fs : StmtsForm) (k : Control) → target.selectors ≡ cs → (target.of_record ≡ true → is_object known.program.variables target.root ≡ true) → Working known s.heap a.places s.masters (λ rooms holds. Goes (gets_path cs target holds) (RunsOn known (Does fs ∷ k) rooms) (Raised (get_among target) (ways known k rooms))) → Fine known s.heap s.masters (gets_next named cs target.root input (running (Does fs ∷ k) a rest s))
     gets_fine (c ∷ cs) target input fs k is whole w =
@@ -300,39 +300,39 @@ module _ (known : Known) where
         (first.0, (λ may. first.2 may ConstraintError (or_left (expression_raises low) (expression_raises high) may)), (second.0, (λ may. second.2 may ConstraintError (or_right (expression_raises low) (expression_raises high) may)), (λ v. second.1)))
 
     -- Statements.
-    stmt_fine : (bodies : List BodyForm) → MayCall known bodies → (inside : Bool) (here : Where) (f : StmtForm) (fs : StmtsForm) (k : Control) → HaveHomes known.program.types s.heap s.masters → statement_fits known.program.types known.program.variables known.program.texts known.program.exceptions (callable_in known.program) inside f ≡ true → statement_frees_own known.program.types known.program.variables f ≡ true → Working known s.heap a.places s.masters (λ rooms holds. Starting known here f fs k (ways known k rooms) holds) → Fine known s.heap s.masters (stmt_next named bodies f (running (Does fs ∷ k) a rest s))
-    stmt_fine bodies calling inside here skips fs k homes fits own w = runs_on known (Does fs ∷ k) a rest s (at_work w w.rest.1.0) Quiet tt
-    stmt_fine bodies calling inside here (assigns target right) fs k homes fits own w =
+    stmt_fine : (defined : List TypeDefinition) (bodies : List BodyForm) → MayCall known bodies → (inside : Bool) (here : Where) (f : StmtForm) (fs : StmtsForm) (k : Control) → HaveHomes known.program.types s.heap s.masters → statement_fits known.program.types known.program.variables known.program.texts known.program.exceptions (callable_in known.program) inside f ≡ true → statement_frees_own known.program.types known.program.variables f ≡ true → Working known s.heap a.places s.masters (λ rooms holds. Starting known here f fs k (ways known k rooms) holds) → Fine known s.heap s.masters (stmt_next named defined bodies f (running (Does fs ∷ k) a rest s))
+    stmt_fine defined bodies calling inside here skips fs k homes fits own w = runs_on known (Does fs ∷ k) a rest s (at_work w w.rest.1.0) Quiet tt
+    stmt_fine defined bodies calling inside here (assigns target right) fs k homes fits own w =
         let types = known.program.types in
         let variables = known.program.variables in
         let leads = right_leads types variables (path_kind types variables target) right (and_parts (right_fits types variables (path_kind types variables target) right) (lends_to variables (names_borrower variables target) right) fits).0 in
         assign_fine target.selectors target right fs k refl (root_object types variables target leads.0 leads.1) (at_work w w.rest.1)
-    stmt_fine bodies calling inside here (assigns_record target items) fs k homes fits own w =
+    stmt_fine defined bodies calling inside here (assigns_record target items) fs k homes fits own w =
         let there = record_there known.program.types known.program.variables target (and_parts _ _ fits).0 in
         record_begins known a rest s target items fs k there (at_work w w.rest.1)
-    stmt_fine bodies calling inside here (frees access path) fs k homes fits own w = frees_fine path.selectors access path fs k homes (and_parts _ _ fits).0 own w.rest.4 refl (at_work w w.rest.1)
-    stmt_fine bodies calling inside here (gets target) fs k homes fits own w = (
+    stmt_fine defined bodies calling inside here (frees access path) fs k homes fits own w = frees_fine defined path.selectors access path fs k homes (and_parts _ _ fits).0 own w.rest.4 refl (at_work w w.rest.1)
+    stmt_fine defined bodies calling inside here (gets target) fs k homes fits own w = (
         let types = known.program.types in
         let variables = known.program.variables in
         let leads = integer_leads (path_kind types variables target) fits in
         gets_fine target.selectors target s.input fs k refl (root_object types variables target leads.0 leads.1) (at_work w w.rest.1)
         )
-    stmt_fine bodies calling inside here (writes e) fs k homes fits own w =
+    stmt_fine defined bodies calling inside here (writes e) fs k homes fits own w =
         let h = computed_goes e w.holds (RunsOn known (Does fs ∷ k) w.rooms) (Raised (λ x. is_same x ConstraintError && expression_raises e) (ways known k w.rooms)) w.rest.1 in
         ready_on known (Computes e ∷ Writes ∷ Does fs ∷ k) a rest s a.operands (at_work w (h.0, (λ may. h.2 may ConstraintError may), h.1))
-    stmt_fine bodies calling inside here (writes_text text) fs k homes fits own w = runs_on known (Does fs ∷ k) a rest s (at_work w w.rest.1.0) (Line _) tt
-    stmt_fine bodies calling inside here (chooses branches) fs k homes fits own w = branches_fine branches (Does fs ∷ k) (at_work w (chooses_from known here branches fs k (ways known k w.rooms) w.holds w.rest))
-    stmt_fine bodies calling inside here (repeats condition body end_spot) fs k homes fits own w =
+    stmt_fine defined bodies calling inside here (writes_text text) fs k homes fits own w = runs_on known (Does fs ∷ k) a rest s (at_work w w.rest.1.0) (Line _) tt
+    stmt_fine defined bodies calling inside here (chooses branches) fs k homes fits own w = branches_fine branches (Does fs ∷ k) (at_work w (chooses_from known here branches fs k (ways known k w.rooms) w.holds w.rest))
+    stmt_fine defined bodies calling inside here (repeats condition body end_spot) fs k homes fits own w =
         runs_on known (Repeats condition body ∷ Does fs ∷ k) a rest s (at_work w (repeats_from known here condition body end_spot fs k (ways known k w.rooms) w.holds w.rest)) Quiet tt
-    stmt_fine bodies calling inside here (counts x low high body end_spot) fs k homes fits own w =
+    stmt_fine defined bodies calling inside here (counts x low high body end_spot) fs k homes fits own w =
         ready_on known (Computes low ∷ Computes high ∷ Ranges x body ∷ Does fs ∷ k) a rest s a.operands
         (at_work w (bounds_fine x low high body fs k w.rooms w.holds (counts_from known here x low high body end_spot fs k (ways known k w.rooms) w.holds w.rest)))
-    stmt_fine bodies calling inside here (exits condition spot) fs k homes fits own w =
+    stmt_fine defined bodies calling inside here (exits condition spot) fs k homes fits own w =
         exit_fine condition (Does fs ∷ k) (at_work w (exit_parts known here.start here.inside condition spot w.holds (RunsOn known (Does fs ∷ k) w.rooms) (Raised (λ e. is_same e ConstraintError && condition_raises condition) (ways known k w.rooms)) (ways known k w.rooms).exited w.rest.1 (w.rest.2 refl)))
-    stmt_fine bodies calling inside here (calls procedure actuals) fs k homes fits own w = call_begins known bodies calling here procedure actuals fs k a rest s fits w
-    stmt_fine bodies calling inside here (returns spot) fs k homes fits own w = jumps known (Does fs ∷ k) a rest s Returning (at_work w (w.rest.3 w.holds (return_goes known.program.variables (owed_in known.program) here.within spot w.holds (Doing known fs k (ways known k w.rooms)) (Raised (λ e. stmt_raises (effects_of known.program) (is_same e) (returns spot)) (ways known k w.rooms)) w.rest.1)))
-    stmt_fine bodies calling inside here (raises e) fs k homes fits own w = jumps_less known (Does fs ∷ k) a rest s (Raising e) (at_work w (w.rest.1.1 e (same_here e)))
-    stmt_fine bodies calling inside here (encloses ds body hs) fs k homes fits own w =
+    stmt_fine defined bodies calling inside here (calls procedure actuals) fs k homes fits own w = call_begins known bodies calling here procedure actuals fs k a rest s fits w
+    stmt_fine defined bodies calling inside here (returns spot) fs k homes fits own w = jumps known (Does fs ∷ k) a rest s Returning (at_work w (w.rest.3 w.holds (return_goes known.program.variables (owed_in known.program) here.within spot w.holds (Doing known fs k (ways known k w.rooms)) (Raised (λ e. stmt_raises (effects_of known.program) (is_same e) (returns spot)) (ways known k w.rooms)) w.rest.1)))
+    stmt_fine defined bodies calling inside here (raises e) fs k homes fits own w = jumps_less known (Does fs ∷ k) a rest s (Raising e) (at_work w (w.rest.1.1 e (same_here e)))
+    stmt_fine defined bodies calling inside here (encloses ds body hs) fs k homes fits own w =
         stays known Quiet _ (
           tt,
           record {
@@ -345,7 +345,7 @@ module _ (known : Known) where
           },
         ) tt
 
-    pub stmts_fine : (bodies : List BodyForm) → MayCall known bodies → (inside : Bool) (fs : StmtsForm) (k : Control) → HaveHomes known.program.types s.heap s.masters → stmts_fit known.program.types known.program.variables known.program.texts known.program.exceptions (callable_in known.program) inside fs ≡ true → statements_free_own known.program.types known.program.variables fs ≡ true → Resumes known s.heap a.places s.masters (Does fs ∷ k) → Fine known s.heap s.masters (stmts_next named bodies fs (running k a rest s))
-    stmts_fine bodies calling inside fs k homes fits own (inr h) = half_begins known a rest s bodies fs k h
-    stmts_fine bodies calling inside no_stmts k homes fits own (inl w) = runs_on known k a rest s (at_less w w.rest.2.0) Quiet tt
-    stmts_fine bodies calling inside (a_stmt f fs) k homes fits own (inl w) = stmt_fine bodies calling inside w.rest.0 f fs k homes (and_parts _ _ fits).0 (and_parts _ _ own).0 (at_work w (starts known f fs k (ways known k w.rooms) w.holds w.rest))
+    pub stmts_fine : (defined : List TypeDefinition) (bodies : List BodyForm) → MayCall known bodies → (inside : Bool) (fs : StmtsForm) (k : Control) → HaveHomes known.program.types s.heap s.masters → stmts_fit known.program.types known.program.variables known.program.texts known.program.exceptions (callable_in known.program) inside fs ≡ true → statements_free_own known.program.types known.program.variables fs ≡ true → Resumes known s.heap a.places s.masters (Does fs ∷ k) → Fine known s.heap s.masters (stmts_next named defined bodies fs (running k a rest s))
+    stmts_fine defined bodies calling inside fs k homes fits own (inr h) = half_begins known a rest s defined bodies fs k h
+    stmts_fine defined bodies calling inside no_stmts k homes fits own (inl w) = runs_on known k a rest s (at_less w w.rest.2.0) Quiet tt
+    stmts_fine defined bodies calling inside (a_stmt f fs) k homes fits own (inl w) = stmt_fine defined bodies calling inside w.rest.0 f fs k homes (and_parts _ _ fits).0 (and_parts _ _ own).0 (at_work w (starts known f fs k (ways known k w.rooms) w.holds w.rest))

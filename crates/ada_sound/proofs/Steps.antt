@@ -2,6 +2,8 @@
 
 use Rattle.std.proofs.Common.{◌≡◌, ℕ, zero, suc, Bool, false, List, [], ◌∷◌, refl, sym, ◌∙◌, inl}
 use Rattle.ada_program.specs.declared.program.TypeDefinition.{TypeDefinition}
+use Rattle.ada_program.specs.Controlled.{shapes_of}
+use Rattle.ada_parts.specs.Task.{next as task_next}
 use Rattle.ada_program.specs.declared.program.VariableKind.TheVariants as variable
 use Rattle.ada_program.specs.Form.{ItemForm, LinksForm, RightForm}
 use Rattle.ada_program.specs.ProgramForm.{TypeForm, VariableForm, BodyForm, ProgramForm}
@@ -10,7 +12,7 @@ use Rattle.ada_meaning.specs.declared.state.Value.{Value}
 use Rattle.ada_meaning.specs.declared.state.Value.TheVariants.{Null, Names, Scalar, Part}
 use Rattle.ada_meaning.specs.declared.state.Mode.{Mode}
 use Rattle.ada_meaning.specs.declared.state.Mode.TheVariants.{Running, Raising, Exiting, Returning}
-use Rattle.ada_meaning.specs.Frame.{Frame, Elaborates, Does, Decides, Repeats, Turns, Ranges, Counts, Exits, Handles, Closes, Leaves, Calls, Returns, is_return, Evaluates, Computes, Follows, TestsNull, Refers, RefersIn, Opens, OpensIn, Continues, Applies, AppliesAlone, Fills, Copies, Creates, Stores, Targets, StoresIn, TargetsRecord, StoresRecord, Receives, FreesIn, Declares, DeclaresRecord, Writes, Ends, GivesBack, Clears, ClearsIn}
+use Rattle.ada_meaning.specs.Frame.{Frame, Elaborates, Does, Decides, Repeats, Turns, Ranges, Counts, Exits, Handles, Closes, Leaves, Calls, Returns, is_return, Evaluates, Computes, Follows, TestsNull, Refers, RefersIn, Opens, OpensIn, Continues, Applies, AppliesAlone, Fills, Copies, Creates, Stores, Targets, StoresIn, TargetsRecord, StoresRecord, Receives, FreesIn, Declares, DeclaresRecord, Treats, Writes, Ends, GivesBack, Clears, ClearsIn}
 use Rattle.ada_meaning.specs.Event.{Quiet}
 use Rattle.ada_meaning.specs.State.{Activation, Master}
 use Rattle.ada_meaning.specs.Law.{items_of}
@@ -50,6 +52,7 @@ use Rattle.ada_sound.proofs.Releases.{free_in_fine}
 use Rattle.ada_sound.proofs.Targets.{target_fine, store_fine, receive_fine, clear_fine}
 use Rattle.ada_sound.proofs.Leavings.{HeldIn, NamedBelow}
 use Rattle.ada_sound.proofs.Endings.{ends_fine, backs_fine, leave_fine}
+use Rattle.ada_sound.proofs.Treatments.{treats_fine}
 use Rattle.ada_sound.proofs.Jumps.{closes_fine, raising_fine, exiting_fine, returning_fine}
 
 -- Where a kind is waited for, an operand is there.
@@ -143,7 +146,7 @@ module _ (known : Known) where
 
     frame_fine : (f : Frame Value) → crosses Running (f ∷ k) ≡ false → RunsTyped known s.heap (f ∷ k) a.places a.operands → StateTyped known.program s.heap s.masters → HeldIn s.heap s.masters → ((mode : Mode) (behind : Control) → f ∷ k ≡ Leaves mode ∷ behind → NamedBelow (outers known) s.heap s.masters) → ReadyBy known f k s.heap a.places a.operands s.masters → Fine known s.heap s.masters (frame_next named types bodies f (running k a rest s))
     frame_fine (Elaborates ds fs hs) inner t kept held low r = declarations_fine known a rest s fs hs k types ds t.3 t.1.2 r
-    frame_fine (Does fs) inner t kept held low r = stmts_fine known a rest s bodies calling t.1.1 fs k kept.0 t.1.2.0 (t.1.2.1 kept.2) r
+    frame_fine (Does fs) inner t kept held low r = stmts_fine known a rest s types bodies calling t.1.1 fs k kept.0 t.1.2.0 (t.1.2.1 kept.2) r
     frame_fine (Decides fs branches) inner t kept held low r = decided_fine known (record a { operands = older a.operands }) rest s fs branches (named.reads_boolean (first_or Null a.operands)) k r
     frame_fine (Repeats condition body) inner t kept held low r = repeats_fine known a rest s condition body k r
     frame_fine (Turns e body) inner t kept held low r = turned_fine known (record a { operands = older a.operands }) rest s e body (named.reads_boolean (first_or Null a.operands)) k r
@@ -152,7 +155,7 @@ module _ (known : Known) where
     frame_fine Exits inner t kept held low r = exited_fine known (record a { operands = older a.operands }) rest s (named.reads_boolean (first_or Null a.operands)) k r
     frame_fine (Handles hs) inner t kept held low r = runs_on known k a rest s (at_less r r.rest) Quiet tt
     frame_fine Closes inner t kept held low r = closes_fine known k a rest s Running r
-    frame_fine (Leaves mode) inner t kept held low r = leave_fine known mode k a rest s s.masters r held (low mode k refl)
+    frame_fine (Leaves mode) inner t kept held low r = leave_fine known types mode k a rest s s.masters r held (low mode k refl)
     frame_fine (Calls procedure b actuals) inner t kept held low r = absurd (cc inner)
     frame_fine (Returns actuals references) inner t kept held low r = absurd (cc inner)
     frame_fine (Evaluates right) inner t kept held low r = evaluates_fine known k a rest s kept.1 types reaches right t.0 t.1 r
@@ -173,16 +176,17 @@ module _ (known : Known) where
         outcome_fine known k a rest s (older a.operands) (at_work r r.rest.1) (unary_raises operator) (named.unary operator operand) (unary_only operator operand) r.rest.0
     frame_fine (Fills items) inner t kept held low r = items_fine known k a rest s items t.1.0 t.1.1 r
     frame_fine (Copies first u) inner t kept held low r = copies_fine known types reaches k a rest s first u (first_or Null a.operands) (older a.operands) r
-    frame_fine (Creates access count) inner t kept held low r = creates_fine known k a rest s access count (words_of types access) t.0 t.1 t.2 r
+    frame_fine (Creates access count) inner t kept held low r = creates_fine known k a rest s types access count (words_of types access) t.0 t.1 t.2 r
     frame_fine (Stores x) inner t kept held low r = stores_fine known k a rest s kept.1 x (first_or Null a.operands) (older a.operands) r
     frame_fine (Targets c right) inner t kept held low r = found_fine c right a.operands t r
     frame_fine (StoresIn o c) inner t kept held low r = put_fine o c a.operands t r
     frame_fine (TargetsRecord first u items) inner t kept held low r = record_found first u items a.operands t r
     frame_fine (StoresRecord o first count) inner t kept held low r = store_record_fine known types reaches k a rest s o first count t.0 t.1 t.2 r
     frame_fine (Receives c) inner t kept held low r = receive_fine known k a rest s (first_or Null a.operands) (older a.operands) c r
-    frame_fine (FreesIn access c) inner t kept held low r = free_in_fine known a rest s access c k (older a.operands) kept.0 (first_or Null a.operands) r
+    frame_fine (FreesIn access c) inner t kept held low r = free_in_fine known a rest s types access c k (older a.operands) kept.0 (first_or Null a.operands) r
     frame_fine (Declares x) inner t kept held low r = declares_fine known k a rest s kept.1 x (first_or Null a.operands) (older a.operands) r
     frame_fine (DeclaresRecord x u) inner t kept held low r = recorded_fine known k a rest s types reaches x u t.0 t.1 t.2 t.3 r
+    frame_fine (Treats v treatment tasks) inner t kept held low r = treats_fine known a rest s (shapes_of types) v k (task_next tasks) treatment tasks r
     frame_fine Writes inner t kept held low r = writes_fine known k a rest s kept.1 (named.reads_integer (first_or Null a.operands)) (older a.operands) r
     frame_fine (Ends v) inner t kept held low r = ends_fine known a rest s v k r
     frame_fine (GivesBack v cause pool) inner t kept held low r = backs_fine known a rest s v cause pool k r

@@ -8,10 +8,10 @@ use Rattle.ada_meaning.specs.declared.state.Id.{Id}
 use Rattle.ada_meaning.specs.declared.state.Value.{Value}
 use Rattle.ada_meaning.specs.declared.state.Value.TheVariants.{Null, Names}
 use Rattle.ada_meaning.specs.declared.state.Stage.TheVariants.{Existing, Gone}
-use Rattle.ada_meaning.specs.Heap.{Cell}
+use Rattle.ada_meaning.specs.Heap.{PartState, Cell}
 use Rattle.ada_meaning.specs.State.{Owned, Item, Master, height}
 use Rattle.ada_meaning.specs.Step.{owning}
-use Rattle.ada_meaning.specs.Named.{Object, object_at, new_object, parted, finished, returned, filled, is_member, members_from, members}
+use Rattle.ada_meaning.specs.Named.{Object, object_at, new_object, parted, finished, returned, filled, treated, is_member, members_from, members}
 use Rattle.ada_meaning.specs.Law.{items_of}
 use Rattle.ada_sound.proofs.Objects.{more_get, set_get}
 use Rattle.ada_sound.proofs.Items.{Counted, Houses, HasItem, counted_owning, has_owning}
@@ -78,6 +78,15 @@ pub stored_filled : {under : Option Id} {heap : List Object} {masters : List Mas
 stored_filled {under} {heap} {masters} o x c v is s =
     let h = s.sane o x is in
     stored_set o (filled c v x)
+    (record { back_gone = h.back_gone; listed_exists = h.listed_exists; housed = h.housed; out_listed = h.out_listed })
+    (λ p z ne g. g)
+    s
+
+-- A controlled part of it changes (7.6).
+pub stored_treated : {under : Option Id} {heap : List Object} {masters : List Master} (change : PartState → PartState) (part : ℕ) (o : Id) (x : Object) → object_at heap o ≡ Some x → Stored under heap masters → Stored under (slice_set heap o.0 (treated change part x)) masters
+stored_treated {under} {heap} {masters} change part o x is s =
+    let h = s.sane o x is in
+    stored_set o (treated change part x)
     (record { back_gone = h.back_gone; listed_exists = h.listed_exists; housed = h.housed; out_listed = h.out_listed })
     (λ p z ne g. g)
     s

@@ -10,13 +10,13 @@ use Rattle.ada_meaning.specs.declared.state.Value.{Value}
 use Rattle.ada_meaning.specs.declared.state.Value.TheVariants.{Null, Names, Scalar, Part}
 use Rattle.ada_meaning.specs.declared.state.Mode.{Mode}
 use Rattle.ada_meaning.specs.declared.state.Mode.TheVariants.{Running, Raising, Exiting, Returning}
-use Rattle.ada_meaning.specs.Frame.{Frame, Elaborates, Does, Decides, Repeats, Turns, Ranges, Counts, Exits, Handles, Closes, Leaves, Calls, Returns, Evaluates, Computes, Follows, TestsNull, Refers, RefersIn, Opens, OpensIn, Continues, Applies, AppliesAlone, Fills, Copies, Creates, Stores, Targets, StoresIn, TargetsRecord, StoresRecord, Receives, FreesIn, Declares, DeclaresRecord, Writes, Ends, GivesBack, Clears, ClearsIn}
+use Rattle.ada_meaning.specs.Frame.{Frame, Elaborates, Does, Decides, Repeats, Turns, Ranges, Counts, Exits, Handles, Closes, Leaves, Calls, Returns, Evaluates, Computes, Follows, TestsNull, Refers, RefersIn, Opens, OpensIn, Continues, Applies, AppliesAlone, Fills, Copies, Creates, Stores, Targets, StoresIn, TargetsRecord, StoresRecord, Receives, FreesIn, Declares, DeclaresRecord, Treats, Writes, Ends, GivesBack, Clears, ClearsIn, Treatment, begins, ends}
 use Rattle.ada_meaning.specs.State.{Master}
 use Rattle.ada_meaning.specs.Step.{first_or}
 use Rattle.ada_meaning.specs.Named.{Object, State, store}
 use Rattle.ada_sound.proofs.Stored.{Stored}
 use Rattle.ada_sound.proofs.Back.{stored_before}
-use Rattle.ada_sound.proofs.Invariant.{Known, Control, Rooms, Working, HalfBy, Resumes, Clearing, EvaluatesTo, TargetsTo, StoringIn, HalfFollows, EndingBy, BackingBy, ReadyBy, ReadyIn, Ready}
+use Rattle.ada_sound.proofs.Invariant.{Known, Control, Rooms, Working, HalfBy, Resumes, Clearing, EvaluatesTo, TargetsTo, StoringIn, HalfFollows, NamesTo, BegunTo, EndsTo, TreatsBy, EndingBy, BackingBy, ReadyBy, ReadyIn, Ready}
 
 -- Objects are stored, where one at most is under way.
 abbrev pub IsStored : List Object → List Master → Type 0
@@ -86,6 +86,27 @@ module _ (known : Known) where
   words_stored (Scalar n) cause pool k heap places ms r = absurd r
   words_stored (Part object_id base) cause pool k heap places ms r = absurd r
 
+  -- So may the treatment of an object.
+  names_stored : (k : Control) (heap : List Object) (places operands : List Value) (ms : List Master) → NamesTo known k heap places operands ms → IsStored heap ms
+  names_stored [] heap places operands ms r = absurd r
+  names_stored (Stores x ∷ k) heap places operands ms r = (None, r.stored)
+  names_stored (Declares x ∷ k) heap places operands ms r = (None, r.stored)
+  names_stored (StoresIn o c ∷ k) heap places operands ms r = (None, stored_before heap ms o c (first_or Null operands) r.1.stored)
+  names_stored (f ∷ k) heap places operands ms r = absurd r
+
+  begun_stored : (k : Control) (heap : List Object) (places operands : List Value) (ms : List Master) → BegunTo known k heap places operands ms → IsStored heap ms
+  begun_stored k heap places operands ms (inl w) = (None, w.stored)
+  begun_stored k heap places operands ms (inr r) = names_stored k heap places operands ms r
+
+  ends_stored : (v : Value) (k : Control) (heap : List Object) (places : List Value) (ms : List Master) → EndsTo known v k heap places ms → IsStored heap ms
+  ends_stored v [] heap places ms r = absurd r
+  ends_stored v (Ends w ∷ k) heap places ms r = value_stored w k heap places ms r.1
+  ends_stored v (f ∷ k) heap places ms r = absurd r
+
+  treats_stored : (v : Value) (treatment : Treatment) (k : Control) (heap : List Object) (places operands : List Value) (ms : List Master) → TreatsBy known v treatment k heap places operands ms → IsStored heap ms
+  treats_stored v (begins by) k heap places operands ms r = begun_stored k heap places operands ms r
+  treats_stored v (ends cause) k heap places operands ms r = ends_stored v k heap places ms r
+
   -- By what is next.
   frame_stored : (f : Frame Value) (k : Control) (heap : List Object) (places operands : List Value) (ms : List Master) → ReadyBy known f k heap places operands ms → IsStored heap ms
   frame_stored (Elaborates ds fs hs) k heap places operands ms r = (None, r.stored)
@@ -124,6 +145,7 @@ module _ (known : Known) where
   frame_stored (FreesIn access c) k heap places operands ms r = (None, r.stored)
   frame_stored (Declares x) k heap places operands ms r = (None, r.stored)
   frame_stored (DeclaresRecord x t) k heap places operands ms r = (None, r.stored)
+  frame_stored (Treats v treatment tasks) k heap places operands ms r = treats_stored v treatment k heap places operands ms r
   frame_stored Writes k heap places operands ms r = (None, r.stored)
   frame_stored (Ends v) k heap places operands ms r = value_stored v k heap places ms r
   frame_stored (GivesBack v cause pool) k heap places operands ms r = words_stored v cause pool k heap places ms r

@@ -3,6 +3,7 @@
 use Rattle.std.proofs.Common.{◌≡◌, Bool, true, false, ◌||◌, ℕ, List, [], ◌∷◌, ◌++◌, refl, sym, ap, ◌∙◌, inl, inr, ◌≢◌, ◌⊎◌}
 use Rattle.std.specs.Prelude.{ℤ, Option, Some, None}
 use Rattle.std.specs.List.{slice_get}
+use Rattle.ada_program.specs.declared.program.TypeDefinition.{TypeDefinition}
 use Rattle.ada_program.specs.declared.program.Exception.TheVariants.{ConstraintError, EndError}
 use Rattle.ada_program.specs.declared.program.VariableKind.TheVariants as variable
 use Rattle.ada_program.specs.Form.{PathForm, RightForm, nothing, value_of, allocates, allocates_default, computes, StmtsForm, a_stmt, assigns}
@@ -119,8 +120,8 @@ module _ (known : Known) (a : Activation Value) (rest : List (Activation Value))
       (refl, o, walks, rw same (there, cleared_runs o c d ds path later k is w))
 
   -- The second half of a take pair begins.
-  pub half_begins : (bodies : List BodyForm) (fs : StmtsForm) (k : Control) → Half known fs k s.heap a.places s.masters → Fine known s.heap s.masters (stmts_next named bodies fs (running k a rest s))
-  half_begins bodies fs k h = rw h.is (pair_ends h.path h.path.selectors h.later k h.o h.c refl h.last h.found h.there (rw h.is at h.works))
+  pub half_begins : (types : List TypeDefinition) (bodies : List BodyForm) (fs : StmtsForm) (k : Control) → Half known fs k s.heap a.places s.masters → Fine known s.heap s.masters (stmts_next named types bodies fs (running k a rest s))
+  half_begins types bodies fs k h = rw h.is (pair_ends h.path h.path.selectors h.later k h.o h.c refl h.last h.found h.there (rw h.is at h.works))
 
 module _ (known : Known) (k : Control) (a : Activation Value) (rest : List (Activation Value)) (s : State) where
   -- What goes into the component of the object that was found is evaluated next: null counts as stored already.

@@ -2,6 +2,7 @@
 
 ghost use Rattle.std.specs.Prelude.{◌≡◌, [], ◌∷◌};
 ghost use Rattle.ada_program.specs.declared.program.Program.{Program};
+ghost use Rattle.ada_program.specs.Controlled.{shapes_of};
 ghost use Rattle.ada_program.specs.Form.{declaration_forms, stmt_forms, handler_forms};
 ghost use Rattle.ada_program.specs.ProgramForm.{body_forms};
 ghost use Rattle.ada_flow.specs.declared.rule.Hold.TheVariants.{Null};
@@ -9,6 +10,7 @@ ghost use Rattle.ada_flow.specs.declared.rule.Rule.TheVariants.{LostValue, Alias
 ghost use Rattle.ada_program.specs.declared.program.Exception.TheVariants.{ConstraintError};
 ghost use Rattle.ada_meaning.specs.declared.event.Halt.TheVariants.{Unhandled, Erroneous};
 ghost use Rattle.ada_meaning.specs.declared.event.Why.TheVariants.{FollowsGone, EndsTwice, GivesElsewhere};
+ghost use Rattle.ada_finalized.specs.Example as controlled_example;
 ghost use Rattle.ada_sound.specs.Always as always;
 ghost use Rattle.ada_sound.specs.Always.{IsChecked, ReachesStatement, FinishesAfter, HaltsSomewhere};
 ghost use Rattle.ada_sound.specs.Examples as examples;
@@ -53,7 +55,9 @@ ghost use Rattle.ada_sound.specs.PoolExamples as pool_examples;
 /// while the procedure puts another object in the place of that in which the component lies: the value goes back to the
 /// component of the object that was named before the call. And one with two declared pools and an access type for each:
 /// an object is allocated in each pool; one is freed, and goes back to the older pool, and the other one goes with its
-/// collection to the newer pool, which goes after that.
+/// collection to the newer pool, which goes after that. And one whose record types are controlled, one with a component
+/// of the other: a record object and a new object are initialized, their components first; that one is finalized by a
+/// Free and the other one at the leaving of its block, each before its component, and then their words go back.
 pub fn premises_are_met()
     ensures begins { (program : Program) × IsChecked program × ReachesStatement program }
     ensures finishes { (program : Program) × IsChecked program × FinishesAfter examples.example_events program }
@@ -128,6 +132,10 @@ pub fn premises_are_met()
     ensures has_pools { (program : Program) × (declaration_forms program ≡ pool_examples.pool_declarations)
         × pool_examples.HasTwoPools program × (stmt_forms program ≡ pool_examples.pooling_stmts)
         × IsChecked program × FinishesAfter pool_examples.pooling_events program }
+    ensures finalizes { (program : Program)
+        × (shapes_of program.types.items ≡ controlled_example.controlled_shapes)
+        × (stmt_forms program ≡ controlled_example.controlled_stmts)
+        × IsChecked program × FinishesAfter controlled_example.controlled_events program }
 {}
 
 /// The rules are needed. Of programs that are well formed, whose collections nest, and where each Free is by the

@@ -37,8 +37,8 @@ pub fn never_gives_elsewhere()
     ensures { (program : Program) → IsChecked program → NeverErroneous GivesElsewhere program }
 {}
 
-/// No run comes to an erroneous action of any kind. One kind cannot occur yet in any program: a controlled value is
-/// finalized twice only where there are controlled types.
+/// No run comes to an erroneous action of any kind. One kind, that a controlled value is finalized which does not exist
+/// (7.6.1), cannot occur in any program, whether or not it is accepted.
 pub fn never_erroneous()
     ensures { (program : Program) → IsChecked program → (why : Why) → NeverErroneous why program }
 {}
@@ -48,7 +48,7 @@ pub fn words_go_back_once()
     ensures { always.InEveryCheckedRun (always.InPairs BackTwoObjects) }
 {}
 
-/// A controlled value is finalized at most once (7.6.1). No program has a controlled value yet.
+/// A controlled value is finalized at most once (7.6.1). So it is in any program, whether or not it is accepted.
 pub fn finalized_once()
     ensures { always.InEveryCheckedRun (always.InPairs FinalizedTwoValues) }
 {}

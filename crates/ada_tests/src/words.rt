@@ -6,8 +6,8 @@ use ada_serve::serve::{ServeFault, Status};
 use std::alloc::Global;
 use std::test::Fail;
 
-/// What the words ask for: what to do, the source, the input, how many statements a run may begin, and which request is
-/// refused.
+/// What the words ask for: what to do, traced or not, the source, the input, how many statements a run may begin, and which
+/// request is refused.
 type Asked<'a> = (&'a str, Option<&'a str>, Option<&'a str>, u32, u32);
 
 /// What the words ask for where they are no command.
@@ -17,7 +17,12 @@ const USAGE: Asked<'static> = ("usage", None, None, 0, 0);
 fn asked<'a>(alloc: Global, words: &'a [&'a str]) -> Asked<'a> {
     match options(alloc, words) {
         Ok((found, paths)) => {
-            let asked = if found.run { "run" } else { "check" };
+            let asked = match (found.run, found.trace) {
+                (false, false) => "check",
+                (false, true) => "traced check",
+                (true, false) => "run",
+                (true, true) => "traced run",
+            };
             (asked, paths.source, paths.input, found.steps, found.refuse)
         }
         Err(_) => USAGE,
@@ -69,6 +74,15 @@ fn words_ask_for_a_check_or_a_run(rt: HostRuntime) -> Result<(), Fail> {
         ("run --refuse +1", USAGE),
         ("run --refuse", USAGE),
         ("check --refuse 1", USAGE),
+        ("run --trace", ("traced run", None, None, 1_000_000, 0)),
+        (
+            "run --source a.adb --trace P=5 --refuse 2",
+            ("traced run", Some("a.adb"), None, 1_000_000, 2),
+        ),
+        ("run --trace --trace", USAGE),
+        ("run --trace=1", USAGE),
+        ("run --trace yes", USAGE),
+        ("check --trace", USAGE),
         ("run --standard 0", ("run", None, None, 1_000_000, 0)),
         ("run --standard 65536", ("run", None, None, 1_000_000, 0)),
         ("run --standard 65537", USAGE),

@@ -1,6 +1,6 @@
 -- What is left to do fits what is there: each frame finds operands of the kinds that it waits for, and leaves one of the kind that is waited for.
 
-use Rattle.ada_typed.specs.Holding.{Cells, IsAccess, HaveKinds, cells_of, seen_now}
+use Rattle.ada_typed.specs.Holding.{Cells, Designates, IsAccess, HaveKinds, cells_of, seen_now}
 use Rattle.std.proofs.Common.{◌≡◌, ℕ, zero, suc, ◌+◌, ◌≤◌, Bool, true, false, List, [], ◌∷◌, ◌++◌, length, take, drop, reverse, Option, Some, None, arith, refl, sym, ap, ◌∙◌, subst}
 use Rattle.std.proofs.lemmas.List.{reverse-append}
 use Rattle.std.specs.List.{list_all, slice_get}
@@ -13,6 +13,7 @@ use Rattle.ada_program.specs.Form.{ActualForm, in_value, in_null, in_access, in_
 use Rattle.ada_program.specs.ProgramForm.{TypeForm, BodyForm, ProgramForm, seen_in}
 use Rattle.ada_program.specs.Freed.{statement_frees_own, statements_free_own, branches_free_own, handlers_free_own}
 use Rattle.ada_program.specs.WellFormed.{is_access, reached_components, record_components, held_kind, variable_kind, selected_kind, selectors_kind, path_kind, names_record, stands_alone, unary_type, binary_type, type_of, chain_type, has_record_at, items_fit, kind_takes, initial_fits, condition_fits, has_statement, statement_fits, stmts_fit, branches_fit, handlers_fit, actuals_fit, formal_kinds, callable_in}
+use Rattle.ada_parts.specs.Task.{Task}
 use Rattle.ada_meaning.specs.declared.state.Value.{Value}
 use Rattle.ada_meaning.specs.declared.state.Value.TheVariants.{Null, Names, Scalar, Part}
 use Rattle.ada_meaning.specs.declared.state.Mode.{Mode}
@@ -22,6 +23,7 @@ use Rattle.ada_meaning.specs.Frame as frame
 use Rattle.ada_meaning.specs.Named.{State}
 use Rattle.ada_meaning.specs.State.{Activation}
 use Rattle.ada_meaning.specs.Step.{procedure_of, in_front, older}
+use Rattle.ada_typed.proofs.Parts.{shown_shapes, parts_known, Within}
 use Rattle.ada_typed.proofs.Values.{OperandKind, of_kind, refers_to, is_record_kind, RefersTo, AreFilled, AreHeld, AreComputed, IsActive, kind_of}
 
 -- The kinds of operands, newest first, once values for these components have been computed in order.
@@ -34,6 +36,13 @@ IsName Null = ⊥
 IsName (Names o) = Unit {0}
 IsName (Scalar v) = ⊥
 IsName (Part o first) = ⊥
+
+-- What is left of a treatment is that of the object that a value names, and of parts that it has (7.6, 7.6.1).
+abbrev pub IsTreated : List TypeForm → Cells → Value → List Task → Type 0
+IsTreated types cells Null tasks = ⊥
+IsTreated types cells (Names o) tasks = (access : ℕ) × Designates cells access o × Within (shown_shapes types) (parts_known types access) tasks
+IsTreated types cells (Scalar v) tasks = ⊥
+IsTreated types cells (Part o first) tasks = ⊥
 
 -- The kinds of the operands that are computed for an actual parameter whose formal one is of a kind, in order, and of those for others behind it.
 abbrev pub kinds_given : VariableKind → ActualForm → (others : List OperandKind) → List OperandKind
@@ -172,6 +181,7 @@ abbrev mutual
   Fits p cells kinds (frame.FreesIn access c ∷ k) = (ks : List OperandKind) × (holder : TypeNo) × (own : TypeNo) × (kinds ≡ of_kind (variable.Access holder) ∷ ks) × (selected_kind p.types (Some (variable.Access holder)) c ≡ Some (variable.Access own)) × (OwnBody p → own.0 ≡ access) × Fits p cells ks k
   Fits p cells kinds (frame.Declares x ∷ k) = (ks : List OperandKind) × (kind : VariableKind) × (kinds ≡ of_kind kind ∷ ks) × (variable_kind p.variables x ≡ Some kind) × Fits p cells ks k
   Fits p cells kinds (frame.DeclaresRecord x t ∷ k) = (ks : List OperandKind) × (object : TypeNo) × (cs : List ComponentKind) × (kinds ≡ onto cs ks) × (variable_kind p.variables x ≡ Some (variable.Record object)) × (t ≡ object.0) × (reached_components p.types t ≡ Some cs) × (is_access p.types t ≡ false) × Fits p cells ks k
+  Fits p cells kinds (frame.Treats v treatment tasks ∷ k) = IsTreated p.types cells v tasks × Fits p cells kinds k
   Fits p cells kinds (frame.Writes ∷ k) = (ks : List OperandKind) × (kinds ≡ of_kind variable.Integer ∷ ks) × Fits p cells ks k
   Fits p cells kinds (frame.Ends v ∷ k) = IsName v × Fits p cells kinds k
   Fits p cells kinds (frame.GivesBack v cause pool ∷ k) = IsName v × Fits p cells kinds k
@@ -227,6 +237,7 @@ depth (frame.Receives c ∷ k) = depth k
 depth (frame.FreesIn access c ∷ k) = depth k
 depth (frame.Declares x ∷ k) = depth k
 depth (frame.DeclaresRecord x t ∷ k) = depth k
+depth (frame.Treats v treatment tasks ∷ k) = depth k
 depth (frame.Writes ∷ k) = depth k
 depth (frame.Ends v ∷ k) = depth k
 depth (frame.GivesBack v cause pool ∷ k) = depth k
@@ -270,6 +281,7 @@ depth_behind (frame.Receives c) k = omega arith
 depth_behind (frame.FreesIn access c) k = omega arith
 depth_behind (frame.Declares x) k = omega arith
 depth_behind (frame.DeclaresRecord x t) k = omega arith
+depth_behind (frame.Treats v treatment tasks) k = omega arith
 depth_behind frame.Writes k = omega arith
 depth_behind (frame.Ends v) k = omega arith
 depth_behind (frame.GivesBack v cause pool) k = omega arith
@@ -392,6 +404,7 @@ module _ (p : ProgramForm) where
   catches cells (frame.FreesIn access c ∷ k) kinds fits = catches cells k fits.0 fits.6
   catches cells (frame.Declares x ∷ k) kinds fits = catches cells k fits.0 fits.4
   catches cells (frame.DeclaresRecord x t ∷ k) kinds fits = catches cells k fits.0 fits.8
+  catches cells (frame.Treats v treatment tasks ∷ k) kinds fits = catches cells k kinds fits.1
   catches cells (frame.Writes ∷ k) kinds fits = catches cells k fits.0 fits.2
   catches cells (frame.Ends v ∷ k) kinds fits = catches cells k kinds fits.1
   catches cells (frame.GivesBack v cause pool ∷ k) kinds fits = catches cells k kinds fits.1

@@ -31,13 +31,17 @@ use Rattle.ada_meaning.specs.declared.state.Mode.{Mode}
 use Rattle.ada_meaning.specs.declared.state.Mode.TheVariants.{Raising}
 use Rattle.ada_program.specs.declared.program.Exception.{Exception}
 use Rattle.ada_program.specs.declared.program.Exception.TheVariants.{ConstraintError, StorageError}
-use Rattle.ada_meaning.specs.Frame.{Frame, is_master}
+use Rattle.ada_parts.specs.declared.tasks.Direction.TheVariants.{PartsFirst}
+use Rattle.ada_parts.specs.Task.{Task}
+use Rattle.ada_meaning.specs.declared.event.Birth.TheVariants.{Creation}
+use Rattle.ada_meaning.specs.Frame.{Frame, Treatment, is_master}
 use Rattle.ada_meaning.specs.Frame as frame
 use Rattle.ada_meaning.specs.State.{Activation, Owned, record_object, Item, Master, Destination, height}
 use Rattle.ada_meaning.specs.Heap.{Cell}
-use Rattle.ada_meaning.specs.Step.{halts, moves, tells, asks, picks, at, owning, owned, shorter, computed, popped, jumping, raised, put, held, newest, operands, operands_of, with_operands, reading, component_next, follow_next, path_next, selected, named_next, holder_next, record_holder_next, first_in, before_last, last_of, expression_next, null_test_next, is_decided, link_next, links_next, outcome_next, item_next, items_next, answered, new_next, new_cell, initial_value, initial_values, initialized, right_next, record_cell, made}
+use Rattle.ada_meaning.specs.Step.{halts, moves, tells, asks, picks, at, owning, owned, all_tasks, treating, treated_on, shorter, computed, popped, jumping, raised, put, held, newest, operands, operands_of, with_operands, reading, component_next, follow_next, path_next, selected, named_next, holder_next, record_holder_next, first_in, before_last, last_of, expression_next, null_test_next, is_decided, link_next, links_next, outcome_next, item_next, items_next, answered, new_next, new_cell, initial_value, initial_values, initialized, right_next, record_cell, made}
 use Rattle.ada_meaning.specs.Named.{Object, State, Next, named, look, seen, existing, changed, on_object, new_object, reads_boolean, reads_null, whole, inside}
-use Rattle.ada_typed.proofs.Values.{OperandKind, of_kind, refers_to, RefersTo, is_record_kind, AreFilled, IsActive, kind_of, root_same, filled_new, active_later, designated_more, newest_name, active_held, active_set, active_push, active_pop, active_newest, active_cleared, component_held, filled_at}
+use Rattle.ada_typed.proofs.Treating.{new_held, all_within, treating_fits, treating_deep}
+use Rattle.ada_typed.proofs.Values.{OperandKind, of_kind, refers_to, RefersTo, is_record_kind, HasParts, AreFilled, IsActive, kind_of, root_same, filled_new, active_later, designated_more, newest_name, active_held, active_set, active_push, active_pop, active_newest, active_cleared, component_held, filled_at}
 use Rattle.ada_typed.proofs.Records.{onto_record, active_front, record_there, Begins, begins, stands_itself}
 use Rattle.ada_typed.proofs.Shown.{same_record, same_components}
 use Rattle.ada_typed.proofs.Later.{fits_later}
@@ -272,12 +276,12 @@ module _ (p : ProgramForm) where
   fits_heap kinds s k heap same fits = subst (λ (cs : Cells). Fits p cs kinds k) (sym same) fits
 
   -- One object more, in which values lie that its type says; it is named by the next number.
-  ready_more : (kinds : List OperandKind) (s : State) (cell : Cell Value) (cs : List ComponentKind) → Ready p kinds s → reached_components p.types cell.access ≡ Some cs → HaveKinds p.types (cells_of s.heap) cs cell.values → IsPooled p.types cell → Ready p kinds (record s { heap = s.heap ++ new_object cell ∷ [] })
-  ready_more kinds s cell cs ready reached have pooled =
+  ready_more : (kinds : List OperandKind) (s : State) (cell : Cell Value) (cs : List ComponentKind) → Ready p kinds s → reached_components p.types cell.access ≡ Some cs → HaveKinds p.types (cells_of s.heap) cs cell.values → IsPooled p.types cell → HasParts p.types cell → Ready p kinds (record s { heap = s.heap ++ new_object cell ∷ [] })
+  ready_more kinds s cell cs ready reached have pooled parts =
       let cells = cells_of s.heap in
       let same : cells_of (s.heap ++ new_object cell ∷ []) ≡ cells ++ cell ∷ [] = cells_more s.heap (new_object cell) in
       record {
-        filled = subst (λ (xs : Cells). AreFilled p.types xs xs) (sym same) (filled_new p.types cells cell cs ready.filled reached have pooled);
+        filled = subst (λ (xs : Cells). AreFilled p.types xs xs) (sym same) (filled_new p.types cells cell cs ready.filled reached have pooled parts);
         active = subst (λ (xs : Cells). IsActive p.types xs p.variables kinds s.activations) (sym same) (active_later p.types cells (cells ++ cell ∷ []) (designated_more cells cell) p.variables kinds s.activations ready.active);
         runs = ready.runs;
         deep = ready.deep;
@@ -288,19 +292,26 @@ module _ (p : ProgramForm) where
       subst (λ (cells : Cells). Fits p cells kinds k) (sym (cells_more xs (new_object cell)))
       (fits_later p (cells_of xs) (cells_of xs ++ cell ∷ []) (designated_more (cells_of xs) cell) k kinds fits)
 
-  named_newest : (xs : List Object) (cell : Cell Value) → slice_get (cells_of (xs ++ new_object cell ∷ [])) (length xs) ≡ Some cell
+  pub named_newest : (xs : List Object) (cell : Cell Value) → slice_get (cells_of (xs ++ new_object cell ∷ [])) (length xs) ≡ Some cell
   named_newest xs cell =
       ap (λ (cells : Cells). slice_get cells (length xs)) (cells_more xs (new_object cell)) ∙ ap (slice_get (cells_of xs ++ cell ∷ [])) (sym (length_cells xs)) ∙
       newest_name (cells_of xs) cell
 
+  -- An object is treated first.
+  pub ready_treated : (kinds : List OperandKind) (s : State) (v : Value) (treatment : Treatment) (tasks : List Task) → Ready p kinds s → Ready p kinds (treated_on named v treatment tasks s)
+  ready_treated kinds s v treatment tasks ready =
+      let same = treating_deep v treatment tasks s.control in
+      ready_at kinds s (treating v treatment tasks s.control) ready (omega (arith, ready.deep, same))
+
   -- A record object is declared (3.3.1): its components hold these values, and its variable holds its name.
-  pub ready_made : (types : List TypeDefinition) (x t : ℕ) (object : TypeNo) (cs : List ComponentKind) (values : List Value) (kinds : List OperandKind) (s : State) → HaveKinds p.types (cells_of s.heap) cs values → Ready p kinds s → variable_kind p.variables x ≡ Some (variable.Record object) → t ≡ object.0 → reached_components p.types t ≡ Some cs → is_access p.types t ≡ false → Ready p kinds (made named types x t values s)
-  ready_made types x t object cs values kinds s have ready is own reached never =
-      let cell = record_cell named t (height s.masters) values in
-      let more = ready_more kinds s cell cs ready reached have (λ access. absurd (cc)) in
+  pub ready_made : (types : List TypeDefinition) → map type_form types ≡ p.types → (x t : ℕ) (object : TypeNo) (cs : List ComponentKind) (values : List Value) (kinds : List OperandKind) (s : State) → HaveKinds p.types (cells_of s.heap) cs values → Ready p kinds s → variable_kind p.variables x ≡ Some (variable.Record object) → t ≡ object.0 → reached_components p.types t ≡ Some cs → is_access p.types t ≡ false → Ready p kinds (made named types x t values s)
+  ready_made types shown x t object cs values kinds s have ready is own reached never =
+      let cell = record_cell named types t (height s.masters) values in
+      let more = ready_more kinds s cell cs ready reached have (λ access. absurd (cc)) (new_held types p.types t shown) in
       let holding = record s { heap = s.heap ++ new_object cell ∷ [] } in
       let name = Names (record { 0 = length s.heap }) in
-      ready_owning kinds (put x name holding) (record_object t) (put_in kinds holding x (variable.Record object) name more is (cell, named_newest s.heap cell, own))
+      ready_treated kinds (owned (record_object t) (put x name holding)) name (frame.begins Creation) (all_tasks types t PartsFirst)
+      (ready_owning kinds (put x name holding) (record_object t) (put_in kinds holding x (variable.Record object) name more is (cell, named_newest s.heap cell, own)))
 
   -- A jump begins: operands are dropped.
   pub jumped : (kinds : List OperandKind) (mode : Mode) (s : State) → Ready p kinds s → Jumps p mode (jumping mode s)
@@ -572,23 +583,27 @@ module _ (p : ProgramForm) where
       let more : IsActive p.types (cells ++ cell ∷ []) p.variables ks (record a { operands = drop (length cs) a.operands } ∷ suspended) = active_later p.types cells (cells ++ cell ∷ []) (designated_more cells cell) p.variables ks (record a { operands = drop (length cs) a.operands } ∷ suspended) (active.0, (split p.types cells cs ks a.operands active.1).1) in
       (more.0, ((cell, ap (slice_get (cells ++ cell ∷ [])) is ∙ newest_name cells cell, own), more.1))
 
-  answered_fine : (access words : ℕ) (home : Destination) (s : State) (ks : List OperandKind) (cs : List ComponentKind) → Ready p (onto cs ks) s → reached_components p.types access ≡ Some cs → Fits p (cells_of s.heap) (of_kind (variable.Access (record { 0 = access })) ∷ ks) s.control → (granted : Bool) → TypedIn p (answered named access (length cs) words home s granted)
-  answered_fine access words home s ks cs ready reached fits true =
-      let cell = new_cell named access (length cs) home s in
+  answered_fine : (types : List TypeDefinition) → map type_form types ≡ p.types → (access words : ℕ) (home : Destination) (s : State) (ks : List OperandKind) (cs : List ComponentKind) → Ready p (onto cs ks) s → reached_components p.types access ≡ Some cs → Fits p (cells_of s.heap) (of_kind (variable.Access (record { 0 = access })) ∷ ks) s.control → (granted : Bool) → TypedIn p (answered named types access (length cs) words home s granted)
+  answered_fine types shown access words home s ks cs ready reached fits true =
+      let cell = new_cell named types access (length cs) home s in
+      let name = Names (record { 0 = length s.heap }) in
+      let tasks = all_tasks types access PartsFirst in
       let same : cells_of (s.heap ++ new_object cell ∷ []) ≡ cells_of s.heap ++ cell ∷ [] = cells_more s.heap (new_object cell) in
+      let as_deep = treating_deep name (frame.begins Creation) tasks s.control in
       running (of_kind (variable.Access (record { 0 = access })) ∷ ks) (record {
-        filled = subst (λ (xs : Cells). AreFilled p.types xs xs) (sym same) (filled_new p.types (cells_of s.heap) cell cs ready.filled reached (active_values (cells_of s.heap) cs ks s.activations ready.active) (λ is. (home.pool, refl)));
+        filled = subst (λ (xs : Cells). AreFilled p.types xs xs) (sym same) (filled_new p.types (cells_of s.heap) cell cs ready.filled reached (active_values (cells_of s.heap) cs ks s.activations ready.active) (λ is. (home.pool, refl)) (new_held types p.types access shown));
         active = subst (λ (xs : Cells). IsActive p.types xs p.variables (of_kind (variable.Access (record { 0 = access })) ∷ ks) (with_operands (Names (record { 0 = length s.heap }) ∷ drop (length cs) (operands s)) s.activations)) (sym same)
             (active_new (cells_of s.heap) cell cs ks (record { 0 = access }) s.activations (length s.heap) refl (sym (length_cells s.heap)) ready.active);
         runs = ready.runs;
-        deep = ready.deep;
-      }) (subst (λ (xs : Cells). Fits p xs (of_kind (variable.Access (record { 0 = access })) ∷ ks) s.control) (sym same)
-      (fits_later p (cells_of s.heap) (cells_of s.heap ++ cell ∷ []) (designated_more (cells_of s.heap) cell) s.control (of_kind (variable.Access (record { 0 = access })) ∷ ks) fits))
-  answered_fine access words home s ks cs ready reached fits false = raises (onto cs ks) (of_kind (variable.Access (record { 0 = access })) ∷ ks) StorageError s ready fits
+        deep = omega (arith, ready.deep, as_deep);
+      }) (treating_fits p (cells_of (s.heap ++ new_object cell ∷ [])) (of_kind (variable.Access (record { 0 = access })) ∷ ks) name (frame.begins Creation) tasks s.control
+      (access, (cell, named_newest s.heap cell, refl), all_within types p.types access PartsFirst shown)
+      (fits_more (of_kind (variable.Access (record { 0 = access })) ∷ ks) s.control s.heap cell fits))
+  answered_fine types shown access words home s ks cs ready reached fits false = raises (onto cs ks) (of_kind (variable.Access (record { 0 = access })) ∷ ks) StorageError s ready fits
 
-  pub new_fine : (home : Option Destination) (access words : ℕ) (s : State) (ks : List OperandKind) (cs : List ComponentKind) → Ready p (onto cs ks) s → reached_components p.types access ≡ Some cs → Fits p (cells_of s.heap) (of_kind (variable.Access (record { 0 = access })) ∷ ks) s.control → Fine p (new_next named access (length cs) words home s)
-  new_fine None access words s ks cs ready reached fits = raises (onto cs ks) (of_kind (variable.Access (record { 0 = access })) ∷ ks) StorageError s ready fits
-  new_fine (Some home) access words s ks cs ready reached fits = answered_fine access words home s ks cs ready reached fits
+  pub new_fine : (types : List TypeDefinition) → map type_form types ≡ p.types → (home : Option Destination) (access words : ℕ) (s : State) (ks : List OperandKind) (cs : List ComponentKind) → Ready p (onto cs ks) s → reached_components p.types access ≡ Some cs → Fits p (cells_of s.heap) (of_kind (variable.Access (record { 0 = access })) ∷ ks) s.control → Fine p (new_next named types access (length cs) words home s)
+  new_fine types shown None access words s ks cs ready reached fits = raises (onto cs ks) (of_kind (variable.Access (record { 0 = access })) ∷ ks) StorageError s ready fits
+  new_fine types shown (Some home) access words s ks cs ready reached fits = answered_fine types shown access words home s ks cs ready reached fits
 
   -- What is assigned.
   pub filled_items : (o : Option (List ComponentKind)) (vs : List VariableForm) (items : List ItemForm) → is_filled p.types vs o items ≡ true → (cs : List ComponentKind) × (o ≡ Some cs) × (items_fit p.types vs cs items ≡ true)

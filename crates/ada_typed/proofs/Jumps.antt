@@ -60,6 +60,7 @@ module _ (p : ProgramForm) where
   master_deep (frame.FreesIn access c) k is = absurd (cc)
   master_deep (frame.Declares x) k is = absurd (cc)
   master_deep (frame.DeclaresRecord x t) k is = absurd (cc)
+  master_deep (frame.Treats v treatment tasks) k is = absurd (cc)
   master_deep frame.Writes k is = absurd (cc)
   master_deep (frame.Ends v) k is = absurd (cc)
   master_deep (frame.GivesBack v cause pool) k is = absurd (cc)
@@ -108,6 +109,7 @@ module _ (p : ProgramForm) where
   landing_comes e (frame.FreesIn access c) = refl
   landing_comes e (frame.Declares x) = refl
   landing_comes e (frame.DeclaresRecord x t) = refl
+  landing_comes e (frame.Treats v treatment tasks) = refl
   landing_comes e frame.Writes = refl
   landing_comes e (frame.Ends v) = refl
   landing_comes e (frame.GivesBack v cause pool) = refl

@@ -5,14 +5,15 @@ use Rattle.std.proofs.Common.{◌≡◌, ℕ, ◌+◌, ◌<◌, if◌then◌else
 use Rattle.std.proofs.lemmas.List.{map-set}
 use Rattle.std.specs.List.{slice_get, slice_set}
 use Rattle.ada_program.specs.Form.{ActualForm}
+use Rattle.ada_parts.specs.Task.{Task}
 use Rattle.ada_meaning.specs.declared.state.Id.{Id}
 use Rattle.ada_meaning.specs.declared.state.Value.{Value}
 use Rattle.ada_meaning.specs.declared.state.Value.TheVariants.{Null, Names, Scalar, Part}
 use Rattle.ada_meaning.specs.declared.state.Mode.{Mode}
-use Rattle.ada_meaning.specs.Frame.{Frame, is_return, Landing, passes_on, goes_behind, goes_in}
+use Rattle.ada_meaning.specs.Frame.{Frame, Treatment, is_return, Landing, passes_on, goes_behind, goes_in}
 use Rattle.ada_meaning.specs.Frame as frame
 use Rattle.ada_meaning.specs.State.{Activation}
-use Rattle.ada_meaning.specs.Step.{procedure_of, halts, moves, tells, asks, picks, older, with_places, with_operands, operands, places, popped, jumping, put, stored_from}
+use Rattle.ada_meaning.specs.Step.{procedure_of, treating, halts, moves, tells, asks, picks, older, with_places, with_operands, operands, places, popped, jumping, put, stored_from}
 use Rattle.ada_meaning.specs.Named.{Object, State, Next, named, changed, filled, on_object, store}
 use Rattle.ada_typed.proofs.Values.{StayDesignated, designated_more, designated_set}
 use Rattle.ada_typed.proofs.Control.{actuals_at, references_at}
@@ -64,6 +65,11 @@ each_after s mid (moves e after) f g = keeps_all s mid after f g
 each_after s mid (tells request e after) f g = keeps_all s mid after f g
 each_after s mid (asks request answers) f g = λ granted. keeps_all s mid (answers granted) f (g granted)
 each_after s mid (picks n taking) f g = λ i lt. keeps_all s mid (taking i) f (g i lt)
+
+-- A treatment comes before what is left.
+pub behind_treating : (v : Value) (treatment : Treatment) (tasks : List Task) (k : List (Frame Value)) → behind_call (treating v treatment tasks k) ≡ behind_call k
+behind_treating v treatment [] k = refl
+behind_treating v treatment (task ∷ tasks) k = refl
 
 -- Names stay.
 stay_changed : (change : Object → Object) (at_o : Option Object) (xs : List Object) (o : Id) → ((x : Object) → (change x).cell.access ≡ x.cell.access) → slice_get xs o.0 ≡ at_o → StayDesignated (cells_of xs) (cells_of (changed change at_o xs o))

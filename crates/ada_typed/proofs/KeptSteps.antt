@@ -1,10 +1,13 @@
 -- Each step that neither begins a call nor ends one keeps the running body and what waits for it, whatever the state.
 
-use Rattle.std.proofs.Common.{◌≡◌, ℕ, ℤ, int_le, not, if◌then◌else◌, Bool, true, false, List, [], ◌∷◌, length, drop, Option, Some, None, Result, Ok, Err, refl, ap}
+use Rattle.std.proofs.Common.{◌≡◌, ℕ, ℤ, int_le, not, if◌then◌else◌, Bool, true, false, List, [], ◌∷◌, length, drop, Option, Some, None, Result, Ok, Err, refl, ap, ◌∙◌}
 use Rattle.std.specs.List.{slice_get, slice_index_or, slice_set}
 use Rattle.ada_program.specs.declared.program.Exception.TheVariants.{ConstraintError, StorageError, EndError}
 use Rattle.ada_program.specs.declared.program.TypeDefinition.{TypeDefinition}
 use Rattle.ada_program.specs.Form.{RecordPathForm, ActualForm, in_value, in_null, in_access, in_record, in_out_path, in_out_access, in_out_component, in_out_record, ExpressionForm, integer, boolean, reads, is_null, applied_to, chained, LinksForm, no_more_links, a_link, ItemForm, null_item, item_of_path, item_of_value, item_of_record, RightForm, nothing, value_of, allocates, allocates_default, computes, StmtForm, skips, assigns, assigns_record, frees, gets, writes, writes_text, chooses, repeats, counts, exits, calls, returns, raises as raises_it, encloses, StmtsForm, no_stmts, a_stmt, BranchesForm, otherwise, a_branch, HandlersForm, DeclarationForm, creates_pool, collects, declares, declares_record}
+use Rattle.ada_parts.specs.declared.tasks.Direction.TheVariants.{PartsFirst, WholeFirst}
+use Rattle.ada_parts.specs.Task.{next as task_next}
+use Rattle.ada_program.specs.Controlled.{shapes_of}
 use Rattle.ada_program.specs.ProgramForm.{BodyForm}
 use Rattle.ada_program.specs.Typed.{reached_of, words_of, width_of}
 use Rattle.ada_values.specs.declared.operator.BinaryOperator.{BinaryOperator}
@@ -15,16 +18,18 @@ use Rattle.ada_meaning.specs.declared.state.Value.TheVariants.{Null, Names}
 use Rattle.ada_meaning.specs.declared.state.Mode.{Mode}
 use Rattle.ada_meaning.specs.declared.state.Mode.TheVariants.{Raising, Exiting, Returning}
 use Rattle.ada_meaning.specs.declared.event.Cause.{Cause}
-use Rattle.ada_meaning.specs.declared.event.Cause.TheVariants.{Leaving}
+use Rattle.ada_meaning.specs.declared.event.Cause.TheVariants.{Leaving, Freeing}
+use Rattle.ada_meaning.specs.declared.event.Birth.TheVariants.{Creation}
 use Rattle.ada_meaning.specs.Event.{Event, Quiet}
-use Rattle.ada_meaning.specs.Frame.{Frame, is_return, Landing, passes_on, goes_behind, goes_in}
+use Rattle.ada_meaning.specs.Frame.{Frame, Treatment, is_return, Landing, passes_on, goes_behind, goes_in}
 use Rattle.ada_meaning.specs.Frame as frame
-use Rattle.ada_meaning.specs.State.{Owned, declared, collection, record_object, storage_pool, Item, Master, Destination, height, home_of}
+use Rattle.ada_meaning.specs.State.{Owned, declared, collection, record_object, storage_pool, Item, Master, Destination, height, home_of, pool_freed_to}
 use Rattle.ada_meaning.specs.Heap.{Cell, Found, on_null, on_gone, on_other, finds}
-use Rattle.ada_meaning.specs.Step.{moves, at, operands, places, popped, owned, put, before_last, last_of, in_front, record_in, held, newest, reading, component_next, follow_next, path_next, selected, named_next, holder_next, record_holder_next, first_in, computed, referred_next, refers_next, open_next, opened_next, opens_next, expression_next, null_test_next, is_decided, link_next, links_next, outcome_next, item_next, items_next, copied_next, copies_next, newest_ones, without_newest, new_cell, answered, new_next, initial_values, right_next, freeing, free_next, end_next, same_pool, told_back, given_back, back_next, assign_next, target_next, stored_next, store_next, record_target_next, record_stored_next, store_record_next, frees_next, freed_next, free_component_next, free_in_next, branches_next, decided_next, turn_next, repeats_next, turned_next, count_turn_next, ranges_next, gets_next, received_next, receive_next, exit_next, exited_next, computing, call_next, stmt_next, stmts_next, line_next, record_cell, made, record_next, declaration_next, declarations_next, members_next, item_leave_next, master_leave_next, leave_next, frame_next, landed, pass_next}
+use Rattle.ada_meaning.specs.Step.{moves, at, operands, places, popped, owned, put, before_last, last_of, in_front, record_in, held, newest, reading, component_next, follow_next, path_next, selected, named_next, holder_next, record_holder_next, first_in, computed, referred_next, refers_next, open_next, opened_next, opens_next, expression_next, null_test_next, is_decided, link_next, links_next, outcome_next, item_next, items_next, copied_next, copies_next, newest_ones, without_newest, new_cell, answered, new_next, initial_values, right_next, freeing, free_next, end_next, same_pool, told_back, given_back, back_next, assign_next, target_next, stored_next, store_next, record_target_next, record_stored_next, store_record_next, all_tasks, taken_out, frees_next, freed_next, free_component_next, free_in_next, branches_next, decided_next, turn_next, repeats_next, turned_next, count_turn_next, ranges_next, gets_next, received_next, receive_next, exit_next, exited_next, computing, call_next, stmt_next, stmts_next, line_next, record_cell, made, record_next, declaration_next, declarations_next, members_next, item_leave_next, master_leave_next, leave_next, frame_next, landed, pass_next}
 use Rattle.ada_meaning.specs.Named.{State, Next, named, refer, whole, inside, look, lent, on_object, parted, finished, returned, new_object, members, reads_integer, reads_boolean, reads_null, unary_given, binary_given}
 use Rattle.ada_typed.proofs.Control.{actuals_at, references_at}
-use Rattle.ada_typed.proofs.Kept.{behind_call, crosses, Keeps, Each, altered, each_after, jumping_keeps, keeps_all, older_operands, older_places, operated, placed, popped_keeps, procedure_operands, procedure_places, put_keeps, stay_more, stay_on, stay_stored, stay_stored_from, still}
+use Rattle.ada_typed.proofs.KeptTreatments.{treats_keeps}
+use Rattle.ada_typed.proofs.Kept.{behind_call, behind_treating, crosses, Keeps, Each, altered, each_after, jumping_keeps, keeps_all, older_operands, older_places, operated, placed, popped_keeps, procedure_operands, procedure_places, put_keeps, stay_more, stay_on, stay_stored, stay_stored_from, still}
 
 -- Paths and expressions.
 reading_keeps : (cs : List ℕ) (v : Value) (s : State) → Keeps s (reading named cs v s)
@@ -138,18 +143,18 @@ copies_keeps o first count on_gone s = tt
 copies_keeps o first count on_other s = tt
 copies_keeps o first count (finds cell) s = copied_keeps o (record_in cell.values first count) s
 
-answered_keeps : (access count words : ℕ) (home : Destination) (s : State) (granted : Bool) → Keeps s (answered named access count words home s granted)
-answered_keeps access count words home s true = record {
-  stay = stay_more s.heap (new_object (new_cell named access count home s));
+answered_keeps : (types : List TypeDefinition) (access count words : ℕ) (home : Destination) (s : State) (granted : Bool) → Keeps s (answered named types access count words home s granted)
+answered_keeps types access count words home s true = record {
+  stay = stay_more s.heap (new_object (new_cell named types access count home s));
   procedure = procedure_operands (Names (record { 0 = length s.heap }) ∷ drop count (operands s)) s.activations;
   suspended = older_operands (Names (record { 0 = length s.heap }) ∷ drop count (operands s)) s.activations;
-  behind = refl;
+  behind = behind_treating (Names (record { 0 = length s.heap })) (frame.begins Creation) (all_tasks types access PartsFirst) s.control;
 }
-answered_keeps access count words home s false = jumping_keeps (Raising StorageError) s
+answered_keeps types access count words home s false = jumping_keeps (Raising StorageError) s
 
-new_keeps : (access count words : ℕ) (home : Option Destination) (s : State) → Each (Keeps s) (new_next named access count words home s)
-new_keeps access count words None s = jumping_keeps (Raising StorageError) s
-new_keeps access count words (Some home) s = answered_keeps access count words home s
+new_keeps : (types : List TypeDefinition) (access count words : ℕ) (home : Option Destination) (s : State) → Each (Keeps s) (new_next named types access count words home s)
+new_keeps types access count words None s = jumping_keeps (Raising StorageError) s
+new_keeps types access count words (Some home) s = answered_keeps types access count words home s
 
 right_keeps : (types : List TypeDefinition) (right : RightForm) (s : State) → Each (Keeps s) (right_next named types right s)
 right_keeps types nothing s = operated (Null ∷ operands s) refl refl refl
@@ -159,35 +164,38 @@ right_keeps types (allocates_default access) s = operated (in_front (initial_val
 right_keeps types (computes e) s = still refl refl refl
 
 -- Frees, and the end of objects.
-freeing_keeps : (access : ℕ) (v : Value) (clears : Frame Value) (s : State) → is_return clears ≡ false → Keeps s (freeing named access v clears s)
-freeing_keeps access v clears s none =
-    altered (stay_on parted s.heap v (λ x. refl)) refl (ap (λ (return : Bool). if return then Some (record { actuals = actuals_at clears; references = references_at clears; left = s.control }) else behind_call s.control) none)
+freeing_keeps : (types : List TypeDefinition) (access : ℕ) (v : Value) (cell : Cell Value) (clears : Frame Value) (s : State) → is_return clears ≡ false → Keeps s (freeing named types access v cell clears s)
+freeing_keeps types access v cell clears s none =
+    let back = frame.GivesBack v (Freeing s.next) (Some (pool_freed_to (home_of access s.masters))) in
+    altered (stay_on parted s.heap v (λ x. refl)) refl
+    (behind_treating v (frame.ends (Freeing s.next)) (all_tasks types cell.access WholeFirst) (frame.Ends v ∷ back ∷ clears ∷ s.control)
+    ∙ ap (λ (return : Bool). if return then Some (record { actuals = actuals_at clears; references = references_at clears; left = s.control }) else behind_call s.control) none)
 
-free_keeps : (access x : ℕ) (v : Value) (found : Found (Cell Value)) (s : State) → Each (Keeps s) (free_next named access x v found s)
-free_keeps access x v on_null s = still refl refl refl
-free_keeps access x v on_gone s = tt
-free_keeps access x v on_other s = tt
-free_keeps access x v (finds cell) s = freeing_keeps access v (frame.Clears x) s refl
+free_keeps : (types : List TypeDefinition) (access x : ℕ) (v : Value) (found : Found (Cell Value)) (s : State) → Each (Keeps s) (free_next named types access x v found s)
+free_keeps types access x v on_null s = still refl refl refl
+free_keeps types access x v on_gone s = tt
+free_keeps types access x v on_other s = tt
+free_keeps types access x v (finds cell) s = freeing_keeps types access v cell (frame.Clears x) s refl
 
-freed_keeps : (access : ℕ) (o : Value) (c : ℕ) (v : Value) (found : Found (Cell Value)) (s : State) → Each (Keeps s) (freed_next named access o c v found s)
-freed_keeps access o c v on_null s = still refl refl refl
-freed_keeps access o c v on_gone s = tt
-freed_keeps access o c v on_other s = tt
-freed_keeps access o c v (finds cell) s = freeing_keeps access v (frame.ClearsIn o c) s refl
+freed_keeps : (types : List TypeDefinition) (access : ℕ) (o : Value) (c : ℕ) (v : Value) (found : Found (Cell Value)) (s : State) → Each (Keeps s) (freed_next named types access o c v found s)
+freed_keeps types access o c v on_null s = still refl refl refl
+freed_keeps types access o c v on_gone s = tt
+freed_keeps types access o c v on_other s = tt
+freed_keeps types access o c v (finds cell) s = freeing_keeps types access v cell (frame.ClearsIn o c) s refl
 
-free_component_keeps : (access : ℕ) (o : Value) (c : ℕ) (found : Option Value) (s : State) → Each (Keeps s) (free_component_next named access o c found s)
-free_component_keeps access o c None s = tt
-free_component_keeps access o c (Some v) s = freed_keeps access o c v (look s.heap v) s
+free_component_keeps : (types : List TypeDefinition) (access : ℕ) (o : Value) (c : ℕ) (found : Option Value) (s : State) → Each (Keeps s) (free_component_next named types access o c found s)
+free_component_keeps types access o c None s = tt
+free_component_keeps types access o c (Some v) s = freed_keeps types access o c v (look s.heap v) s
 
-free_in_keeps : (access : ℕ) (o : Value) (c : ℕ) (found : Found (Cell Value)) (s : State) → Each (Keeps s) (free_in_next named access o c found s)
-free_in_keeps access o c on_null s = jumping_keeps (Raising ConstraintError) s
-free_in_keeps access o c on_gone s = tt
-free_in_keeps access o c on_other s = tt
-free_in_keeps access o c (finds cell) s = free_component_keeps access o c (slice_get cell.values c) s
+free_in_keeps : (types : List TypeDefinition) (access : ℕ) (o : Value) (c : ℕ) (found : Found (Cell Value)) (s : State) → Each (Keeps s) (free_in_next named types access o c found s)
+free_in_keeps types access o c on_null s = jumping_keeps (Raising ConstraintError) s
+free_in_keeps types access o c on_gone s = tt
+free_in_keeps types access o c on_other s = tt
+free_in_keeps types access o c (finds cell) s = free_component_keeps types access o c (slice_get cell.values c) s
 
-frees_keeps : (cs : List ℕ) (access x : ℕ) (s : State) → Each (Keeps s) (frees_next named cs access x s)
-frees_keeps [] access x s = free_keeps access x (held named s x) (look s.heap (held named s x)) s
-frees_keeps (c ∷ cs) access x s = holder_keeps c cs x (λ last. frame.FreesIn access last) s (λ last. refl)
+frees_keeps : (types : List TypeDefinition) (cs : List ℕ) (access x : ℕ) (s : State) → Each (Keeps s) (frees_next named types cs access x s)
+frees_keeps types [] access x s = free_keeps types access x (held named s x) (look s.heap (held named s x)) s
+frees_keeps types (c ∷ cs) access x s = holder_keeps c cs x (λ last. frame.FreesIn access last) s (λ last. refl)
 
 end_keeps : (v : Value) (found : Found (Cell Value)) (s : State) → Each (Keeps s) (end_next named v found s)
 end_keeps v on_null s = tt
@@ -325,28 +333,28 @@ call_keeps : (procedure : ℕ) (actuals : List ActualForm) (found : Option BodyF
 call_keeps procedure actuals None s = tt
 call_keeps procedure actuals (Some b) s = still refl refl (behind_computing actuals (frame.Calls procedure b actuals ∷ s.control))
 
-stmt_keeps : (bodies : List BodyForm) (f : StmtForm) (s : State) → Each (Keeps s) (stmt_next named bodies f s)
-stmt_keeps bodies skips s = still refl refl refl
-stmt_keeps bodies (assigns target right) s = assign_keeps target.selectors target.root right s
-stmt_keeps bodies (assigns_record target items) s =
+stmt_keeps : (types : List TypeDefinition) (bodies : List BodyForm) (f : StmtForm) (s : State) → Each (Keeps s) (stmt_next named types bodies f s)
+stmt_keeps types bodies skips s = still refl refl refl
+stmt_keeps types bodies (assigns target right) s = assign_keeps target.selectors target.root right s
+stmt_keeps types bodies (assigns_record target items) s =
     record_holder_keeps target (λ first. frame.TargetsRecord first target.record_type items) s (λ first. refl)
-stmt_keeps bodies (frees access path) s = frees_keeps path.selectors access path.root s
-stmt_keeps bodies (gets target) s = gets_keeps target.selectors target.root s.input s
-stmt_keeps bodies (writes e) s = still refl refl refl
-stmt_keeps bodies (writes_text text) s = still refl refl refl
-stmt_keeps bodies (chooses branches) s = branches_keeps branches s
-stmt_keeps bodies (repeats condition fs end_spot) s = still refl refl refl
-stmt_keeps bodies (counts x low high fs end_spot) s = still refl refl refl
-stmt_keeps bodies (exits condition spot) s = exit_keeps condition s
-stmt_keeps bodies (calls procedure actuals) s = call_keeps procedure actuals (slice_get bodies procedure) s
-stmt_keeps bodies (returns spot) s = jumping_keeps Returning s
-stmt_keeps bodies (raises_it e) s = jumping_keeps (Raising e) s
-stmt_keeps bodies (encloses ds fs hs) s = still refl refl refl
+stmt_keeps types bodies (frees access path) s = frees_keeps types path.selectors access path.root s
+stmt_keeps types bodies (gets target) s = gets_keeps target.selectors target.root s.input s
+stmt_keeps types bodies (writes e) s = still refl refl refl
+stmt_keeps types bodies (writes_text text) s = still refl refl refl
+stmt_keeps types bodies (chooses branches) s = branches_keeps branches s
+stmt_keeps types bodies (repeats condition fs end_spot) s = still refl refl refl
+stmt_keeps types bodies (counts x low high fs end_spot) s = still refl refl refl
+stmt_keeps types bodies (exits condition spot) s = exit_keeps condition s
+stmt_keeps types bodies (calls procedure actuals) s = call_keeps procedure actuals (slice_get bodies procedure) s
+stmt_keeps types bodies (returns spot) s = jumping_keeps Returning s
+stmt_keeps types bodies (raises_it e) s = jumping_keeps (Raising e) s
+stmt_keeps types bodies (encloses ds fs hs) s = still refl refl refl
 
-stmts_keeps : (bodies : List BodyForm) (fs : StmtsForm) (s : State) → Each (Keeps s) (stmts_next named bodies fs s)
-stmts_keeps bodies no_stmts s = still refl refl refl
-stmts_keeps bodies (a_stmt f fs) s =
-    each_after s (at (frame.Does fs ∷ s.control) s) (stmt_next named bodies f (at (frame.Does fs ∷ s.control) s)) (still refl refl refl) (stmt_keeps bodies f (at (frame.Does fs ∷ s.control) s))
+stmts_keeps : (types : List TypeDefinition) (bodies : List BodyForm) (fs : StmtsForm) (s : State) → Each (Keeps s) (stmts_next named types bodies fs s)
+stmts_keeps types bodies no_stmts s = still refl refl refl
+stmts_keeps types bodies (a_stmt f fs) s =
+    each_after s (at (frame.Does fs ∷ s.control) s) (stmt_next named types bodies f (at (frame.Does fs ∷ s.control) s)) (still refl refl refl) (stmt_keeps types bodies f (at (frame.Does fs ∷ s.control) s))
 
 line_keeps : (i : Option ℤ) (s : State) → Each (Keeps s) (line_next named i s)
 line_keeps None s = tt
@@ -357,10 +365,10 @@ made_keeps : (types : List TypeDefinition) (x t : ℕ) (values : List Value) (s 
 made_keeps types x t values s =
     let name = Names (record { 0 = length s.heap }) in
     record {
-      stay = stay_more s.heap (new_object (record_cell named t (height s.masters) values));
+      stay = stay_more s.heap (new_object (record_cell named types t (height s.masters) values));
       procedure = procedure_places (slice_set (places s) x name) s.activations;
       suspended = older_places (slice_set (places s) x name) s.activations;
-      behind = refl;
+      behind = behind_treating name (frame.begins Creation) (all_tasks types t PartsFirst) s.control;
     }
 
 record_keeps : (types : List TypeDefinition) (x t : ℕ) (initial : Option (List ItemForm)) (s : State) → Each (Keeps s) (record_next named types x t initial s)
@@ -380,25 +388,35 @@ declarations_keeps types (d ∷ ds) fs hs s =
     each_after s rest (declaration_next named types d rest) (still refl refl refl) (declaration_keeps types d rest)
 
 -- Masters that are left.
-members_keeps : (cause : Cause) (pool : Option ℕ) (vs : List Value) (s : State) → Each (Keeps s) (members_next named cause pool vs s)
-members_keeps cause pool [] s = still refl refl refl
-members_keeps cause pool (v ∷ vs) s = λ i lt. altered (stay_on parted s.heap (slice_index_or (v ∷ vs) i Null) (λ x. refl)) refl refl
+taken_keeps : (types : List TypeDefinition) (cause : Cause) (pool : Option ℕ) (v : Value) (found : Found (Cell Value)) (s : State) → Keeps s (taken_out named types cause pool v found s)
+taken_keeps types cause pool v on_null s = altered (stay_on parted s.heap v (λ x. refl)) refl refl
+taken_keeps types cause pool v on_gone s = altered (stay_on parted s.heap v (λ x. refl)) refl refl
+taken_keeps types cause pool v on_other s = altered (stay_on parted s.heap v (λ x. refl)) refl refl
+taken_keeps types cause pool v (finds cell) s =
+    altered (stay_on parted s.heap v (λ x. refl)) refl
+    (behind_treating v (frame.ends cause) (all_tasks types cell.access WholeFirst) (frame.Ends v ∷ frame.GivesBack v cause pool ∷ s.control))
 
-item_leave_keeps : (m : ℕ) (item : Item) (what : Owned) (s : State) → Each (Keeps s) (item_leave_next named m item what s)
-item_leave_keeps m item (declared x) s = still refl refl refl
-item_leave_keeps m item (collection access pool) s = members_keeps (Leaving m item.number) pool (members s.heap item.number) s
-item_leave_keeps m item (record_object t) s = members_keeps (Leaving m item.number) None (members s.heap item.number) s
-item_leave_keeps m item (storage_pool declaration number) s = still refl refl refl
+members_keeps : (types : List TypeDefinition) (cause : Cause) (pool : Option ℕ) (vs : List Value) (s : State) → Each (Keeps s) (members_next named types cause pool vs s)
+members_keeps types cause pool [] s = still refl refl refl
+members_keeps types cause pool (v ∷ vs) s = λ i lt.
+    let one = slice_index_or (v ∷ vs) i Null in
+    taken_keeps types cause pool one (look s.heap one) s
 
-master_leave_keeps : (mode : Mode) (m : ℕ) (items : List Item) (s : State) → Each (Keeps s) (master_leave_next named mode m items s)
-master_leave_keeps mode m [] s = still refl refl refl
-master_leave_keeps mode m (item ∷ items) s =
+item_leave_keeps : (types : List TypeDefinition) (m : ℕ) (item : Item) (what : Owned) (s : State) → Each (Keeps s) (item_leave_next named types m item what s)
+item_leave_keeps types m item (declared x) s = still refl refl refl
+item_leave_keeps types m item (collection access pool) s = members_keeps types (Leaving m item.number) pool (members s.heap item.number) s
+item_leave_keeps types m item (record_object t) s = members_keeps types (Leaving m item.number) None (members s.heap item.number) s
+item_leave_keeps types m item (storage_pool declaration number) s = still refl refl refl
+
+master_leave_keeps : (types : List TypeDefinition) (mode : Mode) (m : ℕ) (items : List Item) (s : State) → Each (Keeps s) (master_leave_next named types mode m items s)
+master_leave_keeps types mode m [] s = still refl refl refl
+master_leave_keeps types mode m (item ∷ items) s =
     let rest = at (frame.Leaves mode ∷ s.control) s in
-    each_after s rest (item_leave_next named m item item.owned rest) (still refl refl refl) (item_leave_keeps m item item.owned rest)
+    each_after s rest (item_leave_next named types m item item.owned rest) (still refl refl refl) (item_leave_keeps types m item item.owned rest)
 
-leave_keeps : (mode : Mode) (ms : List Master) (s : State) → Each (Keeps s) (leave_next named mode ms s)
-leave_keeps mode [] s = tt
-leave_keeps mode (m ∷ ms) s = master_leave_keeps mode m.number m.items s
+leave_keeps : (types : List TypeDefinition) (mode : Mode) (ms : List Master) (s : State) → Each (Keeps s) (leave_next named types mode ms s)
+leave_keeps types mode [] s = tt
+leave_keeps types mode (m ∷ ms) s = master_leave_keeps types mode m.number m.items s
 
 -- Without the newest operand, or the two newest ones.
 without_one : (s : State) (n : Next) → Each (Keeps (popped s)) n → Each (Keeps s) n
@@ -410,7 +428,7 @@ without_two s n keeps = without_one s n (without_one (popped s) n keeps)
 -- Each frame that is taken off, where no call begins or ends.
 pub frame_keeps : (types : List TypeDefinition) (bodies : List BodyForm) (f : Frame Value) (s : State) → crosses f ≡ false → Each (Keeps s) (frame_next named types bodies f s)
 frame_keeps types bodies (frame.Elaborates ds fs hs) s stays = declarations_keeps types ds fs hs s
-frame_keeps types bodies (frame.Does fs) s stays = stmts_keeps bodies fs s
+frame_keeps types bodies (frame.Does fs) s stays = stmts_keeps types bodies fs s
 frame_keeps types bodies (frame.Decides fs branches) s stays =
     without_one s (decided_next named fs branches (reads_boolean (newest named s)) (popped s)) (decided_keeps fs branches (reads_boolean (newest named s)) (popped s))
 frame_keeps types bodies (frame.Repeats condition fs) s stays = repeats_keeps condition fs s
@@ -425,7 +443,7 @@ frame_keeps types bodies frame.Exits s stays =
     without_one s (exited_next named (reads_boolean (newest named s)) (popped s)) (exited_keeps (reads_boolean (newest named s)) (popped s))
 frame_keeps types bodies (frame.Handles hs) s stays = still refl refl refl
 frame_keeps types bodies frame.Closes s stays = still refl refl refl
-frame_keeps types bodies (frame.Leaves mode) s stays = leave_keeps mode s.masters s
+frame_keeps types bodies (frame.Leaves mode) s stays = leave_keeps types mode s.masters s
 frame_keeps types bodies (frame.Calls procedure b actuals) s stays = absurd (cc)
 frame_keeps types bodies (frame.Returns actuals references) s stays = absurd (cc)
 frame_keeps types bodies (frame.Evaluates right) s stays = right_keeps types right s
@@ -452,7 +470,7 @@ frame_keeps types bodies (frame.Fills items) s stays = items_keeps items s
 frame_keeps types bodies (frame.Copies first t) s stays =
     let found = look s.heap (newest named s) in
     without_one s (copies_next named (newest named s) first (width_of types t) found (popped s)) (copies_keeps (newest named s) first (width_of types t) found (popped s))
-frame_keeps types bodies (frame.Creates access count) s stays = new_keeps access count (words_of types access) (home_of access s.masters) s
+frame_keeps types bodies (frame.Creates access count) s stays = new_keeps types access count (words_of types access) (home_of access s.masters) s
 frame_keeps types bodies (frame.Stores x) s stays = keeps_all s (popped s) (put x (newest named s) (popped s)) (popped_keeps s) (put_keeps x (newest named s) (popped s))
 frame_keeps types bodies (frame.Targets c right) s stays =
     let found = look s.heap (newest named s) in
@@ -468,13 +486,14 @@ frame_keeps types bodies (frame.Receives c) s stays =
     without_one s (receive_next named (newest named s) c found (popped s)) (receive_keeps (newest named s) c found (popped s))
 frame_keeps types bodies (frame.FreesIn access c) s stays =
     let found = look s.heap (newest named s) in
-    without_one s (free_in_next named access (newest named s) c found (popped s)) (free_in_keeps access (newest named s) c found (popped s))
+    without_one s (free_in_next named types access (newest named s) c found (popped s)) (free_in_keeps types access (newest named s) c found (popped s))
 frame_keeps types bodies (frame.Declares x) s stays =
     keeps_all s (popped s) (owned (declared x) (put x (newest named s) (popped s))) (popped_keeps s) (placed (slice_set (places (popped s)) x (newest named s)) refl refl refl)
 frame_keeps types bodies (frame.DeclaresRecord x t) s stays =
     let without = without_newest named (words_of types t) s in
     keeps_all s without (made named types x t (newest_ones named (words_of types t) s) without) (operated (drop (words_of types t) (operands s)) refl refl refl)
     (made_keeps types x t (newest_ones named (words_of types t) s) without)
+frame_keeps types bodies (frame.Treats v treatment tasks) s stays = treats_keeps (shapes_of types) v treatment tasks (task_next tasks) s
 frame_keeps types bodies frame.Writes s stays = without_one s (line_next named (reads_integer (newest named s)) (popped s)) (line_keeps (reads_integer (newest named s)) (popped s))
 frame_keeps types bodies (frame.Ends v) s stays = end_keeps v (look s.heap v) s
 frame_keeps types bodies (frame.GivesBack v cause pool) s stays = back_keeps v cause pool (lent s.heap v) s

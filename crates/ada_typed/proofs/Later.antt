@@ -6,14 +6,16 @@ use Rattle.ada_program.specs.declared.program.VariableKind.{VariableKind}
 use Rattle.ada_program.specs.declared.program.VariableKind.TheVariants as variable
 use Rattle.ada_program.specs.Form.{ActualForm, HandlersForm}
 use Rattle.ada_program.specs.ProgramForm.{TypeForm, ProgramForm, seen_in}
+use Rattle.ada_parts.specs.Task.{Task}
 use Rattle.ada_meaning.specs.declared.state.Value.{Value}
+use Rattle.ada_meaning.specs.declared.state.Value.TheVariants.{Null, Names, Scalar, Part}
 use Rattle.ada_meaning.specs.declared.state.Mode.TheVariants.{Running, Raising, Exiting, Returning}
 use Rattle.ada_meaning.specs.Frame.{Frame, is_loop, is_return}
 use Rattle.ada_meaning.specs.Frame as frame
 use Rattle.ada_meaning.specs.State.{Activation}
 use Rattle.ada_meaning.specs.Step.{procedure_of, older}
 use Rattle.ada_typed.proofs.Values.{OperandKind, of_kind, refers_to, StayDesignated, access_later, refers_later, held_later, kind_of}
-use Rattle.ada_typed.proofs.Control.{onto, AtReturn, AtLoop, WhereInside, handlers_in, AtHandlers, Fits, Lands, Catches, actuals_at, references_at, kinds_in, stored_kinds, AreReferences, WaitsFirst, Waiting}
+use Rattle.ada_typed.proofs.Control.{onto, IsTreated, AtReturn, AtLoop, WhereInside, handlers_in, AtHandlers, Fits, Lands, Catches, actuals_at, references_at, kinds_in, stored_kinds, AreReferences, WaitsFirst, Waiting}
 
 inside_later : (inside : Bool) (lands later : Type 0) → (lands → later) → WhereInside inside lands → WhereInside inside later
 inside_later true lands later f h = f h
@@ -30,6 +32,12 @@ loop_later false behind further behind_later further_later f g h = g h
 handlers_later : (p : ProgramForm) (o : Option HandlersForm) (lands behind further lands_after behind_after further_after : Type 0) → (lands → lands_after) → (behind → behind_after) → (further → further_after) → AtHandlers p o lands behind further → AtHandlers p o lands_after behind_after further_after
 handlers_later p None lands behind further lands_after behind_after further_after f g i h = i h
 handlers_later p (Some hs) lands behind further lands_after behind_after further_after f g i h = (h.0, h.1, inside_later h.0 lands lands_after f h.2, g h.3)
+
+treated_later : (types : List TypeForm) (cells after : Cells) → StayDesignated cells after → (v : Value) (tasks : List Task) → IsTreated types cells v tasks → IsTreated types after v tasks
+treated_later types cells after stay Null tasks h = h
+treated_later types cells after stay (Names o) tasks h = (h.0, stay h.0 o h.1, h.2)
+treated_later types cells after stay (Scalar v) tasks h = h
+treated_later types cells after stay (Part o first) tasks h = h
 
 module _ (p : ProgramForm) (cells after : Cells) (stay : StayDesignated cells after) where
   mutual
@@ -74,6 +82,7 @@ module _ (p : ProgramForm) (cells after : Cells) (stay : StayDesignated cells af
     fits_later (frame.FreesIn access c ∷ k) kinds h = (h.0, h.1, h.2, h.3, h.4, h.5, fits_later k h.0 h.6)
     fits_later (frame.Declares x ∷ k) kinds h = (h.0, h.1, h.2, h.3, fits_later k h.0 h.4)
     fits_later (frame.DeclaresRecord x t ∷ k) kinds h = (h.0, h.1, h.2, h.3, h.4, h.5, h.6, h.7, fits_later k h.0 h.8)
+    fits_later (frame.Treats v treatment tasks ∷ k) kinds h = (treated_later p.types cells after stay v tasks h.0, fits_later k kinds h.1)
     fits_later (frame.Writes ∷ k) kinds h = (h.0, h.1, fits_later k h.0 h.2)
     fits_later (frame.Ends v ∷ k) kinds h = (h.0, fits_later k kinds h.1)
     fits_later (frame.GivesBack v cause pool ∷ k) kinds h = (h.0, fits_later k kinds h.1)

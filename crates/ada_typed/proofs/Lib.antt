@@ -1,3 +1,7 @@
+-- the types of a program and what is shown of them
+pub mod Shown
+-- controlled parts of objects, and what is left of their treatments
+pub mod Parts
 -- what a value is of which kind
 pub mod Values
 -- operators and the types of their operands
@@ -6,10 +10,10 @@ pub mod Operators
 pub mod Control
 -- records that lie in objects
 pub mod Records
--- what is shown of the types of a program has their components
-pub mod Shown
 -- it fits as well once objects have come to be or have changed
 pub mod Later
+-- objects that are treated before anything else
+pub mod Treating
 -- the program as each of its bodies sees it
 pub mod Bodies
 -- actual parameters, and the places of a body that begins
@@ -18,14 +22,20 @@ pub mod Actuals
 pub mod Evaluations
 -- components that are assigned to
 pub mod Targets
+-- the steps of treatments
+pub mod Treatments
 -- records that are copied or assigned to as wholes
 pub mod Wholes
 -- variables and components that are freed
 pub mod Frees
+-- objects that end, and masters that are left
+pub mod Leavings
 -- record objects and their types
 pub mod Objects
 -- what a step keeps around the running body
 pub mod Kept
+-- steps of treatments keep it
+pub mod KeptTreatments
 -- it keeps that unless a call begins or ends
 pub mod KeptSteps
 -- each step inside a body leads from typed states to typed states

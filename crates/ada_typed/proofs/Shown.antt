@@ -30,7 +30,8 @@ same_reached : (types : List TypeDefinition) (o : Option ℕ) → components_rea
 same_reached types None = refl
 same_reached types (Some t) = same_record types t
 
-same_named : (types : List TypeDefinition) (t : ℕ) → named_in (slice_get (map type_form types) t) ≡ designated_of types t
+-- The record type of the objects that the values of a type name (3.10).
+pub same_named : (types : List TypeDefinition) (t : ℕ) → named_in (slice_get (map type_form types) t) ≡ designated_of types t
 same_named types t = ap named_in (slice_get-map type_form types t) ∙ named_shown (slice_get types t)
 
 -- The components of the objects that the values of a type name (3.10).

@@ -1,9 +1,9 @@
 -- Each step inside the running body leads from typed states to typed states, or ends the run in a way that the language knows.
 
 use Rattle.ada_typed.specs.Holding.{Cells, HasKind, HaveKinds, cells_of}
-use Rattle.std.proofs.Common.{◌≡◌, ℕ, zero, suc, ◌+◌, ◌<◌, ◌≤◌, ◌&&◌, not, if◌then◌else◌, Bool, true, false, ℤ, ◌+ℤ◌, pos, int_le, List, [], ◌∷◌, length, map, Option, Some, None, arith, refl, sym, ap, ◌∙◌, subst}
+use Rattle.std.proofs.Common.{◌≡◌, ℕ, ◌+◌, ◌≤◌, ◌&&◌, not, if◌then◌else◌, Bool, true, false, ℤ, ◌+ℤ◌, pos, int_le, List, [], ◌∷◌, ◌++◌, length, map, Option, Some, None, arith, refl, sym, ap, ◌∙◌, subst}
 use Rattle.std.proofs.lemmas.Bool.{eqb-true}
-use Rattle.std.specs.List.{slice_get, slice_index_or, list_all}
+use Rattle.std.specs.List.{slice_get, list_all}
 use Rattle.ada_program.specs.declared.program.ComponentKind.{ComponentKind}
 use Rattle.ada_program.specs.declared.program.ScalarType.TheVariants.{Integer, Boolean}
 use Rattle.ada_program.specs.declared.program.TypeDefinition.{TypeDefinition}
@@ -16,97 +16,34 @@ use Rattle.ada_program.specs.Typed.{reached_of, words_of, pool_named}
 use Rattle.ada_program.specs.Freed.{statement_frees_own, statements_free_own, branches_free_own, handlers_free_own}
 use Rattle.ada_program.specs.WellFormed.{named_in, object_in, components_reached, is_this, stands_alone, reached_components, record_components, is_access, is_object_type, value_access, root_kind, selectors_kind, variable_kind, path_access, scalar_of, is_type, type_of, kind_takes, right_fits, names_borrower, lends_to, is_borrower, item_owns, item_before, is_filled, is_record_path, is_record_object, record_fits, record_initial_fits, path_kind, is_freed_by, collections_first, collection_fits, initial_fits, declarations_fit, has_type, condition_fits, has_statement, statement_fits, stmts_fit, branches_fit, handlers_fit, names_before, formal_kinds, callable_in}
 use Rattle.ada_values.specs.declared.value.Value.TheVariants as scalar
-use Rattle.ada_meaning.specs.declared.state.Id.{Id}
+use Rattle.ada_parts.specs.declared.tasks.Direction.TheVariants.{PartsFirst}
+use Rattle.ada_meaning.specs.declared.event.Birth.TheVariants.{Creation}
 use Rattle.ada_meaning.specs.declared.state.Value.{Value}
 use Rattle.ada_meaning.specs.declared.state.Value.TheVariants.{Null, Names, Scalar, Part}
-use Rattle.ada_meaning.specs.declared.state.Stage.{Stage}
-use Rattle.ada_meaning.specs.declared.state.Stage.TheVariants.{Building, Existing, Gone}
-use Rattle.ada_meaning.specs.declared.state.Mode.{Mode}
-use Rattle.ada_meaning.specs.declared.state.Mode.TheVariants.{Running, Raising, Exiting, Returning}
-use Rattle.ada_meaning.specs.declared.event.Cause.{Cause}
-use Rattle.ada_meaning.specs.declared.event.Cause.TheVariants.{Leaving}
+use Rattle.ada_meaning.specs.declared.state.Mode.TheVariants.{Running, Exiting, Returning}
 use Rattle.ada_program.specs.declared.program.Exception.TheVariants.{EndError}
-use Rattle.ada_meaning.specs.declared.event.Halt.TheVariants.{Erroneous}
-use Rattle.ada_meaning.specs.Event.{Back, Quiet}
-use Rattle.ada_meaning.specs.declared.event.Why.TheVariants.{GivesElsewhere}
+use Rattle.ada_meaning.specs.Event.{Quiet}
 use Rattle.ada_meaning.specs.Frame.{Frame, is_master, is_loop, is_return, Landing, passes_on, goes_behind, handler_landing, exception_landing, landing}
 use Rattle.ada_meaning.specs.Frame as frame
-use Rattle.ada_meaning.specs.State.{Owned, declared, collection, record_object, storage_pool, Item, Master, height, home_of, pools_in, pool_for}
-use Rattle.ada_meaning.specs.Heap.{Cell, on_gone, finds}
-use Rattle.ada_meaning.specs.Step.{halts, moves, at, older, shorter, popped, jumping, put, held, newest, new_next, end_next, same_pool, told_back, given_back, back_next, initial_values, copies_next, refers_next, open_next, newest_ones, without_newest, record_target_next, store_record_next, record_cell, made, record_next, assign_next, frees_next, branches_next, decided_next, turn_next, repeats_next, turned_next, count_turn_next, ranges_next, gets_next, exit_next, exited_next, computing, call_next, stmt_next, stmts_next, line_next, declarations_next, members_next, item_leave_next, master_leave_next, leave_next, frame_next}
-use Rattle.ada_meaning.specs.Named.{an_integer, Object, State, named, look, lent, lent_by, seen, existing, on_object, parted, finished, returned, reads_integer, reads_boolean, unary_given, binary_given, members, members_of}
-use Rattle.ada_typed.proofs.Evaluations.{Fine, initials_have, reached_shown, words_shown, width_shown, filled_items, cells_on, length_shorter, ready_kinds, ready_at, ready_pop, newest_of, held_of, put_in, ready_owning, ready_heap, fits_heap, jumped, raises, ready_made, fits_more, holder_fine, record_holder_fine, path_fine, null_test_fine, expression_fine, links_fine, outcome_fine, items_fine, new_fine, right_fine}
-use Rattle.ada_typed.proofs.Values.{OperandKind, of_kind, refers_to, kind_of, root_same, active_none}
+use Rattle.ada_meaning.specs.State.{declared, collection, storage_pool, height, home_of, pools_in, pool_for}
+use Rattle.ada_meaning.specs.Step.{moves, all_tasks, at, popped, jumping, put, held, newest, new_next, initial_values, copies_next, refers_next, open_next, newest_ones, without_newest, record_target_next, store_record_next, record_cell, made, record_next, assign_next, frees_next, branches_next, decided_next, turn_next, repeats_next, turned_next, count_turn_next, ranges_next, gets_next, exit_next, exited_next, computing, call_next, stmt_next, stmts_next, line_next, declarations_next, frame_next}
+use Rattle.ada_meaning.specs.Named.{an_integer, State, named, new_object, look, reads_integer, reads_boolean, unary_given, binary_given}
+use Rattle.ada_typed.proofs.Evaluations.{Fine, named_newest, initials_have, reached_shown, words_shown, width_shown, filled_items, ready_kinds, ready_at, ready_pop, newest_of, held_of, put_in, ready_owning, jumped, raises, ready_made, fits_more, holder_fine, record_holder_fine, path_fine, null_test_fine, expression_fine, links_fine, outcome_fine, items_fine, new_fine, right_fine}
+use Rattle.ada_typed.proofs.Values.{OperandKind, of_kind, refers_to, kind_of, root_same}
 use Rattle.ada_typed.proofs.Objects.{kind_there, object_reached, own_object, record_no_access}
 use Rattle.ada_typed.proofs.Operators.{and_left, and_right, typed, unary_gives, binary_gives}
 use Rattle.ada_typed.proofs.Targets.{target_fine, store_fine, receive_fine, opens_fine}
+use Rattle.ada_typed.proofs.Treating.{all_within, treating_fits}
+use Rattle.ada_typed.proofs.Treatments.{treats_fine}
 use Rattle.ada_typed.proofs.Wholes.{newest_have, ready_without, copies_fine, refers_fine, record_target_fine, store_record_fine}
+use Rattle.ada_typed.proofs.Leavings.{end_fine, back_fine, leave_fine}
 use Rattle.ada_typed.proofs.Frees.{free_fine, free_in_fine}
 use Rattle.ada_typed.proofs.Bodies.{SeenFits, Sees}
 use Rattle.ada_typed.proofs.Actuals.{profile_found, depth_computing, computing_fits}
 use Rattle.ada_typed.proofs.Kept.{crosses}
-use Rattle.ada_typed.proofs.Control.{onto, IsName, OwnBody, FitStmt, FitStmts, FitBranches, WhereInside, Fits, Lands, depth, Ready, Jumps, TypedIn, running, on_jump, catches}
-
--- What is picked of a collection is a name.
-picked_name : (ids : List Id) (i : ℕ) → i < length (map Names ids) → IsName (slice_index_or (map Names ids) i Null)
-picked_name [] i lt = absurd (omega arith)
-picked_name (o ∷ ids) zero lt = tt
-picked_name (o ∷ ids) (suc i) lt = picked_name ids i (omega arith)
-
-picked : (ids : List Id) (vs : List Value) (i : ℕ) → map Names ids ≡ vs → i < length vs → IsName (slice_index_or vs i Null)
-picked ids vs i is lt = subst (λ (ws : List Value). IsName (slice_index_or ws i Null)) is (picked_name ids i (omega (arith, ap length is)))
+use Rattle.ada_typed.proofs.Control.{onto, OwnBody, FitStmt, FitStmts, FitBranches, WhereInside, Fits, Lands, depth, Ready, TypedIn, running, on_jump, catches}
 
 module _ (p : ProgramForm) (fit : SeenFits p) (bodies : List BodyForm) (sees : Sees bodies p) where
-  -- What a Free leads to (13.11.2).
-  end_stage : (stage : Stage) (o : Id) (object : Object) (s : State) (kinds : List OperandKind) → Ready p kinds s → Fits p (cells_of s.heap) kinds s.control → Fine p (end_next named (Names o) (existing object stage) s)
-  end_stage Gone o object s kinds ready fits = tt
-  end_stage Building o object s kinds ready fits =
-      let heap = on_object finished s.heap (Names o) in
-      let same : cells_of heap ≡ cells_of s.heap = cells_on finished s.heap (Names o) (λ y. refl) in
-      running kinds (ready_heap p kinds s heap same ready) (fits_heap p kinds s s.control heap same fits)
-  end_stage Existing o object s kinds ready fits =
-      let heap = on_object finished s.heap (Names o) in
-      let same : cells_of heap ≡ cells_of s.heap = cells_on finished s.heap (Names o) (λ y. refl) in
-      running kinds (ready_heap p kinds s heap same ready) (fits_heap p kinds s s.control heap same fits)
-
-  end_seen : (at_o : Option Object) (o : Id) (s : State) (kinds : List OperandKind) → Ready p kinds s → Fits p (cells_of s.heap) kinds s.control → Fine p (end_next named (Names o) (seen at_o) s)
-  end_seen None o s kinds ready fits = tt
-  end_seen (Some object) o s kinds ready fits = end_stage object.stage o object s kinds ready fits
-
-  end_fine : (v : Value) (s : State) (kinds : List OperandKind) → IsName v → Ready p kinds s → Fits p (cells_of s.heap) kinds s.control → Fine p (end_next named v (look s.heap v) s)
-  end_fine Null s kinds is ready fits = absurd is
-  end_fine (Names o) s kinds is ready fits = end_seen (slice_get s.heap o.0) o s kinds ready fits
-  end_fine (Scalar v) s kinds is ready fits = absurd is
-  end_fine (Part o first) s kinds is ready fits = absurd is
-
-  told_fine : (pool : Option ℕ) (o : Id) (cause : Cause) (cell : Cell Value) (s : State) (kinds : List OperandKind) → Ready p kinds s → Fits p (cells_of s.heap) kinds s.control → Fine p (told_back named pool (Names o) (Back (Names o) cell.access cell.number cell.home.pool cell.home.subpool cause) (record s { heap = on_object returned s.heap (Names o) }))
-  told_fine None o cause cell s kinds ready fits =
-      let heap = on_object returned s.heap (Names o) in
-      let same : cells_of heap ≡ cells_of s.heap = cells_on returned s.heap (Names o) (λ y. refl) in
-      running kinds (ready_heap p kinds s heap same ready) (fits_heap p kinds s s.control heap same fits)
-  told_fine (Some pool) o cause cell s kinds ready fits =
-      let heap = on_object returned s.heap (Names o) in
-      let same : cells_of heap ≡ cells_of s.heap = cells_on returned s.heap (Names o) (λ y. refl) in
-      running kinds (ready_heap p kinds s heap same ready) (fits_heap p kinds s s.control heap same fits)
-
-  given_fine : (same : Bool) (o : Id) (cause : Cause) (cell : Cell Value) (s : State) (kinds : List OperandKind) → Ready p kinds s → Fits p (cells_of s.heap) kinds s.control → Fine p (if same then given_back named (Names o) cause cell s else halts (Erroneous GivesElsewhere))
-  given_fine true o cause cell s kinds ready fits = told_fine cell.home.pool o cause cell s kinds ready fits
-  given_fine false o cause cell s kinds ready fits = tt
-
-  out_fine : (out : Bool) (o : Id) (cause : Cause) (pool : Option ℕ) (object : Object) (s : State) (kinds : List OperandKind) → Ready p kinds s → Fits p (cells_of s.heap) kinds s.control → Fine p (back_next named (Names o) cause pool (if out then finds object.cell else on_gone) s)
-  out_fine true o cause pool object s kinds ready fits = given_fine (same_pool pool object.cell.home.pool) o cause object.cell s kinds ready fits
-  out_fine false o cause pool object s kinds ready fits = tt
-
-  lent_fine : (at_o : Option Object) (o : Id) (cause : Cause) (pool : Option ℕ) (s : State) (kinds : List OperandKind) → Ready p kinds s → Fits p (cells_of s.heap) kinds s.control → Fine p (back_next named (Names o) cause pool (lent_by at_o) s)
-  lent_fine None o cause pool s kinds ready fits = tt
-  lent_fine (Some object) o cause pool s kinds ready fits = out_fine object.out o cause pool object s kinds ready fits
-
-  back_fine : (v : Value) (cause : Cause) (pool : Option ℕ) (s : State) (kinds : List OperandKind) → IsName v → Ready p kinds s → Fits p (cells_of s.heap) kinds s.control → Fine p (back_next named v cause pool (lent s.heap v) s)
-  back_fine Null cause pool s kinds is ready fits = absurd is
-  back_fine (Names o) cause pool s kinds is ready fits = lent_fine (slice_get s.heap o.0) o cause pool s kinds ready fits
-  back_fine (Scalar v) cause pool s kinds is ready fits = absurd is
-  back_fine (Part o first) cause pool s kinds is ready fits = absurd is
-
   -- Statements (5.1).
   right_kind : (o : Option VariableKind) (vs : List VariableForm) (right : RightForm) → right_fits p.types vs o right ≡ true → (kind : VariableKind) × (o ≡ Some kind) × (kind_takes p.types vs kind right ≡ true)
   right_kind None vs right h = absurd (cc)
@@ -132,14 +69,14 @@ module _ (p : ProgramForm) (fit : SeenFits p) (bodies : List BodyForm) (sees : S
   freed_own : (o : Option VariableKind) (access : ℕ) (own : TypeNo) → o ≡ Some (variable.Access own) → is_this access (value_access o) ≡ true → own.0 ≡ access
   freed_own o access own is by_own = eqb-true own.0 access (ap (λ (kind : Option VariableKind). is_this access (value_access kind)) (sym is) ∙ by_own)
 
-  frees_fine : (of_record : Bool) (cs : List ℕ) (access x : ℕ) (s : State) (kinds : List OperandKind) → Ready p kinds s → is_freed_by p.types access (value_access (selectors_kind p.types (root_kind of_record (variable_kind p.variables x)) cs)) ≡ true → (OwnBody p → is_this access (value_access (selectors_kind p.types (root_kind of_record (variable_kind p.variables x)) cs)) ≡ true) → Fits p (cells_of s.heap) kinds s.control → Fine p (frees_next named cs access x s)
-  frees_fine of_record (c ∷ cs) access x s kinds ready is by_own fits =
+  frees_fine : (types : List TypeDefinition) → map type_form types ≡ p.types → (of_record : Bool) (cs : List ℕ) (access x : ℕ) (s : State) (kinds : List OperandKind) → Ready p kinds s → is_freed_by p.types access (value_access (selectors_kind p.types (root_kind of_record (variable_kind p.variables x)) cs)) ≡ true → (OwnBody p → is_this access (value_access (selectors_kind p.types (root_kind of_record (variable_kind p.variables x)) cs)) ≡ true) → Fits p (cells_of s.heap) kinds s.control → Fine p (frees_next named types cs access x s)
+  frees_fine types shown of_record (c ∷ cs) access x s kinds ready is by_own fits =
       let own = freed_kind (selectors_kind p.types (root_kind of_record (variable_kind p.variables x)) (c ∷ cs)) access is in
       holder_fine p of_record c cs x (variable.Access own.0) (λ last. frame.FreesIn access last) s kinds ready own.1 (λ last. ready.deep) (λ holder last leads. (kinds, holder, own.0, refl, leads, (λ body. freed_own (selectors_kind p.types (root_kind of_record (variable_kind p.variables x)) (c ∷ cs)) access own.0 own.1 (by_own body)), fits))
-  frees_fine of_record [] access x s kinds ready is by_own fits =
+  frees_fine types shown of_record [] access x s kinds ready is by_own fits =
       let own = freed_kind (root_kind of_record (variable_kind p.variables x)) access is in
       let there : variable_kind p.variables x ≡ Some (variable.Access own.0) = root_same of_record (variable_kind p.variables x) (variable.Access own.0) own.1 in
-      free_fine p (held named s x) access x own.0 s kinds ready (held_of p kinds s x (variable.Access own.0) ready there) there fits
+      free_fine p types shown (held named s x) access x own.0 s kinds ready (held_of p kinds s x (variable.Access own.0) ready there) there fits
 
   -- A component that is given (6.4.1): its object is found first.
   open_fine : (of_record : Bool) (cs : List ℕ) (x : ℕ) (kind : VariableKind) (s : State) (kinds : List OperandKind) → Ready p kinds s → selectors_kind p.types (root_kind of_record (variable_kind p.variables x)) cs ≡ Some kind → stands_alone cs ≡ false → Fits p (cells_of s.heap) (of_kind kind ∷ refers_to kind ∷ kinds) s.control → Fine p (open_next named cs x s)
@@ -265,36 +202,36 @@ module _ (p : ProgramForm) (fit : SeenFits p) (bodies : List BodyForm) (sees : S
       let stored = put_in p [] s x variable.Integer (an_integer i) ready there tt in
       running [] (record { filled = stored.filled; active = stored.active; runs = stored.runs; deep = stored.deep }) fits
 
-  stmt_fine : (f : StmtForm) (inside : Bool) (s : State) → Ready p [] s → FitStmt p inside f → WhereInside inside (Lands p (cells_of s.heap) s.control) → Fits p (cells_of s.heap) [] s.control → Fine p (stmt_next named bodies f s)
-  stmt_fine skips inside s ready is lands fits = running [] ready fits
-  stmt_fine (assigns target right) inside s ready is lands fits =
+  stmt_fine : (types : List TypeDefinition) → map type_form types ≡ p.types → (f : StmtForm) (inside : Bool) (s : State) → Ready p [] s → FitStmt p inside f → WhereInside inside (Lands p (cells_of s.heap) s.control) → Fits p (cells_of s.heap) [] s.control → Fine p (stmt_next named types bodies f s)
+  stmt_fine types shown skips inside s ready is lands fits = running [] ready fits
+  stmt_fine types shown (assigns target right) inside s ready is lands fits =
       let fitting = right_fits p.types p.variables (path_kind p.types p.variables target) right in
       let lending = lends_to p.variables (names_borrower p.variables target) right in
       assign_fine target.of_record target.selectors target.root right s [] ready (and_left fitting lending is.0) fits
-  stmt_fine (assigns_record target items) inside s ready is lands fits =
+  stmt_fine types shown (assigns_record target items) inside s ready is lands fits =
       let leads = is_record_path p.types p.variables target in
       let filled = is_filled p.types p.variables (record_components p.types target.record_type) items in
       let others = record_fits p.types p.variables (record_components p.types target.record_type) items in
       let filling = and_left filled (list_all (item_owns p.variables) items) (and_right leads others is.0) in
       record_holder_fine p target (λ first. frame.TargetsRecord first target.record_type items) s [] ready (and_left leads others is.0) (λ first. ready.deep)
       (λ access first rs recorded lies. ([], access, rs, refl, recorded, lies, ap (λ (o : Option (List ComponentKind)). is_filled p.types p.variables o items) (sym recorded) ∙ filling, fits))
-  stmt_fine (frees access path) inside s ready is lands fits =
+  stmt_fine types shown (frees access path) inside s ready is lands fits =
       let freed = is_freed_by p.types access (path_access p.types p.variables path) in
-      frees_fine path.of_record path.selectors access path.root s [] ready (and_left freed (not (names_borrower p.variables path)) is.0) is.1 fits
-  stmt_fine (gets target) inside s ready is lands fits =
+      frees_fine types shown path.of_record path.selectors access path.root s [] ready (and_left freed (not (names_borrower p.variables path)) is.0) is.1 fits
+  stmt_fine types shown (gets target) inside s ready is lands fits =
       gets_fine target.of_record target.selectors target.root s.input s ready is.0 fits
-  stmt_fine (writes e) inside s ready is lands fits =
+  stmt_fine types shown (writes e) inside s ready is lands fits =
       running [] (ready_at p [] s (frame.Computes e ∷ frame.Writes ∷ s.control) ready ready.deep) (Integer, typed Integer (type_of p.types p.variables e) is.0, ([], refl, fits))
-  stmt_fine (writes_text text) inside s ready is lands fits = running [] ready fits
-  stmt_fine (chooses branches) inside s ready is lands fits = branches_fine branches inside s ready is lands fits
-  stmt_fine (repeats condition fs end_spot) inside s ready is lands fits =
+  stmt_fine types shown (writes_text text) inside s ready is lands fits = running [] ready fits
+  stmt_fine types shown (chooses branches) inside s ready is lands fits = branches_fine branches inside s ready is lands fits
+  stmt_fine types shown (repeats condition fs end_spot) inside s ready is lands fits =
       let own = condition_fits p.types p.variables condition in
       let inner = stmts_fit p.types p.variables p.texts p.exceptions (callable_in p) true fs in
       let former = and_left (own && has_statement fs) inner is.0 in
       running [] (ready_at p [] s (frame.Repeats condition fs ∷ s.control) ready ready.deep)
       (refl, and_left own (has_statement fs) former, and_right own (has_statement fs) former, (and_right (own && has_statement fs) inner is.0, is.1), fits)
-  stmt_fine (exits condition spot) inside s ready is lands fits = exit_fine inside condition s ready is.0 lands fits
-  stmt_fine (counts x low high fs end_spot) inside s ready is lands fits =
+  stmt_fine types shown (exits condition spot) inside s ready is lands fits = exit_fine inside condition s ready is.0 lands fits
+  stmt_fine types shown (counts x low high fs end_spot) inside s ready is lands fits =
       let kind = is_type Integer (scalar_of (variable_kind p.variables x)) in
       let first = has_type p.types p.variables Integer low in
       let last = has_type p.types p.variables Integer high in
@@ -318,16 +255,16 @@ module _ (p : ProgramForm) (fit : SeenFits p) (bodies : List BodyForm) (sees : S
           ),
         ),
       )
-  stmt_fine (calls procedure actuals) inside s ready is lands fits =
+  stmt_fine types shown (calls procedure actuals) inside s ready is lands fits =
       let found = profile_found p.types p.variables p.bodies procedure actuals is.0 in
       let behind = frame.Calls procedure found.0 actuals ∷ s.control in
       let deep : depth (computing named actuals behind) ≤ length s.masters = omega (arith, ready.deep, depth_computing actuals behind) in
       subst (λ (o : Option BodyForm). Fine p (call_next named procedure actuals o s)) (sym (sees procedure found.0 found.1))
       (running [] (ready_at p [] s (computing named actuals behind) ready deep)
       (computing_fits p (cells_of s.heap) (formal_kinds found.0) [] actuals behind found.2 (found.1, refl, found.2, fits)))
-  stmt_fine (returns spot) inside s ready is lands fits = on_jump Returning (jumped p [] Returning s ready) (catches p (cells_of s.heap) s.control [] fits)
-  stmt_fine (raises_it e) inside s ready is lands fits = raises p [] [] e s ready fits
-  stmt_fine (encloses ds fs hs) inside s ready is lands fits =
+  stmt_fine types shown (returns spot) inside s ready is lands fits = on_jump Returning (jumped p [] Returning s ready) (catches p (cells_of s.heap) s.control [] fits)
+  stmt_fine types shown (raises_it e) inside s ready is lands fits = raises p [] [] e s ready fits
+  stmt_fine types shown (encloses ds fs hs) inside s ready is lands fits =
       let own = declarations_fit p.types p.variables ds in
       let inner = stmts_fit p.types p.variables p.texts p.exceptions (callable_in p) inside fs in
       let handled = handlers_fit p.types p.variables p.texts p.exceptions (callable_in p) inside hs in
@@ -345,14 +282,14 @@ module _ (p : ProgramForm) (fit : SeenFits p) (bodies : List BodyForm) (sees : S
         fits,
       )
 
-  stmts_fine : (fs : StmtsForm) (inside : Bool) (s : State) → Ready p [] s → FitStmts p inside fs → WhereInside inside (Lands p (cells_of s.heap) s.control) → Fits p (cells_of s.heap) [] s.control → Fine p (stmts_next named bodies fs s)
-  stmts_fine no_stmts inside s ready is lands fits = running [] ready fits
-  stmts_fine (a_stmt f fs) inside s ready is lands fits =
+  stmts_fine : (types : List TypeDefinition) → map type_form types ≡ p.types → (fs : StmtsForm) (inside : Bool) (s : State) → Ready p [] s → FitStmts p inside fs → WhereInside inside (Lands p (cells_of s.heap) s.control) → Fits p (cells_of s.heap) [] s.control → Fine p (stmts_next named types bodies fs s)
+  stmts_fine types shown no_stmts inside s ready is lands fits = running [] ready fits
+  stmts_fine types shown (a_stmt f fs) inside s ready is lands fits =
       let own = statement_fits p.types p.variables p.texts p.exceptions (callable_in p) inside f in
       let others = stmts_fit p.types p.variables p.texts p.exceptions (callable_in p) inside fs in
       let by_own = statement_frees_own p.types p.variables f in
       let later = statements_free_own p.types p.variables fs in
-      stmt_fine f inside (at (frame.Does fs ∷ s.control) s) (ready_at p [] s (frame.Does fs ∷ s.control) ready ready.deep)
+      stmt_fine types shown f inside (at (frame.Does fs ∷ s.control) s) (ready_at p [] s (frame.Does fs ∷ s.control) ready ready.deep)
       (and_left own others is.0, λ body. and_left by_own later (is.1 body)) lands
       (refl, inside, (and_right own others is.0, λ body. and_right by_own later (is.1 body)), lands, fits)
 
@@ -364,9 +301,13 @@ module _ (p : ProgramForm) (fit : SeenFits p) (bodies : List BodyForm) (sees : S
   line_fine (Scalar (scalar.Boolean b)) s kinds cells has ready fits = absurd has
 
   -- Declarations (3.11): a record object, whose components have values of their kinds.
-  made_fine : (types : List TypeDefinition) (x t : ℕ) (object : TypeNo) (cs : List ComponentKind) (values : List Value) (kinds : List OperandKind) (s : State) → HaveKinds p.types (cells_of s.heap) cs values → Ready p kinds s → variable_kind p.variables x ≡ Some (variable.Record object) → t ≡ object.0 → reached_components p.types t ≡ Some cs → is_access p.types t ≡ false → Fits p (cells_of s.heap) kinds s.control → TypedIn p (made named types x t values s)
-  made_fine types x t object cs values kinds s have ready is own reached never fits =
-      running kinds (ready_made p types x t object cs values kinds s have ready is own reached never) (fits_more p kinds s.control s.heap (record_cell named t (height s.masters) values) fits)
+  made_fine : (types : List TypeDefinition) → map type_form types ≡ p.types → (x t : ℕ) (object : TypeNo) (cs : List ComponentKind) (values : List Value) (kinds : List OperandKind) (s : State) → HaveKinds p.types (cells_of s.heap) cs values → Ready p kinds s → variable_kind p.variables x ≡ Some (variable.Record object) → t ≡ object.0 → reached_components p.types t ≡ Some cs → is_access p.types t ≡ false → Fits p (cells_of s.heap) kinds s.control → TypedIn p (made named types x t values s)
+  made_fine types shown x t object cs values kinds s have ready is own reached never fits =
+      let cell = record_cell named types t (height s.masters) values in
+      let heap = s.heap ++ new_object cell ∷ [] in
+      running kinds (ready_made p types shown x t object cs values kinds s have ready is own reached never)
+      (treating_fits p (cells_of heap) kinds (Names (record { 0 = length s.heap })) (frame.begins Creation) (all_tasks types t PartsFirst) s.control
+      (t, (cell, named_newest p s.heap cell, refl), all_within types p.types t PartsFirst shown) (fits_more p kinds s.control s.heap cell fits))
 
   -- What holds of a record object where it is declared.
   record_fine : (types : List TypeDefinition) → map type_form types ≡ p.types → (x t : ℕ) (initial : Option (List ItemForm)) (s : State) → Ready p [] s → initial_fits p.types p.variables (declares_record x t initial) ≡ true → Fits p (cells_of s.heap) [] s.control → Fine p (record_next named types x t initial s)
@@ -377,7 +318,7 @@ module _ (p : ProgramForm) (fit : SeenFits p) (bodies : List BodyForm) (sees : S
       let there = object_reached p.types own.0.0 fit.types_fit known in
       let reached : reached_components p.types t ≡ Some there.0 = ap (reached_components p.types) own.2 ∙ there.1 in
       let have = initials_have p.types (cells_of s.heap) (reached_of types t) there.0 (reached_shown types t there.0 shown reached) in
-      made_fine types x t own.0 there.0 (initial_values named (reached_of types t)) [] s have ready own.1 own.2 reached (record_no_access p.types p.variables x t fit.variables_fit named_so) fits
+      made_fine types shown x t own.0 there.0 (initial_values named (reached_of types t)) [] s have ready own.1 own.2 reached (record_no_access p.types p.variables x t fit.variables_fit named_so) fits
   record_fine types shown x t (Some items) s ready is fits =
       let filled = is_filled p.types p.variables (reached_components p.types t) items in
       let fitting = record_fits p.types p.variables (reached_components p.types t) items in
@@ -416,51 +357,11 @@ module _ (p : ProgramForm) (fit : SeenFits p) (bodies : List BodyForm) (sees : S
       running [] (ready_at p [] s (frame.Evaluates right ∷ frame.Declares x ∷ frame.Elaborates ds fs hs ∷ s.control) ready deep)
       (own.0, own.2, ([], own.0, refl, own.1, (refl, fits.1, and_right (early && fitting && lending) later fits.2, fits.3, fits.4, fits.5, fits.6)))
 
-  -- The leaving of a master (7.6.1).
-  ready_shorter : (kinds : List OperandKind) (s : State) → Ready p kinds s → Ready p kinds (record s { masters = shorter s.masters })
-  ready_shorter kinds s ready = record { filled = ready.filled; active = ready.active; runs = ready.runs; deep = omega (arith, ready.deep, length_shorter s.masters) }
-
-  members_fine : (cause : Cause) (pool : Option ℕ) (ids : List Id) (vs : List Value) (s : State) (kinds : List OperandKind) → map Names ids ≡ vs → Ready p kinds s → Fits p (cells_of s.heap) kinds s.control → Fine p (members_next named cause pool vs s)
-  members_fine cause pool ids [] s kinds are ready fits = running kinds (ready_shorter kinds s ready) fits
-  members_fine cause pool ids (v ∷ vs) s kinds are ready fits = λ i lt.
-      let name : IsName (slice_index_or (v ∷ vs) i Null) = picked ids (v ∷ vs) i are lt in
-      let heap = on_object parted s.heap (slice_index_or (v ∷ vs) i Null) in
-      let same : cells_of heap ≡ cells_of s.heap = cells_on parted s.heap (slice_index_or (v ∷ vs) i Null) (λ y. refl) in
-      let other = ready_heap p kinds s heap same ready in
-      running kinds (record { filled = other.filled; active = other.active; runs = other.runs; deep = other.deep }) (name, (name, fits_heap p kinds s s.control heap same fits))
-
-  item_leave_fine : (m : ℕ) (item : Item) (what : Owned) (s : State) (kinds : List OperandKind) → Ready p kinds s → Fits p (cells_of s.heap) kinds s.control → Fine p (item_leave_next named m item what s)
-  item_leave_fine m item (declared x) s kinds ready fits = running kinds (ready_shorter kinds s ready) fits
-  item_leave_fine m item (collection access pool) s kinds ready fits = members_fine (Leaving m item.number) pool (members_of s.heap item.number) (members s.heap item.number) s kinds refl ready fits
-  item_leave_fine m item (record_object t) s kinds ready fits = members_fine (Leaving m item.number) None (members_of s.heap item.number) (members s.heap item.number) s kinds refl ready fits
-  item_leave_fine m item (storage_pool declaration number) s kinds ready fits = running kinds (ready_shorter kinds s ready) fits
-
-  left_jumps : (mode : Mode) (s : State) (kinds : List OperandKind) (ms : List Master) → Ready p kinds s → depth s.control ≤ length ms → Jumps p mode (record s { masters = ms; mode = mode })
-  left_jumps mode s kinds ms ready deep = record { filled = ready.filled; active = active_none p.types (cells_of s.heap) p.variables kinds s.activations ready.active; jumps = refl; deep = deep }
-
-  left_fine : (mode : Mode) (s : State) (kinds : List OperandKind) (ms : List Master) → Ready p kinds s → depth s.control ≤ length ms → Fits p (cells_of s.heap) kinds (frame.Leaves mode ∷ s.control) → TypedIn p (record s { masters = ms; mode = mode })
-  left_fine Running s kinds ms ready deep fits = running kinds (record { filled = ready.filled; active = ready.active; runs = refl; deep = deep }) fits
-  left_fine (Raising e) s kinds ms ready deep fits = on_jump (Raising e) (left_jumps (Raising e) s kinds ms ready deep) fits
-  left_fine Exiting s kinds ms ready deep fits = on_jump Exiting (left_jumps Exiting s kinds ms ready deep) fits
-  left_fine Returning s kinds ms ready deep fits = on_jump Returning (left_jumps Returning s kinds ms ready deep) fits
-
-  master_leave_fine : (mode : Mode) (m : ℕ) (items : List Item) (s : State) (kinds : List OperandKind) → Ready p kinds s → 1 + depth s.control ≤ length s.masters → depth s.control ≤ length (older s.masters) → Fits p (cells_of s.heap) kinds (frame.Leaves mode ∷ s.control) → Fine p (master_leave_next named mode m items s)
-  master_leave_fine mode m [] s kinds ready deep below fits = left_fine mode s kinds (older s.masters) ready below fits
-  master_leave_fine mode m (item ∷ items) s kinds ready deep below fits =
-      item_leave_fine m item item.owned (at (frame.Leaves mode ∷ s.control) s) kinds (ready_at p kinds s (frame.Leaves mode ∷ s.control) ready deep) fits
-
-  leave_fine : (mode : Mode) (ms : List Master) (s : State) (kinds : List OperandKind) → s.masters ≡ ms → Ready p kinds s → 1 + depth s.control ≤ length s.masters → Fits p (cells_of s.heap) kinds (frame.Leaves mode ∷ s.control) → Fine p (leave_next named mode ms s)
-  leave_fine mode [] s kinds is ready deep fits = let none : length s.masters ≡ 0 = ap length is in absurd (omega (arith, deep, none))
-  leave_fine mode (m ∷ ms) s kinds is ready deep fits =
-      let same : length (older s.masters) ≡ length ms = ap (λ (xs : List Master). length (older xs)) is in
-      let all : length s.masters ≡ 1 + length ms = ap length is ∙ omega arith in
-      master_leave_fine mode m.number m.items s kinds ready deep (omega (arith, deep, same, all)) fits
-
   -- Each frame that is taken off, where no call begins or ends.
   pub frame_fine : (types : List TypeDefinition) → map type_form types ≡ p.types → (f : Frame Value) → crosses f ≡ false → (s : State) (kinds : List OperandKind) → Ready p kinds s → depth (f ∷ s.control) ≤ length s.masters → Fits p (cells_of s.heap) kinds (f ∷ s.control) → Fine p (frame_next named types bodies f s)
   frame_fine types shown (frame.Elaborates ds fs hs) stays s kinds ready deep fits =
       declarations_fine types shown ds fs hs s (ready_kinds p kinds [] s fits.0 ready) deep (refl, fits.1, fits.2, fits.3, fits.4, fits.5, fits.6)
-  frame_fine types shown (frame.Does fs) stays s kinds ready deep fits = stmts_fine fs fits.1 s (ready_kinds p kinds [] s fits.0 ready) fits.2 fits.3 fits.4
+  frame_fine types shown (frame.Does fs) stays s kinds ready deep fits = stmts_fine types shown fs fits.1 s (ready_kinds p kinds [] s fits.0 ready) fits.2 fits.3 fits.4
   frame_fine types shown (frame.Decides fs branches) stays s kinds ready deep fits =
       let taken = ready_kinds p kinds (of_kind variable.Boolean ∷ []) s fits.0 ready in
       decided_fine fs branches (newest named s) fits.1 (popped s) (cells_of s.heap) (newest_of p variable.Boolean [] s taken) (ready_pop p variable.Boolean [] s taken) fits.2 fits.3 fits.4 fits.5
@@ -480,7 +381,7 @@ module _ (p : ProgramForm) (fit : SeenFits p) (bodies : List BodyForm) (sees : S
       let taken = ready_kinds p kinds (of_kind variable.Boolean ∷ []) s fits.0 ready in
       exited_fine (newest named s) (popped s) (cells_of s.heap) (newest_of p variable.Boolean [] s taken) (ready_pop p variable.Boolean [] s taken) fits.1 fits.2
   frame_fine types shown frame.Closes stays s kinds ready deep fits = running kinds (ready_at p kinds s (frame.Leaves Running ∷ s.control) ready deep) fits
-  frame_fine types shown (frame.Leaves mode) stays s kinds ready deep fits = leave_fine mode s.masters s kinds refl ready deep fits
+  frame_fine types shown (frame.Leaves mode) stays s kinds ready deep fits = leave_fine p types shown mode s.masters s kinds refl ready deep fits
   frame_fine types shown (frame.Calls procedure b actuals) stays s kinds ready deep fits = absurd (cc)
   frame_fine types shown (frame.Returns actuals references) stays s kinds ready deep fits = absurd (cc)
   frame_fine types shown (frame.Evaluates right) stays s kinds ready deep fits = right_fine p types shown right fits.0 s kinds ready fits.1 fits.2
@@ -523,8 +424,8 @@ module _ (p : ProgramForm) (fit : SeenFits p) (bodies : List BodyForm) (sees : S
       (copies_fine p (newest named s) fits.1 first fits.2 (popped s) fits.0 (ready_pop p (variable.Access fits.1) fits.0 s taken) (newest_of p (variable.Access fits.1) fits.0 s taken) fits.5 fits.6)
   frame_fine types shown (frame.Creates access count) stays s kinds ready deep fits =
       let taken = ready_kinds p kinds (onto fits.1 fits.0) s fits.2 ready in
-      subst (λ (m : ℕ). Fine p (new_next named access m (words_of types access) (home_of access s.masters) s)) (sym fits.4)
-      (new_fine p (home_of access s.masters) access (words_of types access) s fits.0 fits.1 taken fits.3 fits.5)
+      subst (λ (m : ℕ). Fine p (new_next named types access m (words_of types access) (home_of access s.masters) s)) (sym fits.4)
+      (new_fine p types shown (home_of access s.masters) access (words_of types access) s fits.0 fits.1 taken fits.3 fits.5)
   frame_fine types shown (frame.Stores x) stays s kinds ready deep fits =
       let taken = ready_kinds p kinds (of_kind fits.1 ∷ fits.0) s fits.2 ready in
       running fits.0 (put_in p fits.0 (popped s) x fits.1 (newest named s) (ready_pop p fits.1 fits.0 s taken) fits.3 (newest_of p fits.1 fits.0 s taken)) fits.4
@@ -547,7 +448,7 @@ module _ (p : ProgramForm) (fit : SeenFits p) (bodies : List BodyForm) (sees : S
       receive_fine p (newest named s) fits.1 c (popped s) fits.0 (ready_pop p (variable.Access fits.1) fits.0 s taken) (newest_of p (variable.Access fits.1) fits.0 s taken) fits.3 fits.4
   frame_fine types shown (frame.FreesIn access c) stays s kinds ready deep fits =
       let taken = ready_kinds p kinds (of_kind (variable.Access fits.1) ∷ fits.0) s fits.3 ready in
-      free_in_fine p (newest named s) access fits.1 fits.2 c (popped s) fits.0 (ready_pop p (variable.Access fits.1) fits.0 s taken) (newest_of p (variable.Access fits.1) fits.0 s taken) fits.4 fits.6
+      free_in_fine p types shown (newest named s) access fits.1 fits.2 c (popped s) fits.0 (ready_pop p (variable.Access fits.1) fits.0 s taken) (newest_of p (variable.Access fits.1) fits.0 s taken) fits.4 fits.6
   frame_fine types shown (frame.Declares x) stays s kinds ready deep fits =
       let taken = ready_kinds p kinds (of_kind fits.1 ∷ fits.0) s fits.2 ready in
       running fits.0 (ready_owning p fits.0 (put x (newest named s) (popped s)) (declared x) (put_in p fits.0 (popped s) x fits.1 (newest named s) (ready_pop p fits.1 fits.0 s taken) fits.3 (newest_of p fits.1 fits.0 s taken))) fits.4
@@ -555,11 +456,12 @@ module _ (p : ProgramForm) (fit : SeenFits p) (bodies : List BodyForm) (sees : S
       let taken = ready_kinds p kinds (onto fits.2 fits.0) s fits.3 ready in
       let words : words_of types t ≡ length fits.2 = words_shown types t fits.2 shown fits.6 in
       subst (λ (m : ℕ). TypedIn p (made named types x t (newest_ones named m s) (without_newest named m s))) (sym words)
-      (made_fine types x t fits.1 fits.2 (newest_ones named (length fits.2) s) fits.0 (without_newest named (length fits.2) s) (newest_have p fits.2 fits.0 s taken) (ready_without p fits.2 fits.0 s taken) fits.4 fits.5 fits.6 fits.7 fits.8)
+      (made_fine types shown x t fits.1 fits.2 (newest_ones named (length fits.2) s) fits.0 (without_newest named (length fits.2) s) (newest_have p fits.2 fits.0 s taken) (ready_without p fits.2 fits.0 s taken) fits.4 fits.5 fits.6 fits.7 fits.8)
+  frame_fine types shown (frame.Treats v treatment tasks) stays s kinds ready deep fits = treats_fine p types shown v treatment tasks s kinds ready fits.0 fits.1
   frame_fine types shown frame.Writes stays s kinds ready deep fits =
       let taken = ready_kinds p kinds (of_kind variable.Integer ∷ fits.0) s fits.1 ready in
       line_fine (newest named s) (popped s) fits.0 (cells_of s.heap) (newest_of p variable.Integer fits.0 s taken) (ready_pop p variable.Integer fits.0 s taken) fits.2
-  frame_fine types shown (frame.Ends v) stays s kinds ready deep fits = end_fine v s kinds fits.0 ready fits.1
-  frame_fine types shown (frame.GivesBack v cause pool) stays s kinds ready deep fits = back_fine v cause pool s kinds fits.0 ready fits.1
+  frame_fine types shown (frame.Ends v) stays s kinds ready deep fits = end_fine p v s kinds fits.0 ready fits.1
+  frame_fine types shown (frame.GivesBack v cause pool) stays s kinds ready deep fits = back_fine p v cause pool s kinds fits.0 ready fits.1
   frame_fine types shown (frame.Clears x) stays s kinds ready deep fits = running kinds (put_in p kinds s x (variable.Access fits.0) Null ready fits.1 tt) fits.2
   frame_fine types shown (frame.ClearsIn object c) stays s kinds ready deep fits = store_fine p object fits.0 c Null (variable.Access fits.1) s kinds fits.2 ready fits.3 fits.4 tt fits.5

@@ -22,7 +22,7 @@ use Rattle.ada_meaning.specs.Frame as frame
 use Rattle.ada_meaning.specs.Heap.{Cell}
 use Rattle.ada_meaning.specs.Step.{computed, opened_next, opens_next, target_next, stored_next, store_next, received_next, receive_next}
 use Rattle.ada_meaning.specs.Named.{Object, State, named, look, seen, existing, changed, filled, store, an_integer}
-use Rattle.ada_typed.proofs.Values.{OperandKind, of_kind, refers_to, AreFilled, IsActive, StayDesignated, kinds_later, filled_later, active_later, designated_set, filled_set, kinds_set, component_held, filled_at}
+use Rattle.ada_typed.proofs.Values.{OperandKind, of_kind, refers_to, AreFilled, IsActive, StayDesignated, kinds_later, filled_later, active_later, designated_set, filled_set, kinds_set, component_held, filled_at, parts_at}
 use Rattle.ada_typed.proofs.Later.{fits_later}
 use Rattle.ada_typed.proofs.Control.{IsName, Fits, Ready, running}
 use Rattle.ada_typed.proofs.Evaluations.{Fine, cell_at, own_access, ready_at, ready_push, ready_refer, raises}
@@ -69,7 +69,7 @@ module _ (p : ProgramForm) where
       let here : component_kind (slice_get own.0 c) ≡ Some kind = sym (ap (λ (found : Option (List ComponentKind)). kind_among found c) reached) ∙ leads in
       let values = kinds_later p.types cells after stay own.0 cell.values (kinds_set p.types cells own.0 object.cell.values c kind v own.2 here fitting) in
       record {
-        filled = subst (λ (cs : Cells). AreFilled p.types cs cs) (sym are) (filled_set p.types after cells o.0 cell (filled_later p.types cells after stay cells ready.filled) (own.0, own.1, values, own.3));
+        filled = subst (λ (cs : Cells). AreFilled p.types cs cs) (sym are) (filled_set p.types after cells o.0 cell (filled_later p.types cells after stay cells ready.filled) (own.0, own.1, values, own.3) (parts_at p.types cells cells o.0 object.cell ready.filled there));
         active = subst (λ (cs : Cells). IsActive p.types cs p.variables kinds s.activations) (sym are) (active_later p.types cells after stay p.variables kinds s.activations ready.active);
         fits = subst (λ (cs : Cells). Fits p cs kinds s.control) (sym are) (fits_later p cells after stay s.control kinds fits);
         stay = subst (λ (cs : Cells). StayDesignated cells cs) (sym are) stay;

@@ -17,10 +17,16 @@ use Rattle.ada_meaning.specs.Heap.{Cell}
 use Rattle.ada_meaning.specs.State.{Activation}
 use Rattle.ada_meaning.specs.Step.{first_or, older, places_of, operands_of, with_places, with_operands, blank, blanks}
 use Rattle.ada_meaning.specs.Named.{named}
+use Rattle.ada_typed.proofs.Parts.{parts_known}
 
+-- An object has as many controlled parts as its type says (7.6).
+abbrev pub HasParts : List TypeForm → Cell Value → Type 0
+HasParts types cell = length cell.parts ≡ parts_known types cell.access
+
+-- Each object is filled, and has its controlled parts.
 abbrev pub AreFilled : List TypeForm → Cells → Cells → Type 0
 AreFilled types cells [] = Unit {0}
-AreFilled types cells (c ∷ cs) = IsFilled types cells c × AreFilled types cells cs
+AreFilled types cells (c ∷ cs) = (IsFilled types cells c × HasParts types c) × AreFilled types cells cs
 
 -- Each variable has a place, which holds a value of its kind, whether or not its declaration has been elaborated.
 abbrev pub AreHeld : List TypeForm → Cells → List VariableForm → List Value → Type 0
@@ -128,7 +134,7 @@ module _ (types : List TypeForm) (cells after : Cells) (stay : StayDesignated ce
 
   pub filled_later : (xs : Cells) → AreFilled types cells xs → AreFilled types after xs
   filled_later [] h = tt
-  filled_later (x ∷ xs) h = ((h.0.0, h.0.1, kinds_later h.0.0 x.values h.0.2, h.0.3), filled_later xs h.1)
+  filled_later (x ∷ xs) h = (((h.0.0.0, h.0.0.1, kinds_later h.0.0.0 x.values h.0.0.2, h.0.0.3), h.0.1), filled_later xs h.1)
 
   pub held_later : (xs : List VariableForm) (vs : List Value) → AreHeld types cells xs vs → AreHeld types after xs vs
   held_later [] vs h = tt
@@ -170,10 +176,10 @@ get_set (x ∷ cells) (suc i) before cell (suc k) access found is same there own
 pub designated_set : (cells : Cells) (i : ℕ) (before cell : Cell Value) → slice_get cells i ≡ Some before → cell.access ≡ before.access → StayDesignated cells (slice_set cells i cell)
 designated_set cells i before cell is same access o h = get_set cells i before cell o.0 access h.0 is same h.1 h.2
 
-pub filled_set : (types : List TypeForm) (cells : Cells) (xs : Cells) (i : ℕ) (cell : Cell Value) → AreFilled types cells xs → IsFilled types cells cell → AreFilled types cells (slice_set xs i cell)
-filled_set types cells [] i cell h filled = tt
-filled_set types cells (x ∷ xs) zero cell h filled = (filled, h.1)
-filled_set types cells (x ∷ xs) (suc i) cell h filled = (h.0, filled_set types cells xs i cell h.1 filled)
+pub filled_set : (types : List TypeForm) (cells : Cells) (xs : Cells) (i : ℕ) (cell : Cell Value) → AreFilled types cells xs → IsFilled types cells cell → HasParts types cell → AreFilled types cells (slice_set xs i cell)
+filled_set types cells [] i cell h filled parts = tt
+filled_set types cells (x ∷ xs) zero cell h filled parts = ((filled, parts), h.1)
+filled_set types cells (x ∷ xs) (suc i) cell h filled parts = (h.0, filled_set types cells xs i cell h.1 filled parts)
 
 -- A component gets another value of its kind.
 pub kinds_set : (types : List TypeForm) (cells : Cells) (cs : List ComponentKind) (vs : List Value) (c : ℕ) (kind : VariableKind) (v : Value) → HaveKinds types cells cs vs → component_kind (slice_get cs c) ≡ Some kind → HasKind types cells kind v → HaveKinds types cells cs (slice_set vs c v)
@@ -183,15 +189,15 @@ kinds_set types cells (k ∷ cs) [] c kind v h is has = h
 kinds_set types cells (k ∷ cs) (u ∷ vs) zero kind v h is has = let one : kind ≡ held_kind k = cc in (subst (λ (q : VariableKind). HasKind types cells q v) one has, h.1)
 kinds_set types cells (k ∷ cs) (u ∷ vs) (suc c) kind v h is has = (h.0, kinds_set types cells cs vs c kind v h.1 is has)
 
-filled_end : (types : List TypeForm) (cells : Cells) (c : Cell Value) (xs : Cells) → AreFilled types cells xs → IsFilled types cells c → AreFilled types cells (xs ++ c ∷ [])
-filled_end types cells c [] h i = (i, tt)
-filled_end types cells c (x ∷ xs) h i = (h.0, filled_end types cells c xs h.1 i)
+filled_end : (types : List TypeForm) (cells : Cells) (c : Cell Value) (xs : Cells) → AreFilled types cells xs → IsFilled types cells c → HasParts types c → AreFilled types cells (xs ++ c ∷ [])
+filled_end types cells c [] h i parts = ((i, parts), tt)
+filled_end types cells c (x ∷ xs) h i parts = (h.0, filled_end types cells c xs h.1 i parts)
 
 -- A new object that is filled.
-pub filled_new : (types : List TypeForm) (cells : Cells) (c : Cell Value) (components : List ComponentKind) → AreFilled types cells cells → reached_components types c.access ≡ Some components → HaveKinds types cells components c.values → IsPooled types c → AreFilled types (cells ++ c ∷ []) (cells ++ c ∷ [])
-filled_new types cells c components h is k pooled =
+pub filled_new : (types : List TypeForm) (cells : Cells) (c : Cell Value) (components : List ComponentKind) → AreFilled types cells cells → reached_components types c.access ≡ Some components → HaveKinds types cells components c.values → IsPooled types c → HasParts types c → AreFilled types (cells ++ c ∷ []) (cells ++ c ∷ [])
+filled_new types cells c components h is k pooled parts =
     let stay = designated_more cells c in
-    filled_end types (cells ++ c ∷ []) c cells (filled_later types cells (cells ++ c ∷ []) stay cells h) (components, is, kinds_later types cells (cells ++ c ∷ []) stay components c.values k, pooled)
+    filled_end types (cells ++ c ∷ []) c cells (filled_later types cells (cells ++ c ∷ []) stay cells h) (components, is, kinds_later types cells (cells ++ c ∷ []) stay components c.values k, pooled) parts
 
 -- The newest name is that of the new object.
 pub newest_name : (cells : Cells) (c : Cell Value) → slice_get (cells ++ c ∷ []) (length cells) ≡ Some c
@@ -280,5 +286,11 @@ component_held types cells (k ∷ cs) (v ∷ vs) (suc c) kind h is = component_h
 -- The object of a name is filled.
 pub filled_at : (types : List TypeForm) (cells xs : Cells) (i : ℕ) (cell : Cell Value) → AreFilled types cells xs → slice_get xs i ≡ Some cell → IsFilled types cells cell
 filled_at types cells [] i cell h is = absurd (cc)
-filled_at types cells (x ∷ xs) zero cell h is = let one : x ≡ cell = cc in subst (λ (c : Cell Value). IsFilled types cells c) one h.0
+filled_at types cells (x ∷ xs) zero cell h is = let one : x ≡ cell = cc in subst (λ (c : Cell Value). IsFilled types cells c) one h.0.0
 filled_at types cells (x ∷ xs) (suc i) cell h is = filled_at types cells xs i cell h.1 is
+
+-- It has its controlled parts.
+pub parts_at : (types : List TypeForm) (cells xs : Cells) (i : ℕ) (cell : Cell Value) → AreFilled types cells xs → slice_get xs i ≡ Some cell → HasParts types cell
+parts_at types cells [] i cell h is = absurd (cc)
+parts_at types cells (x ∷ xs) zero cell h is = let one : x ≡ cell = cc in subst (λ (c : Cell Value). HasParts types c) one h.0.1
+parts_at types cells (x ∷ xs) (suc i) cell h is = parts_at types cells xs i cell h.1 is

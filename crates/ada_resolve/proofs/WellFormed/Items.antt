@@ -188,6 +188,7 @@ record_value_is types variables t m spot f q = absurd q
 value_is : (types : List TypeForm) (variables : List VariableForm) (k : PartKind) (m : Meant) (spot : Spot) → MeantFits types variables m → Quiet (fits_remark variables k m spot) → AreItemsOf types variables k (item_meant m)
 value_is types variables (part.Elementary k) m spot f q = (value_fits types variables k m spot f q, value_owns types variables k m spot f q)
 value_is types variables (part.Record t) m spot f q = record_value_is types variables t m spot f q
+value_is types variables part.Parent m spot f q = absurd q
 
 -- the component that an item is for is one of these
 component_is : (at : ℕ) (cs : List PartForm) (o : Option PartForm) → slice_get cs at ≡ o → IsComponentOf cs 0 (component_at at o)

@@ -22,14 +22,17 @@ OfParts P ps = (i : ℕ) (c : PartForm) → slice_get ps i ≡ Some c → P c.ki
 abbrev pub RecordHas : (ℕ → Type 0) → PartKind → Type 0
 RecordHas P (part.Elementary kind) = Unit {0}
 RecordHas P (part.Record t) = P t.0
+RecordHas P part.Parent = Unit {0}
 
 pub record_has : (P Q : ℕ → Type 0) → ((t : ℕ) → P t → Q t) → (kind : PartKind) → RecordHas P kind → RecordHas Q kind
 record_has P Q w (part.Elementary kind) h = tt
 record_has P Q w (part.Record t) h = w t.0 h
+record_has P Q w part.Parent h = tt
 
 pub record_has_both : (P Q R : ℕ → Type 0) → ((t : ℕ) → P t → Q t → R t) → (kind : PartKind) → RecordHas P kind → RecordHas Q kind → RecordHas R kind
 record_has_both P Q R w (part.Elementary kind) h g = tt
 record_has_both P Q R w (part.Record t) h g = w t.0 h g
+record_has_both P Q R w part.Parent h g = tt
 
 -- the components of a type lie one behind the other, and records among them are of types that are there; so is a record object
 abbrev pub IsLaid : List TypeForm → TypeForm → Type 0
@@ -90,6 +93,7 @@ laid_more types n (p ∷ ps) cs c w e =
 within_same : (types more : List TypeForm) (kind : PartKind) → RecordHas (λ t. elementary_of more t ≡ elementary_of types t) kind → kinds_within more kind ≡ kinds_within types kind
 within_same types more (part.Elementary kind) h = refl
 within_same types more (part.Record t) h = h
+within_same types more part.Parent h = refl
 
 pub laid_stays : (types more : List TypeForm) (n : ℕ) (ps : List PartForm) (cs : List ComponentKind) → OfParts (RecordHas (λ t. elementary_of more t ≡ elementary_of types t)) ps → AreLaidOut types n ps cs → AreLaidOut more n ps cs
 laid_stays types more n [] cs w l = l

@@ -20,7 +20,7 @@ use Rattle.ada_resolve.specs.declared.selectors.Reached.TheVariants as reached
 use Rattle.ada_resolve.specs.declared.components.KnownComponent.{KnownComponent}
 use Rattle.ada_resolve.specs.Known.{Known}
 use Rattle.ada_resolve.specs.Paths as path
-use Rattle.ada_resolve.specs.Paths.{components_of, elementary_of, elementary_in, known_component, first_behind, held_by, number_by, designated_of, component_named, is_incomplete_type, component_in, component_behind, held_in, object_in, object_behind, selector_reached, selectors_reached, variable_reached, whole_object, record_known_by, record_of_object, number_in, component_selected, components_selected, component_wanted, component_within_remark, component_behind_remark, complete_behind, all_remark, selector_remark, selectors_remark}
+use Rattle.ada_resolve.specs.Paths.{components_of, elementary_of, elementary_in, known_component, first_behind, held_by, number_by, designated_of, component_named, is_incomplete_type, component_in, component_behind, held_in, object_in, object_behind, selector_reached, selectors_reached, variable_reached, whole_object, record_known_by, record_of_object, number_in, component_selected, components_selected, component_wanted, selectable_wanted, component_within_remark, component_behind_remark, complete_behind, all_remark, selector_remark, selectors_remark}
 use Rattle.ada_resolve.specs.Records.{kinds_within}
 use Rattle.ada_resolve.specs.Remark.{wrong, wrong_if}
 use Rattle.ada_resolve.proofs.WellFormed.Names.{TypesFit, text_same}
@@ -98,12 +98,23 @@ IsPartOf types t text found =
     (name : List ℕ) × (parts : List PartForm) × (components : List ComponentKind) × (slice_get types t ≡ Some (record_of name parts components)) ×
     (slice_get parts found.0 ≡ Some (record { name = text; kind = found.1.kind; first = found.1.first }))
 
+-- a name can select it: it is no parent part
+abbrev pub IsSelectable : PartKind → Type 0
+IsSelectable (part.Elementary kind) = Unit {0}
+IsSelectable (part.Record t) = Unit {0}
+IsSelectable part.Parent = ⊥
+
+pub is_selectable : (kind : PartKind) (c : Ident) → Quiet (selectable_wanted kind c) → IsSelectable kind
+is_selectable (part.Elementary kind) c q = tt
+is_selectable (part.Record t) c q = tt
+is_selectable part.Parent c q = absurd q
+
 -- it lies in the object behind what is held, where the record type begins behind as many elementary components
 abbrev pub IsHeld : List TypeForm → Option VariableKind → ℕ → ℕ → List ℕ → Option (ℕ × KnownComponent) → Type 0
 IsHeld types of t first text None = ⊥
 IsHeld types of t first text (Some found) =
     IsPartOf types t text found × IsWithin types of (kinds_within types found.1.kind) (first + found.1.first) ×
-    RecordHas (λ u. fits.is_record types u ≡ true) found.1.kind
+    RecordHas (λ u. fits.is_record types u ≡ true) found.1.kind × IsSelectable found.1.kind
 
 -- where a type has a component, it is a record type with these
 pub has_record : (types : List TypeForm) (t j : ℕ) (c : PartForm) → slice_get (components_of types t) j ≡ Some c → (name : List ℕ) × (parts : List PartForm) × (components : List ComponentKind) × (slice_get types t ≡ Some (record_of name parts components)) × (slice_get parts j ≡ Some c)
@@ -142,11 +153,12 @@ held_within k types of spot t first c laid w is q = complete_or (is_incomplete_t
         let at : found.0 ≡ i.0 = i.2 ∙ omega arith in
         let h = has_record k.types t i.0 i.1 i.3 in
         let there : slice_get types t ≡ Some (record_of h.0 h.1 h.2) = w t (record_of h.0 h.1 h.2) h.3 in
-        let so : IsPartOf types t i.1.name (i.0, known_component i.1) × IsWithin types of (kinds_within types i.1.kind) (first + i.1.first) × RecordHas (λ u. fits.is_record types u ≡ true) i.1.kind =
-        ((h.0, h.1, h.2, there, h.4), part_is types of t first h.0 h.1 h.2 i.0 i.1 laid is there h.4, (laid.0 t (record_of h.0 h.1 h.2) there).1 i.0 i.1 h.4) in
+        let selectable : IsSelectable i.1.kind = subst (λ (m : KnownComponent). IsSelectable m.kind) (sym i.4) (is_selectable found.1.kind c q) in
+        let so : IsPartOf types t i.1.name (i.0, known_component i.1) × IsWithin types of (kinds_within types i.1.kind) (first + i.1.first) × RecordHas (λ u. fits.is_record types u ≡ true) i.1.kind × IsSelectable i.1.kind =
+        ((h.0, h.1, h.2, there, h.4), part_is types of t first h.0 h.1 h.2 i.0 i.1 laid is there h.4, (laid.0 t (record_of h.0 h.1 h.2) there).1 i.0 i.1 h.4, selectable) in
         subst (λ (text : List ℕ). IsHeld types of t first text (Some found)) i.5
-        (subst (λ (m : KnownComponent). IsPartOf types t i.1.name (found.0, m) × IsWithin types of (kinds_within types m.kind) (first + m.first) × RecordHas (λ u. fits.is_record types u ≡ true) m.kind) i.4
-        (subst (λ (n : ℕ). IsPartOf types t i.1.name (n, known_component i.1) × IsWithin types of (kinds_within types i.1.kind) (first + i.1.first) × RecordHas (λ u. fits.is_record types u ≡ true) i.1.kind) (sym at) so))
+        (subst (λ (m : KnownComponent). IsPartOf types t i.1.name (found.0, m) × IsWithin types of (kinds_within types m.kind) (first + m.first) × RecordHas (λ u. fits.is_record types u ≡ true) m.kind × IsSelectable m.kind) i.4
+        (subst (λ (n : ℕ). IsPartOf types t i.1.name (n, known_component i.1) × IsWithin types of (kinds_within types i.1.kind) (first + i.1.first) × RecordHas (λ u. fits.is_record types u ≡ true) i.1.kind × IsSelectable i.1.kind) (sym at) so))
 
     complete_or : (b : Bool) → Quiet (cond b (wrong spot WrongType) (component_wanted (component_named 0 c.text (components_of k.types t)) c)) → IsHeld types of t first c.text (cond b None (component_named 0 c.text (components_of k.types t)))
     complete_or true q = absurd q
@@ -229,11 +241,12 @@ kind_is_behind types of n kind w =
 
 pub held_reached : (types : List TypeForm) (of : Option VariableKind) (d first : ℕ) (text : List ℕ) (o : Option (ℕ × KnownComponent)) → IsHeld types of d first text o → IsReached types (fits.selectors_kind types of (number_in first o)) (held_in first o)
 held_reached types of d first text None h = absurd h
-held_reached types of d first text (Some found) h = by_kind found.1.kind h.1 h.2
+held_reached types of d first text (Some found) h = by_kind found.1.kind h.1 h.2 h.3
   where
-    by_kind : (kind : PartKind) → IsWithin types of (kinds_within types kind) (first + found.1.first) → RecordHas (λ u. fits.is_record types u ≡ true) kind → IsReached types (fits.selectors_kind types of (number_by kind (first + found.1.first))) (held_by kind (first + found.1.first))
-    by_kind (part.Elementary kind) w r = kind_is_behind types of (first + found.1.first) kind w
-    by_kind (part.Record t) w r = (w, r)
+    by_kind : (kind : PartKind) → IsWithin types of (kinds_within types kind) (first + found.1.first) → RecordHas (λ u. fits.is_record types u ≡ true) kind → IsSelectable kind → IsReached types (fits.selectors_kind types of (number_by kind (first + found.1.first))) (held_by kind (first + found.1.first))
+    by_kind (part.Elementary kind) w r s = kind_is_behind types of (first + found.1.first) kind w
+    by_kind (part.Record t) w r s = (w, r)
+    by_kind part.Parent w r s = absurd s
 
 -- `all`
 object_designated : (k : Known) (types : List TypeForm) (of : Option VariableKind) (spot : Spot) (t : TypeNo) (o : Option ℕ) → TypesFit types → Stays k.types types → of ≡ Some (variable.Access t) → designated_of k.types t.0 ≡ o → Quiet (complete_behind k spot o) → IsReached types of (object_in k o)

@@ -41,6 +41,7 @@ access_is types t name d pool is = rw is refl
 abbrev own_kinds : PartKind → List ComponentKind
 own_kinds (part.Elementary kind) = kind ∷ []
 own_kinds (part.Record t) = []
+own_kinds part.Parent = []
 
 -- an elementary component is of what its type's name stands for, and a record is of a record type
 kind_there : (k : Known) (text : List ℕ) (e : Entity) (initial : Option StaticTree) → EntityFits k.types k.variables text e → list_all (fits.kind_fits k.types) (own_kinds (kind_in (Some e) k initial)) ≡ true
@@ -64,6 +65,7 @@ elementary_fit types t all = by_form (slice_get types t) refl
 within_fit : (types : List TypeForm) (kind : PartKind) → list_all (fits.type_fits types) types ≡ true → list_all (fits.kind_fits types) (own_kinds kind) ≡ true → list_all (fits.kind_fits types) (kinds_within types kind) ≡ true
 within_fit types (part.Elementary kind) all own = own
 within_fit types (part.Record t) all own = elementary_fit types t.0 all
+within_fit types part.Parent all own = refl
 
 -- what a record type is made of fits
 pub composed_fit : (k : Known) → PartsFit k.types k.variables (parts k) → list_all (fits.type_fits k.types) k.types ≡ true → (before : Composition) (cs : List ComponentTree) → list_all (fits.kind_fits k.types) before.kinds ≡ true → list_all (fits.kind_fits k.types) (composed k before cs).kinds ≡ true

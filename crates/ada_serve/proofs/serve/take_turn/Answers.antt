@@ -15,11 +15,11 @@ returns-in_err-write_event-in-Ok-clause-text g c =
     let made : Makes PoolGrants PoolPicks (next c.args.program.now.types.items (body_forms c.args.program.now) (state_in c.args.machine.now)) (choices_of c.args.machine.now) (event_of c.in-Ok.event) (state_in c.step.new.self) (choices_of c.step.new.self) =
     rw c.requires.same at c.in-Ok.ensures.steps in
     let p = err_from_is_err_and c.from_residual.result c.from_residual.ensures.1 in
-    rw (p.1) (breaks_in_line c.args.program.now (state_in c.args.machine.now) (state_in c.step.new.self) (choices_of c.args.machine.now) (choices_of c.step.new.self) (event_of c.in-Ok.event) (g.W.ByteWriter.contents c.args.out.now) (g.W.ByteWriter.contents c.write_event.new.out) made c.in_err-write_event-in-Ok.ensures.text)
+    rw (p.1) (breaks_in_line c.args.program.now c.args.trace (state_in c.args.machine.now) (state_in c.step.new.self) (choices_of c.args.machine.now) (choices_of c.step.new.self) (event_of c.in-Ok.event) (g.W.ByteWriter.contents c.args.out.now) (g.W.ByteWriter.contents c.write_event.new.out) made c.in_err-write_event-in-Ok.ensures.text)
 
 pub returns-in_err-finish-in-Err-clause-text : goal.returns-in_err-finish-in-Err-clause-text
 returns-in_err-finish-in-Err-clause-text g c =
     let ends : (c.in-Err.halt ≡ Memory) ⊎ Halts c.args.program.now (state_in c.args.machine.now) c.in-Err.halt =
     rw c.requires.same at (ends_of c.args.machine.now c.in-Err.halt c.step.new.self (c.in-Err.ensures.ends c.requires.runs)) in
     let p = err_from_is_err_and c.from_residual-in_err-finish-in-Err.result c.from_residual-in_err-finish-in-Err.ensures.1 in
-    rw (p.1) (breaks_in_end c.args.program.now (runner_of (choices_of c.args.machine.now)) (state_in c.args.machine.now) c.in-Err.halt (g.W.ByteWriter.contents c.args.out.now) (g.W.ByteWriter.contents c.finish.new.out) ends c.in_err-finish-in-Err.ensures.text)
+    rw (p.1) (breaks_in_end c.args.program.now c.args.trace (runner_of (choices_of c.args.machine.now)) (state_in c.args.machine.now) c.in-Err.halt (g.W.ByteWriter.contents c.args.out.now) (g.W.ByteWriter.contents c.finish.new.out) ends c.in_err-finish-in-Err.ensures.text)

@@ -9,7 +9,7 @@ use Rattle.ada_serve.proofs.serve.take_turns.Given as goal
 -- so far the machine has made steps of the runner's run, in which all statements but those that are left began, and their lines are written
 abbrev pub invariant-statements : goal.invariant-statements
 invariant-statements g l = record {
-  reaches : Reaches l.program (state_in l.fn.machine).input l.options.steps (runner_of (choices_of l.fn.machine)) l.left (runner_of (choices_of l.machine)) (state_in l.machine) (g.W.ByteWriter.contents l.fn.out) (g.W.ByteWriter.contents l.out);
+  reaches : Reaches l.program l.options.trace (state_in l.fn.machine).input l.options.steps (runner_of (choices_of l.fn.machine)) l.left (runner_of (choices_of l.machine)) (state_in l.machine) (g.W.ByteWriter.contents l.fn.out) (g.W.ByteWriter.contents l.out);
   calls : Works g.W.ByteWriter.writes l.fn.out l.out;
   runs : halt_of l.machine ≡ None;
   same : program_of l.machine ≡ l.program;
@@ -17,7 +17,7 @@ invariant-statements g l = record {
 
 abbrev pub invariant-steps : goal.invariant-steps
 invariant-steps g l = record {
-  reaches : Reaches l.program (state_in l.fn.machine).input l.options.steps (runner_of (choices_of l.fn.machine)) l.left (runner_of (choices_of l.machine)) (state_in l.machine) (g.W.ByteWriter.contents l.fn.out) (g.W.ByteWriter.contents l.out);
+  reaches : Reaches l.program l.options.trace (state_in l.fn.machine).input l.options.steps (runner_of (choices_of l.fn.machine)) l.left (runner_of (choices_of l.machine)) (state_in l.machine) (g.W.ByteWriter.contents l.fn.out) (g.W.ByteWriter.contents l.out);
   calls : Works g.W.ByteWriter.writes l.fn.out l.out;
   runs : halt_of l.machine ≡ None;
   same : program_of l.machine ≡ l.program;
@@ -29,4 +29,4 @@ decreases-statements g l = l.left
 
 -- each step up to the next statement makes the state lighter
 abbrev pub decreases-steps : goal.decreases-steps
-decreases-steps g l = weight (state_in l.machine)
+decreases-steps g l = weight l.program.types.items (state_in l.machine)

@@ -1,4 +1,4 @@
--- By twenty-seven programs and their runs.
+-- By twenty-eight programs and their runs.
 use Rattle.ada_sound.proofs.Example as example
 use Rattle.ada_sound.proofs.ExampleBlocks as blocks
 use Rattle.ada_sound.proofs.ExampleTargets as targets
@@ -8,6 +8,8 @@ use Rattle.ada_sound.proofs.ExampleFrees as frees
 use Rattle.ada_sound.proofs.ExampleRecords as records
 use Rattle.ada_sound.proofs.ExampleCalls as calls
 use Rattle.ada_sound.proofs.ExamplePools as pools
+use Rattle.ada_finalized.proofs.Example as finalized
+use Rattle.ada_sound.proofs.ExampleControlled as controlled
 use Rattle.ada_sound.proofs.examples.premises_are_met.Goals as goal
 
 pub returns-clause-begins : goal.returns-clause-begins
@@ -107,3 +109,6 @@ returns-clause-gives_back_there c = (
 
 pub returns-clause-has_pools : goal.returns-clause-has_pools
 returns-clause-has_pools c = (pools.pooling, pools.pooling_declares, pools.pooling_pools, pools.pooling_form, pools.pooling_accepted, pools.pools)
+
+pub returns-clause-finalizes : goal.returns-clause-finalizes
+returns-clause-finalizes c = (finalized.program, finalized.shapes, finalized.form, controlled.accepted, controlled.finalizes)

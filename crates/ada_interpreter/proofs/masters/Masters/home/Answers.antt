@@ -1,5 +1,5 @@
 -- The newest collection of the type is the one that it denotes.
-use Rattle.std.proofs.Common.{◌∙◌, ap, ℕ, List, Option, None}
+use Rattle.std.proofs.Common.{◌∙◌, ap, List, Option, None}
 use Rattle.std.specs.List.{slice_index_or}
 use Rattle.ada_interpreter.specs.declared.newest.Newest.{Newest}
 use Rattle.ada_interpreter.proofs.MasterLemmas.{home_at}

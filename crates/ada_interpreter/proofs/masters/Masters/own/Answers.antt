@@ -1,6 +1,6 @@
 -- The new item stands on the stack, and the innermost master counts it.
-use Rattle.std.proofs.Common.{◌≡◌, ◌+◌, ap, ◌∙◌, refl, None, Some, arith, List, Option, ℕ}
-use Rattle.std.specs.List.{slice_get, slice_index_or}
+use Rattle.std.proofs.Common.{◌≡◌, ◌+◌, ap, ◌∙◌, refl, None, Some, arith, List, Option}
+use Rattle.std.specs.List.{slice_get}
 use Rattle.ada_interpreter.specs.Masters.{previous_of}
 use Rattle.ada_interpreter.specs.declared.newest.Newest.{Newest}
 use Rattle.ada_interpreter.proofs.MasterLemmas.{none_entered, same_kept, owned_again, owned_view}

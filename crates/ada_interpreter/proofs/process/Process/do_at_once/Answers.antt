@@ -21,7 +21,7 @@ returns-in-Some-clause-done c program fs k runs =
     let x = c.in-Assign.target.root.0 in
     let right = right_form c.in-Assign.value in
     let v = Scalar c.in-Some.value in
-    let last : step.at (frame.Does fs ∷ k) (state_of c.put.new.self) ≡ step.put x v s = ap (step.at (frame.Does fs ∷ k)) c.put.ensures in
+    let last : step.at (frame.Does fs ∷ k) (state_of c.put.new.self) ≡ step.put x v s = ap (step.at (frame.Does fs ∷ k)) c.put.ensures.state in
     let none : (path_form c.in-Assign.target).selectors ≡ [] = grind (arith, common_steps, c.is_empty.ensures, c.if-is_empty.true) in
     rw (c.in-Assign.is, assigns_form c.in-Assign.target c.in-Assign.value)
     (subst (GoesOn program (step.assign_next named (path_form c.in-Assign.target).selectors x right s)) (sym last)

@@ -1,10 +1,9 @@
-use Rattle.std.proofs.Common.{◌≡◌, ◌-◌, ◌<◌, ap, sym, ◌∙◌, subst, arith}
+use Rattle.std.proofs.Common.{◌≡◌, ◌-◌, ◌<◌, ap, ◌∙◌, subst, arith}
 use Rattle.ada_program.specs.Form.{stmts_form}
-use Rattle.ada_meaning.specs.declared.state.Mode.TheVariants.{Running}
 use Rattle.ada_meaning.specs.Frame as frame
 use Rattle.ada_meaning.specs.Named.{State}
 use Rattle.ada_meaning.specs.Step as step
-use Rattle.ada_interpreter.specs.CommonSteps.{GoesQuietly, MayBegin}
+use Rattle.ada_interpreter.specs.CommonSteps.{GoesQuietly}
 use Rattle.ada_interpreter.specs.Process.{state_of, pushed}
 use Rattle.ada_interpreter.proofs.AtOnceLemmas.{put_on_again}
 use Rattle.ada_interpreter.proofs.CommonStepLemmas.{within_limit}

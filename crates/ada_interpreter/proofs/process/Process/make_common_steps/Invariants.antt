@@ -23,4 +23,4 @@ decreases-statements l = l.left
 
 -- each step up to the next statement makes the state lighter
 abbrev pub decreases-steps : goal.decreases-steps
-decreases-steps l = weight (state_of l.self)
+decreases-steps l = weight l.program.types.items (state_of l.self)

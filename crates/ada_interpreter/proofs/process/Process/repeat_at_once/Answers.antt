@@ -7,7 +7,7 @@ use Rattle.ada_meaning.specs.Frame as frame
 use Rattle.ada_meaning.specs.Step as step
 use Rattle.ada_interpreter.specs.CommonSteps.{ComesTo}
 use Rattle.ada_interpreter.specs.Process.{state_of, passed}
-use Rattle.ada_interpreter.proofs.AtOnceLemmas.{turned, begins_turn, comes_to}
+use Rattle.ada_interpreter.proofs.AtOnceLemmas.{turned, begins_turn, comes_to, older_control}
 use Rattle.ada_interpreter.proofs.CommonStepLemmas.{goes_once}
 use Rattle.ada_interpreter.proofs.process.Process.repeat_at_once.Goals as goal
 
@@ -46,6 +46,6 @@ returns-in-Some-false-clause-steps c program runs =
     let fs = stmts_form c.args.statements.now in
     let first : s.control ≡ frame.Repeats (Some e) fs ∷ k = rw c.in-Some.is at c.requires in
     let known = rw (c.in-Some-false.is, c.in-Some-false.field-0-test) at c.truth_at_once.ensures in
-    rw c.pass.ensures
+    rw (c.shorten.ensures, older_control c.args.self.now.frames)
     (comes_to program s (frame.Repeats (Some e) fs) k runs first refl (passed s)
     (turned program (passed s) e false runs known.0 known.1 fs (passed s) refl))

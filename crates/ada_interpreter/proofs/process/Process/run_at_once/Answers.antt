@@ -15,7 +15,7 @@ statements-init c = record {
   counted = refl;
   unchanged = λ same. refl;
   rest = λ same. refl;
-  control = refl;
+  frames = refl;
   mode = refl;
 }
 
@@ -33,6 +33,6 @@ statements-preserved c =
       counted = omega (arith, some, i.counted, c.in-Some.ensures.cases.1);
       unchanged = λ same. absurd (omega (arith, same, some, i.left));
       rest = λ same. absurd (omega (arith, same, some, i.left));
-      control = c.if-not-do_at_once.ensures.control ∙ i.control;
+      frames = c.if-not-do_at_once.ensures.frames ∙ i.frames;
       mode = c.if-not-do_at_once.ensures.mode ∙ i.mode;
     }

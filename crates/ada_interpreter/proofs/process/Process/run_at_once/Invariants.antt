@@ -18,7 +18,7 @@ invariant-statements l = record {
   counted : length l.statements + l.left ≡ length l.rest + l.limit;
   unchanged : l.left ≡ l.limit → l.self ≡ l.fn.self;
   rest : l.left ≡ l.limit → l.rest ≡ l.statements;
-  control : (state_of l.self).control ≡ (state_of l.fn.self).control;
+  frames : l.self.frames ≡ l.fn.self.frames;
   mode : l.self.mode ≡ l.fn.self.mode;
 }
 

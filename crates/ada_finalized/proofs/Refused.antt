@@ -1,0 +1,106 @@
+-- What the laws refuse: events of wrong machines, of an object as in the example.
+
+use Rattle.std.proofs.Common.{ℕ, [], ◌∷◌, Option, Some, None, refl, ap, inl, inr, arith}
+use Rattle.ada_parts.specs.Part.{LiesIn}
+use Rattle.ada_meaning.specs.declared.state.Value.{Value}
+use Rattle.ada_meaning.specs.declared.state.Value.TheVariants.{Names}
+use Rattle.ada_meaning.specs.declared.event.Birth.TheVariants.{Creation}
+use Rattle.ada_meaning.specs.declared.event.Cause.TheVariants.{Freeing}
+use Rattle.ada_meaning.specs.Event.{Born, Finalized, Back, Quiet}
+use Rattle.ada_meaning.specs.Run.{Event}
+use Rattle.ada_meaning.specs.Law.{ControlledValue, FinalizedTwoValues, Happened}
+use Rattle.ada_meaning.specs.Finalization.{Bears, Finalizes, FinalizationLaw}
+use Rattle.ada_finalized.specs.Law.{InsideIsBorn}
+use Rattle.ada_finalized.specs.Example.{controlled_shapes}
+
+-- The object, its whole and its component: they come to exist, and are finalized, with these turns; and its words go back.
+abbrev it : Value
+it = Names (record { 0 = 0 })
+
+abbrev whole_born : Event
+whole_born = Born it 0 0 1 2 Creation
+
+abbrev component_born : Event
+component_born = Born it 1 0 0 1 Creation
+
+abbrev whole_finalized : (turn : ℕ) → Event
+whole_finalized turn = Finalized it 0 turn 1 2 (Freeing 2)
+
+abbrev component_finalized : (turn : ℕ) → Event
+component_finalized turn = Finalized it 1 turn 0 1 (Freeing 2)
+
+abbrev it_back : Event
+it_back = Back it 2 1 (Some 0) None (Freeing 2)
+
+-- The component lies in the whole.
+lies_in : LiesIn controlled_shapes 1 (record { of = 1; number = 0 })
+lies_in = record { behind = omega arith; within = omega arith }
+
+abbrev part_in : Option ControlledValue → ℕ
+part_in None = 2
+part_in (Some v) = v.part
+
+abbrev turn_in : Option ControlledValue → ℕ
+turn_in None = 2
+turn_in (Some v) = v.turn
+
+abbrev component : (turn : ℕ) → ControlledValue
+component turn = record { object = record { 0 = 0 }; part = 1; turn = turn }
+
+-- A component that is initialized after the whole: `parts_first`.
+initialized_late : FinalizationLaw controlled_shapes (whole_born ∷ component_born ∷ []) → ⊥
+initialized_late law = law.parts_first 0 1 Quiet (omega arith) (omega arith) refl lies_in
+
+-- A component that is finalized before the whole: `wholes_first`.
+finalized_early : FinalizationLaw controlled_shapes (component_born ∷ whole_born ∷ component_finalized 0 ∷ whole_finalized 0 ∷ it_back ∷ []) → ⊥
+finalized_early law = law.wholes_first 2 3 Quiet (omega arith) (omega arith) refl refl lies_in
+
+-- One value that is finalized twice: `finalized_once` of the laws of storage.
+finalized_again : FinalizedTwoValues (component_finalized 0) (component_finalized 0) → ⊥
+finalized_again differ = differ refl
+
+-- A part that is finalized twice, which counts its values: `is_born`.
+born_later : Happened (Bears (component 1)) (component_born ∷ component_finalized 0 ∷ component_finalized 1 ∷ []) → ⊥
+born_later (inl h) = let e = ap turn_in h in omega (arith, e)
+born_later (inr (inl h)) = let e = ap turn_in h in omega (arith, e)
+born_later (inr (inr (inl h))) = let e = ap turn_in h in omega (arith, e)
+born_later (inr (inr (inr h))) = absurd h
+
+never_born : FinalizationLaw controlled_shapes (component_born ∷ component_finalized 0 ∷ component_finalized 1 ∷ []) → ⊥
+never_born law = born_later (law.is_born 2 Quiet (omega arith))
+
+-- A component that is passed over at the end: `finalized_by_back`.
+passed : Happened (Finalizes (component 0)) (component_born ∷ whole_born ∷ whole_finalized 0 ∷ it_back ∷ []) → ⊥
+passed (inl h) = let e = ap part_in h in omega (arith, e)
+passed (inr (inl h)) = let e = ap part_in h in omega (arith, e)
+passed (inr (inr (inl h))) = let e = ap part_in h in omega (arith, e)
+passed (inr (inr (inr (inl h)))) = let e = ap part_in h in omega (arith, e)
+passed (inr (inr (inr (inr h)))) = absurd h
+
+passed_over : FinalizationLaw controlled_shapes (component_born ∷ whole_born ∷ whole_finalized 0 ∷ it_back ∷ []) → ⊥
+passed_over law = passed (law.finalized_by_back (component 0) (inl refl) (inr (inr (inr (inl refl)))))
+
+-- A Free that finalizes nothing: the same field.
+kept : Happened (Finalizes (component 0)) (component_born ∷ whole_born ∷ it_back ∷ []) → ⊥
+kept (inl h) = let e = ap part_in h in omega (arith, e)
+kept (inr (inl h)) = let e = ap part_in h in omega (arith, e)
+kept (inr (inr (inl h))) = let e = ap part_in h in omega (arith, e)
+kept (inr (inr (inr h))) = absurd h
+
+not_finalized : FinalizationLaw controlled_shapes (component_born ∷ whole_born ∷ it_back ∷ []) → ⊥
+not_finalized law = kept (law.finalized_by_back (component 0) (inl refl) (inr (inr (inl refl))))
+
+-- A value that is finalized once the words of its object are back: `nothing_after_back`.
+too_late : FinalizationLaw controlled_shapes (component_born ∷ it_back ∷ component_finalized 0 ∷ []) → ⊥
+too_late law = (law.nothing_after_back 1 2 Quiet (omega arith) (omega arith)).1 refl
+
+-- A value that comes to exist again: `born_once`, or, where it has been finalized, `born_before`.
+born_twice : FinalizationLaw controlled_shapes (component_born ∷ component_born ∷ []) → ⊥
+born_twice law = law.born_once 0 1 Quiet (omega arith) (omega arith) refl
+
+born_behind : FinalizationLaw controlled_shapes (component_finalized 0 ∷ component_born ∷ []) → ⊥
+born_behind law = law.born_before 0 1 Quiet (omega arith) (omega arith) refl
+
+-- A component that is never initialized: `InsideIsBorn`.
+never_initialized : InsideIsBorn controlled_shapes (whole_born ∷ []) → ⊥
+never_initialized law = law [] [] whole_born (record { object = record { 0 = 0 }; part = record { of = 1; number = 0 } }) 1 refl refl lies_in

@@ -1,0 +1,48 @@
+//! The laws of finalization. Each is a function that does nothing, and whose contract is the theorem.
+
+ghost use Rattle.std.specs.Prelude.{All, AllPairs};
+ghost use Rattle.ada_meaning.specs.Law.{FinalizedTwoValues};
+ghost use Rattle.ada_meaning.specs.Finalization.{BornTwoValues, BornBeforeFinalized, IsBorn, FinalizedByBack, NothingAfterBack};
+ghost use Rattle.ada_meaning.specs.Finalization.{PartsComeFirst, WholesComeFirst, FinalizationLaw};
+ghost use Rattle.ada_finalized.specs.Example.{ValuesAreFinalized};
+ghost use Rattle.ada_finalized.specs.Law.{InEveryRun, NeverFinalizesTwice, InsideIsBorn, PartsStand};
+
+/// A controlled value comes to exist once, and is finalized once, after that and before the words of its object go back
+/// (7.6, 7.6.1, 13.11.2).
+pub fn values_are_finalized_once()
+    ensures born_once { InEveryRun (λ shapes events. AllPairs BornTwoValues events) }
+    ensures finalized_once { InEveryRun (λ shapes events. AllPairs FinalizedTwoValues events) }
+    ensures born_before { InEveryRun (λ shapes events. AllPairs BornBeforeFinalized events) }
+    ensures is_born { InEveryRun (λ shapes events. All (IsBorn events) events) }
+    ensures finalized_by_back { InEveryRun (λ shapes events. FinalizedByBack events) }
+    ensures nothing_after_back { InEveryRun (λ shapes events. AllPairs NothingAfterBack events) }
+{}
+
+/// No run comes to the finalization of a value that does not exist, whether or not its program obeys any rule (7.6.1).
+pub fn never_finalizes_twice()
+    ensures { NeverFinalizesTwice }
+{}
+
+/// Components are initialized before the record in which they lie, and finalized after it (7.6, 7.6.1).
+pub fn parts_go_in_order()
+    ensures parts_first { InEveryRun (λ shapes events. AllPairs (PartsComeFirst shapes) events) }
+    ensures wholes_first { InEveryRun (λ shapes events. AllPairs (WholesComeFirst shapes) events) }
+{}
+
+/// Each part of an object is initialized: those that lie in a record before it, and all before anything else is done; so an
+/// object that is in its collection has all its values (7.6).
+pub fn all_parts_are_initialized()
+    ensures inside_first { InEveryRun InsideIsBorn }
+    ensures all_stand { PartsStand }
+{}
+
+/// All laws of finalization together.
+pub fn runs_keep_the_law()
+    ensures { InEveryRun FinalizationLaw }
+{}
+
+/// The laws are not empty: a record object with a controlled component, and an allocated one, are initialized, and finalized at
+/// the leaving of their block, and by a Free.
+pub fn premises_are_met()
+    ensures { ValuesAreFinalized }
+{}

@@ -1,0 +1,138 @@
+-- Runs by their choices, and what storage shows of them.
+
+use Rattle.std.proofs.Common.{◌≡◌, false, List, [], ◌∷◌, map, refl, ap, ◌∙◌, arith}
+use Rattle.std.specs.Prelude.{ℕ, ◌+◌, ◌==◌, Bool, true, if◌then◌else◌, length, Option, None, Some}
+use Rattle.std.specs.List.{filter, sum_by}
+use Rattle.ada_program.specs.declared.program.Program.{Program}
+use Rattle.ada_program.specs.declared.program.Declaration.TheVariants as declaration
+use Rattle.ada_program.specs.declared.program.Stmt as stmt
+use Rattle.ada_program.specs.declared.program.TypeDefinition.TheVariants as definition
+use Rattle.ada_program.specs.declared.program.PartKind.TheVariants as part
+use Rattle.ada_program.specs.declared.program.VariableKind.TheVariants as variable
+use Rattle.ada_program.specs.Form.{stmt_form}
+use Rattle.ada_program.specs.Controlled.{shapes_of}
+use Rattle.ada_program.specs.Typed.{designated_of}
+use Rattle.ada_parts.specs.Shape.{Shape, own_parts, parts_of}
+use Rattle.ada_meaning.specs.Step.{parts_for}
+use Rattle.ada_meaning.specs.Event.{Born, Finalized, Back, Followed, Left, Line, Quiet}
+use Rattle.ada_meaning.specs.Named.{next}
+use Rattle.ada_meaning.specs.declared.event.Halt.TheVariants.{Finished}
+use Rattle.ada_meaning.specs.Run.{Event, settled, takes, Halts, here, there}
+use Rattle.ada_order.specs.Example.{InSomeRun, is_seen}
+use Rattle.ada_order.proofs.Example.{vec, no_name, spot, path}
+use Rattle.ada_order.proofs.Example as nested
+use Rattle.ada_storage.specs.State as storage
+use Rattle.ada_storage.specs.Example.{seen}
+use Rattle.ada_following.specs.Reading.{event_seen, FreesControlled}
+use Rattle.ada_following.proofs.Heaps.{Heap}
+use Rattle.ada_following.proofs.Frames.{Control}
+use Rattle.ada_following.specs.Law.{HasNoParts}
+use Rattle.ada_following.specs.Example.{nested_events, BlocksAreFollowed, ADeclaredObjectIsFreed, controlled_events, AControlledObjectIsFollowed}
+use Rattle.ada_following.proofs.Straying.{none_controlled}
+use Rattle.ada_following.proofs.Runs.{runs_follow_storage}
+
+-- Storage shows nothing where nothing is seen of a program.
+seen_more : (e : storage.Event) (es fs : List storage.Event) → seen es ≡ seen fs → seen (e ∷ es) ≡ seen (e ∷ fs)
+seen_more (storage.born v by) es fs is = ap (λ (gs : List storage.Event). storage.born v by ∷ gs) is
+seen_more (storage.finalized v cause) es fs is = ap (λ (gs : List storage.Event). storage.finalized v cause ∷ gs) is
+seen_more (storage.back o cause) es fs is = ap (λ (gs : List storage.Event). storage.back o cause ∷ gs) is
+seen_more (storage.left m) es fs is = ap (λ (gs : List storage.Event). storage.left m ∷ gs) is
+seen_more storage.quiet es fs is = is
+
+seen_alone : (es : List Event) → seen (map event_seen es) ≡ seen (map event_seen (filter is_seen es))
+seen_alone [] = refl
+seen_alone (Born object part turn type number by ∷ es) = seen_more (event_seen (Born object part turn type number by)) _ _ (seen_alone es)
+seen_alone (Finalized object part turn type number cause ∷ es) = seen_more (event_seen (Finalized object part turn type number cause)) _ _ (seen_alone es)
+seen_alone (Back object access number pool subpool cause ∷ es) = seen_more (event_seen (Back object access number pool subpool cause)) _ _ (seen_alone es)
+seen_alone (Followed object ∷ es) = seen_alone es
+seen_alone (Left master ∷ es) = seen_more (event_seen (Left master)) (map event_seen es) (map event_seen (filter is_seen es)) (seen_alone es)
+seen_alone (Line line ∷ es) = seen_alone es
+seen_alone (Quiet ∷ es) = seen_alone es
+
+-- No object of that program has controlled parts.
+abbrev HaveNone : List Shape → Type 0
+HaveNone [] = Unit {0}
+HaveNone (s ∷ older) = (own_parts s + sum_by (parts_of older) s.components ≡ 0) × HaveNone older
+
+none_have : (shapes : List Shape) (t : ℕ) → HaveNone shapes → parts_of shapes t ≡ 0
+none_have [] t h = refl
+none_have (s ∷ older) t h = go (t == length older) (none_have older t h.1)
+  where
+    go : (b : Bool) → parts_of older t ≡ 0 → (if b then own_parts s + sum_by (parts_of older) s.components else parts_of older t) ≡ 0
+    go true z = h.0
+    go false z = z
+
+no_parts : (t : ℕ) → parts_of (shapes_of nested.program.types.items) t ≡ 0
+no_parts t = none_have (shapes_of nested.program.types.items) t (refl, (refl, (refl, (refl, tt))))
+
+no_object_parts : HasNoParts nested.program
+no_object_parts access = go (designated_of nested.program.types.items access)
+  where
+    go : (t : Option ℕ) → parts_for (shapes_of nested.program.types.items) t ≡ 0
+    go None = refl
+    go (Some t) = no_parts t
+
+pub blocks_are_followed : BlocksAreFollowed
+blocks_are_followed =
+    let run = nested.finishes in
+    let shown : seen (map event_seen run.1) ≡ nested_events = seen_alone run.1 ∙ ap (λ (es : List Event). seen (map event_seen es)) run.4.1 in
+    (nested.program, nested.form, (run.0, run.1, run.2, run.3, (run.4.0, shown, runs_follow_storage nested.program run.0 run.1 run.2 run.3 (none_controlled nested.program.types.items run.2 no_object_parts))))
+
+-- X : R; begin Free (X); end; where Free is no instance for a type of X
+abbrev freeing : Program
+freeing = record {
+  types = vec [] (omega arith);
+  pools = vec [] (omega arith);
+  procedures = vec [] (omega arith);
+  variables = vec (record { name = no_name; spot = spot; kind = variable.Record (record { 0 = 0 }); borrows = false } ∷ []) (omega arith);
+  texts = vec [] (omega arith);
+  exceptions = vec [] (omega arith);
+  declarations = vec (declaration.Record (record { 0 = 0 }) (record { 0 = 0 }) None ∷ []) (omega arith);
+  statements = vec (stmt.Free (record { 0 = 0 }) (path 0) ∷ []) (omega arith);
+  handlers = vec [] (omega arith);
+}
+
+pub a_declared_object_is_freed : ADeclaredObjectIsFreed
+unfolding next stmt_form
+a_declared_object_is_freed = (
+  freeing,
+  ([], _, _, there settled _ (refl, refl) (there settled _ (refl, refl) (there settled _ (refl, refl) here)), (refl, ((_, refl), (_, refl, refl)))),
+)
+
+-- type T is new Limited_Controlled with null record; X : T; begin null; end
+abbrev controlled : Program
+controlled = record {
+  types =
+      vec
+      (definition.Record no_name (vec (record { name = no_name; kind = part.Parent; first = record { 0 = 0 } } ∷ []) (omega arith)) (vec [] (omega arith))
+      ∷ definition.Object (record { 0 = 0 }) ∷ [])
+      (omega arith);
+  pools = vec [] (omega arith);
+  procedures = vec [] (omega arith);
+  variables = vec (record { name = no_name; spot = spot; kind = variable.Record (record { 0 = 1 }); borrows = false } ∷ []) (omega arith);
+  texts = vec [] (omega arith);
+  exceptions = vec [] (omega arith);
+  declarations = vec (declaration.Record (record { 0 = 0 }) (record { 0 = 1 }) None ∷ []) (omega arith);
+  statements = vec (stmt.Null ∷ []) (omega arith);
+  handlers = vec [] (omega arith);
+}
+
+controlled_run : InSomeRun controlled (λ events last. Halts controlled last Finished × (seen (map event_seen events) ≡ controlled_events) × (last.control ≡ []))
+unfolding next stmt_form
+controlled_run = (
+  [],
+  _,
+  _,
+  there settled _ (refl, refl) (there settled _ (refl, refl) (there settled _ (refl, refl) (there settled _ (refl, refl) (there settled _ (refl, refl) (there settled _ (refl, refl) (there settled _ (refl, refl)
+      (there (takes 0) _ (omega arith, refl, refl) (there settled _ (refl, refl) (there settled _ (refl, refl) (there settled _ (refl, refl) (there settled _ (refl, refl) (there settled _ (refl, refl) here)))))))))))),
+  (refl, refl, refl),
+)
+
+never_freed : (h : Heap) (k : Control) → k ≡ [] → FreesControlled controlled.types.items h k → ⊥
+never_freed h [] is g = g
+never_freed h (f ∷ k) is g = absurd (cc is)
+
+pub a_controlled_object_is_followed : AControlledObjectIsFollowed
+a_controlled_object_is_followed =
+    let r = controlled_run in
+    (controlled, (r.0, r.1, r.2, r.3, (r.4.0, r.4.1, runs_follow_storage controlled r.0 r.1 r.2 r.3 (λ g. never_freed r.2.heap r.2.control r.4.2 g.1))))

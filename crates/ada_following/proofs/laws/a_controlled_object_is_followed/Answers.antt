@@ -1,0 +1,6 @@
+-- Thirteen steps lead to its end.
+use Rattle.ada_following.proofs.Example as example
+use Rattle.ada_following.proofs.laws.a_controlled_object_is_followed.Goals as goal
+
+pub returns : goal.returns
+returns c = example.a_controlled_object_is_followed

@@ -1,0 +1,52 @@
+-- A run that is followed, and one in which a declared object is freed.
+
+use Rattle.std.specs.Prelude.{◌≡◌, List, [], ◌∷◌, map}
+use Rattle.ada_program.specs.declared.program.Program.{Program}
+use Rattle.ada_program.specs.Form.{stmt_forms}
+use Rattle.ada_meaning.specs.declared.event.Halt.TheVariants.{Finished}
+use Rattle.ada_meaning.specs.Run.{Halts}
+use Rattle.ada_order.specs.Example.{nested_stmts, InSomeRun}
+use Rattle.ada_storage.specs.State.{leaving, creation, Event, born, finalized, back, left}
+use Rattle.ada_storage.specs.Example.{seen}
+use Rattle.ada_following.specs.Reading.{event_seen, IsFreeingDeclared}
+use Rattle.ada_following.specs.Law.{IsFollowed}
+
+-- What storage shows where a return leaves two blocks, one in the other: the objects of three collections go, the inner block's first, and then the main
+-- procedure is left. Another block was left before.
+abbrev pub nested_events : List Event
+nested_events =
+    left 2
+    ∷ back 3 (leaving 4 4)
+    ∷ back 2 (leaving 4 2)
+    ∷ back 1 (leaving 4 2)
+    ∷ left 4
+    ∷ back 0 (leaving 3 0)
+    ∷ left 3
+    ∷ left 1
+    ∷ []
+
+-- There is such a run, which is followed to its end.
+abbrev pub BlocksAreFollowed : Type 0
+BlocksAreFollowed =
+    (program : Program) × (stmt_forms program ≡ nested_stmts)
+    × InSomeRun program (λ events last. Halts program last Finished × (seen (map event_seen events) ≡ nested_events) × IsFollowed program.types.items events last)
+
+-- A program frees an object that it declares. It is not well formed.
+abbrev pub ADeclaredObjectIsFreed : Type 0
+ADeclaredObjectIsFreed = (program : Program) × InSomeRun program (λ events last. IsFreeingDeclared last)
+
+-- What storage shows where a program declares an object of a controlled type: it is initialized, and finalized as the main procedure is left.
+abbrev pub controlled_events : List Event
+controlled_events =
+    born (record { object = 0; part = 0; turn = 0 }) creation
+    ∷ finalized (record { object = 0; part = 0; turn = 0 }) (leaving 1 0)
+    ∷ back 0 (leaving 1 0)
+    ∷ left 1
+    ∷ []
+
+-- There is such a run, which is followed to its end.
+abbrev pub AControlledObjectIsFollowed : Type 0
+AControlledObjectIsFollowed =
+    (program : Program)
+    × InSomeRun program (λ events last.
+    Halts program last Finished × (seen (map event_seen events) ≡ controlled_events) × IsFollowed program.types.items events last)

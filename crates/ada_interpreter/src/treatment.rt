@@ -1,0 +1,103 @@
+//! Treatments: what is done to the controlled parts of an object (7.6, 7.6.1).
+
+ghost use Rattle.std.specs.Prelude.{◌≡◌, map, IfOk};
+ghost use Rattle.std.specs.List.{slice_set};
+ghost use Rattle.ada_meaning.specs.Step.{direction_of, new_parts};
+ghost use Rattle.ada_meaning.specs.Named.{born_part, finalized_part};
+ghost use Rattle.ada_interpreter.specs.Treatment.{part_form, treatment_form};
+
+use ada_meaning::{Birth, Cause, Id};
+use ada_parts::{Direction, Tasks};
+use std::alloc::{AllocError, Global};
+
+/// A controlled part of an object (7.6).
+#[derive(Clone, Copy)]
+pub(crate) struct PartState {
+    /// Whether it has a value now.
+    pub(crate) alive: bool,
+    /// How many values it had before that.
+    pub(crate) turn: u64,
+    /// The trace number of its newest value; 0 where it has had none.
+    pub(crate) number: u64,
+}
+
+/// What is done to the controlled parts of an object (7.6, 7.6.1).
+#[derive(Clone, Copy)]
+pub(crate) enum Treatment {
+    /// They come to have values.
+    Begins(Birth),
+    /// Their values are finalized.
+    Ends(Cause),
+}
+
+/// A treatment of an object that goes on, with what is left of it.
+#[derive(Drop)]
+pub(crate) struct Treated {
+    pub(crate) object: Id,
+    pub(crate) treatment: Treatment,
+    pub(crate) tasks: Tasks,
+}
+
+impl PartState {
+    /// The part once it has come to have a value, with a trace number (7.6).
+    pub(crate) fn born(self, number: u64) -> PartState
+        ensures { part_form result ≡ born_part number (part_form self) }
+    {
+        PartState {
+            alive: true,
+            turn: self.turn,
+            number,
+        }
+    }
+
+    /// The part once its value is finalized (7.6.1). Fails where no more values of it can be counted.
+    pub(crate) fn finalized(self) -> Result<PartState, AllocError>
+        ensures { IfOk result (λ part. part_form part ≡ finalized_part (part_form self)) }
+    {
+        match self.turn.checked_add(1) {
+            Some(turn) => Ok(PartState {
+                alive: false,
+                turn,
+                number: self.number,
+            }),
+            None => Err(AllocError),
+        }
+    }
+}
+
+impl Treatment {
+    /// In which order it takes a record and its components (7.6, 7.6.1).
+    pub(crate) fn direction(self) -> Direction
+        ensures { result ≡ direction_of (treatment_form self) }
+    {
+        match self {
+            Treatment::Begins(_) => Direction::PartsFirst,
+            Treatment::Ends(_) => Direction::WholeFirst,
+        }
+    }
+}
+
+/// The controlled parts of a new object (7.6): none has a value yet. Where there are none, this takes no memory.
+pub(crate) fn new_parts(alloc: Global, count: usize) -> Result<Vec<PartState>, AllocError>
+    ensures { IfOk result (λ parts. map part_form parts.items ≡ new_parts count) }
+{
+    let mut parts = Vec::new(alloc);
+    parts.reserve(count)?;
+    'parts: while parts.len() < count {
+        parts.push(PartState {
+            alive: false,
+            turn: 0,
+            number: 0,
+        })?;
+    }
+    Ok(parts)
+}
+
+/// The state of a part becomes another; nothing, if there is no such part.
+pub(crate) fn set_part(parts: &mut [PartState], part: usize, state: PartState)
+    ensures { parts.new ≡ slice_set parts.old part state }
+{
+    if part < parts.len() {
+        parts[part] = state;
+    }
+}

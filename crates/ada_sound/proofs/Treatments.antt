@@ -1,0 +1,225 @@
+-- The controlled parts of an object are initialized or finalized (7.6, 7.6.1): what is relied on stays as it is, and so does what is behind.
+
+use Rattle.std.proofs.Common.{◌≡◌, ◌≢◌, ℕ, zero, suc, Bool, true, false, List, [], ◌∷◌, refl, sym, ap, subst, ◌∙◌, ◌⊎◌, inl, inr}
+use Rattle.std.specs.Prelude.{◌==◌, if◌then◌else◌, Option, Some, None}
+use Rattle.std.specs.List.{slice_get, slice_set}
+use Rattle.ada_parts.specs.declared.tasks.Next.{Next as Follows}
+use Rattle.ada_parts.specs.declared.tasks.Next.TheVariants.{Done, Pick, Perform}
+use Rattle.ada_parts.specs.Shape.{Shape}
+use Rattle.ada_parts.specs.Task.{Task, performed, taken as taken_task}
+use Rattle.ada_flow.specs.Flow.{Holds}
+use Rattle.ada_meaning.specs.declared.event.Birth.{Birth}
+use Rattle.ada_meaning.specs.declared.event.Cause.{Cause}
+use Rattle.ada_meaning.specs.declared.state.Id.{Id}
+use Rattle.ada_meaning.specs.declared.state.Value.{Value}
+use Rattle.ada_meaning.specs.declared.state.Value.TheVariants.{Null, Names, Scalar, Part}
+use Rattle.ada_meaning.specs.declared.event.Halt.TheVariants.{Erroneous, Stuck}
+use Rattle.ada_meaning.specs.declared.event.Why.TheVariants.{FinalizesTwice}
+use Rattle.ada_meaning.specs.Event.{Finalized, Quiet}
+use Rattle.ada_meaning.specs.Frame.{Stores, StoresIn, Declares, Ends, GivesBack, Treatment, begins, ends}
+use Rattle.ada_meaning.specs.Heap.{PartState, Cell, Found, on_null, on_gone, on_other, finds}
+use Rattle.ada_meaning.specs.State.{Activation, Master, counted}
+use Rattle.ada_meaning.specs.Step.{halts, moves, picks, direction_of, treated_on, born_next, finalized_next, performed_next, treats_next}
+use Rattle.ada_meaning.specs.Named.{Object, State, object_at, look, named, changed, on_object, store, filled, treated, born_part, finalized_part}
+use Rattle.ada_meaning.specs.Run.{Event}
+use Rattle.ada_owners.specs.Keeping.{IsThere}
+use Rattle.ada_owners.proofs.Kernel.{same_id}
+use Rattle.ada_owners.proofs.Objects.{at_other}
+use Rattle.ada_owners.proofs.Changes.{store_is}
+use Rattle.ada_sound.proofs.Objects.{set_here}
+use Rattle.ada_sound.proofs.Stored.{stored_treated}
+use Rattle.ada_sound.proofs.Fits.{treated_fit}
+use Rattle.ada_sound.proofs.Alters.{Alters, alters_same, alters_set}
+use Rattle.ada_sound.proofs.Invariant.{Known, Control, Rooms, RunsOn, Working, IsHolder, NamesTo, BegunTo, EndsTo, TreatsBy, ThenBack, Ending, Stepped, Fine}
+use Rattle.ada_sound.proofs.Ready.{running, stays, treats_ready}
+use Rattle.ada_sound.proofs.Endings.{swapped, behind_set}
+
+-- What is written twice in one place is what was written last.
+set_twice : {X : Type 0} (xs : List X) (i : ℕ) (x y : X) → slice_set (slice_set xs i x) i y ≡ slice_set xs i y
+set_twice [] i x y = refl
+set_twice (z ∷ xs) zero x y = refl
+set_twice {X} (z ∷ xs) (suc i) x y = ap (λ (zs : List X). z ∷ zs) (set_twice xs i x y)
+
+-- A part of the object that a value names changes.
+module _ (change : PartState → PartState) (part : ℕ) where
+  -- What holds of all objects holds still, if it does where there is such an object.
+  changed_or_same : (P : List Object → Type 0) (heap : List Object) (v : Value) → P heap → ((o : Id) (x : Object) → v ≡ Names o → object_at heap o ≡ Some x → P (slice_set heap o.0 (treated change part x))) → P (on_object (treated change part) heap v)
+  changed_or_same P heap Null same set = same
+  changed_or_same P heap (Scalar n) same set = same
+  changed_or_same P heap (Part object_id base) same set = same
+  changed_or_same P heap (Names o) same set = go (object_at heap o) refl
+    where
+      go : (t : Option Object) → object_at heap o ≡ t → P (changed (treated change part) t heap o)
+      go None found = same
+      go (Some x) found = set o x refl found
+
+  pub alters_treated : (heap : List Object) (e : Event) (v : Value) → Alters heap e (on_object (treated change part) heap v)
+  alters_treated heap e v =
+      changed_or_same (λ after. Alters heap e after) heap v (alters_same heap e)
+      (λ o x is found. alters_set heap e o x (treated change part x) found (refl, refl, refl) (λ h. h) (λ h. inl h))
+
+  module _ (heap : List Object) (o : Id) (x : Object) (found : object_at heap o ≡ Some x) where
+    -- What is stored in an object is stored there as well once a part has changed.
+    stored_beside : (h : Id) (holder : Object) (c : ℕ) (w : Value) → object_at heap h ≡ Some holder → (y : Object) × (object_at (store heap (Names h) c w) o ≡ Some y) × (store (slice_set heap o.0 (treated change part x)) (Names h) c w ≡ slice_set (store heap (Names h) c w) o.0 (treated change part y))
+    stored_beside h holder c w at_h = by (same_id h o)
+      where
+        here : h ≡ o → (y : Object) × (object_at (store heap (Names o) c w) o ≡ Some y) × (store (slice_set heap o.0 (treated change part x)) (Names o) c w ≡ slice_set (store heap (Names o) c w) o.0 (treated change part y))
+        here same =
+            let stored = store_is heap o x found c w in
+            let still = set_here heap o.0 x (treated change part x) found in
+            let after = filled c w (treated change part x) in (
+              filled c w x,
+              rw stored (set_here heap o.0 x (filled c w x) found),
+              store_is (slice_set heap o.0 (treated change part x)) o (treated change part x) still c w
+                  ∙ (set_twice heap o.0 (treated change part x) after
+                  ∙ (sym (set_twice heap o.0 (filled c w x) after) ∙ sym (ap (λ (objects : List Object). slice_set objects o.0 after) stored))),
+            )
+
+        by : (h ≡ o) ⊎ (h ≢ o) → (y : Object) × (object_at (store heap (Names h) c w) o ≡ Some y) × (store (slice_set heap o.0 (treated change part x)) (Names h) c w ≡ slice_set (store heap (Names h) c w) o.0 (treated change part y))
+        by (inl same) = rw same (here same)
+        by (inr ne) =
+            let stored = store_is heap h holder at_h c w in
+            let still = at_other heap o h (treated change part x) ne ∙ at_h in
+            let numbers : o.0 ≢ h.0 = λ e. (let same : h ≡ o = ap (λ (n : ℕ). record { 0 = n }) (sym e) in ne same) in (
+              x,
+              rw stored (at_other heap h o (filled c w holder) (λ e. ne (sym e)) ∙ found),
+              store_is (slice_set heap o.0 (treated change part x)) h holder still c w
+                  ∙ (swapped heap o.0 h.0 (treated change part x) (filled c w holder) numbers
+                  ∙ sym (ap (λ (objects : List Object). slice_set objects o.0 (treated change part x)) stored)),
+            )
+
+    there_set : (h : Id) → IsThere heap h → IsThere (slice_set heap o.0 (treated change part x)) h
+    there_set h there = by (same_id h o)
+      where
+        by : (h ≡ o) ⊎ (h ≢ o) → IsThere (slice_set heap o.0 (treated change part x)) h
+        by (inr ne) = (there.0, at_other heap o h (treated change part x) ne ∙ there.1, there.2)
+        by (inl same) =
+            let one : there.0 ≡ x = let at_h = there.1 in cc (rw same at at_h, found) in
+            (treated change part x, rw same (set_here heap o.0 x (treated change part x) found), rw one at there.2)
+
+    module _ (known : Known) (ms : List Master) where
+      works_set : {places : List Value} {more : Rooms → Holds → Type 0} → Working known heap places ms more → Working known (slice_set heap o.0 (treated change part x)) places ms more
+      works_set w = record {
+        rooms = w.rooms;
+        holds = w.holds;
+        stored = stored_treated change part o x found w.stored;
+        roomed = w.roomed;
+        fit = treated_fit change part o x found w.fit;
+        rest = w.rest;
+      }
+
+      -- An object is to end still.
+      then_set : (listed : x.listed ≡ false) (places : List Value) (k : Control) → ThenBack known o x.cell.home heap places ms k → ThenBack known o x.cell.home (slice_set heap o.0 (treated change part x)) places ms k
+      then_set listed places [] r = absurd r
+      then_set listed places (GivesBack (Names p) cause pool ∷ k) r =
+          (r.0, r.1, behind_set known o x (treated change part x) heap found listed refl (λ objects held at spared holds f. treated_fit change part o x at f) cause x.cell.home.item places ms k r.2)
+      then_set listed places (f ∷ k) r = absurd r
+
+      ending_set : (places : List Value) (k : Control) (e : Ending known o k heap places ms) → e.object ≡ x → Ending known o k (slice_set heap o.0 (treated change part x)) places ms
+      ending_set places k e one = record {
+        object = treated change part x;
+        found = set_here heap o.0 x (treated change part x) found;
+        exists = rw one at e.exists;
+        parted = rw one at e.parted;
+        stored = stored_treated change part o x found e.stored;
+        covered = rw one at e.covered;
+        rest = then_set (rw one at e.parted) places k (rw one at e.rest);
+      }
+
+      ends_set : (v : Value) (places : List Value) (k : Control) → v ≡ Names o → EndsTo known v k heap places ms → EndsTo known v k (slice_set heap o.0 (treated change part x)) places ms
+      ends_set v places [] is r = absurd r
+      ends_set v places (Ends w ∷ k) is r =
+          let named_so : w ≡ Names o = r.0 ∙ is in
+          let e : Ending known o k heap places ms = rw named_so at r.1 in
+          let one : e.object ≡ x = let at = e.found in cc (at, found) in
+          (r.0, rw named_so (ending_set places k e one))
+      ends_set v places (f ∷ k) is r = absurd r
+
+  module _ (known : Known) (ms : List Master) (heap : List Object) (o : Id) (x : Object) (found : object_at heap o ≡ Some x) where
+    -- What gets the name of a new object gets it still.
+    put_set : (h : Value) (c : ℕ) (w : Value) (places : List Value) (k : Control) → IsHolder heap h × Working known (store heap h c w) places ms (RunsOn known k) → IsHolder (slice_set heap o.0 (treated change part x)) h × Working known (store (slice_set heap o.0 (treated change part x)) h c w) places ms (RunsOn known k)
+    put_set Null c w places k r = absurd r.0
+    put_set (Scalar n) c w places k r = absurd r.0
+    put_set (Part object_id base) c w places k r = absurd r.0
+    put_set (Names h) c w places k r =
+        let there = r.0 in
+        let beside = stored_beside heap o x found h there.0 c w there.1 in
+        let works = works_set (store heap (Names h) c w) o beside.0 beside.1 known ms r.1 in
+        (there_set heap o x found h there, subst (λ (objects : List Object). Working known objects places ms (RunsOn known k)) (sym beside.2) works)
+
+    names_set : (places operands : List Value) (k : Control) → NamesTo known k heap places operands ms → NamesTo known k (slice_set heap o.0 (treated change part x)) places operands ms
+    names_set places operands [] r = absurd r
+    names_set places operands (Stores z ∷ k) r = works_set heap o x found known ms r
+    names_set places operands (Declares z ∷ k) r = works_set heap o x found known ms r
+    names_set places operands (StoresIn h c ∷ k) r = put_set h c _ places k r
+    names_set places operands (f ∷ k) r = absurd r
+
+    begun_set : (places operands : List Value) (k : Control) → BegunTo known k heap places operands ms → BegunTo known k (slice_set heap o.0 (treated change part x)) places operands ms
+    begun_set places operands k (inl w) = inl (works_set heap o x found known ms w)
+    begun_set places operands k (inr r) = inr (names_set places operands k r)
+
+    treats_set : (v : Value) (treatment : Treatment) (places operands : List Value) (k : Control) → v ≡ Names o → TreatsBy known v treatment k heap places operands ms → TreatsBy known v treatment k (slice_set heap o.0 (treated change part x)) places operands ms
+    treats_set v (begins by) places operands k is r = begun_set places operands k r
+    treats_set v (ends cause) places operands k is r = ends_set heap o x found known ms v places k is r
+
+  pub treats_changed : (known : Known) (ms : List Master) (heap : List Object) (v : Value) (treatment : Treatment) (places operands : List Value) (k : Control) → TreatsBy known v treatment k heap places operands ms → TreatsBy known v treatment k (on_object (treated change part) heap v) places operands ms
+  treats_changed known ms heap v treatment places operands k r =
+      changed_or_same (λ objects. TreatsBy known v treatment k objects places operands ms) heap v r
+      (λ o x is found. treats_set known ms heap o x found v treatment places operands k is r)
+
+-- The next step of a treatment: one of some components is picked, or a part comes to have a value, or its value is finalized; or nothing is left.
+module _ (known : Known) (a : Activation Value) (rest : List (Activation Value)) (s : State) (shapes : List Shape) (v : Value) (k : Control) where
+  -- What is left goes on.
+  goes_on : (treatment : Treatment) (tasks : List Task) → TreatsBy known v treatment k s.heap a.places a.operands s.masters → Stepped known s.heap Quiet (treated_on named v treatment tasks (running k a rest s))
+  goes_on treatment tasks r =
+      stays known Quiet (treated_on named v treatment tasks (running k a rest s))
+      (tt, treats_ready known v treatment tasks k s.heap a.places a.operands s.masters r) tt
+
+  born_fine : (by : Birth) (of part : ℕ) (tasks : List Task) (state : Option PartState) → TreatsBy known v (begins by) k s.heap a.places a.operands s.masters → Fine known s.heap s.masters (born_next named v of part by state (treated_on named v (begins by) tasks (running k a rest s)))
+  born_fine by of part tasks None r = tt
+  born_fine by of part tasks (Some p) r =
+      let change = born_part (counted s.born) in
+      record {
+        ready = (
+          tt,
+          treats_ready known v (begins by) tasks k (on_object (treated change part) s.heap v) a.places a.operands s.masters
+              (treats_changed change part known s.masters s.heap v (begins by) a.places a.operands k r),
+        );
+        alters = alters_treated change part s.heap _ v;
+        says = tt;
+      }
+
+  finalized_fine : (cause : Cause) (of part : ℕ) (tasks : List Task) (state : Option PartState) → TreatsBy known v (ends cause) k s.heap a.places a.operands s.masters → Fine known s.heap s.masters (finalized_next named v of part cause state (treated_on named v (ends cause) tasks (running k a rest s)))
+  finalized_fine cause of part tasks None r = tt
+  finalized_fine cause of part tasks (Some p) r = by p.alive
+    where
+      after : Stepped known s.heap (Finalized v part p.turn of p.number cause) (record (treated_on named v (ends cause) tasks (running k a rest s)) { heap = named.finalize s.heap v part })
+      after = record {
+        ready = (
+          tt,
+          treats_ready known v (ends cause) tasks k (on_object (treated finalized_part part) s.heap v) a.places a.operands s.masters
+              (treats_changed finalized_part part known s.masters s.heap v (ends cause) a.places a.operands k r),
+        );
+        alters = alters_treated finalized_part part s.heap _ v;
+        says = tt;
+      }
+
+      by : (alive : Bool) → Fine known s.heap s.masters (if alive then moves (Finalized v part p.turn of p.number cause) (record (treated_on named v (ends cause) tasks (running k a rest s)) { heap = named.finalize s.heap v part }) else halts (Erroneous FinalizesTwice))
+      by true = after
+      by false = tt
+
+  performed_fine : (treatment : Treatment) (of part : ℕ) (tasks : List Task) (found : Found (Cell Value)) → TreatsBy known v treatment k s.heap a.places a.operands s.masters → Fine known s.heap s.masters (performed_next named v treatment of part found (treated_on named v treatment tasks (running k a rest s)))
+  performed_fine treatment of part tasks on_null r = tt
+  performed_fine treatment of part tasks on_gone r = tt
+  performed_fine treatment of part tasks on_other r = tt
+  performed_fine (begins by) of part tasks (finds cell) r = born_fine by of part tasks (slice_get cell.parts part) r
+  performed_fine (ends cause) of part tasks (finds cell) r = finalized_fine cause of part tasks (slice_get cell.parts part) r
+
+  pub treats_fine : (n : Follows) (treatment : Treatment) (tasks : List Task) → TreatsBy known v treatment k s.heap a.places a.operands s.masters → Fine known s.heap s.masters (treats_next named shapes v treatment tasks n (running k a rest s))
+  treats_fine Done treatment tasks r = goes_on treatment [] r
+  treats_fine (Perform of part) treatment tasks r = performed_fine treatment of part (performed tasks) (look s.heap v) r
+  treats_fine (Pick count) treatment tasks r = by (count == 0)
+    where
+      by : (b : Bool) → Fine known s.heap s.masters (if b then halts Stuck else picks count (λ i. treated_on named v treatment (taken_task shapes (direction_of treatment) tasks i) (running k a rest s)))
+      by true = tt
+      by false = λ i lt. goes_on treatment (taken_task shapes (direction_of treatment) tasks i) r

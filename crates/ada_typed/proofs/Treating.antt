@@ -1,0 +1,42 @@
+-- Objects whose controlled parts are treated before what comes behind (7.6, 7.6.1).
+
+use Rattle.ada_typed.specs.Holding.{Cells}
+use Rattle.std.proofs.Common.{◌≡◌, ℕ, false, List, [], ◌∷◌, length, map, arith, refl, sym, ◌∙◌, subst}
+use Rattle.std.proofs.lemmas.List.{length-replicate}
+use Rattle.ada_parts.specs.declared.tasks.Direction.{Direction}
+use Rattle.ada_parts.specs.Shape.{Shape}
+use Rattle.ada_parts.specs.Task.{Task}
+use Rattle.ada_program.specs.declared.program.TypeDefinition.{TypeDefinition}
+use Rattle.ada_program.specs.Controlled.{shapes_of}
+use Rattle.ada_program.specs.ProgramForm.{TypeForm, ProgramForm, type_form}
+use Rattle.ada_program.specs.Typed.{designated_of}
+use Rattle.ada_meaning.specs.declared.state.Value.{Value}
+use Rattle.ada_meaning.specs.Frame.{Frame, Treatment}
+use Rattle.ada_meaning.specs.Heap.{PartState}
+use Rattle.ada_meaning.specs.Step.{parts_held, all_tasks, new_parts, treating}
+use Rattle.ada_meaning.proofs.Treatments.{are_table}
+use Rattle.ada_typed.proofs.Parts.{shown_shapes, parts_known, shapes_shown, parts_shown, Within, within_all}
+use Rattle.ada_typed.proofs.Values.{OperandKind}
+use Rattle.ada_typed.proofs.Control.{IsTreated, Fits, depth}
+
+-- A new object has as many controlled parts as its type says.
+pub new_held : (types : List TypeDefinition) (forms : List TypeForm) (access : ℕ) → map type_form types ≡ forms → length (new_parts (parts_held types access)) ≡ parts_known forms access
+new_held types forms access shown =
+    let none : PartState = record { alive = false; turn = 0; number = 0 } in
+    length-replicate (parts_held types access) none ∙ sym (parts_shown types forms access shown)
+
+-- All that is to be done for an object speaks of its parts.
+pub all_within : (types : List TypeDefinition) (forms : List TypeForm) (access : ℕ) (direction : Direction) → map type_form types ≡ forms → Within (shown_shapes forms) (parts_known forms access) (all_tasks types access direction)
+all_within types forms access direction shown =
+    let same = parts_shown types forms access shown in
+    subst (λ (shapes : List Shape). Within shapes (parts_known forms access) (all_tasks types access direction)) (sym (shapes_shown types forms shown))
+    (within_all (shapes_of types) (are_table types) (parts_known forms access) direction (designated_of types access) (omega (arith, same)))
+
+-- It is done before what is left.
+pub treating_fits : (p : ProgramForm) (cells : Cells) (kinds : List OperandKind) (v : Value) (treatment : Treatment) (tasks : List Task) (k : List (Frame Value)) → IsTreated p.types cells v tasks → Fits p cells kinds k → Fits p cells kinds (treating v treatment tasks k)
+treating_fits p cells kinds v treatment [] k treated fits = fits
+treating_fits p cells kinds v treatment (task ∷ tasks) k treated fits = (treated, fits)
+
+pub treating_deep : (v : Value) (treatment : Treatment) (tasks : List Task) (k : List (Frame Value)) → depth (treating v treatment tasks k) ≡ depth k
+treating_deep v treatment [] k = refl
+treating_deep v treatment (task ∷ tasks) k = refl
