@@ -23,12 +23,8 @@ begin Free (P); end Main;";
 
 /// A record type gets a parent part: it is controlled from now on.
 fn control(alloc: Global, program: &mut Program, number: usize) -> Result<(), Fail> {
-    match &mut program.types[number] {
-        TypeDefinition::Record {
-            name: _,
-            parts,
-            components: _,
-        } => {
+    match program.types.get_mut(number) {
+        Some(TypeDefinition::Record { parts, .. }) => {
             parts.push(Part {
                 name: String::new(alloc),
                 kind: PartKind::Parent,
