@@ -7,13 +7,15 @@ use Rattle.ada_program.specs.Form.{RecordPathForm, ExpressionForm, integer, bool
 use Rattle.ada_values.specs.declared.operator.BinaryOperator.{BinaryOperator}
 use Rattle.ada_values.specs.declared.fault.OperatorFault.{OperatorFault}
 use Rattle.ada_values.specs.declared.fault.OperatorFault.TheVariants.{Overflow, DivisionByZero, WrongType}
+use Rattle.ada_meaning.specs.declared.state.Place.{Place}
 use Rattle.ada_meaning.specs.declared.state.Value.{Value}
+use Rattle.ada_meaning.specs.declared.event.Birth.TheVariants.{Creation}
 use Rattle.ada_meaning.specs.declared.event.Cause.TheVariants.{Freeing}
 use Rattle.ada_meaning.specs.Frame.{Frame, evaluating, begins, is_master, Landing, passes_on, goes_behind, goes_in, landing}
 use Rattle.ada_meaning.specs.Frame as frame
 use Rattle.ada_meaning.specs.State.{Destination, home_of, pool_freed_to}
 use Rattle.ada_meaning.specs.Heap.{Cell, Found, on_null, on_gone, on_other, finds}
-use Rattle.ada_meaning.specs.Step.{parts_held, record_in, copied_next, copies_next, at, held, newest, reading, component_next, follow_next, path_next, selected, named_next, holder_next, first_in, record_holder_next, expression_next, null_test_next, is_decided, link_next, links_next, outcome_next, item_next, items_next, answered, new_next, new_cell, right_next, free_next, before_last, last_of}
+use Rattle.ada_meaning.specs.Step.{record_in, copied_next, copies_next, at, held, newest, reading, component_next, follow_next, path_next, selected, named_next, holder_next, place_in, record_holder_next, expression_next, null_test_next, is_decided, link_next, links_next, outcome_next, item_next, items_next, answered, new_next, new_cell, right_next, free_next, before_last, last_of}
 use Rattle.ada_meaning.specs.Named.{State, named, whole, inside, look, reads_boolean}
 use Rattle.ada_finalized.proofs.Made.{Calm, Plain, Made, keeps, adds, frees, Does}
 
@@ -45,11 +47,11 @@ module _ (types : List TypeDefinition) where
       let first = inside (held named s x) c in
       path_does (before_last first cs) (whole (held named s x)) (at (frame_of (last_of first cs) ∷ s.control) s) (calm (last_of first cs), h)
 
-  pub record_holder_does : (p : RecordPathForm) (frame_of : ℕ → Frame Value) (s : State) → ((n : ℕ) → Calm (frame_of n)) → Plain s.control → Does types s (record_holder_next named p frame_of s)
+  pub record_holder_does : (p : RecordPathForm) (frame_of : Place → Frame Value) (s : State) → ((place : Place) → Calm (frame_of place)) → Plain s.control → Does types s (record_holder_next named p frame_of s)
   record_holder_does p frame_of s calm h =
       let v = held named s p.object.root in
-      let first = first_in named v p.object.selectors p.first in
-      path_does (selected named v p.object.selectors) (whole v) (at (frame_of first ∷ s.control) s) (calm first, h)
+      let place = place_in named v p.object.selectors p in
+      path_does (selected named v p.object.selectors) (whole v) (at (frame_of place ∷ s.control) s) (calm place, h)
 
   pub expression_does : (e : ExpressionForm) (s : State) → Plain s.control → Does types s (expression_next named e s)
   expression_does (integer i) s h = (tt, keeps refl h)
@@ -83,7 +85,7 @@ module _ (types : List TypeDefinition) where
   item_does null_item s h = (tt, keeps refl h)
   item_does (item_of_path path) s h = named_does path.selectors path.root s h
   item_does (item_of_value e) s h = (tt, keeps refl (tt, h))
-  item_does (item_of_record p) s h = record_holder_does p (λ first. frame.Copies first p.record_type) s (λ n. tt) h
+  item_does (item_of_record p) s h = record_holder_does p (λ place. frame.Copies place.component p.record_type) s (λ place. tt) h
 
   pub items_do : (items : List ItemForm) (s : State) → Plain s.control → Does types s (items_next named items s)
   items_do [] s h = (tt, keeps refl h)
@@ -101,7 +103,7 @@ module _ (types : List TypeDefinition) where
   copies_do o first count (finds cell) s h = copied_does o (record_in cell.values first count) s h
 
   pub answered_does : (access count words : ℕ) (home : Destination) (s : State) → Plain s.control → (granted : Bool) → Made types s.heap s.mode (answered named types access count words home s granted)
-  answered_does access count words home s h true = adds (new_cell named types access count home s) (parts_held types access) s.control refl h refl refl refl
+  answered_does access count words home s h true = adds (new_cell named types access count home s) Creation s.control refl refl h refl refl refl
   answered_does access count words home s h false = keeps refl h
 
   pub new_does : (access count words : ℕ) (home : Option Destination) (s : State) → Plain s.control → Does types s (new_next named types access count words home s)
@@ -121,4 +123,4 @@ module _ (types : List TypeDefinition) where
   free_does access x v on_gone s is h = tt
   free_does access x v on_other s is h = tt
   free_does access x v (finds cell) s is h =
-      (tt, frees v cell (Freeing s.next) (Some (pool_freed_to (home_of access s.masters))) (frame.Clears x ∷ s.control) is (tt, h) refl refl refl)
+      (tt, frees v cell (Freeing s.next) (Some (pool_freed_to (home_of access s.masters))) (frame.Clears x ∷ s.control) refl is (tt, h) refl refl refl)

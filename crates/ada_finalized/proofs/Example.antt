@@ -1,8 +1,10 @@
 -- A program with controlled record types, and a run of it.
 
-use Rattle.std.proofs.Common.{◌≡◌, true, false, List, [], ◌∷◌, ◌++◌, refl, arith}
-use Rattle.std.specs.Prelude.{None, pos}
+use Rattle.std.proofs.Common.{◌≡◌, ℕ, true, false, List, [], ◌∷◌, ◌++◌, refl, arith}
+use Rattle.std.specs.Prelude.{Some, None, pos}
 use Rattle.std.specs.List.{filter}
+use Rattle.ada_program.specs.declared.program.Item.TheVariants as item
+use Rattle.ada_program.specs.declared.program.RecordPath.{RecordPath}
 use Rattle.ada_program.specs.declared.program.Right.TheVariants as right
 use Rattle.ada_program.specs.declared.program.Stmt.{Stmt}
 use Rattle.ada_program.specs.declared.program.Stmt as stmt
@@ -27,40 +29,58 @@ use Rattle.ada_order.proofs.Choices.{run_by}
 use Rattle.ada_order.proofs.Example.{steps, vec, no_name, spot, path}
 use Rattle.ada_finalized.specs.Example.{controlled_shapes, controlled_stmts, controlled_events}
 
--- A component, the parent part among them; and a controlled type with one more.
-abbrev of_kind : PartKind → Part
-of_kind kind = record { name = no_name; kind = kind; first = record { 0 = 0 } }
+-- A component, the parent part among them; and a controlled type with one more, by its number among those and how many controlled parts it has.
+abbrev of_kind : PartKind → ℕ → Part
+of_kind kind number = record { name = no_name; kind = kind; first = record { 0 = 0 }; part = record { 0 = number } }
 
-abbrev controlled_with : PartKind → TypeDefinition
-controlled_with kind =
-    definition.Record no_name (vec (of_kind part.Parent ∷ of_kind kind ∷ []) (omega arith)) (vec (component.Integer (pos 0) ∷ []) (omega arith))
+abbrev controlled_with : PartKind → (number count : ℕ) → TypeDefinition
+controlled_with kind number count =
+    definition.Record no_name (vec (of_kind part.Parent 0 ∷ of_kind kind 1 ∷ []) (omega arith)) (vec (component.Integer (pos 0) ∷ []) (omega arith))
+    (Some (record { number = record { 0 = number }; parts = count; limited = false }))
 
 abbrev types : List TypeDefinition
 types =
-    controlled_with (part.Elementary (component.Integer (pos 0)))
-    ∷ controlled_with (part.Record (record { 0 = 0 }))
+    controlled_with (part.Elementary (component.Integer (pos 0))) 0 1
+    ∷ controlled_with (part.Record (record { 0 = 0 })) 1 2
     ∷ definition.Access no_name (record { 0 = 1 }) None
+    ∷ definition.Object (record { 0 = 1 })
     ∷ definition.Object (record { 0 = 1 })
     ∷ []
 
--- X : Outer; P : Outer_Access;
+-- X : Outer; Y : Outer; P : Outer_Access;
 abbrev variables : List Variable
 variables =
     record { name = no_name; spot = spot; kind = variable.Record (record { 0 = 3 }); borrows = false }
+    ∷ record { name = no_name; spot = spot; kind = variable.Record (record { 0 = 4 }); borrows = false }
     ∷ record { name = no_name; spot = spot; kind = variable.Access (record { 0 = 2 }); borrows = false }
     ∷ []
+
+-- A record object as a whole.
+abbrev whole : ℕ → RecordPath
+whole x = record {
+  object = record { root = record { 0 = x }; of_record = true; selectors = vec [] (omega arith); spot = spot };
+  first = record { 0 = 0 };
+  part = record { 0 = 0 };
+  «record» = record { 0 = 1 };
+}
 
 abbrev declarations : List Declaration
 declarations =
     declaration.Collection (record { 0 = 2 })
     ∷ declaration.Record (record { 0 = 0 }) (record { 0 = 3 }) None
-    ∷ declaration.Variable (record { 0 = 1 }) None
+    ∷ declaration.Record (record { 0 = 1 }) (record { 0 = 4 }) (Some (vec (item.Record (whole 0) ∷ []) (omega arith)))
+    ∷ declaration.Variable (record { 0 = 2 }) None
+    ∷ []
+
+abbrev statements : List Stmt
+statements =
+    stmt.Assign (path 2) (right.Default (record { 0 = 2 }))
+    ∷ stmt.AssignRecord (whole 0) (vec (item.Record (whole 1) ∷ []) (omega arith))
+    ∷ stmt.Free (record { 0 = 2 }) (path 2)
     ∷ []
 
 abbrev block : Stmt
-block =
-    stmt.Block (vec declarations (omega arith))
-    (vec (stmt.Assign (path 1) (right.Default (record { 0 = 2 })) ∷ stmt.Free (record { 0 = 2 }) (path 1) ∷ []) (omega arith)) (vec [] (omega arith))
+block = stmt.Block (vec declarations (omega arith)) (vec statements (omega arith)) (vec [] (omega arith))
 
 abbrev pub program : Program
 program = record {
@@ -81,9 +101,11 @@ shapes = refl
 pub form : stmt_forms program ≡ controlled_stmts
 form = simp statement_rules
 
--- The component of each object is picked where it is initialized and where it is finalized; X is picked at the leaving.
-abbrev choices : List Choice
-choices = steps 4 ++ takes 0 ∷ steps 8 ++ grants true ∷ takes 0 ∷ steps 5 ++ takes 0 ∷ steps 8 ++ takes 0 ∷ steps 1 ++ takes 0 ∷ steps 10
+-- The component of each object is picked wherever the object is treated; Y and X are picked at the leaving.
+abbrev pub choices : List Choice
+choices =
+    steps 4 ++ takes 0 ∷ steps 7 ++ takes 0 ∷ steps 8 ++ grants true ∷ takes 0 ∷ steps 10 ++ takes 0 ∷ steps 3 ++ takes 0 ∷ steps 4 ++ takes 0 ∷ steps 8
+    ++ takes 0 ∷ steps 1 ++ takes 0 ∷ steps 4 ++ takes 0 ∷ steps 1 ++ takes 0 ∷ steps 10
 
 pub finishes : InSomeRun program (λ events last. Halts program last Finished × (filter is_seen events ≡ controlled_events))
 unfolding next expression_form stmt_form

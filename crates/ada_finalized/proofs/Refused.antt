@@ -1,16 +1,16 @@
 -- What the laws refuse: events of wrong machines, of an object as in the example.
 
-use Rattle.std.proofs.Common.{ℕ, [], ◌∷◌, Option, Some, None, refl, ap, inl, inr, arith}
-use Rattle.ada_parts.specs.Part.{LiesIn}
+use Rattle.std.proofs.Common.{◌≡◌, ℕ, [], ◌∷◌, Option, Some, None, refl, ap, inl, inr, arith}
+use Rattle.ada_parts.specs.Part.{Part, LiesIn}
 use Rattle.ada_meaning.specs.declared.state.Value.{Value}
 use Rattle.ada_meaning.specs.declared.state.Value.TheVariants.{Names}
-use Rattle.ada_meaning.specs.declared.event.Birth.TheVariants.{Creation}
-use Rattle.ada_meaning.specs.declared.event.Cause.TheVariants.{Freeing}
+use Rattle.ada_meaning.specs.declared.event.Birth.{Birth}
+use Rattle.ada_meaning.specs.declared.event.Birth.TheVariants.{Creation, Copy, Adjustment}
+use Rattle.ada_meaning.specs.declared.event.Cause.TheVariants.{Freeing, Assigning}
 use Rattle.ada_meaning.specs.Event.{Born, Finalized, Back, Quiet}
 use Rattle.ada_meaning.specs.Run.{Event}
 use Rattle.ada_meaning.specs.Law.{ControlledValue, FinalizedTwoValues, Happened}
-use Rattle.ada_meaning.specs.Finalization.{Bears, Finalizes, FinalizationLaw}
-use Rattle.ada_finalized.specs.Law.{InsideIsBorn}
+use Rattle.ada_meaning.specs.Finalization.{Bears, Finalizes, BegunPart, begun_of, FinalizationLaw}
 use Rattle.ada_finalized.specs.Example.{controlled_shapes}
 
 -- The object, its whole and its component: they come to exist, and are finalized, with these turns; and its words go back.
@@ -49,7 +49,7 @@ component turn = record { object = record { 0 = 0 }; part = 1; turn = turn }
 
 -- A component that is initialized after the whole: `parts_first`.
 initialized_late : FinalizationLaw controlled_shapes (whole_born ∷ component_born ∷ []) → ⊥
-initialized_late law = law.parts_first 0 1 Quiet (omega arith) (omega arith) refl lies_in
+initialized_late law = law.parts_first 0 1 Quiet (omega arith) (omega arith) refl refl lies_in
 
 -- A component that is finalized before the whole: `wholes_first`.
 finalized_early : FinalizationLaw controlled_shapes (component_born ∷ whole_born ∷ component_finalized 0 ∷ whole_finalized 0 ∷ it_back ∷ []) → ⊥
@@ -101,6 +101,77 @@ born_twice law = law.born_once 0 1 Quiet (omega arith) (omega arith) refl
 born_behind : FinalizationLaw controlled_shapes (component_finalized 0 ∷ component_born ∷ []) → ⊥
 born_behind law = law.born_before 0 1 Quiet (omega arith) (omega arith) refl
 
--- A component that is never initialized: `InsideIsBorn`.
-never_initialized : InsideIsBorn controlled_shapes (whole_born ∷ []) → ⊥
-never_initialized law = law [] [] whole_born (record { object = record { 0 = 0 }; part = record { of = 1; number = 0 } }) 1 refl refl lies_in
+-- A component that is never initialized: `inside_begun`.
+abbrev inner_part : Part
+inner_part = record { of = 0; number = 1 }
+
+abbrev outer_begun : BegunPart
+outer_begun = record { treated = record { object = record { 0 = 0 }; part = record { of = 1; number = 0 } }; by = Creation }
+
+never_initialized : FinalizationLaw controlled_shapes (whole_born ∷ []) → ⊥
+never_initialized law = law.inside_begun [] [] whole_born outer_begun inner_part refl refl lies_in (1, omega arith, refl)
+
+-- Assignments: the component and the whole are finalized, and come to exist again.
+abbrev whole_cleared : Event
+whole_cleared = Finalized it 0 0 1 2 (Assigning 3)
+
+abbrev component_cleared : Event
+component_cleared = Finalized it 1 0 0 1 (Assigning 3)
+
+abbrev whole_adjusted : Event
+whole_adjusted = Born it 0 1 1 4 (Adjustment 3)
+
+abbrev component_adjusted : Event
+component_adjusted = Born it 1 1 0 3 (Adjustment 3)
+
+-- One that adjusts the whole before its component: `parts_first`.
+adjusted_late : FinalizationLaw controlled_shapes (whole_adjusted ∷ component_adjusted ∷ []) → ⊥
+adjusted_late law = law.parts_first 0 1 Quiet (omega arith) (omega arith) refl refl lies_in
+
+-- One that finalizes the component before the whole: `wholes_first`.
+cleared_early : FinalizationLaw controlled_shapes (component_cleared ∷ whole_cleared ∷ []) → ⊥
+cleared_early law = law.wholes_first 0 1 Quiet (omega arith) (omega arith) refl refl lies_in
+
+-- One that finalizes the whole after it has adjusted the component: `assigned_once`.
+cleared_late : FinalizationLaw controlled_shapes (component_cleared ∷ component_adjusted ∷ whole_cleared ∷ whole_adjusted ∷ []) → ⊥
+cleared_late law = law.assigned_once 1 2 Quiet (omega arith) (omega arith) refl
+
+-- One that adjusts the whole and never the component: `inside_begun`.
+abbrev outer_adjusted : BegunPart
+outer_adjusted = record { treated = record { object = record { 0 = 0 }; part = record { of = 1; number = 0 } }; by = Adjustment 3 }
+
+never_adjusted : FinalizationLaw controlled_shapes (whole_adjusted ∷ []) → ⊥
+never_adjusted law = law.inside_begun [] [] whole_adjusted outer_adjusted inner_part refl refl lies_in (1, omega arith, refl)
+
+-- A copy whose component is left as it was initialized: the same field.
+abbrev outer_copied : BegunPart
+outer_copied = record { treated = record { object = record { 0 = 0 }; part = record { of = 1; number = 0 } }; by = Copy }
+
+abbrev birth_in : Birth → ℕ
+birth_in Creation = 1
+birth_in Copy = 2
+birth_in (Adjustment number) = 3
+
+abbrev by_in : Option BegunPart → ℕ
+by_in None = 0
+by_in (Some b) = birth_in b.by
+
+half : Happened (λ e. begun_of e ≡ Some (record { treated = record { object = record { 0 = 0 }; part = inner_part }; by = Copy })) (component_born ∷ []) → ⊥
+half (inl h) = let e = ap by_in h in omega (arith, e)
+half (inr h) = absurd h
+
+copied_by_half : FinalizationLaw controlled_shapes (component_born ∷ Born it 0 0 1 2 Copy ∷ []) → ⊥
+copied_by_half law =
+    half (law.inside_begun (component_born ∷ []) [] (Born it 0 0 1 2 Copy) outer_copied inner_part refl refl lies_in (1, omega arith, refl))
+
+-- One that copies onto a value that has not been finalized, under its next turn: what comes to exist once more was not there, but it is never finalized
+-- (`finalized_by_back`).
+overwritten : Happened (Finalizes (component 0)) (component_born ∷ component_adjusted ∷ component_finalized 1 ∷ it_back ∷ []) → ⊥
+overwritten (inl h) = let e = ap part_in h in omega (arith, e)
+overwritten (inr (inl h)) = let e = ap part_in h in omega (arith, e)
+overwritten (inr (inr (inl h))) = let e = ap turn_in h in omega (arith, e)
+overwritten (inr (inr (inr (inl h)))) = let e = ap part_in h in omega (arith, e)
+overwritten (inr (inr (inr (inr h)))) = absurd h
+
+not_cleared : FinalizationLaw controlled_shapes (component_born ∷ component_adjusted ∷ component_finalized 1 ∷ it_back ∷ []) → ⊥
+not_cleared law = overwritten (law.finalized_by_back (component 0) (inl refl) (inr (inr (inr (inl refl)))))

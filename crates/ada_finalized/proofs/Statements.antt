@@ -8,8 +8,10 @@ use Rattle.ada_program.specs.Form.{RecordPathForm, ActualForm, in_value, in_null
 use Rattle.ada_program.specs.Form as form
 use Rattle.ada_program.specs.ProgramForm.{BodyForm}
 use Rattle.ada_program.specs.Typed.{reached_of}
+use Rattle.ada_meaning.specs.declared.state.Place.{Place}
 use Rattle.ada_meaning.specs.declared.state.Value.{Value}
 use Rattle.ada_meaning.specs.declared.state.Value.TheVariants.{Names}
+use Rattle.ada_meaning.specs.declared.event.Birth.{Birth}
 use Rattle.ada_meaning.specs.declared.event.Birth.TheVariants.{Creation}
 use Rattle.ada_meaning.specs.declared.event.Cause.TheVariants.{Freeing}
 use Rattle.ada_meaning.specs.Event.{Quiet}
@@ -17,10 +19,11 @@ use Rattle.ada_meaning.specs.Frame.{Frame, evaluating, begins, is_master, Landin
 use Rattle.ada_meaning.specs.Frame as frame
 use Rattle.ada_meaning.specs.State.{height, home_of, pool_freed_to}
 use Rattle.ada_meaning.specs.Heap.{Cell, Found, on_null, on_gone, on_other, finds}
-use Rattle.ada_meaning.specs.Step.{all_tasks, parts_held, treating, storing, computing, record_cell, record_in, newest_ones, without_newest, initial_values, record_target_next, record_stored_next, store_record_next, record_next, moves, at, held, referred_next, refers_next, open_next, opened_next, opens_next, assign_next, target_next, stored_next, store_next, received_next, receive_next, frees_next, freed_next, free_component_next, free_in_next, branches_next, decided_next, turn_next, repeats_next, turned_next, count_turn_next, counts_next, ranges_next, gets_next, exit_next, exited_next, call_next, stmt_next, stmts_next, line_next, declaration_next, declarations_next}
+use Rattle.ada_meaning.specs.Step.{all_tasks, has_parts, treating, storing, computing, record_cell, record_in, newest_ones, without_newest, initial_values, record_target_next, record_stored_next, store_record_next, copy_next, record_assign_next, record_next, moves, at, held, referred_next, refers_next, open_next, opened_next, opens_next, assign_next, target_next, stored_next, store_next, received_next, receive_next, frees_next, freed_next, free_component_next, free_in_next, branches_next, decided_next, turn_next, repeats_next, turned_next, count_turn_next, counts_next, ranges_next, gets_next, exit_next, exited_next, call_next, stmt_next, stmts_next, line_next, declaration_next, declarations_next}
 use Rattle.ada_meaning.specs.Named.{State, named, look, new_object, an_integer}
 use Rattle.ada_finalized.proofs.Ranks.{stored_bare}
-use Rattle.ada_finalized.proofs.Made.{Calm, Plain, Made, keeps, adds, frees, Does}
+use Rattle.ada_meaning.specs.Finalization.{adjusted_by}
+use Rattle.ada_finalized.proofs.Made.{Calm, Plain, Made, keeps, adds, frees, copies, Does}
 use Rattle.ada_finalized.proofs.Evaluations.{holder_does, record_holder_does, free_does}
 
 module _ (types : List TypeDefinition) where
@@ -70,7 +73,7 @@ module _ (types : List TypeDefinition) where
   freed_does access o c v on_gone s is h = tt
   freed_does access o c v on_other s is h = tt
   freed_does access o c v (finds cell) s is h =
-      (tt, frees v cell (Freeing s.next) (Some (pool_freed_to (home_of access s.masters))) (frame.ClearsIn o c ∷ s.control) is (tt, h) refl refl refl)
+      (tt, frees v cell (Freeing s.next) (Some (pool_freed_to (home_of access s.masters))) (frame.ClearsIn o c ∷ s.control) refl is (tt, h) refl refl refl)
 
   free_component_does : (access : ℕ) (o : Value) (c : ℕ) (held : Option Value) (s : State) → Plain s.control → Does types s (free_component_next named types access o c held s)
   free_component_does access o c None s h = tt
@@ -146,15 +149,15 @@ module _ (types : List TypeDefinition) where
   exited_does (Some false) s h = (tt, keeps refl h)
 
   -- What is given by reference.
-  referred_does : (o : Value) (first : ℕ) (found : Option (List Value)) (s : State) → Plain s.control → Does types s (referred_next named o first found s)
-  referred_does o first None s h = tt
-  referred_does o first (Some vs) s h = (tt, keeps refl h)
+  referred_does : (o : Value) (place : Place) (found : Option (List Value)) (s : State) → Plain s.control → Does types s (referred_next named o place found s)
+  referred_does o place None s h = tt
+  referred_does o place (Some vs) s h = (tt, keeps refl h)
 
-  pub refers_do : (o : Value) (first count : ℕ) (found : Found (Cell Value)) (s : State) → Plain s.control → Does types s (refers_next named o first count found s)
-  refers_do o first count on_null s h = (tt, keeps refl h)
-  refers_do o first count on_gone s h = tt
-  refers_do o first count on_other s h = tt
-  refers_do o first count (finds cell) s h = referred_does o first (record_in cell.values first count) s h
+  pub refers_do : (o : Value) (place : Place) (count : ℕ) (found : Found (Cell Value)) (s : State) → Plain s.control → Does types s (refers_next named o place count found s)
+  refers_do o place count on_null s h = (tt, keeps refl h)
+  refers_do o place count on_gone s h = tt
+  refers_do o place count on_other s h = tt
+  refers_do o place count (finds cell) s h = referred_does o place (record_in cell.values place.component count) s h
 
   pub open_does : (cs : List ℕ) (x : ℕ) (s : State) → Plain s.control → Does types s (open_next named cs x s)
   open_does [] x s h = tt
@@ -193,11 +196,25 @@ module _ (types : List TypeDefinition) where
   call_does procedure actuals None s h = tt
   call_does procedure actuals (Some b) s h = (tt, keeps refl (plain_computing actuals (frame.Calls procedure b actuals ∷ s.control) (tt, h)))
 
+  -- A record that is assigned to: the components of one that has no controlled parts are evaluated.
+  copy_does : (target : RecordPathForm) (items : List ItemForm) (s : State) → Plain s.control → Does types s (copy_next named target items s)
+  copy_does target [] s h = tt
+  copy_does target (null_item ∷ items) s h = tt
+  copy_does target (item_of_path path ∷ items) s h = tt
+  copy_does target (item_of_value e ∷ items) s h = tt
+  copy_does target (item_of_record source ∷ []) s h = (tt, copies target source target.record_type s.control refl h refl refl)
+  copy_does target (item_of_record source ∷ (item ∷ items)) s h = tt
+
+  record_assign_does :
+      (parts : Bool) (target : RecordPathForm) (items : List ItemForm) (s : State) → Plain s.control → Does types s (record_assign_next named parts target items s)
+  record_assign_does true target items s h = copy_does target items s h
+  record_assign_does false target items s h =
+      record_holder_does types target (λ place. frame.TargetsRecord place.component target.record_type items) s (λ place. tt) h
+
   stmt_does : (bodies : List BodyForm) (f : StmtForm) (s : State) → Plain s.control → Does types s (stmt_next named types bodies f s)
   stmt_does bodies skips s h = (tt, keeps refl h)
   stmt_does bodies (assigns target right) s h = assign_does target.selectors target.root right s h
-  stmt_does bodies (assigns_record target items) s h =
-      record_holder_does types target (λ first. frame.TargetsRecord first target.record_type items) s (λ n. tt) h
+  stmt_does bodies (assigns_record target items) s h = record_assign_does (has_parts types target.record_type) target items s h
   stmt_does bodies (form.frees access path) s h = frees_do path.selectors access path.root s h
   stmt_does bodies (gets target) s h = gets_do target.selectors target.root s.input s h
   stmt_does bodies (writes e) s h = (tt, keeps refl (tt, (tt, h)))
@@ -219,11 +236,15 @@ module _ (types : List TypeDefinition) where
   line_does None s h = tt
   line_does (Some i) s h = (tt, keeps refl h)
 
-  pub made_does : (t : ℕ) (values : List Value) (s after : State) → Plain s.control → after.mode ≡ s.mode → after.heap ≡ s.heap ++ new_object (record_cell named types t (height s.masters) values) ∷ [] → after.control ≡ treating (Names (record { 0 = length s.heap })) (begins Creation) (all_tasks types t PartsFirst) s.control → Made types s.heap s.mode after
-  made_does t values s after h mode heap control = adds (record_cell named types t (height s.masters) values) (parts_held types t) s.control refl h mode heap control
+  pub made_does :
+      (t : ℕ) (by : Birth) (values : List Value) (s after : State) → adjusted_by by ≡ None → Plain s.control → after.mode ≡ s.mode
+      → after.heap ≡ s.heap ++ new_object (record_cell named types t (height s.masters) values) ∷ []
+      → after.control ≡ treating (Names (record { 0 = length s.heap })) (begins by) (all_tasks types t PartsFirst) s.control → Made types s.heap s.mode after
+  made_does t by values s after created h mode heap control =
+      adds (record_cell named types t (height s.masters) values) by s.control refl created h mode heap control
 
   record_does : (x t : ℕ) (initial : Option (List ItemForm)) (s : State) → Plain s.control → Does types s (record_next named types x t initial s)
-  record_does x t None s h = (tt, made_does t (initial_values named (reached_of types t)) s _ h refl refl refl)
+  record_does x t None s h = (tt, made_does t Creation (initial_values named (reached_of types t)) s _ refl h refl refl refl)
   record_does x t (Some items) s h = (tt, keeps refl (tt, (tt, h)))
 
   declaration_does : (d : DeclarationForm) (s : State) → Plain s.control → Does types s (declaration_next named types d s)

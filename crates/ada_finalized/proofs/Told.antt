@@ -1,24 +1,35 @@
 -- What an event tells, what it leaves behind for good, and what two events say of each other.
 
-use Rattle.std.proofs.Common.{◌≡◌, ◌≢◌, ◌⊎◌, ℕ, zero, suc, ◌+◌, ◌≤◌, true, false, List, [], ◌∷◌, Option, Some, None, refl, sym, ap, ◌∙◌, inl, inr, subst, arith}
-use Rattle.std.specs.List.{slice_get}
+use Rattle.std.proofs.Common.{◌≡◌, ◌≢◌, ◌⊎◌, ℕ, zero, suc, ◌+◌, ◌<◌, ◌≤◌, true, false, List, [], ◌∷◌, length, Option, Some, None, refl, sym, ap, ◌∙◌, inl, inr, subst, arith}
+use Rattle.std.specs.List.{slice_get, Contains}
+use Rattle.std.proofs.lemmas.Bool.Decides.{eqb_tells}
 use Rattle.ada_program.specs.declared.program.TypeDefinition.{TypeDefinition}
 use Rattle.ada_program.specs.Controlled.{shapes_of}
 use Rattle.ada_parts.specs.Shape.{Shape}
-use Rattle.ada_parts.specs.Part.{LiesIn}
+use Rattle.ada_parts.specs.Part.{Part, LiesIn, parts_at}
+use Rattle.ada_parts.specs.Task.{Task, performs}
+use Rattle.ada_parts.specs.Law.{parts_left}
 use Rattle.ada_meaning.specs.declared.state.Id.{Id}
+use Rattle.ada_meaning.specs.declared.state.Value.{Value}
+use Rattle.ada_meaning.specs.declared.state.Value.TheVariants.{Names}
+use Rattle.ada_meaning.specs.declared.event.Birth.TheVariants.{Adjustment}
+use Rattle.ada_meaning.specs.declared.event.Cause.{Cause}
+use Rattle.ada_meaning.specs.declared.event.Cause.TheVariants.{Leaving, Freeing, Assigning, Undoing}
 use Rattle.ada_meaning.specs.Event.{Born, Finalized, Back, Followed, Left, Line, Quiet}
-use Rattle.ada_meaning.specs.Named.{Object}
+use Rattle.ada_meaning.specs.Frame.{Treatment, begins, ends}
+use Rattle.ada_meaning.specs.Named.{Object, State}
 use Rattle.ada_meaning.specs.Run.{Event}
-use Rattle.ada_meaning.specs.Law.{ControlledValue, back_of, finalized_of, Between, FinalizedTwoValues}
+use Rattle.ada_meaning.specs.Law.{ControlledValue, back_of, finalized_of, cause_of, Between, FinalizedTwoValues, Happened}
 use Rattle.ada_meaning.specs.Life.{KeepsObjects}
-use Rattle.ada_meaning.specs.Finalization.{born_of, object_in, BornTwoValues, BornBeforeFinalized, NothingAfterBack, TreatedPart, created_of, EndedPart, ended_of, NotInside, PartsComeFirst, NotAround, WholesComeFirst}
+use Rattle.ada_meaning.specs.Finalization.{born_of, object_in, BornTwoValues, BornBeforeFinalized, NothingAfterBack, BegunPart, begun_of, EndedPart, ended_of, NotInside, PartsComeFirst, NotAround, WholesComeFirst, adjusted_by, adjusted_of, assigned_by, EndsBeforeItAdjusts}
+use Rattle.ada_finalized.proofs.Counts.{count}
+use Rattle.ada_finalized.proofs.Treating.{one_here}
 use Rattle.ada_finalized.proofs.Ranks.{Heap, rank_at, rise, rise_or, rise_self}
-use Rattle.ada_finalized.proofs.Invariant.{Untold, IsOut, Told, still, bears, finalizes}
+use Rattle.ada_finalized.proofs.Invariant.{name, Numbered, begun_part, IsLeft, OfTreatments, of_left, treatments_map, Origin, goes_on, creates, adjusts, clears, parts, Untold, IsOut, IsUnlisted, NoneInside, NotLeft, NotCleared, Caused, Told, still, bears, finalizes}
 
--- The first value of a part.
-abbrev pub value : (object part : ℕ) → ControlledValue
-value o n = record { object = record { 0 = o }; part = n; turn = 0 }
+-- A value of a part, by how often the part had one before.
+abbrev pub value : (object part turn : ℕ) → ControlledValue
+value o n turn = record { object = record { 0 = o }; part = n; turn = turn }
 
 -- Events that tell of no part.
 untold_born : (e : Event) → Untold e → born_of e ≡ None
@@ -39,14 +50,14 @@ untold_finalized (Left master) h = refl
 untold_finalized (Line line) h = refl
 untold_finalized Quiet h = refl
 
-untold_created : (e : Event) → Untold e → created_of e ≡ None
-untold_created (Born object part turn type number by) h = absurd h
-untold_created (Finalized object part turn type number cause) h = absurd h
-untold_created (Back object access number pool subpool cause) h = refl
-untold_created (Followed object) h = refl
-untold_created (Left master) h = refl
-untold_created (Line line) h = refl
-untold_created Quiet h = refl
+untold_begun : (e : Event) → Untold e → begun_of e ≡ None
+untold_begun (Born object part turn type number by) h = absurd h
+untold_begun (Finalized object part turn type number cause) h = absurd h
+untold_begun (Back object access number pool subpool cause) h = refl
+untold_begun (Followed object) h = refl
+untold_begun (Left master) h = refl
+untold_begun (Line line) h = refl
+untold_begun Quiet h = refl
 
 untold_ended : (e : Event) → Untold e → ended_of e ≡ None
 untold_ended (Born object part turn type number by) h = absurd h
@@ -57,6 +68,15 @@ untold_ended (Left master) h = refl
 untold_ended (Line line) h = refl
 untold_ended Quiet h = refl
 
+untold_adjusted : (e : Event) → Untold e → adjusted_of e ≡ None
+untold_adjusted (Born object part turn type number by) h = absurd h
+untold_adjusted (Finalized object part turn type number cause) h = absurd h
+untold_adjusted (Back object access number pool subpool cause) h = refl
+untold_adjusted (Followed object) h = refl
+untold_adjusted (Left master) h = refl
+untold_adjusted (Line line) h = refl
+untold_adjusted Quiet h = refl
+
 -- What is there is one thing.
 some_is : {X : Type 0} (P : X → Type 0) (found : Option X) (x y : X) → found ≡ Some x → found ≡ Some y → P x → P y
 some_is P found x y a b p = let both : Some x ≡ Some y = sym a ∙ b in let one : x ≡ y = cc both in subst P one p
@@ -66,133 +86,301 @@ nothing_is found y a b = let both : None ≡ Some y = sym a ∙ b in absurd (cc 
 
 -- What an event tells of the value that comes to exist, or is finalized.
 pub record BornAt (xs ys : Heap) (v : ControlledValue) : Type 0 where
-  pub first : v.turn ≡ 0
-  pub before : rank_at xs v.object.0 v.part ≡ 0
-  pub after : rank_at ys v.object.0 v.part ≡ 1
+  pub before : rank_at xs v.object.0 v.part ≡ v.turn + v.turn
+  pub after : rank_at ys v.object.0 v.part ≡ v.turn + v.turn + 1
   pub out : IsOut xs v.object.0 true
 
 pub record FinalizedAt (xs ys : Heap) (v : ControlledValue) : Type 0 where
-  pub first : v.turn ≡ 0
-  pub before : rank_at xs v.object.0 v.part ≡ 1
-  pub after : rank_at ys v.object.0 v.part ≡ 2
+  pub before : rank_at xs v.object.0 v.part ≡ v.turn + v.turn + 1
+  pub after : rank_at ys v.object.0 v.part ≡ v.turn + v.turn + 2
   pub out : IsOut xs v.object.0 true
 
--- The part that is created, or finalized.
-pub record CreatedAt (types : List TypeDefinition) (xs : Heap) (t : TreatedPart) : Type 0 where
-  pub before : rank_at xs t.object.0 t.part.number ≡ 0
-  pub inside : (m : ℕ) → LiesIn (shapes_of types) m t.part → 1 ≤ rank_at xs t.object.0 m
+-- The part that comes to have a value, by what is left to do: nothing that lies in it is left then, as under its creation or assignment it has all begun.
+pub record BegunAt (types : List TypeDefinition) (past : List Event) (s after : State) (b : BegunPart) : Type 0 where
+  pub numbered : Numbered (adjusted_by b.by) after.next
+  pub there : b.treated.object.0 < length after.heap
+  pub behind : List Task
+  pub left : IsLeft (name b.treated.object.0) (begins b.by) (performs b.treated.part.of b.treated.part.number ∷ behind) s.control
+  pub none_inside : OfTreatments (NoneInside (shapes_of types) b) after.control
+  pub inside :
+      (p : Part) → LiesIn (shapes_of types) p.number b.treated.part → Contains (parts_at (shapes_of types) b.treated.part.of b.treated.part.number) p
+      → Happened (λ f. begun_of f ≡ Some (record { treated = record { object = b.treated.object; part = p }; by = b.by })) past
 
-record EndedAt (types : List TypeDefinition) (xs ys : Heap) (t : EndedPart) : Type 0 where
-  pub after : rank_at ys t.treated.object.0 t.treated.part.number ≡ 2
-  pub inside : (m : ℕ) → LiesIn (shapes_of types) m t.treated.part → rank_at xs t.treated.object.0 m ≤ 1
+-- The part whose value is finalized: all that lies in it is left.
+pub record EndedAt (types : List TypeDefinition) (s after : State) (t : EndedPart) : Type 0 where
+  pub caused : Caused t.treated.object.0 t.cause after
+  pub behind : List Task
+  pub left : IsLeft (name t.treated.object.0) (ends t.cause) (performs t.treated.part.of t.treated.part.number ∷ behind) s.control
+  pub not_left : OfTreatments (NotLeft (shapes_of types) t) after.control
+  pub inside : (m : ℕ) → LiesIn (shapes_of types) m t.treated.part → 1 ≤ count m (parts_left (shapes_of types) behind)
+
+-- What an assignment adjusts, and what it finalizes.
+pub record AdjustedAt (after : State) (n : ℕ) : Type 0 where
+  pub numbered : n < after.next
+  pub cleared : OfTreatments (NotCleared n) after.control
+
+pub record AssignedAt (s : State) (n : ℕ) : Type 0 where
+  pub object : ℕ
+  pub tasks : List Task
+  pub left : IsLeft (name object) (ends (Assigning n)) tasks s.control
 
 one_more : (xs ys : Heap) (o n : ℕ) → ((j m : ℕ) → rank_at ys j m ≡ rank_at xs j m + rise o n j m) → rank_at ys o n ≡ rank_at xs o n + 1
 one_more xs ys o n ranks = let a = ranks o n in let b = rise_self o n in omega (arith, a, b)
 
-module _ (types : List TypeDefinition) (xs : Heap) (e : Event) (ys : Heap) where
-  pub born_at : (v : ControlledValue) → Told types xs e ys → born_of e ≡ Some v → BornAt xs ys v
-  born_at v (still untold ranks back) is = nothing_is (born_of e) v (untold_born e untold) is
-  born_at v (bears o n of number e_is zero_rank ranks out inside) is =
-      some_is (BornAt xs ys) (born_of e) (value o n) v (ap born_of e_is) is
-      (record { first = refl; before = zero_rank; after = (let a = one_more xs ys o n ranks in omega (arith, a, zero_rank)); out = out })
-  born_at v (finalizes o n of number cause e_is one_rank ranks out inside) is = nothing_is (born_of e) v (ap born_of e_is) is
+-- The cause that has this number.
+assigning_is : (c : Cause) (n : ℕ) → assigned_by (Some c) ≡ Some n → c ≡ Assigning n
+assigning_is (Leaving master item) n is = absurd (cc is)
+assigning_is (Freeing number) n is = absurd (cc is)
+assigning_is (Assigning number) n is = let one : number ≡ n = cc is in ap Assigning one
+assigning_is (Undoing number) n is = absurd (cc is)
 
-  pub finalized_at : (v : ControlledValue) → Told types xs e ys → finalized_of e ≡ Some v → FinalizedAt xs ys v
-  finalized_at v (still untold ranks back) is = nothing_is (finalized_of e) v (untold_finalized e untold) is
-  finalized_at v (bears o n of number e_is zero_rank ranks out inside) is = nothing_is (finalized_of e) v (ap finalized_of e_is) is
-  finalized_at v (finalizes o n of number cause e_is one_rank ranks out inside) is =
-      some_is (FinalizedAt xs ys) (finalized_of e) (value o n) v (ap finalized_of e_is) is
-      (record { first = refl; before = one_rank; after = (let a = one_more xs ys o n ranks in omega (arith, a, one_rank)); out = out })
+module _ (types : List TypeDefinition) (past : List Event) (s : State) (e : Event) (after : State) where
+  pub born_at : (v : ControlledValue) → Told types past s e after → born_of e ≡ Some v → BornAt s.heap after.heap v
+  born_at v (still untold own ranks back) is = nothing_is (born_of e) v (untold_born e untold) is
+  born_at v (bears o n of turn number by behind e_is rank ranks out there numbered left none not_cleared inside) is =
+      some_is (BornAt s.heap after.heap) (born_of e) (value o n turn) v (ap born_of e_is) is
+      (record { before = rank; after = (let a = one_more s.heap after.heap o n ranks in omega (arith, a, rank)); out = out })
+  born_at v (finalizes o n of turn number cause behind e_is rank ranks out caused left not_left inside) is = nothing_is (born_of e) v (ap born_of e_is) is
 
-  abbrev treated : (o of n : ℕ) → TreatedPart
-  treated o of n = record { object = record { 0 = o }; part = record { of = of; number = n } }
+  pub finalized_at : (v : ControlledValue) → Told types past s e after → finalized_of e ≡ Some v → FinalizedAt s.heap after.heap v
+  finalized_at v (still untold own ranks back) is = nothing_is (finalized_of e) v (untold_finalized e untold) is
+  finalized_at v (bears o n of turn number by behind e_is rank ranks out there numbered left none not_cleared inside) is =
+      nothing_is (finalized_of e) v (ap finalized_of e_is) is
+  finalized_at v (finalizes o n of turn number cause behind e_is rank ranks out caused left not_left inside) is =
+      some_is (FinalizedAt s.heap after.heap) (finalized_of e) (value o n turn) v (ap finalized_of e_is) is
+      (record { before = rank; after = (let a = one_more s.heap after.heap o n ranks in omega (arith, a, rank)); out = out })
 
-  pub created_at : (t : TreatedPart) → Told types xs e ys → created_of e ≡ Some t → CreatedAt types xs t
-  created_at t (still untold ranks back) is = nothing_is (created_of e) t (untold_created e untold) is
-  created_at t (bears o n of number e_is zero_rank ranks out inside) is =
-      some_is (CreatedAt types xs) (created_of e) (treated o of n) t (ap created_of e_is) is (record { before = zero_rank; inside = inside })
-  created_at t (finalizes o n of number cause e_is one_rank ranks out inside) is = nothing_is (created_of e) t (ap created_of e_is) is
+  pub begun_at : (b : BegunPart) → Told types past s e after → begun_of e ≡ Some b → BegunAt types past s after b
+  begun_at b (still untold own ranks back) is = nothing_is (begun_of e) b (untold_begun e untold) is
+  begun_at b (bears o n of turn number by behind e_is rank ranks out there numbered left none not_cleared inside) is =
+      some_is (BegunAt types past s after) (begun_of e) (begun_part o (record { of = of; number = n }) by) b (ap begun_of e_is) is
+      (record { numbered = numbered; there = there; behind = behind; left = left; none_inside = none; inside = inside })
+  begun_at b (finalizes o n of turn number cause behind e_is rank ranks out caused left not_left inside) is = nothing_is (begun_of e) b (ap begun_of e_is) is
 
-  ended_at : (t : EndedPart) → Told types xs e ys → ended_of e ≡ Some t → EndedAt types xs ys t
-  ended_at t (still untold ranks back) is = nothing_is (ended_of e) t (untold_ended e untold) is
-  ended_at t (bears o n of number e_is zero_rank ranks out inside) is = nothing_is (ended_of e) t (ap ended_of e_is) is
-  ended_at t (finalizes o n of number cause e_is one_rank ranks out inside) is =
-      some_is (EndedAt types xs ys) (ended_of e) (record { treated = treated o of n; cause = cause }) t (ap ended_of e_is) is
-      (record { after = (let a = one_more xs ys o n ranks in omega (arith, a, one_rank)); inside = inside })
+  pub ended_at : (t : EndedPart) → Told types past s e after → ended_of e ≡ Some t → EndedAt types s after t
+  ended_at t (still untold own ranks back) is = nothing_is (ended_of e) t (untold_ended e untold) is
+  ended_at t (bears o n of turn number by behind e_is rank ranks out there numbered left none not_cleared inside) is = nothing_is (ended_of e) t (ap ended_of e_is) is
+  ended_at t (finalizes o n of turn number cause behind e_is rank ranks out caused left not_left inside) is =
+      some_is (EndedAt types s after) (ended_of e) (record { treated = record { object = record { 0 = o }; part = record { of = of; number = n } }; cause = cause }) t
+      (ap ended_of e_is) is (record { caused = caused; behind = behind; left = left; not_left = not_left; inside = inside })
+
+  adjusted_at : (n : ℕ) → Told types past s e after → adjusted_of e ≡ Some n → AdjustedAt after n
+  adjusted_at n (still untold own ranks back) is = nothing_is (adjusted_of e) n (untold_adjusted e untold) is
+  adjusted_at n (bears o m of turn number by behind e_is rank ranks out there numbered left none not_cleared inside) is =
+      record { numbered = numbered n (sym (ap adjusted_of e_is) ∙ is); cleared = not_cleared n }
+  adjusted_at n (finalizes o m of turn number cause behind e_is rank ranks out caused left not_left inside) is = nothing_is (adjusted_of e) n (ap adjusted_of e_is) is
+
+  assigned_at : (n : ℕ) → Told types past s e after → assigned_by (cause_of e) ≡ Some n → AssignedAt s n
+  assigned_at n (still untold own ranks back) is = nothing_is (assigned_by (cause_of e)) n own is
+  assigned_at n (bears o m of turn number by behind e_is rank ranks out there numbered left none not_cleared inside) is =
+      nothing_is (assigned_by (cause_of e)) n (ap (λ (f : Event). assigned_by (cause_of f)) e_is) is
+  assigned_at n (finalizes o m of turn number cause behind e_is rank ranks out caused left not_left inside) is =
+      let by = assigning_is cause n (sym (ap (λ (f : Event). assigned_by (cause_of f)) e_is) ∙ is) in
+      record { object = o; tasks = performs of m ∷ behind; left = subst (λ (c : Cause). IsLeft (name o) (ends c) (performs of m ∷ behind) s.control) by left }
 
   -- Ranks never fall.
-  rank_grows : Told types xs e ys → (j m : ℕ) → rank_at xs j m ≤ rank_at ys j m
-  rank_grows (still untold ranks back) j m = let a = ranks j m in omega (arith, a)
-  rank_grows (bears o n of number e_is zero_rank ranks out inside) j m = let a = ranks j m in omega (arith, a)
-  rank_grows (finalizes o n of number cause e_is one_rank ranks out inside) j m = let a = ranks j m in omega (arith, a)
+  rank_grows : Told types past s e after → (j m : ℕ) → rank_at s.heap j m ≤ rank_at after.heap j m
+  rank_grows (still untold own ranks back) j m = let a = ranks j m in omega (arith, a)
+  rank_grows (bears o n of turn number by behind e_is rank ranks out there numbered left none not_cleared inside) j m = let a = ranks j m in omega (arith, a)
+  rank_grows (finalizes o n of turn number cause behind e_is rank ranks out caused left not_left inside) j m = let a = ranks j m in omega (arith, a)
 
-  -- What has come to exist in a step, and what has been finalized.
-  pub told_born : (o n : ℕ) → Told types xs e ys → 1 ≤ rank_at ys o n → (1 ≤ rank_at xs o n) ⊎ (born_of e ≡ Some (value o n))
-  told_born o n (still untold ranks back) some = inl (let a = ranks o n in omega (arith, a, some))
-  told_born o n (bears j m of number e_is zero_rank ranks out inside) some =
+  -- A value that exists after a step has come to exist in it, or before; and it is there after it, or has been finalized in it.
+  pub told_born : (o n turn : ℕ) → Told types past s e after → turn + turn + 1 ≤ rank_at after.heap o n → (turn + turn + 1 ≤ rank_at s.heap o n) ⊎ (born_of e ≡ Some (value o n turn))
+  told_born o n turn (still untold own ranks back) some = inl (let a = ranks o n in omega (arith, a, some))
+  told_born o n turn (bears j m of turn' number by behind e_is rank ranks out there numbered left none not_cleared inside) some =
       elim (rise_or j m o n) [
         | inl h ↦ inl (let a = ranks o n in omega (arith, a, some, h))
-        | inr h ↦ inr (ap born_of e_is ∙ ap (λ (i : ℕ). Some (value i m)) h.1 ∙ ap (λ (i : ℕ). Some (value o i)) h.2)
-      ]
-  told_born o n (finalizes j m of number cause e_is one_rank ranks out inside) some =
-      elim (rise_or j m o n) [
-        | inl h ↦ inl (let a = ranks o n in omega (arith, a, some, h))
-        | inr h ↦ inl (subst (λ (i : ℕ). 1 ≤ rank_at xs i n) h.1 (subst (λ (i : ℕ). 1 ≤ rank_at xs j i) h.2 (omega (arith, one_rank))))
-      ]
-
-  pub told_finalized : (o n : ℕ) → Told types xs e ys → rank_at xs o n ≡ 1 → (rank_at ys o n ≡ 1) ⊎ (finalized_of e ≡ Some (value o n))
-  told_finalized o n (still untold ranks back) one = inl (ranks o n ∙ one)
-  told_finalized o n (bears j m of number e_is zero_rank ranks out inside) one =
-      elim (rise_or j m o n) [
-        | inl h ↦ inl (let a = ranks o n in omega (arith, a, one, h))
-        | inr h ↦ absurd (never (subst (λ (i : ℕ). rank_at xs i n ≡ 0) h.1 (subst (λ (i : ℕ). rank_at xs j i ≡ 0) h.2 zero_rank)))
+        | inr h ↦ here h.0 h.1 h.2
       ]
     where
-      never : rank_at xs o n ≡ 0 → ⊥
-      never h = omega (arith, h, one)
-  told_finalized o n (finalizes j m of number cause e_is one_rank ranks out inside) one =
+      here : rise j m o n ≡ 1 → j ≡ o → m ≡ n → (turn + turn + 1 ≤ rank_at s.heap o n) ⊎ (born_of e ≡ Some (value o n turn))
+      here one same_o same_n =
+          let before = subst (λ (i : ℕ). rank_at s.heap i n ≡ turn' + turn') same_o (subst (λ (i : ℕ). rank_at s.heap j i ≡ turn' + turn') same_n rank) in
+          let a = ranks o n in
+          elim (eqb_tells turn' turn) [
+            | inl t ↦ inr (ap born_of e_is ∙ ap (λ (i : ℕ). Some (value i m turn')) same_o ∙ ap (λ (i : ℕ). Some (value o i turn')) same_n ∙ ap (λ (i : ℕ). Some (value o n i)) t.1)
+            | inr t ↦ let ne = t.1 in inl (omega (arith, before, a, one, some, ne))
+          ]
+  told_born o n turn (finalizes j m of turn' number cause behind e_is rank ranks out caused left not_left inside) some =
+      elim (rise_or j m o n) [
+        | inl h ↦ inl (let a = ranks o n in omega (arith, a, some, h))
+        | inr h ↦ inl (here h.0 h.1 h.2)
+      ]
+    where
+      here : rise j m o n ≡ 1 → j ≡ o → m ≡ n → turn + turn + 1 ≤ rank_at s.heap o n
+      here one same_o same_n =
+          let before = subst (λ (i : ℕ). rank_at s.heap i n ≡ turn' + turn' + 1) same_o (subst (λ (i : ℕ). rank_at s.heap j i ≡ turn' + turn' + 1) same_n rank) in
+          let a = ranks o n in
+          omega (arith, before, a, one, some)
+
+  pub told_finalized :
+      (o n turn : ℕ) → Told types past s e after → rank_at s.heap o n ≡ turn + turn + 1
+      → (rank_at after.heap o n ≡ turn + turn + 1) ⊎ (finalized_of e ≡ Some (value o n turn))
+  told_finalized o n turn (still untold own ranks back) one = inl (ranks o n ∙ one)
+  told_finalized o n turn (bears j m of turn' number by behind e_is rank ranks out there numbered left none not_cleared inside) one =
       elim (rise_or j m o n) [
         | inl h ↦ inl (let a = ranks o n in omega (arith, a, one, h))
-        | inr h ↦ inr (ap finalized_of e_is ∙ ap (λ (i : ℕ). Some (value i m)) h.1 ∙ ap (λ (i : ℕ). Some (value o i)) h.2)
+        | inr h ↦ absurd (never (subst (λ (i : ℕ). rank_at s.heap i n ≡ turn' + turn') h.1 (subst (λ (i : ℕ). rank_at s.heap j i ≡ turn' + turn') h.2 rank)))
       ]
+    where
+      never : rank_at s.heap o n ≡ turn' + turn' → ⊥
+      never h = omega (arith, h, one)
+  told_finalized o n turn (finalizes j m of turn' number cause behind e_is rank ranks out caused left not_left inside) one =
+      elim (rise_or j m o n) [
+        | inl h ↦ inl (let a = ranks o n in omega (arith, a, one, h))
+        | inr h ↦ inr (here h.1 h.2)
+      ]
+    where
+      here : j ≡ o → m ≡ n → finalized_of e ≡ Some (value o n turn)
+      here same_o same_n =
+          let before = subst (λ (i : ℕ). rank_at s.heap i n ≡ turn' + turn' + 1) same_o (subst (λ (i : ℕ). rank_at s.heap j i ≡ turn' + turn' + 1) same_n rank) in
+          let t : turn' ≡ turn = omega (arith, before, one) in
+          ap finalized_of e_is ∙ ap (λ (i : ℕ). Some (value i m turn')) same_o ∙ ap (λ (i : ℕ). Some (value o i turn')) same_n ∙ ap (λ (i : ℕ). Some (value o n i)) t
 
 -- What an event leaves behind for good.
-pub record Marks (types : List TypeDefinition) (e : Event) (zs : Heap) : Type 0 where
-  pub born : (v : ControlledValue) → born_of e ≡ Some v → 1 ≤ rank_at zs v.object.0 v.part
-  pub finalized : (v : ControlledValue) → finalized_of e ≡ Some v → 2 ≤ rank_at zs v.object.0 v.part
-  pub back : (o : Id) → back_of e ≡ Some o → IsOut zs o.0 false
-  pub created : (t : TreatedPart) → created_of e ≡ Some t → (m : ℕ) → LiesIn (shapes_of types) m t.part → 1 ≤ rank_at zs t.object.0 m
-  pub ended' : (t : EndedPart) → ended_of e ≡ Some t → 2 ≤ rank_at zs t.treated.object.0 t.treated.part.number
+pub record Marks (types : List TypeDefinition) (e : Event) (s : State) : Type 0 where
+  pub born : (v : ControlledValue) → born_of e ≡ Some v → v.turn + v.turn + 1 ≤ rank_at s.heap v.object.0 v.part
+  pub finalized : (v : ControlledValue) → finalized_of e ≡ Some v → v.turn + v.turn + 2 ≤ rank_at s.heap v.object.0 v.part
+  pub back : (o : Id) → back_of e ≡ Some o → IsOut s.heap o.0 false
+  pub numbered : (b : BegunPart) → begun_of e ≡ Some b → Numbered (adjusted_by b.by) s.next
+  pub there : (b : BegunPart) → begun_of e ≡ Some b → b.treated.object.0 < length s.heap
+  pub none_inside : (b : BegunPart) → begun_of e ≡ Some b → OfTreatments (NoneInside (shapes_of types) b) s.control
+  pub caused : (t : EndedPart) → ended_of e ≡ Some t → Caused t.treated.object.0 t.cause s
+  pub not_left : (t : EndedPart) → ended_of e ≡ Some t → OfTreatments (NotLeft (shapes_of types) t) s.control
+  pub adjusted : (n : ℕ) → adjusted_of e ≡ Some n → AdjustedAt s n
 
-pub told_back : (types : List TypeDefinition) (xs : Heap) (e : Event) (ys : Heap) → Told types xs e ys → (o : Id) → back_of e ≡ Some o → IsOut ys o.0 false
-told_back types xs e ys (still untold ranks back) o is = back o is
-told_back types xs e ys (bears j m of number e_is zero_rank ranks out inside) o is = nothing_is (back_of e) o (ap back_of e_is) is
-told_back types xs e ys (finalizes j m of number cause e_is one_rank ranks out inside) o is = nothing_is (back_of e) o (ap back_of e_is) is
+pub told_back : (types : List TypeDefinition) (past : List Event) (s : State) (e : Event) (after : State) → Told types past s e after → (o : Id) → back_of e ≡ Some o → IsOut after.heap o.0 false
+told_back types past s e after (still untold own ranks back) o is = back o is
+told_back types past s e after (bears j m of turn number by behind e_is rank ranks out there numbered left none not_cleared inside) o is = nothing_is (back_of e) o (ap back_of e_is) is
+told_back types past s e after (finalizes j m of turn number cause behind e_is rank ranks out caused left not_left inside) o is = nothing_is (back_of e) o (ap back_of e_is) is
 
-pub marked : (types : List TypeDefinition) (xs : Heap) (e : Event) (ys : Heap) → Told types xs e ys → Marks types e ys
-marked types xs e ys told = record {
-  born = λ v is. let a = (born_at types xs e ys v told is).after in omega (arith, a);
-  finalized = λ v is. let a = (finalized_at types xs e ys v told is).after in omega (arith, a);
-  back = told_back types xs e ys told;
-  created = λ t is m lies. let a = (created_at types xs e ys t told is).inside m lies in let b = rank_grows types xs e ys told t.object.0 m in omega (arith, a, b);
-  ended' = λ t is. let a = (ended_at types xs e ys t told is).after in omega (arith, a);
+pub marked : (types : List TypeDefinition) (past : List Event) (s : State) (e : Event) (after : State) → Told types past s e after → Marks types e after
+marked types past s e after told = record {
+  born = λ v is. let a = (born_at types past s e after v told is).after in omega (arith, a);
+  finalized = λ v is. let a = (finalized_at types past s e after v told is).after in omega (arith, a);
+  back = told_back types past s e after told;
+  numbered = λ b is. (begun_at types past s e after b told is).numbered;
+  there = λ b is. (begun_at types past s e after b told is).there;
+  none_inside = λ b is. (begun_at types past s e after b told is).none_inside;
+  caused = λ t is. (ended_at types past s e after t told is).caused;
+  not_left = λ t is. (ended_at types past s e after t told is).not_left;
+  adjusted = λ n is. adjusted_at types past s e after n told is;
 }
 
--- Words that are back stay back.
+-- Words that are back stay back, what has left its collection stays out of it, and objects stay there.
 pub out_kept : (xs ys : Heap) (o : ℕ) → KeepsObjects xs ys → IsOut xs o false → IsOut ys o false
 out_kept [] ys o k (x, (is, out)) = absurd (cc is)
 out_kept (z ∷ xs) [] o k out = absurd k
 out_kept (z ∷ xs) (y ∷ ys) zero k (x, (is, out)) = let one : x ≡ z = cc is in (y, (refl, k.0.back (subst (λ (u : Object). u.out ≡ false) one out)))
 out_kept (z ∷ xs) (y ∷ ys) (suc o) k (x, (is, out)) = out_kept xs ys o k.1 (x, (is, out))
 
-pub marks_kept : (types : List TypeDefinition) (e f : Event) (xs ys : Heap) → KeepsObjects xs ys → Told types xs f ys → Marks types e xs → Marks types e ys
-marks_kept types e f xs ys keeps told m = record {
-  born = λ v is. let a = m.born v is in let b = rank_grows types xs f ys told v.object.0 v.part in omega (arith, a, b);
-  finalized = λ v is. let a = m.finalized v is in let b = rank_grows types xs f ys told v.object.0 v.part in omega (arith, a, b);
-  back = λ o is. out_kept xs ys o.0 keeps (m.back o is);
-  created = λ t is n lies. let a = m.created t is n lies in let b = rank_grows types xs f ys told t.object.0 n in omega (arith, a, b);
-  ended' = λ t is. let a = m.ended' t is in let b = rank_grows types xs f ys told t.treated.object.0 t.treated.part.number in omega (arith, a, b);
-}
+unlisted_kept : (xs ys : Heap) (o : ℕ) → KeepsObjects xs ys → IsUnlisted xs o → IsUnlisted ys o
+unlisted_kept [] ys o k (x, (is, unlisted)) = absurd (cc is)
+unlisted_kept (z ∷ xs) [] o k unlisted = absurd k
+unlisted_kept (z ∷ xs) (y ∷ ys) zero k (x, (is, unlisted)) = let one : x ≡ z = cc is in (y, (refl, k.0.unlisted (subst (λ (u : Object). u.listed ≡ false) one unlisted)))
+unlisted_kept (z ∷ xs) (y ∷ ys) (suc o) k (x, (is, unlisted)) = unlisted_kept xs ys o k.1 (x, (is, unlisted))
+
+length_kept : (xs ys : Heap) → KeepsObjects xs ys → length xs ≤ length ys
+length_kept [] ys k = omega arith
+length_kept (z ∷ xs) [] k = absurd k
+length_kept (z ∷ xs) (y ∷ ys) k = let le = length_kept xs ys k.1 in omega (arith, le)
+
+unlisted_once : (xs : Heap) (o : ℕ) (x : Object) → slice_get xs o ≡ Some x → x.listed ≡ true → IsUnlisted xs o → ⊥
+unlisted_once xs o x is listed (y, (is', unlisted)) =
+    let never : true ≡ false = sym listed ∙ some_is (λ (z : Object). x.listed ≡ z.listed) (slice_get xs o) x y is is' refl ∙ unlisted in
+    absurd (cc never)
+
+-- The number of a name.
+abbrev place_of : Value → ℕ → ℕ
+place_of (Names i) d = i.0
+place_of v d = d
+
+-- What an event has left behind stays, since what is left to do goes on or is new.
+module _ (types : List TypeDefinition) (s after : State) (keeps : KeepsObjects s.heap after.heap) (grows : s.next ≤ after.next) where
+  none_inside_kept :
+      (b : BegunPart) → Numbered (adjusted_by b.by) s.next → b.treated.object.0 < length s.heap → OfTreatments (NoneInside (shapes_of types) b) s.control
+      → (v : Value) (treatment : Treatment) (tasks : List Task) → Origin types s v treatment tasks → NoneInside (shapes_of types) b v treatment tasks
+  none_inside_kept b numbered there each v treatment tasks (goes_on before left less) v_is t_is m lies =
+      let none = of_left (NoneInside (shapes_of types) b) v treatment before s.control left each v_is t_is m lies in
+      let l = less m in
+      omega (arith, none, l)
+  none_inside_kept b numbered there each v treatment tasks (creates by t_new own v_new) v_is t_is m lies =
+      let place : length s.heap ≡ b.treated.object.0 = ap (λ (u : Value). place_of u 0) (sym v_new ∙ v_is) in
+      absurd (omega (arith, there, place))
+  none_inside_kept b numbered there each v treatment tasks (adjusts t_new) v_is t_is m lies =
+      let lt = numbered s.next (ap number_begun (sym t_is ∙ t_new)) in absurd (omega (arith, lt))
+    where
+      number_begun : Treatment → Option ℕ
+      number_begun (begins by) = adjusted_by by
+      number_begun (ends cause) = None
+  none_inside_kept b numbered there each v treatment tasks (clears t_new) v_is t_is m lies = let never : begins b.by ≡ ends (Assigning s.next) = sym t_is ∙ t_new in absurd (cc never)
+  none_inside_kept b numbered there each v treatment tasks (parts cause o x t_new own v_new is listed) v_is t_is m lies =
+      let never : begins b.by ≡ ends cause = sym t_is ∙ t_new in absurd (cc never)
+
+  not_left_kept :
+      (t : EndedPart) → Caused t.treated.object.0 t.cause s → OfTreatments (NotLeft (shapes_of types) t) s.control
+      → (v : Value) (treatment : Treatment) (tasks : List Task) → Origin types s v treatment tasks → NotLeft (shapes_of types) t v treatment tasks
+  not_left_kept t caused each v treatment tasks (goes_on before left less) v_is t_is =
+      let none = of_left (NotLeft (shapes_of types) t) v treatment before s.control left each v_is t_is in
+      let l = less t.treated.part.number in
+      omega (arith, none, l)
+  not_left_kept t caused each v treatment tasks (creates by t_new own v_new) v_is t_is = let never : ends t.cause ≡ begins by = sym t_is ∙ t_new in absurd (cc never)
+  not_left_kept t caused each v treatment tasks (adjusts t_new) v_is t_is = let never : ends t.cause ≡ begins (Adjustment s.next) = sym t_is ∙ t_new in absurd (cc never)
+  not_left_kept t caused each v treatment tasks (clears t_new) v_is t_is =
+      let same : ends t.cause ≡ ends (Assigning s.next) = sym t_is ∙ t_new in
+      let one : t.cause ≡ Assigning s.next = cc same in
+      let lt = caused.assigned s.next (ap (λ (c : Cause). assigned_by (Some c)) one) in
+      absurd (omega (arith, lt))
+  not_left_kept t caused each v treatment tasks (parts cause o x t_new own v_new is listed) v_is t_is =
+      let same : ends t.cause ≡ ends cause = sym t_is ∙ t_new in
+      let one : t.cause ≡ cause = cc same in
+      let place : o ≡ t.treated.object.0 = ap (λ (u : Value). place_of u 0) (sym v_new ∙ v_is) in
+      let unlisted = caused.parted (ap (λ (c : Cause). assigned_by (Some c)) one ∙ own) in
+      absurd (unlisted_once s.heap o x is listed (subst (IsUnlisted s.heap) (sym place) unlisted))
+
+  not_cleared_kept :
+      (n : ℕ) → n < s.next → OfTreatments (NotCleared n) s.control → (v : Value) (treatment : Treatment) (tasks : List Task)
+      → Origin types s v treatment tasks → NotCleared n v treatment tasks
+  not_cleared_kept n lt each v treatment tasks (goes_on before left less) t_is = of_left (NotCleared n) v treatment before s.control left each t_is
+  not_cleared_kept n lt each v treatment tasks (creates by t_new own v_new) t_is = let never : ends (Assigning n) ≡ begins by = sym t_is ∙ t_new in absurd (cc never)
+  not_cleared_kept n lt each v treatment tasks (adjusts t_new) t_is = let never : ends (Assigning n) ≡ begins (Adjustment s.next) = sym t_is ∙ t_new in absurd (cc never)
+  not_cleared_kept n lt each v treatment tasks (clears t_new) t_is =
+      let same : ends (Assigning n) ≡ ends (Assigning s.next) = sym t_is ∙ t_new in
+      let one : n ≡ s.next = cc same in
+      absurd (omega (arith, lt, one))
+  not_cleared_kept n lt each v treatment tasks (parts cause o x t_new own v_new is listed) t_is =
+      let same : ends (Assigning n) ≡ ends cause = sym t_is ∙ t_new in
+      let one : Assigning n ≡ cause = cc same in
+      let never : Some n ≡ None = ap (λ (c : Cause). assigned_by (Some c)) one ∙ own in
+      absurd (cc never)
+
+  numbered_kept : (number : Option ℕ) → Numbered number s.next → Numbered number after.next
+  numbered_kept number h n is = let lt = h n is in omega (arith, lt, grows)
+
+  caused_kept : (o : ℕ) (cause : Cause) → Caused o cause s → Caused o cause after
+  caused_kept o cause h = record {
+    assigned = numbered_kept (assigned_by (Some cause)) h.assigned;
+    parted = λ own. unlisted_kept s.heap after.heap o keeps (h.parted own);
+  }
+
+  pub marks_kept : (past : List Event) (e f : Event) → Told types past s f after → OfTreatments (Origin types s) after.control → Marks types e s → Marks types e after
+  marks_kept past e f told origins m = record {
+    born = λ v is. let a = m.born v is in let b = rank_grows types past s f after told v.object.0 v.part in omega (arith, a, b);
+    finalized = λ v is. let a = m.finalized v is in let b = rank_grows types past s f after told v.object.0 v.part in omega (arith, a, b);
+    back = λ o is. out_kept s.heap after.heap o.0 keeps (m.back o is);
+    numbered = λ b is. numbered_kept (adjusted_by b.by) (m.numbered b is);
+    there = λ b is. let lt = m.there b is in let le = length_kept s.heap after.heap keeps in omega (arith, lt, le);
+    none_inside = λ b is. treatments_map (Origin types s) (NoneInside (shapes_of types) b) after.control (none_inside_kept b (m.numbered b is) (m.there b is) (m.none_inside b is)) origins;
+    caused = λ t is. caused_kept t.treated.object.0 t.cause (m.caused t is);
+    not_left = λ t is. treatments_map (Origin types s) (NotLeft (shapes_of types) t) after.control (not_left_kept t (m.caused t is) (m.not_left t is)) origins;
+    adjusted = λ n is.
+        let a = m.adjusted n is in
+        let lt = a.numbered in
+        record {
+          numbered = omega (arith, lt, grows);
+          cleared = treatments_map (Origin types s) (NotCleared n) after.control (not_cleared_kept n lt a.cleared) origins;
+        };
+  }
 
 -- What two events say of each other, the first before the second.
 pub record Pairs (shapes : List Shape) (e f : Event) : Type 0 where
@@ -202,6 +390,7 @@ pub record Pairs (shapes : List Shape) (e f : Event) : Type 0 where
   pub nothing_after_back : NothingAfterBack e f
   pub parts_first : PartsComeFirst shapes e f
   pub wholes_first : WholesComeFirst shapes e f
+  pub assigned_once : EndsBeforeItAdjusts e f
 
 between : {X Y : Type 0} (R : X → Y → Type 0) (a : Option X) (b : Option Y) → ((x : X) (y : Y) → a ≡ Some x → b ≡ Some y → R x y) → Between R a b
 between R None b h = tt
@@ -217,46 +406,66 @@ out_once xs o (x, (is, out)) (y, (is', back)) =
     let never : true ≡ false = sym out ∙ some_is (λ (z : Object). x.out ≡ z.out) (slice_get xs o) x y is is' refl ∙ back in
     absurd (cc never)
 
-module _ (types : List TypeDefinition) (xs : Heap) (e f : Event) (ys : Heap) (m : Marks types e xs) (told : Told types xs f ys) where
+module _ (types : List TypeDefinition) (past : List Event) (s : State) (e f : Event) (after : State) (m : Marks types e s) (told : Told types past s f after) where
+  abbrev xs : Heap
+  xs = s.heap
+
   born_once_here : (v w : ControlledValue) → born_of e ≡ Some v → born_of f ≡ Some w → v ≢ w
   born_once_here v w is at_f one =
-      let a = subst (λ (u : ControlledValue). 1 ≤ rank_at xs u.object.0 u.part) one (m.born v is) in
-      let b = (born_at types xs f ys w told at_f).before in
+      let a = subst (λ (u : ControlledValue). u.turn + u.turn + 1 ≤ rank_at xs u.object.0 u.part) one (m.born v is) in
+      let b = (born_at types past s f after w told at_f).before in
       omega (arith, a, b)
 
   finalized_once_here : (v w : ControlledValue) → finalized_of e ≡ Some v → finalized_of f ≡ Some w → v ≢ w
   finalized_once_here v w is at_f one =
-      let a = subst (λ (u : ControlledValue). 2 ≤ rank_at xs u.object.0 u.part) one (m.finalized v is) in
-      let b = (finalized_at types xs f ys w told at_f).before in
+      let a = subst (λ (u : ControlledValue). u.turn + u.turn + 2 ≤ rank_at xs u.object.0 u.part) one (m.finalized v is) in
+      let b = (finalized_at types past s f after w told at_f).before in
       omega (arith, a, b)
 
   born_before_here : (v w : ControlledValue) → finalized_of e ≡ Some v → born_of f ≡ Some w → v ≢ w
   born_before_here v w is at_f one =
-      let a = subst (λ (u : ControlledValue). 2 ≤ rank_at xs u.object.0 u.part) one (m.finalized v is) in
-      let b = (born_at types xs f ys w told at_f).before in
+      let a = subst (λ (u : ControlledValue). u.turn + u.turn + 2 ≤ rank_at xs u.object.0 u.part) one (m.finalized v is) in
+      let b = (born_at types past s f after w told at_f).before in
       omega (arith, a, b)
 
   none_born_here : (o p : Id) → back_of e ≡ Some o → object_in (born_of f) ≡ Some p → o ≢ p
   none_born_here o p is at_f one =
       let v = object_of (born_of f) p at_f in
-      out_once xs p.0 (subst (λ (i : Id). IsOut xs i.0 true) v.1.1 (born_at types xs f ys v.0 told v.1.0).out) (subst (λ (i : Id). IsOut xs i.0 false) one (m.back o is))
+      out_once xs p.0 (subst (λ (i : Id). IsOut xs i.0 true) v.1.1 (born_at types past s f after v.0 told v.1.0).out) (subst (λ (i : Id). IsOut xs i.0 false) one (m.back o is))
 
   none_finalized_here : (o p : Id) → back_of e ≡ Some o → object_in (finalized_of f) ≡ Some p → o ≢ p
   none_finalized_here o p is at_f one =
       let v = object_of (finalized_of f) p at_f in
-      out_once xs p.0 (subst (λ (i : Id). IsOut xs i.0 true) v.1.1 (finalized_at types xs f ys v.0 told v.1.0).out) (subst (λ (i : Id). IsOut xs i.0 false) one (m.back o is))
+      out_once xs p.0 (subst (λ (i : Id). IsOut xs i.0 true) v.1.1 (finalized_at types past s f after v.0 told v.1.0).out) (subst (λ (i : Id). IsOut xs i.0 false) one (m.back o is))
 
-  not_inside_here : (t u : TreatedPart) → created_of e ≡ Some t → created_of f ≡ Some u → NotInside (shapes_of types) t u
-  not_inside_here t u is at_f one lies =
-      let a = subst (λ (i : Id). 1 ≤ rank_at xs i.0 u.part.number) one (m.created t is u.part.number lies) in
-      let b = (created_at types xs f ys u told at_f).before in
-      omega (arith, a, b)
+  -- What begins now was left, so it lies in nothing that has begun before under the same creation or assignment.
+  not_inside_here : (a b : BegunPart) → begun_of e ≡ Some a → begun_of f ≡ Some b → NotInside (shapes_of types) a b
+  not_inside_here a b is at_f same_by same_object lies =
+      let now = begun_at types past s f after b told at_f in
+      let tasks = performs b.treated.part.of b.treated.part.number ∷ now.behind in
+      let none =
+      of_left (NoneInside (shapes_of types) a) (name b.treated.object.0) (begins b.by) tasks s.control now.left (m.none_inside a is)
+      (ap (λ (o : Id). name o.0) (sym same_object)) (ap begins (sym same_by)) b.treated.part.number lies in
+      let one = one_here b.treated.part (parts_left (shapes_of types) now.behind) in
+      omega (arith, none, one)
 
-  not_around_here : (t u : EndedPart) → ended_of e ≡ Some t → ended_of f ≡ Some u → NotAround (shapes_of types) t u
-  not_around_here t u is at_f cause one lies =
-      let a = subst (λ (i : Id). 2 ≤ rank_at xs i.0 t.treated.part.number) one (m.ended' t is) in
-      let b = (ended_at types xs f ys u told at_f).inside t.treated.part.number lies in
-      omega (arith, a, b)
+  -- What is finalized now has all that lies in it left, so nothing of that has been finalized before by the same cause.
+  not_around_here : (a b : EndedPart) → ended_of e ≡ Some a → ended_of f ≡ Some b → NotAround (shapes_of types) a b
+  not_around_here a b is at_f same_cause same_object lies =
+      let now = ended_at types past s f after b told at_f in
+      let tasks = performs b.treated.part.of b.treated.part.number ∷ now.behind in
+      let none =
+      of_left (NotLeft (shapes_of types) a) (name b.treated.object.0) (ends b.cause) tasks s.control now.left (m.not_left a is)
+      (ap (λ (o : Id). name o.0) (sym same_object)) (ap ends (sym same_cause)) in
+      let some = now.inside a.treated.part.number lies in
+      omega (arith, none, some)
+
+  -- What is finalized now by an assignment has it left, so it has adjusted nothing.
+  ends_first_here : (a b : ℕ) → adjusted_of e ≡ Some a → assigned_by (cause_of f) ≡ Some b → a ≢ b
+  ends_first_here a b is at_f one =
+      let now = assigned_at types past s f after b told at_f in
+      of_left (NotCleared a) (name now.object) (ends (Assigning b)) now.tasks s.control now.left (m.adjusted a is).cleared
+      (ap (λ (n : ℕ). ends (Assigning n)) (sym one))
 
   pub paired : Pairs (shapes_of types) e f
   paired = record {
@@ -267,6 +476,7 @@ module _ (types : List TypeDefinition) (xs : Heap) (e f : Event) (ys : Heap) (m 
       between (λ (o p : Id). o ≢ p) (back_of e) (object_in (born_of f)) none_born_here,
       between (λ (o p : Id). o ≢ p) (back_of e) (object_in (finalized_of f)) none_finalized_here,
     );
-    parts_first = between (NotInside (shapes_of types)) (created_of e) (created_of f) not_inside_here;
+    parts_first = between (NotInside (shapes_of types)) (begun_of e) (begun_of f) not_inside_here;
     wholes_first = between (NotAround (shapes_of types)) (ended_of e) (ended_of f) not_around_here;
+    assigned_once = between (λ (a b : ℕ). a ≢ b) (adjusted_of e) (assigned_by (cause_of f)) ends_first_here;
   }

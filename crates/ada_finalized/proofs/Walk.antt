@@ -1,6 +1,6 @@
 -- Each step that takes no frame of a treatment or of an ending.
 
-use Rattle.std.proofs.Common.{◌≡◌, ◌⊎◌, ℕ, Bool, true, false, List, [], ◌∷◌, Option, None, refl, sym, inl, inr, subst}
+use Rattle.std.proofs.Common.{◌≡◌, ◌⊎◌, ℕ, Bool, true, false, List, [], ◌∷◌, Option, Some, None, refl, sym, inl, inr, subst}
 use Rattle.std.specs.List.{slice_index_or}
 use Rattle.ada_program.specs.declared.program.TypeDefinition.{TypeDefinition}
 use Rattle.ada_program.specs.Form.{no_stmts, a_stmt}
@@ -10,6 +10,7 @@ use Rattle.ada_meaning.specs.declared.state.Value.{Value}
 use Rattle.ada_meaning.specs.declared.state.Value.TheVariants.{Null}
 use Rattle.ada_meaning.specs.declared.state.Mode.{Mode}
 use Rattle.ada_meaning.specs.declared.state.Mode.TheVariants.{Running, Raising, Exiting, Returning}
+use Rattle.ada_meaning.specs.declared.event.Birth.TheVariants.{Copy}
 use Rattle.ada_meaning.specs.declared.event.Cause.{Cause}
 use Rattle.ada_meaning.specs.declared.event.Cause.TheVariants.{Leaving}
 use Rattle.ada_meaning.specs.Frame.{Frame, evaluating, begins, is_master, Landing, passes_on, goes_behind, goes_in, landing}
@@ -17,6 +18,7 @@ use Rattle.ada_meaning.specs.Frame as frame
 use Rattle.ada_meaning.specs.State.{Owned, declared, collection, record_object, storage_pool, Item, Master, home_of}
 use Rattle.ada_meaning.specs.Step.{unwound, newest_ones, without_newest, at, popped, newest, members_next, item_leave_next, master_leave_next, leave_next, frame_next, landed, pass_next, running_next, jump_next, mode_next}
 use Rattle.ada_meaning.specs.Named.{State, next, named, look, reads_boolean, reads_null, reads_integer, unary_given, binary_given, members}
+use Rattle.ada_meaning.specs.Finalization.{assigned_by}
 use Rattle.ada_meaning.proofs.Jumps.{unwound_to, unwound_by}
 use Rattle.ada_meaning.proofs.Members.{member_listed}
 use Rattle.ada_finalized.proofs.Made.{Calm, Plain, keeps, takes, Makes, Does, Passes}
@@ -25,15 +27,15 @@ use Rattle.ada_finalized.proofs.Statements.{target_does, store_does, record_targ
 
 module _ (types : List TypeDefinition) where
   -- The leaving of a master.
-  members_do : (item : ℕ) (cause : Cause) (pool : Option ℕ) (vs : List Value) (s : State) → members s.heap item ≡ vs → Plain s.control → Does types s (members_next named types cause pool vs s)
-  members_do item cause pool [] s is h = (tt, keeps refl h)
-  members_do item cause pool (v ∷ vs) s is h =
-      λ i lt. takes (slice_index_or (v ∷ vs) i Null) cause pool s (member_listed s.heap item (v ∷ vs) i is lt) h refl refl refl
+  members_do : (item : ℕ) (cause : Cause) (pool : Option ℕ) (vs : List Value) (s : State) → assigned_by (Some cause) ≡ None → members s.heap item ≡ vs → Plain s.control → Does types s (members_next named types cause pool vs s)
+  members_do item cause pool [] s own is h = (tt, keeps refl h)
+  members_do item cause pool (v ∷ vs) s own is h =
+      λ i lt. takes (slice_index_or (v ∷ vs) i Null) cause pool s own (member_listed s.heap item (v ∷ vs) i is lt) h refl refl refl
 
   item_leave_does : (m : ℕ) (item : Item) (owned : Owned) (s : State) → Plain s.control → Does types s (item_leave_next named types m item owned s)
   item_leave_does m item (declared x) s h = (tt, keeps refl h)
-  item_leave_does m item (collection access pool) s h = members_do item.number (Leaving m item.number) pool (members s.heap item.number) s refl h
-  item_leave_does m item (record_object t) s h = members_do item.number (Leaving m item.number) None (members s.heap item.number) s refl h
+  item_leave_does m item (collection access pool) s h = members_do item.number (Leaving m item.number) pool (members s.heap item.number) s refl refl h
+  item_leave_does m item (record_object t) s h = members_do item.number (Leaving m item.number) None (members s.heap item.number) s refl refl h
   item_leave_does m item (storage_pool declaration number) s h = (tt, keeps refl h)
 
   master_leave_does : (mode : Mode) (m : ℕ) (items : List Item) (s : State) → Plain s.control → Does types s (master_leave_next named types mode m items s)
@@ -64,9 +66,9 @@ module _ (types : List TypeDefinition) where
   frame_does bodies (frame.Computes e) s c h = expression_does types e s h
   frame_does bodies (frame.Follows cs) s c h = path_does types cs (newest named s) (popped s) h
   frame_does bodies (frame.TestsNull equal) s c h = null_test_does types equal (reads_null (newest named s)) (popped s) h
-  frame_does bodies (frame.Refers p) s c h = record_holder_does types p (λ first. frame.RefersIn first p.record_type) s (λ n. tt) h
-  frame_does bodies (frame.RefersIn first t) s c h =
-      refers_do types (newest named s) first (width_of types t) (look s.heap (newest named s)) (popped s) h
+  frame_does bodies (frame.Refers p) s c h = record_holder_does types p (λ place. frame.RefersIn place p.record_type) s (λ place. tt) h
+  frame_does bodies (frame.RefersIn place t) s c h =
+      refers_do types (newest named s) place (width_of types t) (look s.heap (newest named s)) (popped s) h
   frame_does bodies (frame.Opens path) s c h = open_does types path.selectors path.root s h
   frame_does bodies (frame.OpensIn c) s calm h = opens_do types (newest named s) c (look s.heap (newest named s)) (popped s) h
   frame_does bodies (frame.Continues links) s c h = links_do types links s h
@@ -85,7 +87,8 @@ module _ (types : List TypeDefinition) where
   frame_does bodies (frame.FreesIn access c) s calm h = free_in_does types access (newest named s) c (look s.heap (newest named s)) (popped s) h
   frame_does bodies (frame.Declares x) s c h = (tt, keeps refl h)
   frame_does bodies (frame.DeclaresRecord x t) s c h =
-      (tt, made_does types t (newest_ones named (words_of types t) s) (without_newest named (words_of types t) s) _ h refl refl refl)
+      (tt, made_does types t Copy (newest_ones named (words_of types t) s) (without_newest named (words_of types t) s) _ refl h refl refl refl)
+  frame_does bodies (frame.Assigns t) s c h = absurd c
   frame_does bodies (frame.Treats v treatment tasks) s c h = absurd c
   frame_does bodies frame.Writes s c h = line_does types (reads_integer (newest named s)) (popped s) h
   frame_does bodies (frame.Ends v) s c h = absurd c

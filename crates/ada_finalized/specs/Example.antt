@@ -1,53 +1,79 @@
 -- A program whose record types are controlled, and what a run of it shows.
 
-use Rattle.std.specs.Prelude.{◌≡◌, true, false, List, [], ◌∷◌, Some, None}
+use Rattle.std.specs.Prelude.{◌≡◌, true, ℕ, List, [], ◌∷◌, Some, None}
 use Rattle.std.specs.List.{filter}
 use Rattle.ada_program.specs.declared.program.Program.{Program}
 use Rattle.ada_program.specs.Controlled.{shapes_of}
-use Rattle.ada_program.specs.Form.{nothing, allocates_default, assigns, frees, encloses, StmtsForm, no_stmts, a_stmt, no_handlers, collects, declares, declares_record, stmt_forms}
+use Rattle.ada_program.specs.Form.{RecordPathForm, item_of_record, nothing, allocates_default, assigns, assigns_record, frees, encloses, StmtsForm, no_stmts, a_stmt, no_handlers, collects, declares, declares_record, stmt_forms}
 use Rattle.ada_parts.specs.Shape.{Shape}
+use Rattle.ada_meaning.specs.declared.state.Value.{Value}
 use Rattle.ada_meaning.specs.declared.state.Value.TheVariants.{Names}
-use Rattle.ada_meaning.specs.declared.event.Birth.TheVariants.{Creation}
-use Rattle.ada_meaning.specs.declared.event.Cause.TheVariants.{Leaving, Freeing}
+use Rattle.ada_meaning.specs.declared.event.Birth.TheVariants.{Creation, Copy, Adjustment}
+use Rattle.ada_meaning.specs.declared.event.Cause.TheVariants.{Leaving, Freeing, Assigning}
 use Rattle.ada_meaning.specs.declared.event.Halt.TheVariants.{Finished}
-use Rattle.ada_meaning.specs.Event.{Born, Finalized, Back, Left}
+use Rattle.ada_meaning.specs.Event.{Born, Finalized, Back, Followed, Left}
 use Rattle.ada_meaning.specs.Run.{Event, Halts}
 use Rattle.ada_order.specs.Example.{InSomeRun, is_seen, variable_at}
 
--- type Inner is new Limited_Controlled with record V : Integer; end record; type Outer is new Limited_Controlled with record C : Inner; end record;
--- type Outer_Access is access Outer; and what X is known by. Of these, the newest first, Outer is controlled and has a controlled component.
+-- type Inner is new Controlled with record V : Integer; end record; type Outer is new Controlled with record C : Inner; end record; type Outer_Access is
+-- access Outer; and what X and Y are known by. Of these, the newest first, Outer is controlled and has a controlled component.
 abbrev pub controlled_shapes : List Shape
-controlled_shapes =
-    record { controlled = false; components = [] }
-    ∷ record { controlled = false; components = [] }
-    ∷ record { controlled = true; components = 0 ∷ [] }
-    ∷ record { controlled = true; components = [] }
-    ∷ []
+controlled_shapes = record { controlled = true; components = 0 ∷ [] } ∷ record { controlled = true; components = [] } ∷ []
 
--- declare X : Outer; P : Outer_Access; begin P := new Outer; Free (P); end;
+-- A record object of the type Outer, by its variable.
+abbrev pub outer_at : ℕ → RecordPathForm
+outer_at x = record { object = record { root = x; of_record = true; selectors = []; spot = record { line = 1; column = 1 } }; first = 0; part = 0; record_type = 1 }
+
+-- declare X : Outer; Y : Outer := X; P : Outer_Access; begin P := new Outer; X := Y; Free (P); end;
 abbrev pub controlled_stmts : StmtsForm
 controlled_stmts =
     a_stmt
-    (encloses (collects 2 ∷ declares_record 0 3 None ∷ declares 1 nothing ∷ [])
-    (a_stmt (assigns (variable_at 1) (allocates_default 2))
-    (a_stmt (frees 2 (variable_at 1)) no_stmts))
+    (encloses (collects 2 ∷ declares_record 0 3 None ∷ declares_record 1 4 (Some (item_of_record (outer_at 0) ∷ [])) ∷ declares 2 nothing ∷ [])
+    (a_stmt (assigns (variable_at 2) (allocates_default 2))
+    (a_stmt (assigns_record (outer_at 0) (item_of_record (outer_at 1) ∷ []))
+    (a_stmt (frees 2 (variable_at 2)) no_stmts)))
     no_handlers)
     no_stmts
 
--- X is initialized, its component first, and so is the new object. That one is finalized by the Free, itself first, and X at the leaving of the block. The
--- words of each go back behind that.
+-- The objects X and Y, and the one that is allocated.
+abbrev pub object_x : Value
+object_x = Names (record { 0 = 0 })
+
+abbrev pub object_y : Value
+object_y = Names (record { 0 = 1 })
+
+abbrev pub object_new : Value
+object_new = Names (record { 0 = 2 })
+
+-- X is initialized, its component first; Y, a copy of it, is adjusted, and the new object is initialized. By the assignment the value of X is finalized,
+-- itself first, then that of Y is copied to it, and X is adjusted, its component first. The new object is finalized by the Free, and Y and X at the leaving
+-- of the block. The words of each go back behind that.
 abbrev pub controlled_events : List Event
 controlled_events =
-    Born (Names (record { 0 = 0 })) 1 0 0 1 Creation
-    ∷ Born (Names (record { 0 = 0 })) 0 0 1 2 Creation
-    ∷ Born (Names (record { 0 = 1 })) 1 0 0 3 Creation
-    ∷ Born (Names (record { 0 = 1 })) 0 0 1 4 Creation
-    ∷ Finalized (Names (record { 0 = 1 })) 0 0 1 4 (Freeing 2)
-    ∷ Finalized (Names (record { 0 = 1 })) 1 0 0 3 (Freeing 2)
-    ∷ Back (Names (record { 0 = 1 })) 2 1 (Some 0) None (Freeing 2)
-    ∷ Finalized (Names (record { 0 = 0 })) 0 0 1 2 (Leaving 1 1)
-    ∷ Finalized (Names (record { 0 = 0 })) 1 0 0 1 (Leaving 1 1)
-    ∷ Back (Names (record { 0 = 0 })) 3 0 None None (Leaving 1 1)
+    Born object_x 1 0 0 1 Creation
+    ∷ Born object_x 0 0 1 2 Creation
+    ∷ Followed object_x
+    ∷ Born object_y 1 0 0 3 Copy
+    ∷ Born object_y 0 0 1 4 Copy
+    ∷ Born object_new 1 0 0 5 Creation
+    ∷ Born object_new 0 0 1 6 Creation
+    ∷ Followed object_x
+    ∷ Followed object_y
+    ∷ Finalized object_x 0 0 1 2 (Assigning 2)
+    ∷ Finalized object_x 1 0 0 1 (Assigning 2)
+    ∷ Followed object_y
+    ∷ Followed object_x
+    ∷ Born object_x 1 1 0 7 (Adjustment 2)
+    ∷ Born object_x 0 1 1 8 (Adjustment 2)
+    ∷ Finalized object_new 0 0 1 6 (Freeing 3)
+    ∷ Finalized object_new 1 0 0 5 (Freeing 3)
+    ∷ Back object_new 2 1 (Some 0) None (Freeing 3)
+    ∷ Finalized object_y 0 0 1 4 (Leaving 1 2)
+    ∷ Finalized object_y 1 0 0 3 (Leaving 1 2)
+    ∷ Back object_y 4 0 None None (Leaving 1 2)
+    ∷ Finalized object_x 0 1 1 8 (Leaving 1 1)
+    ∷ Finalized object_x 1 1 0 7 (Leaving 1 1)
+    ∷ Back object_x 3 0 None None (Leaving 1 1)
     ∷ Left 1
     ∷ Left 0
     ∷ []

@@ -3,9 +3,9 @@
 ghost use Rattle.std.specs.Prelude.{All, AllPairs};
 ghost use Rattle.ada_meaning.specs.Law.{FinalizedTwoValues};
 ghost use Rattle.ada_meaning.specs.Finalization.{BornTwoValues, BornBeforeFinalized, IsBorn, FinalizedByBack, NothingAfterBack};
-ghost use Rattle.ada_meaning.specs.Finalization.{PartsComeFirst, WholesComeFirst, FinalizationLaw};
+ghost use Rattle.ada_meaning.specs.Finalization.{PartsComeFirst, WholesComeFirst, EndsBeforeItAdjusts, InsideIsBegun, FinalizationLaw};
 ghost use Rattle.ada_finalized.specs.Example.{ValuesAreFinalized};
-ghost use Rattle.ada_finalized.specs.Law.{InEveryRun, NeverFinalizesTwice, InsideIsBorn, PartsStand};
+ghost use Rattle.ada_finalized.specs.Law.{InEveryRun, NeverFinalizesTwice, AllPartsStand};
 
 /// A controlled value comes to exist once, and is finalized once, after that and before the words of its object go back
 /// (7.6, 7.6.1, 13.11.2).
@@ -23,17 +23,19 @@ pub fn never_finalizes_twice()
     ensures { NeverFinalizesTwice }
 {}
 
-/// Components are initialized before the record in which they lie, and finalized after it (7.6, 7.6.1).
+/// Components are initialized and adjusted before the record in which they lie, and finalized after it (7.6, 7.6.1); an
+/// assignment finalizes what its target held before it adjusts anything (5.2, 7.6).
 pub fn parts_go_in_order()
     ensures parts_first { InEveryRun (λ shapes events. AllPairs (PartsComeFirst shapes) events) }
     ensures wholes_first { InEveryRun (λ shapes events. AllPairs (WholesComeFirst shapes) events) }
+    ensures assigned_once { InEveryRun (λ shapes events. AllPairs EndsBeforeItAdjusts events) }
 {}
 
-/// Each part of an object is initialized: those that lie in a record before it, and all before anything else is done; so an
-/// object that is in its collection has all its values (7.6).
+/// Each part of an object is initialized or adjusted: those that lie in a record before it, and all before anything else is
+/// done; so an object that is in its collection has all its values (7.6).
 pub fn all_parts_are_initialized()
-    ensures inside_first { InEveryRun InsideIsBorn }
-    ensures all_stand { PartsStand }
+    ensures inside_begun { InEveryRun InsideIsBegun }
+    ensures all_stand { AllPartsStand }
 {}
 
 /// All laws of finalization together.
@@ -41,8 +43,8 @@ pub fn runs_keep_the_law()
     ensures { InEveryRun FinalizationLaw }
 {}
 
-/// The laws are not empty: a record object with a controlled component, and an allocated one, are initialized, and finalized at
-/// the leaving of their block, and by a Free.
+/// The laws are not empty: a record object with a controlled component, and an allocated one, are initialized; the one is
+/// assigned to the other; and they are finalized at the leaving of their block, and by a Free.
 pub fn premises_are_met()
     ensures { ValuesAreFinalized }
 {}

@@ -2,8 +2,8 @@
 //! leave to do. Nothing here runs: each function of [`laws`] is a theorem on the definitions of meaning, and its contract is
 //! the statement.
 //!
-//! What a crate above takes from here: `finalized_once`, `finalizations` and `never_twice` of `proofs::Runs`, for the `Law`
-//! and the `Safe` of a program.
+//! What a crate above takes from here: `finalized_once`, `finalizations` and `never_twice` of `proofs::Runs`, and `all_stand`
+//! of `proofs::Standing`, for the `Law` and the `Safe` of a program.
 #![tactic(auto)]
 
 pub mod laws;

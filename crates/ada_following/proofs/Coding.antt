@@ -5,9 +5,9 @@ use Rattle.std.proofs.lemmas.Bool.Decides.{eqb_tells}
 use Rattle.std.specs.Prelude.{◌==◌}
 use Rattle.std.specs.List.{slice_get}
 use Rattle.ada_program.specs.declared.program.TypeDefinition.{TypeDefinition}
-use Rattle.ada_program.specs.Typed.{designated_of}
-use Rattle.ada_program.specs.Controlled.{shapes_of}
+use Rattle.ada_program.specs.Controlled.{number_reached, shapes_of}
 use Rattle.ada_parts.specs.declared.tasks.Direction.TheVariants.{PartsFirst}
+use Rattle.ada_meaning.specs.declared.event.Birth.{Birth}
 use Rattle.ada_meaning.specs.declared.event.Birth.TheVariants.{Creation}
 use Rattle.ada_meaning.specs.declared.state.Id.{Id}
 use Rattle.ada_meaning.specs.declared.state.Value.{Value}
@@ -17,29 +17,29 @@ use Rattle.ada_meaning.specs.declared.state.Mode.TheVariants.{Running}
 use Rattle.ada_meaning.specs.Frame.{begins}
 use Rattle.ada_meaning.specs.Heap.{Cell}
 use Rattle.ada_meaning.specs.State.{Owned, declared, collection, record_object, storage_pool, Master, Destination, height, home_of}
-use Rattle.ada_meaning.specs.Step.{new_parts, all_tasks, treating, owning}
+use Rattle.ada_meaning.specs.Step.{operands, new_parts, all_tasks, treating, owning}
 use Rattle.ada_meaning.specs.Named.{Object, State, new_object, on_object, parted}
 use Rattle.ada_meaning.specs.Run.{Event}
 use Rattle.ada_storage.specs.State.{put, placed, listed, bit, assigned, without, joined}
 use Rattle.ada_storage.specs.State as storage
-use Rattle.ada_storage.specs.Step.{Simple, at, calls, is_above, allocates_by}
+use Rattle.ada_storage.specs.Step.{Simple, at, at_creation, calls, is_above, allocates_by}
 use Rattle.ada_storage.specs.Step as does
 use Rattle.ada_storage.proofs.Facts.{eq_self}
 use Rattle.ada_storage.specs.Following.{Goes}
-use Rattle.ada_following.specs.Reading.{event_seen, mode_seen, listed_in, is_out, object_seen, master_seen, items_seen, joins_by as joined_by, joins_seen, master_with}
+use Rattle.ada_following.specs.Reading.{IsUnderWay, event_seen, mode_seen, listed_in, is_out, object_seen, master_seen, items_seen, joins_by as joined_by, joins_seen, master_with}
 use Rattle.ada_following.specs.Forests.{forest_for}
 use Rattle.ada_meaning.proofs.Treatments.{are_table}
 use Rattle.ada_following.proofs.Forests.{simple_for}
 use Rattle.ada_following.proofs.Heaps.{Heap, add_here, unlists_parted, put_add, Alike}
 use Rattle.ada_following.proofs.PartTables.{Parts, nothing_at_end, parts_kept, parts_added}
-use Rattle.ada_following.proofs.Frames.{Control, Inside, Code, codes, IsJoining, code_under_way, chain, chain_seen}
+use Rattle.ada_following.proofs.Frames.{Control, Inside, IsCreated, Stands, Code, codes, IsJoining, code_under_way, chain, chain_seen}
 use Rattle.ada_following.proofs.Deeds.{IsBare}
 use Rattle.ada_following.proofs.Places.{Joins, master_once, home_found, counted_below, height_not_in, above_seen, chain_same, items_but, chain_but, chain_joined, opens_once}
 use Rattle.ada_following.proofs.Partings.{items_away, chain_away}
 use Rattle.ada_following.proofs.Creating.{Facts, starts, settles}
 use Rattle.ada_following.proofs.Sound.{Sound, sound_alike, sound_entered, sound_owns, sound_makes, joins_one, sound_creates}
 use Rattle.ada_following.proofs.Goings.{Holds, by_running, stands_still, one_more, goes_silent, by_none, moded, entered, collected}
-use Rattle.ada_following.proofs.Follows.{Follows, goes_on}
+use Rattle.ada_following.proofs.Follows.{Follows, goes_on, lands}
 
 -- A state of storage before and after a step of code.
 pub record Ready (types : List TypeDefinition) (h : Heap) (ms : List Master) (n : ℕ) (mode : Mode) (s : storage.State) : Type 0 where
@@ -55,7 +55,7 @@ pub arrives : (types : List TypeDefinition) (s t : storage.State) (e : Event) (y
 arrives types s t e y quiet goes r c =
     goes_on t t (subst (λ f. Goes f s t) (sym quiet) goes) (stands_still t t refl)
     (record {
-      control = code_under_way types y.heap y.control y.masters t.control c (r.control ∙ sym (chain_seen y.heap y.control y.masters c));
+      control = code_under_way types y.heap y.control y.masters t.control c (r.control ∙ sym (chain_seen types y.heap y.control y.masters c));
       mode = r.moded;
       out = r.out;
       shape = r.shape.shape;
@@ -117,6 +117,26 @@ module _ (types : List TypeDefinition) (s : storage.State) (e : Event) (y : Stat
         sound = sound_alike h g (m ∷ ms) alike r.sound;
       })
       c heap masters next refl
+
+  -- What is left to do is read as code, which perhaps raises an exception.
+  pub read_follows :
+      (md : Mode) (l : Control) → ((c : storage.Control) → c ≡ chain h (m ∷ ms) → IsUnderWay types h l (m ∷ ms) c) → Stands (operands y) h (m ∷ ms) md l
+      → y.masters ≡ m ∷ ms → y.next ≡ n → y.heap ≡ h → y.mode ≡ md → y.control ≡ l → Follows types s e y
+  read_follows md l reads stands masters next heap ymode control =
+      let t = record s { control = storage.acts (master_seen h m) (chain h ms); mode = mode_seen md } in
+      lands types s t e y h (m ∷ ms) n md l
+      (subst (λ f. Goes f s t) (sym quiet) (moded s (master_seen h m) (chain h ms) (mode_seen md) r.control))
+      (record {
+        control = reads t.control refl;
+        moded = refl;
+        out = r.out;
+        shape = r.shape;
+        created = r.created;
+        next = r.next;
+        stands = stands;
+        sound = r.sound;
+      })
+      heap masters next ymode control
 
   -- Code is running.
   module _ (is : mode_seen mode ≡ storage.running) where
@@ -185,10 +205,10 @@ module _ (types : List TypeDefinition) (s : storage.State) (e : Event) (y : Stat
 
       -- its parts, as storage sees them
       abbrev forest : storage.Forest
-      forest = forest_for (shapes_of types) (designated_of types cell.access)
+      forest = forest_for (shapes_of types) (number_reached types cell.access)
 
       simple : Simple forest
-      simple = simple_for (shapes_of types) (designated_of types cell.access)
+      simple = simple_for (shapes_of types) (number_reached types cell.access)
 
       -- storage has created it
       created_facts : (home : ℕ) (joins : storage.Joins) (ns : List Master) → Sound with_new ns → Facts types with_new ns n (does.creates home joins forest (master_seen h m) (chain h ms) s)
@@ -205,13 +225,13 @@ module _ (types : List TypeDefinition) (s : storage.State) (e : Event) (y : Stat
           }
 
       begun :
-          (home : ℕ) (joins : storage.Joins) (choice : does.Choice) (ns : List Master) (k : Control)
+          (home : ℕ) (joins : storage.Joins) (choice : does.Choice) (ns : List Master) (by : Birth) (k : Control) → IsCreated by
           → does.running_step choice (storage.acts (master_seen h m) (chain h ms)) s ≡ does.goes storage.quiet (does.creates home joins forest (master_seen h m) (chain h ms) s)
           → Sound with_new ns → chain unplaced ns ≡ chain h (m ∷ ms) → joins ≡ joins_seen (slice_get with_new (length h)) ns
           → IsJoining with_new unplaced (length h) ns (joins_seen (slice_get with_new (length h)) ns) → Inside k ns
-          → y.heap ≡ with_new → y.masters ≡ ns → y.next ≡ n → y.mode ≡ Running → y.control ≡ treating (Names newest) (begins Creation) (all_tasks types cell.access PartsFirst) k
+          → y.heap ≡ with_new → y.masters ≡ ns → y.next ≡ n → y.mode ≡ Running → y.control ≡ treating (Names newest) (begins by) (all_tasks types cell.access PartsFirst) k
           → Follows types s e y
-      begun home joins choice ns k steps sound same_chain same_joins joining inside heap masters next ymode control =
+      begun home joins choice ns by k created steps sound same_chain same_joins joining inside heap masters next ymode control =
           let r0 = does.creates home joins forest (master_seen h m) (chain h ms) s in
           let J = joins_seen (slice_get with_new (length h)) ns in
           let f = created_facts home joins ns sound in
@@ -219,21 +239,21 @@ module _ (types : List TypeDefinition) (s : storage.State) (e : Event) (y : Stat
           ap (λ (o : ℕ). storage.initializes o joins (storage.all_in forest ∷ []) [] (storage.acts (master_seen h m) (chain h ms))) r.created
           ∙ ap (λ (j : storage.Joins). storage.initializes (length h) j (storage.all_in forest ∷ []) [] (storage.acts (master_seen h m) (chain h ms))) same_joins
           ∙ ap (λ (l : storage.Control). storage.initializes (length h) J (storage.all_in forest ∷ []) [] l) (sym same_chain) in
-          let more = starts (shapes_of types) (are_table types) (length h) J [] (chain unplaced ns) (designated_of types cell.access) r0 is f.running in
+          let more = starts (shapes_of types) (are_table types) (at_creation J (chain unplaced ns)) (length h) [] (λ c js q. refl) (number_reached types cell.access) r0 is f.running in
           let r1 = at (storage.initializes (length h) J more.jobs [] (chain unplaced ns)) r0 in
-          settles types s r1 e y with_new ns n newest (new_object cell) more.jobs [] (all_tasks types cell.access PartsFirst) k
+          settles types s r1 e y with_new ns n newest (new_object cell) by more.jobs [] (all_tasks types cell.access PartsFirst) k created
           (subst (λ f. Goes f s r1) (sym quiet)
           (goes_silent s r1 (one_more s r0 r1 choice (by_running s (storage.acts (master_seen h m) (chain h ms)) choice storage.quiet r0 r.control runs steps) more.steps)))
           refl more.left (record { running = f.running; out = f.out; shape = f.shape; created = f.created; next = f.next; sound = f.sound }) new_there inside joining heap masters next ymode control
 
     -- An object is declared.
     pub makes_follows :
-        (holds : Holds s) (t : ℕ) (cell : Cell Value) (l : Control) (count : ℕ) → cell.parts ≡ new_parts count
+        (holds : Holds s) (t : ℕ) (by : Birth) (cell : Cell Value) (l : Control) (count : ℕ) → IsCreated by → cell.parts ≡ new_parts count
         → y.masters ≡ owning (record { number = height (m ∷ ms); owned = record_object t }) (m ∷ ms) → y.next ≡ n → y.heap ≡ h ++ new_object cell ∷ []
         → cell.home.item ≡ height (m ∷ ms) → cell.home.pool ≡ None → y.mode ≡ Running
-        → y.control ≡ treating (Names (record { 0 = length h })) (begins Creation) (all_tasks types cell.access PartsFirst) l
+        → y.control ≡ treating (Names (record { 0 = length h })) (begins by) (all_tasks types cell.access PartsFirst) l
         → Inside l (owning (record { number = height (m ∷ ms); owned = record_object t }) (m ∷ ms)) → Follows types s e y
-    makes_follows holds t cell l count new masters next heap at_c from_none ymode control c =
+    makes_follows holds t by cell l count created new masters next heap at_c from_none ymode control c =
         let i = height (m ∷ ms) in
         let g = h ++ new_object cell ∷ [] in
         let ns : List Master = owning (record { number = i; owned = record_object t }) (m ∷ ms) in
@@ -248,7 +268,7 @@ module _ (types : List TypeDefinition) (s : storage.State) (e : Event) (y : Stat
         let behind = behind_unplaced holds cell count i new at_c in
         let joins_here : joins_seen (slice_get g (length h)) ns ≡ storage.to_items =
         ap (λ (f : Option Object). joins_seen f ns) (new_there holds cell count i new at_c) ∙ ap (λ (p : Option ℕ). joined_by p cell.home.item ns) from_none in
-        begun holds cell count i new at_c (suc m.number) storage.to_items (does.declares (forest holds cell count i new at_c) (simple holds cell count i new at_c)) ns l refl
+        begun holds cell count i new at_c (suc m.number) storage.to_items (does.declares (forest holds cell count i new at_c) (simple holds cell count i new at_c)) ns by l created refl
         (sound_makes h cell t m ms at_c from_none r.sound)
         (ap (λ (is : List storage.Item). storage.acts (record { number = suc m.number; items = is }) (chain u ms)) items ∙ ap (λ (k : storage.Control). storage.acts (master_seen h m) k) behind)
         (sym joins_here)
@@ -278,7 +298,7 @@ module _ (types : List TypeDefinition) (s : storage.State) (e : Event) (y : Stat
         ap (λ (x : Option Object). joins_seen x (m ∷ ms)) (new_there holds cell count i new at_c) ∙ ap (λ (p : Option ℕ). joined_by p cell.home.item (m ∷ ms)) from_pool
         ∙ ap (λ (j : ℕ). storage.to_collection (master_with j (m ∷ ms)) j) at_c ∙ ap (λ (a : ℕ). storage.to_collection a i) (master_once f.master i (m ∷ ms) f.once) in
         let one = opens_once h f.master i (m ∷ ms) f.once in
-        begun holds cell count i new at_c f.master (storage.to_collection f.master i) (does.allocates f.master i (forest holds cell count i new at_c) (simple holds cell count i new at_c)) (m ∷ ms) l
+        begun holds cell count i new at_c f.master (storage.to_collection f.master i) (does.allocates f.master i (forest holds cell count i new at_c) (simple holds cell count i new at_c)) (m ∷ ms) Creation l tt
         (ap (λ (j : ℕ). allocates_by j f.master i (forest holds cell count i new at_c) (master_seen h m) (chain h ms) s) one)
         (sound_creates h f.master i cell (m ∷ ms) at_c f.once f.most r.sound)
         all (sym joins_here)

@@ -1,9 +1,10 @@
 -- What a step of code does to masters and to the heap, and what is left to do then.
 
 use Rattle.std.proofs.Common.{◌≡◌, ℕ, ◌+◌, ◌<◌, Bool, List, [], ◌∷◌, ◌++◌, length, Some, None, subst}
-use Rattle.ada_program.specs.Form.{ActualForm, in_value, in_null, in_access, in_record, in_out_path, in_out_access, in_out_component, in_out_record, StmtsForm, HandlersForm, DeclarationForm}
+use Rattle.ada_program.specs.Form.{RecordPathForm, ActualForm, in_value, in_null, in_access, in_record, in_out_path, in_out_access, in_out_component, in_out_record, StmtsForm, HandlersForm, DeclarationForm}
 use Rattle.ada_program.specs.declared.program.TypeDefinition.{TypeDefinition}
 use Rattle.ada_parts.specs.declared.tasks.Direction.TheVariants.{PartsFirst, WholeFirst}
+use Rattle.ada_meaning.specs.declared.event.Birth.{Birth}
 use Rattle.ada_meaning.specs.declared.event.Birth.TheVariants.{Creation}
 use Rattle.ada_meaning.specs.declared.state.Value.{Value}
 use Rattle.ada_meaning.specs.declared.state.Value.TheVariants.{Names}
@@ -25,7 +26,7 @@ use Rattle.ada_meaning.proofs.Jumps.{unwound_to}
 use Rattle.ada_storage.specs.State as storage
 use Rattle.ada_following.specs.Reading.{event_seen}
 use Rattle.ada_following.proofs.Heaps.{Heap}
-use Rattle.ada_following.proofs.Frames.{Control, Over, more}
+use Rattle.ada_following.proofs.Frames.{Control, IsCreated, Over, more}
 
 -- No object comes with such an item.
 abbrev pub IsBare : Owned → Type 0
@@ -36,7 +37,7 @@ IsBare (storage_pool declaration number) = Unit {0}
 
 -- What a step of code does, where these masters are entered, this number is the next one, and these are the heap and the mode: nothing that storage sees; or
 -- components of an object get other values; the innermost master owns an item more, or a record object; an object is allocated; a master is entered; an object
--- is freed.
+-- is freed; or two records are to be found, of which one is assigned to the other.
 pub data Work (types : List TypeDefinition) (b : Control) (ms : List Master) (n : ℕ) (h : Heap) (mode : Mode) (e : Event) (t : State) : Type 0 where
   stays : event_seen e ≡ storage.quiet → Over b t.control → t.masters ≡ ms → t.next ≡ n → t.heap ≡ h → Work types b ms n h mode e t
   fills :
@@ -47,8 +48,8 @@ pub data Work (types : List TypeDefinition) (b : Control) (ms : List Master) (n 
       → event_seen e ≡ storage.quiet → Over b t.control → t.masters ≡ owning (record { number = height ms; owned = what }) ms → t.next ≡ n → t.heap ≡ h → t.mode ≡ mode
       → Work types b ms n h mode e t
   makes :
-      (object_type : ℕ) (cell : Cell Value) (l : Control) (count : ℕ) → cell.parts ≡ new_parts count
-      → event_seen e ≡ storage.quiet → t.control ≡ treating (Names (record { 0 = length h })) (begins Creation) (all_tasks types cell.access PartsFirst) l → Over b l → t.masters ≡ owning (record { number = height ms; owned = record_object object_type }) ms → t.next ≡ n
+      (object_type : ℕ) (by : Birth) (cell : Cell Value) (l : Control) (count : ℕ) → IsCreated by → cell.parts ≡ new_parts count
+      → event_seen e ≡ storage.quiet → t.control ≡ treating (Names (record { 0 = length h })) (begins by) (all_tasks types cell.access PartsFirst) l → Over b l → t.masters ≡ owning (record { number = height ms; owned = record_object object_type }) ms → t.next ≡ n
       → t.heap ≡ h ++ new_object cell ∷ [] → cell.home.item ≡ height ms → cell.home.pool ≡ None → t.mode ≡ mode
       → Work types b ms n h mode e t
   creates :
@@ -65,6 +66,10 @@ pub data Work (types : List TypeDefinition) (b : Control) (ms : List Master) (n 
       (v : Value) (pool : ℕ) (cell : Cell Value) (k : Control) → look h v ≡ finds cell
       → event_seen e ≡ storage.quiet → t.control ≡ treating v (ends (Freeing n)) (all_tasks types cell.access WholeFirst) (frame.Ends v ∷ frame.GivesBack v (Freeing n) (Some pool) ∷ k) → Over b k → t.masters ≡ ms → t.next ≡ n + 1
       → t.heap ≡ on_object parted h v → t.mode ≡ mode
+      → Work types b ms n h mode e t
+  seeks :
+      (target source : RecordPathForm) (record_type : ℕ) (k : Control)
+      → event_seen e ≡ storage.quiet → t.control ≡ frame.Refers target ∷ frame.Refers source ∷ frame.Assigns record_type ∷ k → Over b k → t.masters ≡ ms → t.next ≡ n → t.heap ≡ h → t.mode ≡ mode
       → Work types b ms n h mode e t
 
 -- What comes next does so, whatever is answered; and the run has not come to its end.
@@ -107,10 +112,11 @@ pub work_is_quiet : {types : List TypeDefinition} {b : Control} {ms : List Maste
 work_is_quiet (stays q over masters next heap) = q
 work_is_quiet (fills o c vs q over masters next heap) = q
 work_is_quiet (owns what bare q over masters next heap mode) = q
-work_is_quiet (makes t cell l count new q control over masters next heap at_c from_none mode) = q
+work_is_quiet (makes t by cell l count created new q control over masters next heap at_c from_none mode) = q
 work_is_quiet (creates access cell home l count found at_c from_pool new q control over masters next heap mode) = q
 work_is_quiet (enters ds fs hs k q control over masters next heap mode) = q
 work_is_quiet (gives_up v pool cell k found q control over masters next heap mode) = q
+work_is_quiet (seeks target source t k q control over masters next heap mode) = q
 
 pub does_map : (D E : Event → State → Type 0) → ((e : Event) (s : State) → D e s → E e s) → (coming : Next) → Does D coming → Does E coming
 does_map D E f (halts halt) d = d

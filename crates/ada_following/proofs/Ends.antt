@@ -88,7 +88,7 @@ module _ (types : List TypeDefinition) (x : State) (s : storage.State) (h : Heap
       (record {
         control =
             ap (λ (js : List storage.Item). storage.finalizes (record { number = suc m.number; items = js }) i o.0 [] (mode_seen mode) (chain h ms)) (sym items)
-            ∙ ap (λ (l : storage.Control). storage.finalizes (master_seen g m) i o.0 [] (mode_seen mode) l) (sym behind ∙ sym (chain_seen g k ms c));
+            ∙ ap (λ (l : storage.Control). storage.finalizes (master_seen g m) i o.0 [] (mode_seen mode) l) (sym behind ∙ sym (chain_seen types g k ms c));
         moded = r.running;
         out = λ y. r.out y ∙ sym (u.out y);
         shape = parts_kept types h g s.objects s.alive s.turn u.access u.parts r.shape;
@@ -128,7 +128,7 @@ module _ (types : List TypeDefinition) (x : State) (s : storage.State) (h : Heap
         (record {
           control =
               ap (λ (js : List storage.Item). storage.leaves (record { number = suc m.number; items = js }) (mode_seen mode) (chain h ms)) (sym (items_same h g m.items u.listed))
-              ∙ ap (λ (l : storage.Control). storage.leaves (master_seen g m) (mode_seen mode) l) (sym (chain_same h g ms u.listed) ∙ sym (chain_seen g k ms c));
+              ∙ ap (λ (l : storage.Control). storage.leaves (master_seen g m) (mode_seen mode) l) (sym (chain_same h g ms u.listed) ∙ sym (chain_seen types g k ms c));
           moded = r.running;
           out = out_gone s h g o.0 r.out u;
           shape = parts_gone types h g o.0 s u r.shape;
@@ -176,7 +176,7 @@ module _ (types : List TypeDefinition) (x : State) (s : storage.State) (h : Heap
       (goes_silent s (at (storage.frees (suc n) o.0 [] (chain h ms)) s)
       (done_ends (shapes_of types) (are_table types) (at_free (suc n) (chain h ms)) o.0 (λ c fs t. refl) s left e r.running none))
       (record {
-        control = ap (λ (l : storage.Control). storage.frees (suc n) o.0 [] l) (sym behind ∙ sym (chain_seen g k ms c.1));
+        control = ap (λ (l : storage.Control). storage.frees (suc n) o.0 [] l) (sym behind ∙ sym (chain_seen types g k ms c.1));
         moded = r.running;
         out = λ y. r.out y ∙ sym (u.out y);
         shape = parts_kept types h g s.objects s.alive s.turn u.access u.parts r.shape;
@@ -211,7 +211,7 @@ module _ (types : List TypeDefinition) (x : State) (s : storage.State) (h : Heap
         (with_all x g ms Running k) g ms x.next Running k
         (freed_back s (suc n) o.0 (chain h ms) e r.running)
         (record {
-          control = code_under_way types g k ms (chain h ms) c.1 (sym (chain_same h g ms u.listed) ∙ sym (chain_seen g k ms c.1));
+          control = code_under_way types g k ms (chain h ms) c.1 (sym (chain_same h g ms u.listed) ∙ sym (chain_seen types g k ms c.1));
           moded = r.running;
           out = out_gone s h g o.0 r.out u;
           shape = parts_gone types h g o.0 s u r.shape;

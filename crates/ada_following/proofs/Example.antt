@@ -1,18 +1,18 @@
 -- Runs by their choices, and what storage shows of them.
 
 use Rattle.std.proofs.Common.{◌≡◌, false, List, [], ◌∷◌, map, refl, ap, ◌∙◌, arith}
-use Rattle.std.specs.Prelude.{ℕ, ◌+◌, ◌==◌, Bool, true, if◌then◌else◌, length, Option, None, Some}
-use Rattle.std.specs.List.{filter, sum_by}
+use Rattle.std.specs.Prelude.{ℕ, suc, ◌<◌, true, Option, None, Some}
+use Rattle.std.specs.List.{filter}
 use Rattle.ada_program.specs.declared.program.Program.{Program}
 use Rattle.ada_program.specs.declared.program.Declaration.TheVariants as declaration
+use Rattle.ada_program.specs.declared.program.Item.TheVariants as item
+use Rattle.ada_program.specs.declared.program.RecordPath.{RecordPath}
 use Rattle.ada_program.specs.declared.program.Stmt as stmt
 use Rattle.ada_program.specs.declared.program.TypeDefinition.TheVariants as definition
 use Rattle.ada_program.specs.declared.program.PartKind.TheVariants as part
 use Rattle.ada_program.specs.declared.program.VariableKind.TheVariants as variable
 use Rattle.ada_program.specs.Form.{stmt_form}
-use Rattle.ada_program.specs.Controlled.{shapes_of}
-use Rattle.ada_program.specs.Typed.{designated_of}
-use Rattle.ada_parts.specs.Shape.{Shape, own_parts, parts_of}
+use Rattle.ada_program.specs.Controlled.{number_reached, shapes_of}
 use Rattle.ada_meaning.specs.Step.{parts_for}
 use Rattle.ada_meaning.specs.Event.{Born, Finalized, Back, Followed, Left, Line, Quiet}
 use Rattle.ada_meaning.specs.Named.{next}
@@ -27,7 +27,7 @@ use Rattle.ada_following.specs.Reading.{event_seen, FreesControlled}
 use Rattle.ada_following.proofs.Heaps.{Heap}
 use Rattle.ada_following.proofs.Frames.{Control}
 use Rattle.ada_following.specs.Law.{HasNoParts}
-use Rattle.ada_following.specs.Example.{nested_events, BlocksAreFollowed, ADeclaredObjectIsFreed, controlled_events, AControlledObjectIsFollowed}
+use Rattle.ada_following.specs.Example.{nested_events, BlocksAreFollowed, ADeclaredObjectIsFreed, controlled_events, AControlledObjectIsFollowed, assigned_events, AnAssignmentIsFollowed}
 use Rattle.ada_following.proofs.Straying.{none_controlled}
 use Rattle.ada_following.proofs.Runs.{runs_follow_storage}
 
@@ -50,27 +50,12 @@ seen_alone (Line line ∷ es) = seen_alone es
 seen_alone (Quiet ∷ es) = seen_alone es
 
 -- No object of that program has controlled parts.
-abbrev HaveNone : List Shape → Type 0
-HaveNone [] = Unit {0}
-HaveNone (s ∷ older) = (own_parts s + sum_by (parts_of older) s.components ≡ 0) × HaveNone older
-
-none_have : (shapes : List Shape) (t : ℕ) → HaveNone shapes → parts_of shapes t ≡ 0
-none_have [] t h = refl
-none_have (s ∷ older) t h = go (t == length older) (none_have older t h.1)
-  where
-    go : (b : Bool) → parts_of older t ≡ 0 → (if b then own_parts s + sum_by (parts_of older) s.components else parts_of older t) ≡ 0
-    go true z = h.0
-    go false z = z
-
-no_parts : (t : ℕ) → parts_of (shapes_of nested.program.types.items) t ≡ 0
-no_parts t = none_have (shapes_of nested.program.types.items) t (refl, (refl, (refl, (refl, tt))))
-
 no_object_parts : HasNoParts nested.program
-no_object_parts access = go (designated_of nested.program.types.items access)
+no_object_parts access = go (number_reached nested.program.types.items access)
   where
     go : (t : Option ℕ) → parts_for (shapes_of nested.program.types.items) t ≡ 0
     go None = refl
-    go (Some t) = no_parts t
+    go (Some t) = refl
 
 pub blocks_are_followed : BlocksAreFollowed
 blocks_are_followed =
@@ -104,7 +89,7 @@ abbrev controlled : Program
 controlled = record {
   types =
       vec
-      (definition.Record no_name (vec (record { name = no_name; kind = part.Parent; first = record { 0 = 0 } } ∷ []) (omega arith)) (vec [] (omega arith))
+      (definition.Record no_name (vec (record { name = no_name; kind = part.Parent; first = record { 0 = 0 }; part = record { 0 = 0 } } ∷ []) (omega arith)) (vec [] (omega arith)) (Some (record { number = record { 0 = 0 }; parts = 1; limited = true }))
       ∷ definition.Object (record { 0 = 0 }) ∷ [])
       (omega arith);
   pools = vec [] (omega arith);
@@ -136,3 +121,50 @@ pub a_controlled_object_is_followed : AControlledObjectIsFollowed
 a_controlled_object_is_followed =
     let r = controlled_run in
     (controlled, (r.0, r.1, r.2, r.3, (r.4.0, r.4.1, runs_follow_storage controlled r.0 r.1 r.2 r.3 (λ g. never_freed r.2.heap r.2.control r.4.2 g.1))))
+
+-- type T is new Controlled with null record; X, Y : T; begin X := Y; end
+abbrev of_record : ℕ → RecordPath
+of_record x = record { object = record { root = record { 0 = x }; of_record = true; selectors = vec [] (omega arith); spot = spot }; first = record { 0 = 0 }; part = record { 0 = 0 }; «record» = record { 0 = 0 } }
+
+abbrev assigned : Program
+assigned = record {
+  types =
+      vec
+      (definition.Record no_name (vec (record { name = no_name; kind = part.Parent; first = record { 0 = 0 }; part = record { 0 = 0 } } ∷ []) (omega arith)) (vec [] (omega arith)) (Some (record { number = record { 0 = 0 }; parts = 1; limited = false }))
+      ∷ definition.Object (record { 0 = 0 }) ∷ definition.Object (record { 0 = 0 }) ∷ [])
+      (omega arith);
+  pools = vec [] (omega arith);
+  procedures = vec [] (omega arith);
+  variables =
+      vec
+      (record { name = no_name; spot = spot; kind = variable.Record (record { 0 = 1 }); borrows = false }
+      ∷ record { name = no_name; spot = spot; kind = variable.Record (record { 0 = 2 }); borrows = false } ∷ [])
+      (omega arith);
+  texts = vec [] (omega arith);
+  exceptions = vec [] (omega arith);
+  declarations = vec (declaration.Record (record { 0 = 0 }) (record { 0 = 1 }) None ∷ declaration.Record (record { 0 = 1 }) (record { 0 = 2 }) None ∷ []) (omega arith);
+  statements = vec (stmt.AssignRecord (of_record 0) (vec (item.Record (of_record 1) ∷ []) (omega arith)) ∷ []) (omega arith);
+  handlers = vec [] (omega arith);
+}
+
+some_more : (n : ℕ) → 0 < suc n
+some_more n = omega arith
+
+assigned_run : InSomeRun assigned (λ events last. Halts assigned last Finished × (seen (map event_seen events) ≡ assigned_events) × (last.control ≡ []))
+unfolding next stmt_form
+assigned_run = (
+  [],
+  _,
+  _,
+  there settled _ (refl, refl) (there settled _ (refl, refl) (there settled _ (refl, refl) (there settled _ (refl, refl) (there settled _ (refl, refl) (there settled _ (refl, refl) (there settled _ (refl, refl) (there settled _ (refl, refl) (there settled _ (refl, refl) (there settled _ (refl, refl) (there settled _ (refl, refl) (there settled _ (refl, refl) (there settled _ (refl, refl) (there settled _ (refl, refl) (there settled _ (refl, refl) (there settled _ (refl, refl) (there settled _ (refl, refl) (there settled _ (refl, refl) (there (takes 0) _ (some_more 0, refl, refl) (there settled _ (refl, refl) (there settled _ (refl, refl) (there settled _ (refl, refl) (there settled _ (refl, refl) (there (takes 0) _ (some_more 0, refl, refl) (there settled _ (refl, refl) (there settled _ (refl, refl) (there settled _ (refl, refl) (there settled _ (refl, refl) (there settled _ (refl, refl) here)))))))))))))))))))))))))))),
+  (refl, refl, refl),
+)
+
+none_freed : (h : Heap) (k : Control) → k ≡ [] → FreesControlled assigned.types.items h k → ⊥
+none_freed h [] is g = g
+none_freed h (f ∷ k) is g = absurd (cc is)
+
+pub an_assignment_is_followed : AnAssignmentIsFollowed
+an_assignment_is_followed =
+    let r = assigned_run in
+    (assigned, (r.0, r.1, r.2, r.3, (r.4.0, r.4.1, runs_follow_storage assigned r.0 r.1 r.2 r.3 (λ g. none_freed r.2.heap r.2.control r.4.2 g.1))))

@@ -22,27 +22,27 @@ use Rattle.ada_meaning.specs.Frame.{begins, ends, Frame}
 use Rattle.ada_meaning.specs.Frame as frame
 use Rattle.ada_meaning.specs.Heap.{PartState, Cell, Found, on_null, on_gone, on_other, finds}
 use Rattle.ada_meaning.specs.State.{Master}
-use Rattle.ada_meaning.specs.Step.{halts, picks, moves, treating, treated_on, treats_next, performed_next, finalized_next}
+use Rattle.ada_meaning.specs.Step.{picked_task, member_at, operands, halts, picks, moves, treating, treated_on, treats_next, performed_next, finalized_next}
 use Rattle.ada_meaning.specs.Named.{Object, State, Next, named, look, on_object, treated, born_part, finalized_part}
 use Rattle.ada_meaning.specs.Run.{Event}
-use Rattle.ada_meaning.proofs.Treatments.{are_table}
+use Rattle.ada_meaning.proofs.Treatments.{member_within, are_table}
 use Rattle.ada_storage.specs.State.{Forest, Job, Joins, initializes, put_part, in_forests, in_jobs}
 use Rattle.ada_storage.specs.State as storage
 use Rattle.ada_storage.specs.Step.{Choice, goes_on, at, lives_on, dies, Ending, cause_of, frame as ending_frame, ends as ends_by, finalize_by, performed as performed_by, running_step}
 use Rattle.ada_storage.specs.Step as does
 use Rattle.ada_storage.specs.Following.{Goes}
 use Rattle.ada_following.specs.Forests.{Ends}
-use Rattle.ada_following.specs.Reading.{event_seen, cause_seen, object_number, listed_in, is_alive, turn_of, part_of, with_left, control_seen}
+use Rattle.ada_following.specs.Reading.{event_seen, cause_seen, object_number, listed_in, is_out, is_alive, turn_of, part_of, with_left, control_seen}
 use Rattle.ada_following.proofs.Heaps.{Heap, Changes, changes_treated}
 use Rattle.ada_following.proofs.PartTables.{part_changes, part_same, same_forest}
 use Rattle.ada_following.proofs.Frames.{Control, Stands, treating_seen}
 use Rattle.ada_following.proofs.Deeds.{Does}
 use Rattle.ada_following.proofs.Sound.{sound_changes}
-use Rattle.ada_following.proofs.Goings.{by_running, by_step, then_goes, goes_silent}
+use Rattle.ada_following.proofs.Goings.{by_running, by_step, Silent, stands_still, then_goes, goes_silent}
 use Rattle.ada_following.proofs.Heads.{looked}
 use Rattle.ada_following.proofs.Treating.{pick_ends, call_ends}
 use Rattle.ada_following.proofs.Creating.{Facts}
-use Rattle.ada_following.proofs.Follows.{Follows, lands}
+use Rattle.ada_following.proofs.Follows.{Follows, Arrived, lands_later}
 
 -- What may come next is followed.
 abbrev pub AllFollow : List TypeDefinition → storage.State → Next → Type 0
@@ -113,19 +113,50 @@ module _ (types : List TypeDefinition) (h : Heap) (ms : List Master) (n : ℕ) (
         sound = sound_changes h g o.0 ms u f.sound;
       }
 
+-- A heap in which the same objects are listed, and the same words are out.
+pub record IsSameBut (h g : Heap) : Type 0 where
+  pub listed : (n : ℕ) → listed_in g n ≡ listed_in h n
+  pub out : (o : ℕ) → is_out (slice_get g o) ≡ is_out (slice_get h o)
+
+-- Storage comes to a state that is read, and shows nothing.
+pub record Settles (types : List TypeDefinition) (vs : List Value) (h : Heap) (ms : List Master) (n : ℕ) (k : Control) (r : storage.State) : Type 0 where
+  pub state : storage.State
+  pub steps : Silent r state
+  pub arrived : Arrived types vs h ms n Running k state
+
+-- Where an object is ended behind it, it is read at once.
+pub settles_at :
+    (types : List TypeDefinition) (vs : List Value) (h : Heap) (ms : List Master) (n : ℕ) (v : Value) (cause : Cause) (tasks : List Task) (k : Control) (left : List Forest) (r : storage.State)
+    → Ends (shapes_of types) left tasks → r.control ≡ with_left left (control_seen types h k ms) → Facts types h ms n r → Stands vs h ms Running (treating v (ends cause) tasks (frame.Ends v ∷ k))
+    → Settles types vs h ms n (treating v (ends cause) tasks (frame.Ends v ∷ k)) r
+settles_at types vs h ms n v cause tasks k left r e is f stands = record {
+  state = r;
+  steps = stands_still r r refl;
+  arrived =
+      record {
+        control = treating_seen types h ms tasks v v cause k left r.control e is;
+        moded = f.running;
+        out = f.out;
+        shape = f.shape;
+        created = f.created;
+        next = f.next;
+        stands = stands;
+        sound = f.sound;
+      };
+}
+
 -- A finalization.
 module _
     (types : List TypeDefinition) (x : State) (s : storage.State) (h : Heap) (ms : List Master) (v : Value) (cause : Cause) (k : Control) (ending : Ending)
     (at_end : (c : Choice) (fs : List Forest) (t : storage.State) → running_step c (ending_frame ending (object_number v) fs) t ≡ ends_by fs c ending (object_number v) t)
-    (reads : (g : Heap) → ((n : ℕ) → listed_in g n ≡ listed_in h n) → (fs : List Forest) → with_left fs (control_seen g k ms) ≡ ending_frame ending (object_number v) fs)
     (caused : cause_of ending ≡ cause_seen cause)
-    (stands : (g : Heap) (tasks : List Task) → Stands g ms Running (treating v (ends cause) tasks (frame.Ends v ∷ k)))
+    (settles : (g : Heap) (tasks : List Task) (left : List Forest) (r : storage.State) → IsSameBut h g → Ends (shapes_of types) left tasks → r.control ≡ ending_frame ending (object_number v) left → Facts types g ms x.next r → Settles types (operands x) g ms x.next (treating v (ends cause) tasks k) r)
     (f : Facts types h ms x.next s)
   where
     pick_finishes :
         (cs : List Component) (rest : List Task) (left : List Forest) → Ends (shapes_of types) left (treats cs ∷ rest) → s.control ≡ ending_frame ending (object_number v) left
         → ((q : ℕ) → in_forests q left ≤ 1) → (i : ℕ) → i < length cs
-        → Follows types s Quiet (treated_on named v (ends cause) (taken (shapes_of types) WholeFirst (treats cs ∷ rest) i) (with_all x h ms Running (frame.Ends v ∷ k)))
+        → Follows types s Quiet (treated_on named v (ends cause) (taken (shapes_of types) WholeFirst (treats cs ∷ rest) i) (with_all x h ms Running k))
     pick_finishes cs rest left e is once i lt =
         let c = there_is cs i lt in
         let all : taken (shapes_of types) WholeFirst (treats cs ∷ rest) i ≡ opened (shapes_of types) WholeFirst c.0.of c.0.first ++ (treatment_of (remove cs i) ++ rest) =
@@ -133,25 +164,17 @@ module _
         let m = pick_ends (shapes_of types) (are_table types) ending (object_number v) at_end cs rest i c.0 c.1 s left is f.running once e in
         let t = at (ending_frame ending (object_number v) m.forests) s in
         let tasks = taken (shapes_of types) WholeFirst (treats cs ∷ rest) i in
-        lands types s t Quiet (treated_on named v (ends cause) tasks (with_all x h ms Running (frame.Ends v ∷ k))) h ms x.next Running (treating v (ends cause) tasks (frame.Ends v ∷ k))
-        (goes_silent s t m.steps)
-        (record {
-          control = treating_seen types h ms tasks v v cause k m.forests t.control (subst (Ends (shapes_of types) m.forests) (sym all) m.left) (sym (reads h (λ n. refl) m.forests));
-          moded = f.running;
-          out = f.out;
-          shape = f.shape;
-          created = f.created;
-          next = f.next;
-          stands = stands h tasks;
-          sound = f.sound;
-        })
+        let z = settles h tasks m.forests t (record { listed = λ n. refl; out = λ y. refl }) (subst (Ends (shapes_of types) m.forests) (sym all) m.left) refl
+        (record { running = f.running; out = f.out; shape = f.shape; created = f.created; next = f.next; sound = f.sound }) in
+        lands_later types s t z.state Quiet (treated_on named v (ends cause) tasks (with_all x h ms Running k)) h ms x.next Running (treating v (ends cause) tasks k)
+        (goes_silent s t m.steps) z.steps z.arrived
         refl refl refl refl refl
 
     -- The value of a part is finalized.
     part_finishes :
         (o : Id) (object : Object) (t p : ℕ) (q : PartState) (rest : List Task) (left : List Forest) → v ≡ Names o → slice_get h o.0 ≡ Some object → slice_get object.cell.parts p ≡ Some q → q.alive ≡ true
         → Ends (shapes_of types) left (performs t p ∷ rest) → s.control ≡ ending_frame ending (object_number v) left
-        → Follows types s (Finalized v p q.turn t q.number cause) (record (treated_on named v (ends cause) rest (with_all x h ms Running (frame.Ends v ∷ k))) { heap = on_object (treated finalized_part p) h v })
+        → Follows types s (Finalized v p q.turn t q.number cause) (record (treated_on named v (ends cause) rest (with_all x h ms Running k)) { heap = on_object (treated finalized_part p) h v })
     part_finishes o object t p q rest left names there part_there alive e is =
         let m = call_ends (shapes_of types) (are_table types) ending (object_number v) at_end s t p rest left is f.running e in
         let s1 = at (ending_frame ending (object_number v) (storage.tree p m.inside storage.none ∷ m.forests)) s in
@@ -168,43 +191,36 @@ module _
         ∙ ap (λ (c : storage.Cause). storage.finalized (record { object = o.0; part = p; turn = q.turn }) c) (sym caused)
         ∙ ap (λ (j : ℕ). storage.finalized (record { object = j; part = p; turn = q.turn }) (cause_of ending)) (sym number)
         ∙ ap (λ (j : ℕ). storage.finalized (record { object = object_number v; part = p; turn = j }) (cause_of ending)) (sym turn) in
-        lands types s r (Finalized v p q.turn t q.number cause) (record (treated_on named v (ends cause) rest (with_all x h ms Running (frame.Ends v ∷ k))) { heap = g }) g ms x.next Running (treating v (ends cause) rest (frame.Ends v ∷ k))
+        let z = settles g rest (m.inside ∷ m.forests) r (record { listed = u.listed; out = u.out }) m.left refl
+        (record { running = facts.running; out = facts.out; shape = record { shape = facts.shape.shape; alive = facts.shape.alive; turn = facts.shape.turn }; created = facts.created; next = facts.next; sound = facts.sound }) in
+        lands_later types s r z.state (Finalized v p q.turn t q.number cause) (record (treated_on named v (ends cause) rest (with_all x h ms Running k)) { heap = g }) g ms x.next Running (treating v (ends cause) rest k)
         (subst (λ (ev : storage.Event). Goes ev s r) (sym shown)
         (then_goes s s1 r (storage.finalized (does.value_at (object_number v) p s1) (cause_of ending)) m.steps
         (by_step s1 goes_on _ r
         (by_running s1 (ending_frame ending (object_number v) (storage.tree p m.inside storage.none ∷ m.forests)) goes_on _ r refl f.running
         (at_end goes_on (storage.tree p m.inside storage.none ∷ m.forests) s1
         ∙ ap (λ (b : Bool). finalize_by b false (object_number v) p (cause_of ending) (ending_frame ending (object_number v) (m.inside ∷ m.forests)) s1) lives)))))
-        (record {
-          control = treating_seen types g ms rest v v cause k (m.inside ∷ m.forests) r.control m.left (sym (reads g u.listed (m.inside ∷ m.forests)));
-          moded = facts.running;
-          out = facts.out;
-          shape = record { shape = facts.shape.shape; alive = facts.shape.alive; turn = facts.shape.turn };
-          created = facts.created;
-          next = facts.next;
-          stands = stands g rest;
-          sound = facts.sound;
-        })
+        z.steps z.arrived
         refl refl refl refl refl
 
     alive_finishes :
         (o : Id) (object : Object) (t p : ℕ) (q : PartState) (rest : List Task) (left : List Forest) → v ≡ Names o → slice_get h o.0 ≡ Some object → slice_get object.cell.parts p ≡ Some q
         → Ends (shapes_of types) left (performs t p ∷ rest) → s.control ≡ ending_frame ending (object_number v) left → (alive : Bool) → q.alive ≡ alive
-        → AllFollow types s (if alive then moves (Finalized v p q.turn t q.number cause) (record (treated_on named v (ends cause) rest (with_all x h ms Running (frame.Ends v ∷ k))) { heap = on_object (treated finalized_part p) h v }) else halts (Erroneous FinalizesTwice))
+        → AllFollow types s (if alive then moves (Finalized v p q.turn t q.number cause) (record (treated_on named v (ends cause) rest (with_all x h ms Running k)) { heap = on_object (treated finalized_part p) h v }) else halts (Erroneous FinalizesTwice))
     alive_finishes o object t p q rest left names there part_there e is true alive = part_finishes o object t p q rest left names there part_there alive e is
     alive_finishes o object t p q rest left names there part_there e is false alive = λ b. b
 
     one_finishes :
         (o : Id) (object : Object) (t p : ℕ) (rest : List Task) (left : List Forest) → v ≡ Names o → slice_get h o.0 ≡ Some object
         → Ends (shapes_of types) left (performs t p ∷ rest) → s.control ≡ ending_frame ending (object_number v) left → (found : Option PartState) → slice_get object.cell.parts p ≡ found
-        → AllFollow types s (finalized_next named v t p cause found (treated_on named v (ends cause) rest (with_all x h ms Running (frame.Ends v ∷ k))))
+        → AllFollow types s (finalized_next named v t p cause found (treated_on named v (ends cause) rest (with_all x h ms Running k)))
     one_finishes o object t p rest left names there e is None none = λ b. b
     one_finishes o object t p rest left names there e is (Some q) some = alive_finishes o object t p q rest left names there some e is q.alive refl
 
     performs_finish :
         (t p : ℕ) (rest : List Task) (left : List Forest) → Ends (shapes_of types) left (performs t p ∷ rest) → s.control ≡ ending_frame ending (object_number v) left
         → (found : Found (Cell Value)) → look h v ≡ found
-        → AllFollow types s (performed_next named v (ends cause) t p found (treated_on named v (ends cause) rest (with_all x h ms Running (frame.Ends v ∷ k))))
+        → AllFollow types s (performed_next named v (ends cause) t p found (treated_on named v (ends cause) rest (with_all x h ms Running k)))
     performs_finish t p rest left e is on_null found = λ b. b
     performs_finish t p rest left e is on_gone found = λ b. b
     performs_finish t p rest left e is on_other found = λ b. b
@@ -215,8 +231,8 @@ module _
     pub finishing_follows :
         (task : Task) (rest : List Task) (left : List Forest) → Ends (shapes_of types) left (task ∷ rest) → s.control ≡ ending_frame ending (object_number v) left
         → ((q : ℕ) → in_forests q left ≤ 1)
-        → AllFollow types s (treats_next named (shapes_of types) v (ends cause) (task ∷ rest) (task_next (task ∷ rest)) (with_all x h ms Running (frame.Ends v ∷ k)))
+        → AllFollow types s (treats_next named (shapes_of types) v (ends cause) (task ∷ rest) (task_next (task ∷ rest)) (with_all x h ms Running k))
     finishing_follows (treats cs) rest left e is once =
-        picks_or_stuck (Follows types s) (length cs) (λ i. treated_on named v (ends cause) (taken (shapes_of types) WholeFirst (treats cs ∷ rest) i) (with_all x h ms Running (frame.Ends v ∷ k)))
-        (pick_finishes cs rest left e is once)
+        picks_or_stuck (Follows types s) (length cs) (λ i. treated_on named v (ends cause) (picked_task (shapes_of types) WholeFirst (treats cs ∷ rest) i) (with_all x h ms Running k))
+        (λ i lt. pick_finishes cs rest left e is once (member_at WholeFirst (length cs) i) (member_within WholeFirst (length cs) i lt))
     finishing_follows (performs t p) rest left e is once = performs_finish t p rest left e is (look h v) refl

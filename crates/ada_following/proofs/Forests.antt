@@ -99,7 +99,7 @@ at_step shapes t p table = elim (leb_tells (length shapes) t) [ inl h ↦ unknow
         ∙ sym (ap (λ (s : Shape). around s p (forest_of shapes (in_order (parts_of shapes) s.components (p + own_parts s)))) (unknown_shape shapes t le))
 
 -- Each part is there once.
-in_both : (q : ℕ) (f g : Forest) → in_forest q (both f g) ≡ in_forest q f + in_forest q g
+pub in_both : (q : ℕ) (f g : Forest) → in_forest q (both f g) ≡ in_forest q f + in_forest q g
 in_both q none g = omega arith
 in_both q (tree p inside others) g = let e = in_both q others g in omega (arith, e)
 
@@ -107,10 +107,10 @@ list_both : (q : ℕ) (xs ys : List ℕ) → in_list q (xs ++ ys) ≡ in_list q 
 list_both q [] ys = omega arith
 list_both q (x ∷ xs) ys = let e = list_both q xs ys in omega (arith, e)
 
-numbers_both : (q : ℕ) (xs ys : List Part) → in_list q (numbers (xs ++ ys)) ≡ in_list q (numbers xs) + in_list q (numbers ys)
+pub numbers_both : (q : ℕ) (xs ys : List Part) → in_list q (numbers (xs ++ ys)) ≡ in_list q (numbers xs) + in_list q (numbers ys)
 numbers_both q xs ys = ap (in_list q) (map-append (λ (p : Part). p.number) xs ys) ∙ list_both q (numbers xs) (numbers ys)
 
-counts_all : (q : ℕ) (f : Component → Forest) (g : Component → List Part) (cs : List Component) → ((c : Component) → in_forest q (f c) ≡ in_list q (numbers (g c))) → in_forest q (all_of f cs) ≡ in_list q (numbers (flat_map g cs))
+pub counts_all : (q : ℕ) (f : Component → Forest) (g : Component → List Part) (cs : List Component) → ((c : Component) → in_forest q (f c) ≡ in_list q (numbers (g c))) → in_forest q (all_of f cs) ≡ in_list q (numbers (flat_map g cs))
 counts_all q f g [] each = refl
 counts_all q f g (c ∷ cs) each =
     let a = in_both q (f c) (all_of f cs) in
@@ -119,14 +119,14 @@ counts_all q f g (c ∷ cs) each =
     let r = counts_all q f g cs each in
     omega (arith, a, b, e, r)
 
-around_counts : (q : ℕ) (s : Shape) (t p : ℕ) (f : Forest) (ps : List Part) → in_forest q f ≡ in_list q (numbers ps) → in_forest q (around s p f) ≡ in_list q (numbers (own_part s t p ++ ps))
+pub around_counts : (q : ℕ) (s : Shape) (t p : ℕ) (f : Forest) (ps : List Part) → in_forest q f ≡ in_list q (numbers ps) → in_forest q (around s p f) ≡ in_list q (numbers (own_part s t p ++ ps))
 around_counts q s t p f ps e = go s.controlled
   where
     go : (b : Bool) → in_forest q (if b then tree p f none else f) ≡ in_list q (numbers ((if b then record { of = t; number = p } ∷ [] else []) ++ ps))
     go true = omega (arith, e)
     go false = e
 
-counted_at : (shapes : List Shape) (q t p : ℕ) → in_forest q (forest_at shapes t p) ≡ in_list q (numbers (parts_at shapes t p))
+pub counted_at : (shapes : List Shape) (q t p : ℕ) → in_forest q (forest_at shapes t p) ≡ in_list q (numbers (parts_at shapes t p))
 counted_at [] q t p = refl
 counted_at (s ∷ older) q t p = elim (eqb_tells t (length older)) [ inl h ↦ newest h.1 (λ u r. counted_at older q u r) | inr h ↦ ap (in_forest q) (older_at s older t p h.1) ∙ counted_at older q t p ∙ ap (λ (ps : List Part). in_list q (numbers ps)) (sym (at_older s older t p h.1)) ]
   where

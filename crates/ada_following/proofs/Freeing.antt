@@ -3,8 +3,7 @@
 use Rattle.std.proofs.Common.{◌≡◌, ℕ, zero, suc, ◌+◌, Bool, true, false, List, [], ◌∷◌, Option, Some, None, refl, sym, ap, ◌∙◌, subst, arith}
 use Rattle.std.specs.List.{slice_get}
 use Rattle.ada_program.specs.declared.program.TypeDefinition.{TypeDefinition}
-use Rattle.ada_program.specs.Typed.{designated_of}
-use Rattle.ada_program.specs.Controlled.{shapes_of}
+use Rattle.ada_program.specs.Controlled.{number_reached, shapes_of}
 use Rattle.ada_parts.specs.declared.tasks.Direction.TheVariants.{WholeFirst}
 use Rattle.ada_parts.specs.Task.{Task}
 use Rattle.ada_meaning.specs.declared.event.Cause.{Cause}
@@ -17,7 +16,7 @@ use Rattle.ada_meaning.specs.Frame.{ends, Frame, is_master}
 use Rattle.ada_meaning.specs.Frame as frame
 use Rattle.ada_meaning.specs.Heap.{Cell, finds}
 use Rattle.ada_meaning.specs.State.{record_object, Item, Master, height}
-use Rattle.ada_meaning.specs.Step.{parts_held, all_tasks, treating, owning, stored_from}
+use Rattle.ada_meaning.specs.Step.{operands, parts_held, all_tasks, treating, owning, stored_from}
 use Rattle.ada_meaning.specs.Named.{Object, State, named, look, lent, on_object, changed, parted}
 use Rattle.ada_meaning.specs.Run.{Event}
 use Rattle.ada_storage.specs.State.{put, placed, listed, bit, assigned, joined}
@@ -31,15 +30,15 @@ use Rattle.ada_following.proofs.Plain.{nothing_held}
 use Rattle.ada_following.proofs.Creating.{starts_ending}
 use Rattle.ada_following.proofs.Heaps.{Heap, pool_of, set_here, alike_same, alike_stored, unlists_parted}
 use Rattle.ada_following.proofs.PartTables.{parts_kept}
-use Rattle.ada_following.proofs.Frames.{Control, IsCode, Under, Code, Inside, finishes_freed, treating_seen, over_code, chain, chain_seen}
-use Rattle.ada_following.proofs.Deeds.{Work, stays, fills, owns, makes, creates, enters, gives_up}
+use Rattle.ada_following.proofs.Frames.{Control, at_path, finding, IsCode, Under, Code, Inside, finishes_freed, treating_seen, over_code, chain, chain_seen}
+use Rattle.ada_following.proofs.Deeds.{Work, stays, fills, owns, makes, creates, enters, gives_up, seeks}
 use Rattle.ada_following.proofs.Places.{none_assigned}
 use Rattle.ada_following.proofs.Partings.{listed_le, chain_parts}
 use Rattle.ada_following.proofs.Sound.{sound_unlists, declared_pool}
 use Rattle.ada_following.proofs.Goings.{Holds, with_freed, freed_one}
 use Rattle.ada_following.proofs.Heads.{looked, looked_out, lent_there}
 use Rattle.ada_following.proofs.Follows.{Follows, strays, strays_showing, lands_later}
-use Rattle.ada_following.proofs.Coding.{Ready, same_follows, owns_follows, makes_follows, creates_follows, enters_follows}
+use Rattle.ada_following.proofs.Coding.{Ready, read_follows, same_follows, owns_follows, makes_follows, creates_follows, enters_follows}
 
 -- What is left to do does not depend on items.
 code_items :
@@ -90,7 +89,7 @@ module _ (types : List TypeDefinition) (s : storage.State) (e : Event) (y : Stat
           let s1 = with_freed s M K r.control r.moded o.0 in
           let ending = at_free (suc n) (chain g (m ∷ ms)) in
           let tasks = all_tasks types x.cell.access WholeFirst in
-          let d = designated_of types x.cell.access in
+          let d = number_reached types x.cell.access in
           let shape : (s.objects o.0).shape ≡ forest_for (shapes_of types) d = r.shape.shape o.0 ∙ ap (forest_seen types) there in
           let now : s1.control ≡ ending_frame ending o.0 (forest_for (shapes_of types) d ∷ []) =
           ap (λ (f : storage.Forest). storage.frees s.next o.0 (f ∷ []) (storage_parted h o.0 (m ∷ ms))) shape
@@ -104,13 +103,13 @@ module _ (types : List TypeDefinition) (s : storage.State) (e : Event) (y : Stat
           (record {
             control =
                 treating_seen types g (m ∷ ms) tasks (Names o) (Names o) (Freeing n) (frame.GivesBack (Names o) (Freeing n) (Some pool) ∷ k) more.forests t.control more.left
-                (ap (λ (c : storage.Control). storage.frees (suc n) o.0 more.forests c) (sym (chain_seen g k (m ∷ ms) inside.1)));
+                (ap (λ (c : storage.Control). storage.frees (suc n) o.0 more.forests c) (sym (chain_seen types g k (m ∷ ms) inside.1)));
             moded = r.moded;
             out = λ i. r.out i ∙ sym (u.out i);
             shape = parts_kept types h g s.objects s.alive s.turn u.access u.parts r.shape;
             created = omega (arith, count, created);
             next = omega (arith, number);
-            stands = finishes_freed g (m ∷ ms) tasks (Names o) n (Some pool) k inside;
+            stands = finishes_freed (operands y) g (m ∷ ms) tasks (Names o) n (Some pool) k inside;
             sound = sound_unlists h g o.0 (m ∷ ms) u r.sound;
           })
           heap masters next ymode control
@@ -170,13 +169,17 @@ module _ (types : List TypeDefinition) (s : storage.State) (e : Event) (y : Stat
   work_follows b c (owns what bare q over masters next heap ymode) =
       let i : Item = record { number = height (m ∷ ms); owned = what } in
       owns_follows types s e y quiet h m ms n Running r refl what bare masters next heap ymode (over_code _ over (code_owning i b m ms c)).1
-  work_follows b c (makes t cell l count new q control over masters next heap at_c from_none ymode) =
+  work_follows b c (makes t by cell l count created new q control over masters next heap at_c from_none ymode) =
       let i : Item = record { number = height (m ∷ ms); owned = record_object t } in
-      makes_follows types s e y quiet h m ms n Running r refl holds t cell l count new masters next heap at_c from_none ymode control (over_code _ over (code_owning i b m ms c))
+      makes_follows types s e y quiet h m ms n Running r refl holds t by cell l count created new masters next heap at_c from_none ymode control (over_code _ over (code_owning i b m ms c))
   work_follows b c (creates access cell home l count found at_c from_pool new q control over masters next heap ymode) =
       creates_follows types s e y quiet h m ms n Running r refl holds access cell home l count found at_c from_pool new masters next heap ymode control (over_code (m ∷ ms) over c)
   work_follows b c (enters ds fs hs k q control over masters next heap ymode) =
       enters_follows types s e y quiet h m ms n Running r refl masters next heap ymode
       (subst (λ (l : Control). Code l (record { number = n; items = [] } ∷ m ∷ ms)) (sym control) (over_code (m ∷ ms) over c).1)
+  work_follows b c (seeks target source t k q control over masters next heap ymode) =
+      let inside = over_code (m ∷ ms) over c in
+      read_follows types s e y quiet h m ms n Running r Running (frame.Refers target ∷ frame.Refers source ∷ frame.Assigns t ∷ k)
+      (λ l is. is ∙ sym (chain_seen types h k (m ∷ ms) inside.1)) (finding false source t k (at_path target tt) inside) masters next heap ymode control
   work_follows b c (gives_up v pool cell k found q control over masters next heap ymode) =
       frees_follows v pool cell k found (over_code (m ∷ ms) over c) control masters next heap ymode

@@ -4,8 +4,7 @@ use Rattle.std.proofs.Common.{◌≡◌, ℕ, suc, ◌+◌, ◌<◌, Bool, true,
 use Rattle.std.proofs.lemmas.List.{length-map}
 use Rattle.std.specs.List.{slice_get, slice_index_or}
 use Rattle.ada_program.specs.declared.program.TypeDefinition.{TypeDefinition}
-use Rattle.ada_program.specs.Typed.{designated_of}
-use Rattle.ada_program.specs.Controlled.{shapes_of}
+use Rattle.ada_program.specs.Controlled.{number_reached, shapes_of}
 use Rattle.ada_parts.specs.declared.tasks.Direction.TheVariants.{WholeFirst}
 use Rattle.ada_meaning.specs.declared.state.Id.{Id}
 use Rattle.ada_meaning.specs.declared.state.Value.{Value}
@@ -18,7 +17,7 @@ use Rattle.ada_meaning.specs.Frame as frame
 use Rattle.ada_meaning.specs.Event.{Left, Quiet}
 use Rattle.ada_meaning.specs.State.{Owned, declared, collection, record_object, storage_pool, Item, Master}
 use Rattle.ada_meaning.specs.Heap.{Cell, Found}
-use Rattle.ada_meaning.specs.Step.{all_tasks, treating, taken_out, taken, members_next, item_leave_next, master_leave_next}
+use Rattle.ada_meaning.specs.Step.{operands, all_tasks, treating, taken_out, taken, members_next, item_leave_next, master_leave_next}
 use Rattle.ada_meaning.specs.Named.{Object, State, named, look, members_of, on_object, parted}
 use Rattle.ada_storage.specs.State.{put, in_list, in_items, in_members, placed, listed, bit, same, without}
 use Rattle.ada_storage.specs.State as storage
@@ -78,7 +77,7 @@ module _ (types : List TypeDefinition) (x : State) (s : storage.State) (h : Heap
   goes_leaving t is goes e running objects created next sound out shape count number =
       lands types s t Quiet (left_with is (frame.Leaves mode ∷ k)) h (record { number = a; items = is } ∷ ms) x.next Running (frame.Leaves mode ∷ k) goes
       (record {
-        control = e ∙ ap (λ (l : storage.Control). storage.leaves (record { number = suc a; items = items_seen h is }) (mode_seen mode) l) (sym (chain_seen h k ms c));
+        control = e ∙ ap (λ (l : storage.Control). storage.leaves (record { number = suc a; items = items_seen h is }) (mode_seen mode) l) (sym (chain_seen types h k ms c));
         moded = running;
         out = λ o. ap (λ (T : ℕ → storage.Object). (T o).lives) objects ∙ out o;
         shape = shape;
@@ -119,7 +118,7 @@ module _ (types : List TypeDefinition) (x : State) (s : storage.State) (h : Heap
       let created = r.created in
       let ending = at_leaving (master_seen g m) n (mode_seen mode) (chain g ms) in
       let tasks = all_tasks types object.cell.access WholeFirst in
-      let d = designated_of types object.cell.access in
+      let d = number_reached types object.cell.access in
       let s1 = at (storage.finalizes M n o.0 ((s.objects o.0).shape ∷ []) (mode_seen mode) K) s in
       let shape : (s.objects o.0).shape ≡ forest_for (shapes_of types) d = r.shape.shape o.0 ∙ ap (forest_seen types) there in
       let now : s1.control ≡ ending_frame ending o.0 (forest_for (shapes_of types) d ∷ []) =
@@ -135,13 +134,13 @@ module _ (types : List TypeDefinition) (x : State) (s : storage.State) (h : Heap
       (record {
         control =
             treating_seen types g (m ∷ ms) tasks (Names o) (Names o) (Leaving a n) (frame.GivesBack (Names o) (Leaving a n) pool ∷ frame.Leaves mode ∷ k) more.forests t.control more.left
-            (ap (λ (l : storage.Control). storage.finalizes (master_seen g m) n o.0 more.forests (mode_seen mode) l) (sym (chain_seen g k ms c)));
+            (ap (λ (l : storage.Control). storage.finalizes (master_seen g m) n o.0 more.forests (mode_seen mode) l) (sym (chain_seen types g k ms c)));
         moded = r.running;
         out = λ y. r.out y ∙ sym (u.out y);
         shape = parts_kept types h g s.objects s.alive s.turn u.access u.parts r.shape;
         created = omega (arith, count, created);
         next = r.next;
-        stands = finishes g (m ∷ ms) tasks (Names o) a n pool mode k refl c;
+        stands = finishes (operands x) g (m ∷ ms) tasks (Names o) a n pool mode k refl c;
         sound = sound_unlists h g o.0 (m ∷ ms) u r.sound;
       })
       refl refl refl refl refl
@@ -271,7 +270,7 @@ module _ (types : List TypeDefinition) (x : State) (s : storage.State) (h : Heap
       lands types s (record s { control = chain h ms; mode = mode_seen mode }) (Left a) (with_all x h ms mode k) h ms x.next mode k
       (left_one s (suc a) (mode_seen mode) (chain h ms) r.running e)
       (record {
-        control = code_under_way types h k ms (chain h ms) c (sym (chain_seen h k ms c));
+        control = code_under_way types h k ms (chain h ms) c (sym (chain_seen types h k ms c));
         moded = refl;
         out = r.out;
         shape = r.shape;

@@ -38,6 +38,18 @@ pub mod Beginning
 pub mod Coding
 -- and so is a Free
 pub mod Freeing
+-- parts that are left to be finalized
+pub mod PartsLeft
+-- the records of an assignment are found
+pub mod Finding
+-- a record is assigned
+pub mod Assigning
+-- each step of that is followed
+pub mod Assignments
+-- and of one that fails
+pub mod Failing
+-- it begins
+pub mod Assigned
 -- each step at the leaving of a master is followed
 pub mod Leaving
 -- each step at the end of an object is followed

@@ -5,8 +5,7 @@ use Rattle.std.specs.Prelude.{◌==◌}
 use Rattle.std.specs.List.{slice_get, slice_set}
 use Rattle.std.proofs.lemmas.Bool.Decides.{eqb_tells}
 use Rattle.ada_program.specs.declared.program.TypeDefinition.{TypeDefinition}
-use Rattle.ada_program.specs.Typed.{designated_of}
-use Rattle.ada_program.specs.Controlled.{shapes_of}
+use Rattle.ada_program.specs.Controlled.{number_reached, shapes_of}
 use Rattle.ada_meaning.specs.declared.state.Id.{Id}
 use Rattle.ada_meaning.specs.declared.state.Value.TheVariants.{Names}
 use Rattle.ada_meaning.specs.Heap.{PartState}
@@ -56,7 +55,7 @@ pub record Parts (types : List TypeDefinition) (xs : Heap) (T : ℕ → storage.
 
 abbrev forest_by : List TypeDefinition → Option ℕ → storage.Forest
 forest_by types None = storage.none
-forest_by types (Some access) = forest_for (shapes_of types) (designated_of types access)
+forest_by types (Some access) = forest_for (shapes_of types) (number_reached types access)
 
 forest_is : (types : List TypeDefinition) (found : Option Object) → forest_seen types found ≡ forest_by types (access_of found)
 forest_is types None = refl

@@ -5,8 +5,7 @@ use Rattle.std.specs.List.{All, sum_by}
 use Rattle.std.proofs.lemmas.Bool.Decides.{leb_tells}
 use Rattle.std.proofs.lemmas.List.Sums.{sum_by-cons}
 use Rattle.ada_program.specs.declared.program.TypeDefinition.{TypeDefinition}
-use Rattle.ada_program.specs.Controlled.{shapes_of}
-use Rattle.ada_program.specs.Typed.{designated_of}
+use Rattle.ada_program.specs.Controlled.{number_reached, shapes_of}
 use Rattle.ada_parts.specs.declared.tasks.Direction.{Direction}
 use Rattle.ada_parts.specs.declared.tasks.Direction.TheVariants.{PartsFirst, WholeFirst}
 use Rattle.ada_parts.specs.Shape.{Shape, IsTable, own_parts, parts_of, shape_of}
@@ -59,4 +58,4 @@ nothing_for shapes direction (Some t) table z = nothing_opened shapes direction 
 
 -- Nothing is to be done for an object without them.
 pub nothing_held : (types : List TypeDefinition) (access : ℕ) (direction : Direction) → parts_held types access ≡ 0 → all_tasks types access direction ≡ []
-nothing_held types access direction z = nothing_for (shapes_of types) direction (designated_of types access) (are_table types) z
+nothing_held types access direction z = nothing_for (shapes_of types) direction (number_reached types access) (are_table types) z

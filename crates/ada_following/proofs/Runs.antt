@@ -7,9 +7,11 @@ use Rattle.ada_program.specs.declared.program.Program.{Program}
 use Rattle.ada_program.specs.declared.program.TypeDefinition.{TypeDefinition}
 use Rattle.ada_program.specs.ProgramForm.{body_forms}
 use Rattle.ada_meaning.specs.declared.state.Mode.{Mode}
-use Rattle.ada_meaning.specs.declared.state.Mode.TheVariants.{Running}
+use Rattle.ada_meaning.specs.declared.state.Value.{Value}
+use Rattle.ada_meaning.specs.declared.state.Mode.TheVariants.{Running, Raising}
 use Rattle.ada_meaning.specs.declared.event.Halt.{Halt}
 use Rattle.ada_meaning.specs.State.{Master}
+use Rattle.ada_meaning.specs.Step.{operands}
 use Rattle.ada_meaning.specs.Named.{Object, State, next}
 use Rattle.ada_meaning.specs.Run.{Event, Run, Halts, here, there, first_state}
 use Rattle.ada_meaning.specs.Law.{IsBack, HasEnded}
@@ -27,7 +29,7 @@ use Rattle.ada_storage.proofs.Ends as ends
 use Rattle.ada_storage.proofs.Following as carried
 use Rattle.ada_following.specs.Reading.{event_seen, is_out, IsUnderWay, IsSeenAs, IsFreeingDeclared, IsFreeingControlled}
 use Rattle.ada_following.specs.Law.{AreAtHome, Going, IsFollowed, IsShown}
-use Rattle.ada_following.proofs.Frames.{Control, IsEmpty, Code, Stands, codes, leaving, ending, ended, freeing, freed, beginning, finishing, finishing_freed}
+use Rattle.ada_following.proofs.Frames.{Control, IsEmpty, Code, Stands, codes, leaving, ending, ended, freeing, freed, beginning, finishing, finishing_freed, at_path, on_path, off_path, passed, passes_path, passes_record, passes_assignment, finding, records_found, passing, assigning, copies, stores, adjusting}
 use Rattle.ada_following.proofs.Heaps.{Heap}
 use Rattle.ada_following.proofs.Deeds.{or_ends, led, ends_only, never_ends}
 use Rattle.ada_following.proofs.Goings.{Silent, stands_still, then_goes, goes_silent, silent_holds, silent_behind, run_both, Holds, by_none, goes_holds}
@@ -141,16 +143,31 @@ none_inside : (ms : List Master) → IsEmpty ms → ms ≡ []
 none_inside [] c = refl
 none_inside (m ∷ ms) c = absurd c
 
-no_master : (h : Heap) (ms : List Master) (mode : Mode) (k : Control) → Stands h ms mode k → k ≡ [] → ms ≡ []
-no_master h ms mode k (codes c) is = none_inside ms (subst (λ (l : Control). Code l ms) is c)
-no_master h ms Running _ (leaving mode k c) is = absurd (cc is)
-no_master h ms Running _ (ending v a i pool mode k first c) is = absurd (cc is)
-no_master h ms Running _ (ended o object a i pool mode k at_o gone first c) is = absurd (cc is)
-no_master h ms Running _ (freeing v n pool k c) is = absurd (cc is)
-no_master h ms Running _ (freed o object n pool k at_o gone c) is = absurd (cc is)
-no_master h ms Running _ (beginning o x task tasks k at_o inside joining) is = absurd (cc is)
-no_master h ms Running _ (finishing task tasks v a i pool mode k first c) is = absurd (cc is)
-no_master h ms Running _ (finishing_freed task tasks v n pool k c) is = absurd (cc is)
+no_master : (vs : List Value) (h : Heap) (ms : List Master) (mode : Mode) (k : Control) → Stands vs h ms mode k → k ≡ [] → ms ≡ []
+no_master vs h ms mode k (codes c) is = none_inside ms (subst (λ (l : Control). Code l ms) is c)
+no_master vs h ms Running _ (leaving mode k c) is = absurd (cc is)
+no_master vs h ms Running _ (ending v a i pool mode k first c) is = absurd (cc is)
+no_master vs h ms Running _ (ended o object a i pool mode k at_o gone first c) is = absurd (cc is)
+no_master vs h ms Running _ (freeing v n pool k c) is = absurd (cc is)
+no_master vs h ms Running _ (freed o object n pool k at_o gone c) is = absurd (cc is)
+no_master vs h ms Running _ (beginning o x by task tasks k created at_o inside joining) is = absurd (cc is)
+no_master vs h ms Running _ (finishing task tasks v a i pool mode k first c) is = absurd (cc is)
+no_master vs h ms Running _ (finishing_freed task tasks v n pool k c) is = absurd (cc is)
+no_master vs h ms Running _ (finding false source t k (at_path p kept) c) is = absurd (cc is)
+no_master vs h ms Running _ (finding false source t k (on_path cs place u kept) c) is = absurd (cc is)
+no_master vs h ms Running _ (finding false source t k (off_path place u kept) c) is = absurd (cc is)
+no_master vs h ms Running _ (finding true source t k (at_path p kept) c) is = absurd (cc is)
+no_master vs h ms Running _ (finding true source t k (on_path cs place u kept) c) is = absurd (cc is)
+no_master vs h ms Running _ (finding true source t k (off_path place u kept) c) is = absurd (cc is)
+no_master vs h ms Running _ (records_found t k kept c) is = absurd (cc is)
+no_master vs h ms (Raising e) _ (passing _ k passed c) is = none_inside ms (subst (λ (l : Control). Code l ms) is c.1)
+no_master vs h ms (Raising e) _ (passing _ k (passes_path p over) c) is = absurd (cc is)
+no_master vs h ms (Raising e) _ (passing _ k (passes_record place t over) c) is = absurd (cc is)
+no_master vs h ms (Raising e) _ (passing _ k (passes_assignment t over) c) is = absurd (cc is)
+no_master vs h ms Running _ (assigning o p us base t first count n task tasks last lasts k newest out record_is c) is = absurd (cc is)
+no_master vs h ms Running _ (copies o p us base t first count n last lasts k newest out record_is c) is = absurd (cc is)
+no_master vs h ms Running _ (stores o first count n last lasts k out record_is c) is = absurd (cc is)
+no_master vs h ms Running _ (adjusting o n task tasks k out c) is = absurd (cc is)
 
 each_back : (xs : Heap) → ((o : ℕ) (x : Object) → slice_get xs o ≡ Some x → x.out ≡ false) → AllByRecursion IsBack xs
 each_back [] all = tt
@@ -203,7 +220,7 @@ module _ (program : Program) (input : List ℤ) (events : List Event) (last : St
         go (inr g) = absurd (nothing_left g halt stops end)
         go (inl j) =
             let is = ends_only last.control (Follows program.types.items comes.to) (next program.types.items (body_forms program) last) halt (joint_follows program.types.items (body_forms program) last comes.to j) stops end in
-            let none = no_master last.heap last.masters last.mode last.control j.stands is in
+            let none = no_master (operands last) last.heap last.masters last.mode last.control j.stands is in
             (none, All-from_recursion IsBack last.heap (each_back last.heap (λ o x at_o. back_by o x none is j.seen at_o)))
 
     one_place : IsFreeingDeclared last ⊎ ((c : storage.Control) × IsUnderWay program.types.items last.heap last.control last.masters c × ((o : ℕ) → placed o c ≡ bit (is_out (slice_get last.heap o))))

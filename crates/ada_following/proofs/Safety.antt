@@ -18,7 +18,7 @@ use Rattle.ada_meaning.specs.Heap.{Cell, on_gone, finds}
 use Rattle.ada_meaning.specs.Step.{moves, halts, at, same_pool, given_back, end_next, back_next, running_next, mode_next}
 use Rattle.ada_meaning.specs.Named.{Object, State, named, existing, seen, look, lent_by, lent, on_object, finished, next}
 use Rattle.ada_meaning.specs.Run.{Event, settled, Leads, Run, first_state, run_more}
-use Rattle.ada_meaning.specs.Law.{Safe}
+use Rattle.ada_meaning.specs.Safe.{Safe}
 use Rattle.ada_following.specs.Reading.{FreesDeclared, IsFreeingDeclared}
 use Rattle.ada_following.proofs.Heaps.{Heap}
 use Rattle.ada_following.proofs.Frames.{Control}

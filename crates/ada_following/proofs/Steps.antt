@@ -1,13 +1,15 @@
 -- Each step of each program is followed.
 
-use Rattle.std.proofs.Common.{◌≡◌, ℕ, suc, Bool, true, false, List, [], ◌∷◌, length, Option, Some, None, refl, sym, ap, ◌∙◌, subst, arith}
+use Rattle.std.proofs.Common.{◌≡◌, ℕ, suc, Bool, true, false, List, [], ◌∷◌, length, Option, Some, None, refl, sym, ap, ◌∙◌, inl, inr, subst, arith}
 use Rattle.std.specs.List.{slice_get}
 use Rattle.ada_program.specs.declared.program.TypeDefinition.{TypeDefinition}
-use Rattle.ada_program.specs.Form.{no_stmts, a_stmt}
+use Rattle.ada_program.specs.declared.program.Exception.{Exception}
+use Rattle.ada_program.specs.Form.{RecordPathForm, no_stmts, a_stmt}
 use Rattle.ada_program.specs.ProgramForm.{BodyForm}
 use Rattle.ada_program.specs.Controlled.{shapes_of}
 use Rattle.ada_parts.specs.Task.{Task, next as task_next}
-use Rattle.ada_meaning.specs.declared.event.Birth.TheVariants.{Creation}
+use Rattle.ada_meaning.specs.declared.event.Birth.{Birth}
+use Rattle.ada_meaning.specs.declared.event.Birth.TheVariants.{Adjustment}
 use Rattle.ada_meaning.specs.declared.state.Id.{Id}
 use Rattle.ada_meaning.specs.declared.state.Value.{Value}
 use Rattle.ada_meaning.specs.declared.state.Value.TheVariants.{Null, Names, Scalar, Part}
@@ -15,13 +17,13 @@ use Rattle.ada_meaning.specs.declared.state.Mode.{Mode}
 use Rattle.ada_meaning.specs.declared.state.Mode.TheVariants.{Running, Raising, Exiting, Returning}
 use Rattle.ada_meaning.specs.declared.state.Stage.TheVariants.{Gone}
 use Rattle.ada_meaning.specs.declared.event.Cause.{Cause}
-use Rattle.ada_meaning.specs.declared.event.Cause.TheVariants.{Leaving, Freeing}
+use Rattle.ada_meaning.specs.declared.event.Cause.TheVariants.{Leaving, Freeing, Assigning}
 use Rattle.ada_meaning.specs.Frame.{begins, ends, Frame, is_master, Landing, passes_on, goes_behind, goes_in, landing}
 use Rattle.ada_meaning.specs.Frame as frame
 use Rattle.ada_meaning.specs.Event.{Quiet}
 use Rattle.ada_meaning.specs.Heap.{Cell, Found, on_null, on_gone, on_other, finds}
 use Rattle.ada_meaning.specs.State.{Master}
-use Rattle.ada_meaning.specs.Step.{at, treats_next, end_next, back_next, frame_next, landed, unwound, pass_next, running_next, jump_next, mode_next}
+use Rattle.ada_meaning.specs.Step.{operands, at, treats_next, end_next, back_next, frame_next, landed, unwound, pass_next, running_next, jump_next, mode_next}
 use Rattle.ada_meaning.specs.Named.{Object, State, Next, named, look, lent, lent_by, on_object, changed, finished, parted, next}
 use Rattle.ada_meaning.specs.Run.{Event}
 use Rattle.ada_meaning.proofs.Jumps.{unwound_to, unwound_by}
@@ -31,10 +33,11 @@ use Rattle.ada_storage.specs.Step as does
 use Rattle.ada_storage.proofs.Invariant.{Fits}
 use Rattle.ada_storage.proofs.Facts.{bit_le}
 use Rattle.ada_storage.specs.Following.{Goes}
+use Rattle.ada_following.specs.Forests.{forest_adjusted, beside}
 use Rattle.ada_following.specs.Reading.{event_seen, mode_seen, object_number, is_out, master_seen, joins_seen, control_seen, IsUnderWay, IsSeenAs, FreesDeclared, IsFreeingDeclared}
 use Rattle.ada_following.proofs.Heaps.{Heap, alike_same, put_same}
 use Rattle.ada_following.proofs.PartTables.{Parts}
-use Rattle.ada_following.proofs.Frames.{Control, IsCode, Under, Code, Behind, Inside, IsFirst, Stands, codes, leaving, ending, ended, freeing, freed, beginning, finishing, finishing_freed, finishes, finishes_freed, IsJoining, under_way_code, Over, same, more, over_code, chain, chain_seen}
+use Rattle.ada_following.proofs.Frames.{Control, IsCode, Under, Code, Behind, Inside, IsFirst, IsCreated, Stands, codes, leaving, ending, ended, freeing, freed, beginning, finishing, finishing_freed, Path, KeptBehind, still_found, Passed, passed, passes_path, passes_record, passes_assignment, IsRecord, copying, finding, records_found, passing, assigning, copies, stores, adjusting, under_way_path, rest_seen, passed_seen, passed_under_way, finishes, finishes_freed, IsJoining, under_way_code, Over, same, more, over_code, chain, chain_seen}
 use Rattle.ada_following.proofs.Works.{declarations_work, frame_works}
 use Rattle.ada_following.proofs.Deeds.{Work, work_is_quiet, Does, does_map, DoesOrEnds, or_ends, unwound_over}
 use Rattle.ada_following.proofs.Sound.{Sound}
@@ -42,13 +45,17 @@ use Rattle.ada_following.proofs.Goings.{Holds, raised_out}
 use Rattle.ada_following.proofs.Goings as goings
 use Rattle.ada_following.proofs.Heads.{looked}
 use Rattle.ada_following.proofs.Follows.{Follows, lands}
-use Rattle.ada_following.proofs.Coding.{Ready, same_follows}
+use Rattle.ada_following.proofs.Coding.{Ready, read_follows, same_follows}
 use Rattle.ada_following.proofs.Freeing.{work_follows}
 use Rattle.ada_following.proofs.Leaving.{Seen, items_leave}
 use Rattle.ada_following.proofs.Places.{items_same, chain_same}
-use Rattle.ada_following.proofs.Creating.{Facts}
-use Rattle.ada_following.proofs.Finishing.{AllFollow, with_all, finishing_follows}
+use Rattle.ada_following.proofs.Creating.{Facts, seen_created}
+use Rattle.ada_following.proofs.Finishing.{AllFollow, with_all, settles_at, finishing_follows}
 use Rattle.ada_following.proofs.Beginning.{beginning_follows}
+use Rattle.ada_following.proofs.Finding.{finding_follows}
+use Rattle.ada_following.proofs.Assignments.{copies_follow, record_stores_follow, adjusting_follows, assigning_follows}
+use Rattle.ada_following.proofs.Failing.{failing_follows}
+use Rattle.ada_following.proofs.Assigned.{assigned_follows}
 use Rattle.ada_following.proofs.Ends.{taken_object_ends, taken_object_back, freed_object_ends, freed_object_back}
 
 -- A state of storage that is known, and what is under way there.
@@ -64,7 +71,7 @@ pub record Known (types : List TypeDefinition) (x : State) (h : Heap) (ms : List
 
 ready : (types : List TypeDefinition) (x : State) (h : Heap) (ms : List Master) (mode : Mode) (k : Control) (s : storage.State) → Known types x h ms mode k s → Code k ms → Ready types h ms x.next mode s
 ready types x h ms mode k s r c = record {
-  control = under_way_code types h k ms s.control c r.control ∙ chain_seen h k ms c;
+  control = under_way_code types h k ms s.control c r.control ∙ chain_seen types h k ms c;
   moded = r.moded;
   out = r.out;
   shape = r.shape;
@@ -72,6 +79,10 @@ ready types x h ms mode k s r c = record {
   next = r.next;
   sound = r.sound;
 }
+
+-- The same where it is read as code.
+ready_by : (types : List TypeDefinition) (x : State) (h : Heap) (ms : List Master) (mode : Mode) (s : storage.State) (k : Control) → Known types x h ms mode k s → s.control ≡ chain h ms → Ready types h ms x.next mode s
+ready_by types x h ms mode s k r is = record { control = is; moded = r.moded; out = r.out; shape = r.shape; created = r.created; next = r.next; sound = r.sound }
 
 running : (types : List TypeDefinition) (x : State) (h : Heap) (ms : List Master) (k : Control) (s : storage.State) → Known types x h ms Running k s → Seen types h ms x.next s
 running types x h ms k s r = record { running = r.moded; out = r.out; shape = r.shape; created = r.created; next = r.next; sound = r.sound; holds = r.holds }
@@ -95,7 +106,7 @@ module _ (types : List TypeDefinition) (bodies : List BodyForm) (x : State) (s :
       lands types s (does.at (storage.leaves (master_seen h m) storage.running (chain h ms)) s) Quiet (with_all x h (m ∷ ms) Running (frame.Leaves Running ∷ k)) h (m ∷ ms) x.next Running (frame.Leaves Running ∷ k)
       (goings.ended s (master_seen h m) (chain h ms) r.control r.moded)
       (record {
-        control = ap (λ (l : storage.Control). storage.leaves (master_seen h m) storage.running l) (sym (chain_seen h k ms c));
+        control = ap (λ (l : storage.Control). storage.leaves (master_seen h m) storage.running l) (sym (chain_seen types h k ms c));
         moded = r.moded;
         out = r.out;
         shape = r.shape;
@@ -116,6 +127,7 @@ module _ (types : List TypeDefinition) (bodies : List BodyForm) (x : State) (s :
   code_follows (frame.Leaves mode) k r holds c = absurd c.0
   code_follows (frame.Ends v) k r holds c = absurd c.0
   code_follows (frame.Treats v treatment tasks) k r holds c = absurd c.0
+  code_follows (frame.Assigns t) k r holds c = absurd c.0
   code_follows (frame.GivesBack v cause pool) k r holds c = absurd c.0
   code_follows f k r holds c = works_follow k (frame_next named types bodies f (with_all x h (m ∷ ms) Running k)) r holds (tt, c.1) (frame_works types k bodies f (with_all x h (m ∷ ms) Running k) tt same)
 
@@ -142,7 +154,7 @@ module _ (types : List TypeDefinition) (bodies : List BodyForm) (x : State) (s :
       lands types s u Quiet (with_all x h (m ∷ ms) Running (frame.Leaves mode ∷ k)) h (m ∷ ms) x.next Running (frame.Leaves mode ∷ k)
       (subst (λ (v : storage.State). Goes storage.quiet s v) is goes)
       (record {
-        control = ap (λ (l : storage.Control). storage.leaves (master_seen h m) (mode_seen mode) l) (sym (chain_seen h k ms c));
+        control = ap (λ (l : storage.Control). storage.leaves (master_seen h m) (mode_seen mode) l) (sym (chain_seen types h k ms c));
         moded = refl;
         out = r.out;
         shape = r.shape;
@@ -171,6 +183,7 @@ module _ (types : List TypeDefinition) (bodies : List BodyForm) (x : State) (s :
   jump_follows mode (frame.Leaves md) k off r c = absurd c.0
   jump_follows mode (frame.Ends v) k off r c = absurd c.0
   jump_follows mode (frame.Treats v treatment tasks) k off r c = absurd c.0
+  jump_follows mode (frame.Assigns t) k off r c = absurd c.0
   jump_follows mode (frame.GivesBack v cause pool) k off r c = absurd c.0
   jump_follows mode f k off r c = passed_follows mode r k c.1 f
 
@@ -180,7 +193,7 @@ module _ (types : List TypeDefinition) (bodies : List BodyForm) (x : State) (s :
   leaving_follows [] mode k c r = absurd c
   leaving_follows (m ∷ ms) mode k c r =
       items_leave types x s h m.number ms mode k c m.items (running types x h (m ∷ ms) (frame.Leaves mode ∷ k) s r)
-      (r.control ∙ ap (λ (l : storage.Control). storage.leaves (master_seen h m) (mode_seen mode) l) (chain_seen h k ms c))
+      (r.control ∙ ap (λ (l : storage.Control). storage.leaves (master_seen h m) (mode_seen mode) l) (chain_seen types h k ms c))
 
   -- An object of it is ended.
   ending_follows :
@@ -191,7 +204,7 @@ module _ (types : List TypeDefinition) (bodies : List BodyForm) (x : State) (s :
   ending_follows (m ∷ ms) v a i pool mode k first c r =
       subst (λ (n : ℕ). AllFollow types s (end_next named v (look h v) (with_all x h (m ∷ ms) Running (frame.GivesBack v (Leaving n i) pool ∷ frame.Leaves mode ∷ k)))) first
       (taken_object_ends types x s h m ms i pool mode k c (running types x h (m ∷ ms) _ s r) v (look h v) r.control.0 refl r.control.1
-      (r.control.2 ∙ ap (λ (l : storage.Control). storage.finalizes (master_seen h m) i (object_number v) r.control.0 (mode_seen mode) l) (chain_seen h k ms c)))
+      (r.control.2 ∙ ap (λ (l : storage.Control). storage.finalizes (master_seen h m) i (object_number v) r.control.0 (mode_seen mode) l) (chain_seen types h k ms c)))
 
   ended_follows :
       (ms : List Master) (o : Id) (object : Object) (a i : ℕ) (pool : Option ℕ) (mode : Mode) (k : Control) → slice_get h o.0 ≡ Some object → object.stage ≡ Gone → IsFirst a ms → Behind k ms
@@ -201,7 +214,7 @@ module _ (types : List TypeDefinition) (bodies : List BodyForm) (x : State) (s :
   ended_follows (m ∷ ms) o object a i pool mode k there gone first c r =
       subst (λ (n : ℕ). AllFollow types s (back_next named (Names o) (Leaving n i) pool (lent h (Names o)) (with_all x h (m ∷ ms) Running (frame.Leaves mode ∷ k)))) first
       (taken_object_back types x s h m ms i pool mode k c (running types x h (m ∷ ms) _ s r) o object there gone
-      (r.control ∙ ap (λ (l : storage.Control). storage.finalizes (master_seen h m) i o.0 [] (mode_seen mode) l) (chain_seen h k ms c)) (lent h (Names o)))
+      (r.control ∙ ap (λ (l : storage.Control). storage.finalizes (master_seen h m) i o.0 [] (mode_seen mode) l) (chain_seen types h k ms c)) (lent h (Names o)))
 
   -- A step of code, or of a jump.
   coding_follows : (ms : List Master) (k : Control) → Code k ms → Known types x h ms Running k s → DoesOrEnds k (Follows types s) (running_next named types bodies k (with_all x h ms Running k))
@@ -222,18 +235,19 @@ module _ (types : List TypeDefinition) (bodies : List BodyForm) (x : State) (s :
 
   -- An object is initialized.
   begins_follow :
-      (ms : List Master) (o : Id) (object : Object) (task : Task) (tasks : List Task) (k : Control) → slice_get h o.0 ≡ Some object → Inside k ms
+      (ms : List Master) (o : Id) (object : Object) (by : Birth) (task : Task) (tasks : List Task) (k : Control) → IsCreated by → slice_get h o.0 ≡ Some object → Inside k ms
       → IsJoining h (on_object parted h (Names o)) o.0 ms (joins_seen (slice_get h o.0) ms)
-      → Known types x h ms Running (frame.Treats (Names o) (begins Creation) (task ∷ tasks) ∷ k) s
-      → AllFollow types s (running_next named types bodies (frame.Treats (Names o) (begins Creation) (task ∷ tasks) ∷ k) (with_all x h ms Running (frame.Treats (Names o) (begins Creation) (task ∷ tasks) ∷ k)))
-  begins_follow ms o object task tasks k there inside joining r =
+      → Known types x h ms Running (frame.Treats (Names o) (begins by) (task ∷ tasks) ∷ k) s
+      → AllFollow types s (running_next named types bodies (frame.Treats (Names o) (begins by) (task ∷ tasks) ∷ k) (with_all x h ms Running (frame.Treats (Names o) (begins by) (task ∷ tasks) ∷ k)))
+  begins_follow ms o object by task tasks k created there inside joining r =
       let g = on_object parted h (Names o) in
       let J = joins_seen (slice_get h o.0) ms in
-      let jobs = r.control.0 in
-      let done = r.control.1 in
-      let is : s.control ≡ storage.initializes o.0 J jobs done (chain g ms) = r.control.3 ∙ ap (λ (l : storage.Control). storage.initializes o.0 J jobs done l) (chain_seen g k ms inside.1) in
+      let seen = seen_created types h (Names o) by (task ∷ tasks) k ms s.control created r.control in
+      let jobs = seen.0 in
+      let done = seen.1 in
+      let is : s.control ≡ storage.initializes o.0 J jobs done (chain g ms) = seen.3 ∙ ap (λ (l : storage.Control). storage.initializes o.0 J jobs done l) (chain_seen types g k ms inside.1) in
       let fits = subst (λ (c : storage.Control). Fits s.alive s.objects c) is r.holds.fits in
-      beginning_follows types x s h ms o object k there inside joining (facts ms (frame.Treats (Names o) (begins Creation) (task ∷ tasks) ∷ k) r) jobs done is task tasks r.control.2
+      beginning_follows types x s h ms o object by k created there inside joining (facts ms (frame.Treats (Names o) (begins by) (task ∷ tasks) ∷ k) r) jobs done is task tasks seen.2
       (λ q. let a = fits.1 q in let b = fits.2.0 q in omega (arith, a, b))
 
   -- An object is finalized.
@@ -242,39 +256,128 @@ module _ (types : List TypeDefinition) (bodies : List BodyForm) (x : State) (s :
       → Known types x h ms Running (frame.Treats v (ends (Leaving a i)) (task ∷ tasks) ∷ frame.Ends v ∷ frame.GivesBack v (Leaving a i) pool ∷ frame.Leaves mode ∷ k) s
       → AllFollow types s (treats_next named (shapes_of types) v (ends (Leaving a i)) (task ∷ tasks) (task_next (task ∷ tasks)) (with_all x h ms Running (frame.Ends v ∷ frame.GivesBack v (Leaving a i) pool ∷ frame.Leaves mode ∷ k)))
   finishes_follow [] task tasks v a i pool mode k first c r = absurd c
-  finishes_follow (m ∷ ms) task tasks v a i pool mode k first c r =
-      let K : Control = frame.GivesBack v (Leaving a i) pool ∷ frame.Leaves mode ∷ k in
-      let left = r.control.0 in
-      let ending = at_leaving (master_seen h m) i (mode_seen mode) (chain h ms) in
-      let is : s.control ≡ ending_frame ending (object_number v) left = r.control.2 ∙ ap (λ (l : storage.Control). storage.finalizes (master_seen h m) i (object_number v) left (mode_seen mode) l) (chain_seen h k ms c) in
-      let fits = subst (λ (l : storage.Control). Fits s.alive s.objects l) is r.holds.fits in
-      finishing_follows types x s h (m ∷ ms) v (Leaving a i) K ending (λ c fs t. refl)
-      (λ g l fs.
-      ap (λ (is : List storage.Item). storage.finalizes (record { number = suc m.number; items = is }) i (object_number v) fs (mode_seen mode) (control_seen g k ms)) (items_same h g m.items l)
-      ∙ ap (λ (l : storage.Control). storage.finalizes (master_seen h m) i (object_number v) fs (mode_seen mode) l) (chain_seen g k ms c ∙ chain_same h g ms l))
-      (ap (λ (n : ℕ). storage.leaving (suc n) i) first)
-      (λ g tasks. finishes g (m ∷ ms) tasks v a i pool mode k first c)
-      (facts (m ∷ ms) (frame.Treats v (ends (Leaving a i)) (task ∷ tasks) ∷ frame.Ends v ∷ K) r) task tasks left r.control.1 is
-      (λ q. let b = fits.0.0 q in let one = bit_le (s.alive (object_number v) q) in omega (arith, b, one))
+  finishes_follow (m ∷ ms) task tasks v a i pool mode k first c r = go r.control
+    where
+      behind : Control
+      behind = frame.GivesBack v (Leaving a i) pool ∷ frame.Leaves mode ∷ k
+
+      go :
+          IsUnderWay types h (frame.Treats v (ends (Leaving a i)) (task ∷ tasks) ∷ frame.Ends v ∷ frame.GivesBack v (Leaving a i) pool ∷ frame.Leaves mode ∷ k) (m ∷ ms) s.control
+          → AllFollow types s (treats_next named (shapes_of types) v (ends (Leaving a i)) (task ∷ tasks) (task_next (task ∷ tasks)) (with_all x h (m ∷ ms) Running (frame.Ends v ∷ frame.GivesBack v (Leaving a i) pool ∷ frame.Leaves mode ∷ k)))
+      go (inr never) = absurd never
+      go (inl seen) =
+          let left = seen.0 in
+          let ending = at_leaving (master_seen h m) i (mode_seen mode) (chain h ms) in
+          let is : s.control ≡ ending_frame ending (object_number v) left = seen.2 ∙ ap (λ (l : storage.Control). storage.finalizes (master_seen h m) i (object_number v) left (mode_seen mode) l) (chain_seen types h k ms c) in
+          let fits = subst (λ (l : storage.Control). Fits s.alive s.objects l) is r.holds.fits in
+          finishing_follows types x s h (m ∷ ms) v (Leaving a i) (frame.Ends v ∷ behind) ending (λ c fs t. refl)
+          (ap (λ (n : ℕ). storage.leaving (suc n) i) first)
+          (λ g todo fs t same_but e at_t f.
+          settles_at types (operands x) g (m ∷ ms) x.next v (Leaving a i) todo behind fs t e
+          (at_t
+          ∙ sym
+          (ap (λ (is : List storage.Item). storage.finalizes (record { number = suc m.number; items = is }) i (object_number v) fs (mode_seen mode) (control_seen types g k ms)) (items_same h g m.items same_but.listed)
+          ∙ ap (λ (l : storage.Control). storage.finalizes (master_seen h m) i (object_number v) fs (mode_seen mode) l) (chain_seen types g k ms c ∙ chain_same h g ms same_but.listed)))
+          f (finishes (operands x) g (m ∷ ms) todo v a i pool mode k first c))
+          (facts (m ∷ ms) (frame.Treats v (ends (Leaving a i)) (task ∷ tasks) ∷ frame.Ends v ∷ behind) r) task tasks left seen.1 is
+          (λ q. let b = fits.0.0 q in let one = bit_le (s.alive (object_number v) q) in omega (arith, b, one))
 
   finishes_freed_follow :
       (ms : List Master) (task : Task) (tasks : List Task) (v : Value) (n : ℕ) (pool : Option ℕ) (k : Control) → Inside k ms
       → Known types x h ms Running (frame.Treats v (ends (Freeing n)) (task ∷ tasks) ∷ frame.Ends v ∷ frame.GivesBack v (Freeing n) pool ∷ k) s
       → AllFollow types s (treats_next named (shapes_of types) v (ends (Freeing n)) (task ∷ tasks) (task_next (task ∷ tasks)) (with_all x h ms Running (frame.Ends v ∷ frame.GivesBack v (Freeing n) pool ∷ k)))
-  finishes_freed_follow ms task tasks v n pool k c r =
-      let K : Control = frame.GivesBack v (Freeing n) pool ∷ k in
-      let left = r.control.0 in
-      let ending = at_free (suc n) (chain h ms) in
-      let is : s.control ≡ ending_frame ending (object_number v) left = r.control.2 ∙ ap (λ (l : storage.Control). storage.frees (suc n) (object_number v) left l) (chain_seen h k ms c.1) in
-      let fits = subst (λ (l : storage.Control). Fits s.alive s.objects l) is r.holds.fits in
-      finishing_follows types x s h ms v (Freeing n) K ending (λ c fs t. refl)
-      (λ g l fs. ap (λ (l : storage.Control). storage.frees (suc n) (object_number v) fs l) (chain_seen g k ms c.1 ∙ chain_same h g ms l))
-      refl
-      (λ g tasks. finishes_freed g ms tasks v n pool k c)
-      (facts ms (frame.Treats v (ends (Freeing n)) (task ∷ tasks) ∷ frame.Ends v ∷ K) r) task tasks left r.control.1 is
-      (λ q. let b = fits.0.0 q in let one = bit_le (s.alive (object_number v) q) in omega (arith, b, one))
+  finishes_freed_follow ms task tasks v n pool k c r = go r.control
+    where
+      behind : Control
+      behind = frame.GivesBack v (Freeing n) pool ∷ k
 
-  stands_follow : (ms : List Master) (mode : Mode) (k : Control) → Stands h ms mode k → Known types x h ms mode k s → DoesOrEnds k (Follows types s) (mode_next named types bodies mode (with_all x h ms mode k))
+      go :
+          IsUnderWay types h (frame.Treats v (ends (Freeing n)) (task ∷ tasks) ∷ frame.Ends v ∷ frame.GivesBack v (Freeing n) pool ∷ k) ms s.control
+          → AllFollow types s (treats_next named (shapes_of types) v (ends (Freeing n)) (task ∷ tasks) (task_next (task ∷ tasks)) (with_all x h ms Running (frame.Ends v ∷ frame.GivesBack v (Freeing n) pool ∷ k)))
+      go (inr never) = absurd never
+      go (inl seen) =
+          let left = seen.0 in
+          let ending = at_free (suc n) (chain h ms) in
+          let is : s.control ≡ ending_frame ending (object_number v) left = seen.2 ∙ ap (λ (l : storage.Control). storage.frees (suc n) (object_number v) left l) (chain_seen types h k ms c.1) in
+          let fits = subst (λ (l : storage.Control). Fits s.alive s.objects l) is r.holds.fits in
+          finishing_follows types x s h ms v (Freeing n) (frame.Ends v ∷ behind) ending (λ c fs t. refl)
+          refl
+          (λ g todo fs t same_but e at_t f.
+          settles_at types (operands x) g ms x.next v (Freeing n) todo behind fs t e
+          (at_t ∙ sym (ap (λ (l : storage.Control). storage.frees (suc n) (object_number v) fs l) (chain_seen types g k ms c.1 ∙ chain_same h g ms same_but.listed)))
+          f (finishes_freed (operands x) g ms todo v n pool k c))
+          (facts ms (frame.Treats v (ends (Freeing n)) (task ∷ tasks) ∷ frame.Ends v ∷ behind) r) task tasks left seen.1 is
+          (λ q. let b = fits.0.0 q in let one = bit_le (s.alive (object_number v) q) in omega (arith, b, one))
+
+  -- A record is found for an assignment; an exception passes that; the assignment begins.
+  found_follows :
+      (ms : List Master) (has : Bool) (source : RecordPathForm) (t : ℕ) (k l : Control) → Path (operands x) h has (still_found has source t k) l → Inside k ms → Known types x h ms Running l s
+      → DoesOrEnds l (Follows types s) (running_next named types bodies l (with_all x h ms Running l))
+  found_follows [] has source t k l path c r = absurd c.0
+  found_follows (m ∷ ms) has source t k [] path c r = λ ended. refl
+  found_follows (m ∷ ms) has source t k (f ∷ l) path c r =
+      or_ends (f ∷ l) (Follows types s) (frame_next named types bodies f (with_all x h (m ∷ ms) Running l))
+      (finding_follows types bodies x s h m ms
+      (ready_by types x h (m ∷ ms) Running s (f ∷ l) r (under_way_path types h (m ∷ ms) s.control path r.control ∙ rest_seen types h (m ∷ ms) has source t k ∙ chain_seen types h k (m ∷ ms) c.1))
+      has source t k c f l path)
+
+  passed_on :
+      (m : Master) (ms : List Master) (e : Exception) (k l : Control) → Passed k l → Inside k (m ∷ ms) → (l2 : Control) → Known types x h (m ∷ ms) (Raising e) l2 s → s.control ≡ chain h (m ∷ ms)
+      → Follows types s Quiet (with_all x h (m ∷ ms) (Raising e) l)
+  passed_on m ms e k l over c l2 r is =
+      read_follows types s Quiet (with_all x h (m ∷ ms) (Raising e) l) refl h m ms x.next (Raising e) (ready_by types x h (m ∷ ms) (Raising e) s l2 r is) (Raising e) l
+      (λ d at_d. passed_under_way types h (m ∷ ms) d over c.1 (at_d ∙ sym (passed_seen types h (m ∷ ms) over ∙ chain_seen types h k (m ∷ ms) c.1)))
+      (passing e k over c) refl refl refl refl refl
+
+  passed_follow : (ms : List Master) (e : Exception) (k : Control) (l : Control) → Passed k l → Inside k ms → Known types x h ms (Raising e) l s → DoesOrEnds l (Follows types s) (jump_next named (Raising e) l (with_all x h ms (Raising e) l))
+  passed_follow [] e k l over c r = absurd c.0
+  passed_follow (m ∷ ms) e k l passed c r = jumping_follows (m ∷ ms) (Raising e) k (λ is. cc) c.1 r
+  passed_follow (m ∷ ms) e k _ (passes_path p {l} over) c r = passed_on m ms e k l over c (frame.Refers p ∷ l) r (r.control ∙ passed_seen types h (m ∷ ms) over ∙ chain_seen types h k (m ∷ ms) c.1)
+  passed_follow (m ∷ ms) e k _ (passes_record place t {l} over) c r = passed_on m ms e k l over c (frame.RefersIn place t ∷ l) r (r.control ∙ passed_seen types h (m ∷ ms) over ∙ chain_seen types h k (m ∷ ms) c.1)
+  passed_follow (m ∷ ms) e k _ (passes_assignment t {l} over) c r = passed_on m ms e k l over c (frame.Assigns t ∷ l) r (r.control ∙ passed_seen types h (m ∷ ms) over ∙ chain_seen types h k (m ∷ ms) c.1)
+
+  assigns_follow : (ms : List Master) (t : ℕ) (k : Control) → KeptBehind h true (operands x) → Inside k ms → Known types x h ms Running (frame.Assigns t ∷ k) s → AllFollow types s (running_next named types bodies (frame.Assigns t ∷ k) (with_all x h ms Running (frame.Assigns t ∷ k)))
+  assigns_follow [] t k kept c r = absurd c.0
+  assigns_follow (m ∷ ms) t k kept c r =
+      assigned_follows types x s h m ms (ready_by types x h (m ∷ ms) Running s (frame.Assigns t ∷ k) r (r.control ∙ chain_seen types h k (m ∷ ms) c.1)) t k c kept
+
+  -- Parts of a record are finalized before it is assigned, and adjusted behind that.
+  assignment_follows :
+      (ms : List Master) (o p : Id) (us : List Value) (base t first count n : ℕ) (task : Task) (tasks : List Task) (last : Task) (lasts : List Task) (k : Control)
+      → operands x ≡ Names p ∷ us → is_out (slice_get h o.0) ≡ true → IsRecord (last ∷ lasts) → Inside k ms
+      → Known types x h ms Running (frame.Treats (Names o) (ends (Assigning n)) (task ∷ tasks) ∷ copying o base t first count n last lasts k) s
+      → AllFollow types s (treats_next named (shapes_of types) (Names o) (ends (Assigning n)) (task ∷ tasks) (task_next (task ∷ tasks)) (with_all x h ms Running (copying o base t first count n last lasts k)))
+  assignment_follows ms o p us base t first count n task tasks last lasts k newest out record_is c r = go r.control
+    where
+      go :
+          IsUnderWay types h (frame.Treats (Names o) (ends (Assigning n)) (task ∷ tasks) ∷ copying o base t first count n last lasts k) ms s.control
+          → AllFollow types s (treats_next named (shapes_of types) (Names o) (ends (Assigning n)) (task ∷ tasks) (task_next (task ∷ tasks)) (with_all x h ms Running (copying o base t first count n last lasts k)))
+      go (inl seen) =
+          let F = forest_adjusted (shapes_of types) (last ∷ lasts) in
+          let left = seen.0 in
+          let is : s.control ≡ storage.assigns (suc n) o.0 F left (chain h ms) = seen.2 ∙ ap (λ (l : storage.Control). storage.assigns (suc n) o.0 F left l) (chain_seen types h k ms c.1) in
+          let fits = subst (λ (l : storage.Control). Fits s.alive s.objects l) is r.holds.fits in
+          assigning_follows types x s h ms o n k c (facts ms (frame.Treats (Names o) (ends (Assigning n)) (task ∷ tasks) ∷ copying o base t first count n last lasts k) r) out
+          p us base t first count task tasks last lasts left newest record_is seen.1 is
+          (λ q. let a = fits.1 q in let b = fits.2 q in omega (arith, a, b))
+      go (inr seen) =
+          failing_follows types x ms o p us base t first count n last lasts k c newest record_is s h seen.0 seen.1
+          (facts ms (frame.Treats (Names o) (ends (Assigning n)) (task ∷ tasks) ∷ copying o base t first count n last lasts k) r) out
+          (seen.3 ∙ ap (λ (l : storage.Control). storage.assigns (suc n) o.0 (beside seen.0) (beside seen.1 ∷ []) l) (chain_seen types h k ms c.1))
+          task tasks seen.2
+
+  adjustment_follows :
+      (ms : List Master) (o : Id) (n : ℕ) (task : Task) (tasks : List Task) (k : Control) → is_out (slice_get h o.0) ≡ true → Inside k ms
+      → Known types x h ms Running (frame.Treats (Names o) (begins (Adjustment n)) (task ∷ tasks) ∷ k) s
+      → AllFollow types s (treats_next named (shapes_of types) (Names o) (begins (Adjustment n)) (task ∷ tasks) (task_next (task ∷ tasks)) (with_all x h ms Running k))
+  adjustment_follows ms o n task tasks k out c r =
+      let seen = r.control in
+      let is : s.control ≡ storage.adjusts o.0 seen.0 seen.1 seen.2 (chain h ms) = seen.4 ∙ ap (λ (l : storage.Control). storage.adjusts o.0 seen.0 seen.1 seen.2 l) (chain_seen types h k ms c.1) in
+      let fits = subst (λ (l : storage.Control). Fits s.alive s.objects l) is r.holds.fits in
+      adjusting_follows types x s h ms o n k c (facts ms (frame.Treats (Names o) (begins (Adjustment n)) (task ∷ tasks) ∷ k) r) out task tasks seen.0 seen.1 seen.2 seen.3 is
+      (λ q. let a = fits.1 q in let b = fits.2 q in omega (arith, a, b))
+
+  stands_follow : (ms : List Master) (mode : Mode) (k : Control) → Stands (operands x) h ms mode k → Known types x h ms mode k s → DoesOrEnds k (Follows types s) (mode_next named types bodies mode (with_all x h ms mode k))
   stands_follow ms Running k (codes c) r = coding_follows ms k c r
   stands_follow ms (Raising e) k (codes c) r = jumping_follows ms (Raising e) k (λ is. cc) c r
   stands_follow ms Exiting k (codes c) r = jumping_follows ms Exiting k (λ is. cc) c r
@@ -286,20 +389,31 @@ module _ (types : List TypeDefinition) (bodies : List BodyForm) (x : State) (s :
   stands_follow ms Running _ (freeing v n pool k c) r =
       or_ends _ (Follows types s) _
       (freed_object_ends types x s h ms n pool k c (running types x h ms _ s r) v (look h v) r.control.0 refl r.control.1
-      (r.control.2 ∙ ap (λ (l : storage.Control). storage.frees (suc n) (object_number v) r.control.0 l) (chain_seen h k ms c.1)))
+      (r.control.2 ∙ ap (λ (l : storage.Control). storage.frees (suc n) (object_number v) r.control.0 l) (chain_seen types h k ms c.1)))
   stands_follow ms Running _ (freed o object n pool k there gone c) r =
       or_ends _ (Follows types s) _
       (freed_object_back types x s h ms n pool k c (running types x h ms _ s r) o object there gone
-      (r.control ∙ ap (λ (l : storage.Control). storage.frees (suc n) o.0 [] l) (chain_seen h k ms c.1)) (lent h (Names o)))
-  stands_follow ms Running _ (beginning o object task tasks k there inside joining) r = or_ends _ (Follows types s) _ (begins_follow ms o object task tasks k there inside joining r)
+      (r.control ∙ ap (λ (l : storage.Control). storage.frees (suc n) o.0 [] l) (chain_seen types h k ms c.1)) (lent h (Names o)))
+  stands_follow ms Running _ (beginning o object by task tasks k created there inside joining) r = or_ends _ (Follows types s) _ (begins_follow ms o object by task tasks k created there inside joining r)
   stands_follow ms Running _ (finishing task tasks v a i pool mode k first c) r = or_ends _ (Follows types s) _ (finishes_follow ms task tasks v a i pool mode k first c r)
+  stands_follow ms Running _ (finding has source t k {l} path c) r = found_follows ms has source t k l path c r
+  stands_follow ms Running _ (records_found t k kept c) r = or_ends _ (Follows types s) _ (assigns_follow ms t k kept c r)
+  stands_follow ms (Raising e) _ (passing _ k {l} over c) r = passed_follow ms e k l over c r
+  stands_follow ms Running _ (assigning o p us base t first count n task tasks last lasts k newest out record_is c) r =
+      or_ends _ (Follows types s) _ (assignment_follows ms o p us base t first count n task tasks last lasts k newest out record_is c r)
+  stands_follow ms Running _ (copies o p us base t first count n last lasts k newest out record_is c) r =
+      or_ends _ (Follows types s) _ (copies_follow types x s h ms o n k c (facts ms (copying o base t first count n last lasts k) r) out p us base t first count last lasts newest record_is r.control)
+  stands_follow ms Running _ (stores o first count n last lasts k out record_is c) r =
+      or_ends _ (Follows types s) _
+      (record_stores_follow types x s h ms o n k c (facts ms (frame.StoresRecord (Names o) first count ∷ frame.Treats (Names o) (begins (Adjustment n)) (last ∷ lasts) ∷ k) r) out first count last lasts record_is r.control)
+  stands_follow ms Running _ (adjusting o n task tasks k out c) r = or_ends _ (Follows types s) _ (adjustment_follows ms o n task tasks k out c r)
   stands_follow ms Running _ (finishing_freed task tasks v n pool k c) r = or_ends _ (Follows types s) _ (finishes_freed_follow ms task tasks v n pool k c r)
 
 -- What is known of a state of a program and one of storage, together.
 pub record Joint (types : List TypeDefinition) (x : State) (s : storage.State) : Type 0 where
   pub seen : IsSeenAs types x s
   pub holds : Holds s
-  pub stands : Stands x.heap x.masters x.mode x.control
+  pub stands : Stands (operands x) x.heap x.masters x.mode x.control
   pub sound : Sound x.heap x.masters
 
 pub joint_follows : (types : List TypeDefinition) (bodies : List BodyForm) (x : State) (s : storage.State) → Joint types x s → DoesOrEnds x.control (Follows types s) (next types bodies x)

@@ -6,7 +6,8 @@ use Rattle.ada_program.specs.declared.program.TypeDefinition.{TypeDefinition}
 use Rattle.ada_program.specs.Controlled.{shapes_of}
 use Rattle.ada_program.specs.ProgramForm.{BodyForm}
 use Rattle.ada_parts.specs.declared.tasks.Direction.TheVariants.{WholeFirst}
-use Rattle.ada_parts.specs.Task.{Task, performs, treats, taken, next as task_next}
+use Rattle.ada_parts.specs.Task.{Task, performs, treats, next as task_next}
+use Rattle.ada_meaning.proofs.Treatments.{member_within}
 use Rattle.ada_meaning.specs.declared.event.Cause.{Cause}
 use Rattle.ada_meaning.specs.declared.event.Halt.TheVariants.{Erroneous}
 use Rattle.ada_meaning.specs.declared.event.Why.TheVariants.{FinalizesTwice}
@@ -18,7 +19,7 @@ use Rattle.ada_meaning.specs.Event.{Finalized}
 use Rattle.ada_meaning.specs.Frame.{begins, ends, Frame}
 use Rattle.ada_meaning.specs.Frame as frame
 use Rattle.ada_meaning.specs.Heap.{PartState, Cell, Found, on_null, on_gone, on_other, finds}
-use Rattle.ada_meaning.specs.Step.{halts, moves, at, parts_held, treating, treated_on, treats_next, performed_next, finalized_next, end_next, back_next, running_next, mode_next}
+use Rattle.ada_meaning.specs.Step.{picked_task, member_at, halts, moves, at, parts_held, treating, treated_on, treats_next, performed_next, finalized_next, end_next, back_next, running_next, mode_next}
 use Rattle.ada_meaning.specs.Named.{Object, State, named, look, lent, lent_by, on_object, treated, finalized_part, finished, next}
 use Rattle.ada_meaning.specs.Run.{Event}
 use Rattle.ada_following.specs.Reading.{is_out, FreesControlled, IsFreeingControlled}
@@ -117,8 +118,8 @@ module _ (types : List TypeDefinition) where
       → Does Stays (treats_next named (shapes_of types) v (ends cause) tasks (task_next tasks) (at k x))
   treats_stay x v cause [] k g r = (r, g)
   treats_stay x v cause (treats cs ∷ tasks) k g r =
-      picks_or_stuck Stays (length cs) (λ i. treated_on named v (ends cause) (taken (shapes_of types) WholeFirst (treats cs ∷ tasks) i) (at k x))
-      (λ i lt. (r, treated_frees x.heap (taken (shapes_of types) WholeFirst (treats cs ∷ tasks) i) v cause k g))
+      picks_or_stuck Stays (length cs) (λ i. treated_on named v (ends cause) (picked_task (shapes_of types) WholeFirst (treats cs ∷ tasks) i) (at k x))
+      (λ i lt. (r, treated_frees x.heap (picked_task (shapes_of types) WholeFirst (treats cs ∷ tasks) i) v cause k g))
   treats_stay x v cause (performs t p ∷ tasks) k g r = performs_stay x v t p cause tasks k (look x.heap v) refl g r
 
   end_stays : (x : State) (v : Value) (found : Found (Cell Value)) (k : Control) → look x.heap v ≡ found → FreesControlled types x.heap k → x.mode ≡ Running → Does Stays (end_next named v found (at k x))

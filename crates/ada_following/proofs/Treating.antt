@@ -8,8 +8,8 @@ use Rattle.ada_parts.specs.declared.tasks.Direction.TheVariants.{PartsFirst, Who
 use Rattle.ada_parts.specs.Shape.{Shape, IsTable, shape_of}
 use Rattle.ada_parts.specs.Part.{components_of}
 use Rattle.ada_parts.specs.Task.{Task, performs, treats, treatment_of, opened}
-use Rattle.ada_storage.specs.State.{Forest, none, tree, quiet, Job, all_in, call, called, Joins, running, Control, initializes, State, in_forest, in_forests, in_jobs, kids_of, others_of, is_top}
-use Rattle.ada_storage.specs.Step.{Choice, goes_on, takes, goes, at, Ending, frame, ends, ends_part, begins_part, at_creation, running_step}
+use Rattle.ada_storage.specs.State.{Forest, none, tree, quiet, Job, all_in, call, called, running, Control, State, in_forest, in_forests, in_jobs, kids_of, others_of, is_top}
+use Rattle.ada_storage.specs.Step.{Choice, goes_on, takes, goes, at, Ending, frame, ends, ends_part, Beginning, frame_of, begins, begins_part, running_step}
 use Rattle.ada_following.specs.Forests.{forest_at, forest_of, tops, grouped, AreNext, Begins, IsWhole, Ends}
 use Rattle.ada_following.proofs.Forests.{at_step, tops_le, top_is}
 use Rattle.ada_following.proofs.Groups.{next_with, next_two, next_alone, no_next, call_next, IsOpened, group_next, passed_through, is_part, kids, others_alike}
@@ -20,7 +20,7 @@ abbrev rest_of : List Component → (i : ℕ) → List Task → List Task
 rest_of cs i rest = treatment_of (remove cs i) ++ rest
 
 -- The state with this under way.
-is_at : (r : State) (k : Control) → r.control ≡ k → Silent r (at k r)
+pub is_at : (r : State) (k : Control) → r.control ≡ k → Silent r (at k r)
 is_at r k is = stands_still r (at k r) (λ j. record r { control = is j })
 
 module _ (shapes : List Shape) (table : IsTable shapes) where
@@ -63,25 +63,25 @@ module _ (shapes : List Shape) (table : IsTable shapes) where
   pub opens : (c : Component) → Opens c
   opens c = opens_by c (shape_of shapes c.of).controlled refl
 
-  -- An initialization.
-  module _ (o : ℕ) (joins : Joins) (done : List ℕ) (k : Control) where
+  -- An initialization, or an adjustment.
+  module _ (beginning : Beginning) (o : ℕ) (done : List ℕ) (at_begin : (c : Choice) (jobs : List Job) (s : State) → running_step c (frame_of beginning o jobs done) s ≡ begins jobs c beginning o done s) where
     -- the state with these jobs left
     abbrev pub doing : List Job → State → State
-    doing jobs r = at (initializes o joins jobs done k) r
+    doing jobs r = at (frame_of beginning o jobs done) r
 
-    drops : (r : State) (f : Forest) (jobs : List Job) → r.control ≡ initializes o joins (all_in f ∷ jobs) done k → r.mode ≡ running → f ≡ none → Silent r (doing jobs r)
+    drops : (r : State) (f : Forest) (jobs : List Job) → r.control ≡ frame_of beginning o (all_in f ∷ jobs) done → r.mode ≡ running → f ≡ none → Silent r (doing jobs r)
     drops r f jobs is run e =
         one_more r (doing jobs r) (doing jobs r) goes_on
-        (by_running r (initializes o joins (all_in none ∷ jobs) done k) goes_on quiet (doing jobs r) (is ∙ ap (λ (g : Forest). initializes o joins (all_in g ∷ jobs) done k) e) run refl)
+        (by_running r (frame_of beginning o (all_in none ∷ jobs) done) goes_on quiet (doing jobs r) (is ∙ ap (λ (g : Forest). frame_of beginning o (all_in g ∷ jobs) done) e) run (at_begin goes_on (all_in none ∷ jobs) r))
         (stands_still (doing jobs r) (doing jobs r) refl)
 
-    takes_top : (r : State) (x : ℕ) (f : Forest) (jobs : List Job) → r.control ≡ initializes o joins (all_in f ∷ jobs) done k → r.mode ≡ running → is_top x f ≡ true → Silent r (doing (all_in (kids_of x f) ∷ call x ∷ all_in (others_of x f) ∷ jobs) r)
+    pub takes_top : (r : State) (x : ℕ) (f : Forest) (jobs : List Job) → r.control ≡ frame_of beginning o (all_in f ∷ jobs) done → r.mode ≡ running → is_top x f ≡ true → Silent r (doing (all_in (kids_of x f) ∷ call x ∷ all_in (others_of x f) ∷ jobs) r)
     takes_top r x none jobs is run top = absurd (cc top)
     takes_top r x (tree p inside others) jobs is run top =
         let t = doing (all_in (kids_of x (tree p inside others)) ∷ call x ∷ all_in (others_of x (tree p inside others)) ∷ jobs) r in
         one_more r t t (takes x)
-        (by_running r (initializes o joins (all_in (tree p inside others) ∷ jobs) done k) (takes x) quiet t is run
-        (ap (λ (b : Bool). begins_part b x (at_creation joins k) o (tree p inside others) jobs done r) top))
+        (by_running r (frame_of beginning o (all_in (tree p inside others) ∷ jobs) done) (takes x) quiet t is run
+        (at_begin (takes x) (all_in (tree p inside others) ∷ jobs) r ∙ ap (λ (b : Bool). begins_part b x beginning o (tree p inside others) jobs done r) top))
         (stands_still t t refl)
 
     -- Some silent steps lead to these jobs.
@@ -90,7 +90,7 @@ module _ (shapes : List Shape) (table : IsTable shapes) where
       pub steps : Silent r (doing jobs r)
       pub left : Begins shapes jobs tasks
 
-    after_drop : (r : State) (f : Forest) (jobs : List Job) (tasks : List Task) → r.control ≡ initializes o joins (all_in f ∷ jobs) done k → r.mode ≡ running → f ≡ none → Reaches (doing jobs r) tasks → Reaches r tasks
+    after_drop : (r : State) (f : Forest) (jobs : List Job) (tasks : List Task) → r.control ≡ frame_of beginning o (all_in f ∷ jobs) done → r.mode ≡ running → f ≡ none → Reaches (doing jobs r) tasks → Reaches r tasks
     after_drop r f jobs tasks is run e m = record { jobs = m.jobs; steps = then_silent r (doing jobs r) (doing m.jobs r) (drops r f jobs is run e) m.steps; left = m.left }
 
     -- A component is picked.
@@ -99,7 +99,7 @@ module _ (shapes : List Shape) (table : IsTable shapes) where
       next_tasks = opened shapes PartsFirst c.of c.first ++ rest_of cs i rest
 
       opened_begins :
-          (r : State) (f : Forest) (jobs : List Job) (behind : List Task) → r.control ≡ initializes o joins (all_in f ∷ jobs) done k → r.mode ≡ running → ((x : ℕ) → in_forest x f ≤ 1)
+          (r : State) (f : Forest) (jobs : List Job) (behind : List Task) → r.control ≡ frame_of beginning o (all_in f ∷ jobs) done → r.mode ≡ running → ((x : ℕ) → in_forest x f ≤ 1)
           → IsOpened shapes f cs rest behind → Begins shapes jobs behind → Opens c → Reaches r next_tasks
       opened_begins r f jobs behind is run once g more u = go u.whole
         where
@@ -137,12 +137,12 @@ module _ (shapes : List Shape) (table : IsTable shapes) where
               ap (λ (ts : List Task). ts ++ rest_of cs i rest) p ∙ ap (λ (ts : List Task). treatment_of (components_of shapes c.of c.first) ++ (treatment_of (remove cs i) ++ ts)) g.next in
               subst (Reaches r) (sym all) (record {
                 jobs = all_in f ∷ jobs;
-                steps = is_at r (initializes o joins (all_in f ∷ jobs) done k) is;
+                steps = is_at r (frame_of beginning o (all_in f ∷ jobs) done) is;
                 left = (behind, next_two shapes f (components_of shapes c.of c.first) (remove cs i) g.groups behind (passed_through shapes f cs g.groups g.alike i c picked (components_of shapes c.of c.first) (e ∙ u.inside)), more);
               })
 
       pub pick_begins :
-          (r : State) (jobs : List Job) → r.control ≡ initializes o joins jobs done k → r.mode ≡ running → ((x : ℕ) → in_jobs x jobs ≤ 1)
+          (r : State) (jobs : List Job) → r.control ≡ frame_of beginning o jobs done → r.mode ≡ running → ((x : ℕ) → in_jobs x jobs ≤ 1)
           → Begins shapes jobs (treats cs ∷ rest) → Reaches r next_tasks
       pick_begins r [] is run once b = absurd (cc b)
       pick_begins r (call p ∷ jobs) is run once b = let e = b.2 in absurd (cc e)
@@ -162,7 +162,7 @@ module _ (shapes : List Shape) (table : IsTable shapes) where
       pub left : Begins shapes jobs tasks
 
     pub call_begins :
-        (r : State) (t p : ℕ) (tasks : List Task) (jobs : List Job) → r.control ≡ initializes o joins jobs done k → r.mode ≡ running → Begins shapes jobs (performs t p ∷ tasks)
+        (r : State) (t p : ℕ) (tasks : List Task) (jobs : List Job) → r.control ≡ frame_of beginning o jobs done → r.mode ≡ running → Begins shapes jobs (performs t p ∷ tasks)
         → Calls r p tasks
     call_begins r t p tasks [] is run b = absurd (cc b)
     call_begins r t p tasks (called q ∷ jobs) is run b = absurd b
@@ -172,7 +172,7 @@ module _ (shapes : List Shape) (table : IsTable shapes) where
         let same_rest : b.1 ≡ tasks = cc in
         record {
           jobs = jobs;
-          steps = is_at r (initializes o joins (call p ∷ jobs) done k) (is ∙ ap (λ (x : ℕ). initializes o joins (call x ∷ jobs) done k) same_part);
+          steps = is_at r (frame_of beginning o (call p ∷ jobs) done) (is ∙ ap (λ (x : ℕ). frame_of beginning o (call x ∷ jobs) done) same_part);
           left = subst (Begins shapes jobs) same_rest b.3;
         }
     call_begins r t p tasks (all_in f ∷ jobs) is run b =
@@ -181,8 +181,8 @@ module _ (shapes : List Shape) (table : IsTable shapes) where
         record { jobs = m.jobs; steps = then_silent r (doing jobs r) (doing (call p ∷ m.jobs) r) (drops r f jobs is run a.0) m.steps; left = m.left }
 
     -- Nothing is left.
-    pub done_begins : (r : State) (jobs : List Job) → r.control ≡ initializes o joins jobs done k → r.mode ≡ running → Begins shapes jobs [] → Silent r (doing [] r)
-    done_begins r [] is run b = is_at r (initializes o joins [] done k) is
+    pub done_begins : (r : State) (jobs : List Job) → r.control ≡ frame_of beginning o jobs done → r.mode ≡ running → Begins shapes jobs [] → Silent r (doing [] r)
+    done_begins r [] is run b = is_at r (frame_of beginning o [] done) is
     done_begins r (call p ∷ jobs) is run b = let e = b.2 in absurd (cc e)
     done_begins r (called p ∷ jobs) is run b = absurd b
     done_begins r (all_in f ∷ jobs) is run b =
@@ -199,10 +199,10 @@ module _ (shapes : List Shape) (table : IsTable shapes) where
     goes_to r c fs t is run e =
         one_more r t t c (by_running r (frame ending o fs) c quiet t is run (at_end c fs r ∙ e)) (stands_still t t refl)
 
-    lets_go : (r : State) (f : Forest) (fs : List Forest) → r.control ≡ frame ending o (f ∷ fs) → r.mode ≡ running → f ≡ none → Silent r (leaving fs r)
+    pub lets_go : (r : State) (f : Forest) (fs : List Forest) → r.control ≡ frame ending o (f ∷ fs) → r.mode ≡ running → f ≡ none → Silent r (leaving fs r)
     lets_go r f fs is run e = goes_to r goes_on (none ∷ fs) (leaving fs r) (is ∙ ap (λ (g : Forest). frame ending o (g ∷ fs)) e) run refl
 
-    takes_one : (r : State) (x : ℕ) (f : Forest) (fs : List Forest) → r.control ≡ frame ending o (f ∷ fs) → r.mode ≡ running → is_top x f ≡ true → Silent r (leaving (tree x (kids_of x f) none ∷ others_of x f ∷ fs) r)
+    pub takes_one : (r : State) (x : ℕ) (f : Forest) (fs : List Forest) → r.control ≡ frame ending o (f ∷ fs) → r.mode ≡ running → is_top x f ≡ true → Silent r (leaving (tree x (kids_of x f) none ∷ others_of x f ∷ fs) r)
     takes_one r x none fs is run top = absurd (cc top)
     takes_one r x (tree p inside others) fs is run top =
         goes_to r (takes x) (tree p inside others ∷ fs) (leaving (tree x (kids_of x (tree p inside others)) none ∷ others_of x (tree p inside others) ∷ fs) r) is run

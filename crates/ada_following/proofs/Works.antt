@@ -11,6 +11,8 @@ use Rattle.ada_program.specs.Typed.{words_of, width_of, pool_named}
 use Rattle.ada_values.specs.declared.operator.BinaryOperator.{BinaryOperator}
 use Rattle.ada_values.specs.declared.fault.OperatorFault.{OperatorFault}
 use Rattle.ada_values.specs.declared.fault.OperatorFault.TheVariants.{Overflow, DivisionByZero, WrongType}
+use Rattle.ada_meaning.specs.declared.event.Birth.TheVariants.{Creation, Copy}
+use Rattle.ada_meaning.specs.declared.state.Place.{Place}
 use Rattle.ada_meaning.specs.declared.state.Value.{Value}
 use Rattle.ada_meaning.specs.declared.state.Value.TheVariants.{Null}
 use Rattle.ada_meaning.specs.Event.{Quiet}
@@ -18,13 +20,13 @@ use Rattle.ada_meaning.specs.Frame.{Frame, is_master, Landing, passes_on, goes_b
 use Rattle.ada_meaning.specs.Frame as frame
 use Rattle.ada_meaning.specs.State.{declared, collection, storage_pool, Destination, home_of, pools_in, pool_for}
 use Rattle.ada_meaning.specs.Heap.{Cell, Found, on_null, on_gone, on_other, finds}
-use Rattle.ada_meaning.specs.Step.{parts_held, new_cell, record_in, newest_ones, without_newest, copied_next, copies_next, record_target_next, record_stored_next, store_record_next, record_next, at, popped, held, newest, reading, component_next, follow_next, path_next, selected, named_next, holder_next, first_in, record_holder_next, referred_next, refers_next, open_next, opened_next, opens_next, expression_next, null_test_next, is_decided, link_next, links_next, outcome_next, item_next, items_next, answered, new_next, right_next, free_next, before_last, last_of, assign_next, target_next, stored_next, store_next, received_next, receive_next, frees_next, freed_next, free_component_next, free_in_next, branches_next, decided_next, turn_next, repeats_next, turned_next, count_turn_next, counts_next, ranges_next, gets_next, exit_next, exited_next, call_next, stmt_next, stmts_next, line_next, declaration_next, declarations_next, frame_next}
+use Rattle.ada_meaning.specs.Step.{has_parts, copy_next, record_assign_next, parts_held, new_cell, record_in, newest_ones, without_newest, copied_next, copies_next, record_target_next, record_stored_next, store_record_next, record_next, at, popped, held, newest, reading, component_next, follow_next, path_next, selected, named_next, holder_next, place_in, record_holder_next, referred_next, refers_next, open_next, opened_next, opens_next, expression_next, null_test_next, is_decided, link_next, links_next, outcome_next, item_next, items_next, answered, new_next, right_next, free_next, before_last, last_of, assign_next, target_next, stored_next, store_next, received_next, receive_next, frees_next, freed_next, free_component_next, free_in_next, branches_next, decided_next, turn_next, repeats_next, turned_next, count_turn_next, counts_next, ranges_next, gets_next, exit_next, exited_next, call_next, stmt_next, stmts_next, line_next, declaration_next, declarations_next, frame_next}
 use Rattle.ada_meaning.specs.Named.{State, an_integer, Next, named, whole, inside, look, reads_boolean, reads_null, reads_integer, unary_given, binary_given}
 use Rattle.ada_meaning.specs.Run.{Event}
 use Rattle.ada_storage.specs.State as storage
 use Rattle.ada_following.specs.Reading.{event_seen}
 use Rattle.ada_following.proofs.Frames.{Control, IsCode, Over, turned, more}
-use Rattle.ada_following.proofs.Deeds.{Work, stays, fills, owns, makes, creates, enters, gives_up, Does, computing_over, storing_over}
+use Rattle.ada_following.proofs.Deeds.{Work, stays, fills, owns, makes, creates, enters, gives_up, seeks, Does, computing_over, storing_over}
 
 module _ (types : List TypeDefinition) (b : Control) where
   -- A step of code from this state.
@@ -59,11 +61,11 @@ module _ (types : List TypeDefinition) (b : Control) where
       path_works (before_last (inside (held named s x) c) cs) (whole (held named s x))
       (at (frame_of (last_of (inside (held named s x) c) cs) ∷ s.control) s) (more (plain (last_of (inside (held named s x) c) cs)) p)
 
-  record_holder_works : (r : RecordPathForm) (frame_of : ℕ → Frame Value) (s : State) → ((n : ℕ) → IsCode (frame_of n)) → Over b s.control → Works s (record_holder_next named r frame_of s)
+  record_holder_works : (r : RecordPathForm) (frame_of : Place → Frame Value) (s : State) → ((place : Place) → IsCode (frame_of place)) → Over b s.control → Works s (record_holder_next named r frame_of s)
   record_holder_works r frame_of s plain p =
       path_works (selected named (held named s r.object.root) r.object.selectors) (whole (held named s r.object.root))
-      (at (frame_of (first_in named (held named s r.object.root) r.object.selectors r.first) ∷ s.control) s)
-      (more (plain (first_in named (held named s r.object.root) r.object.selectors r.first)) p)
+      (at (frame_of (place_in named (held named s r.object.root) r.object.selectors r) ∷ s.control) s)
+      (more (plain (place_in named (held named s r.object.root) r.object.selectors r)) p)
 
   expression_works : (e : ExpressionForm) (s : State) → Over b s.control → Works s (expression_next named e s)
   expression_works (integer i) s p = stays refl p refl refl refl
@@ -97,7 +99,7 @@ module _ (types : List TypeDefinition) (b : Control) where
   item_works null_item s p = stays refl p refl refl refl
   item_works (item_of_path path) s p = named_works path.selectors path.root s p
   item_works (item_of_value e) s p = stays refl (more tt p) refl refl refl
-  item_works (item_of_record r) s p = record_holder_works r (λ first. frame.Copies first r.record_type) s (λ n. tt) p
+  item_works (item_of_record r) s p = record_holder_works r (λ place. frame.Copies place.component r.record_type) s (λ n. tt) p
 
   items_work : (items : List ItemForm) (s : State) → Over b s.control → Works s (items_next named items s)
   items_work [] s p = stays refl p refl refl refl
@@ -262,15 +264,15 @@ module _ (types : List TypeDefinition) (b : Control) where
   exited_works (Some false) s p = stays refl p refl refl refl
 
   -- What is passed by reference, and the components that get something back.
-  referred_works : (o : Value) (first : ℕ) (found : Option (List Value)) (s : State) → Over b s.control → Works s (referred_next named o first found s)
-  referred_works o first None s p = λ e. e
-  referred_works o first (Some vs) s p = stays refl p refl refl refl
+  referred_works : (o : Value) (place : Place) (found : Option (List Value)) (s : State) → Over b s.control → Works s (referred_next named o place found s)
+  referred_works o place None s p = λ e. e
+  referred_works o place (Some vs) s p = stays refl p refl refl refl
 
-  refers_work : (o : Value) (first count : ℕ) (found : Found (Cell Value)) (s : State) → Over b s.control → Works s (refers_next named o first count found s)
-  refers_work o first count on_null s p = stays refl p refl refl refl
-  refers_work o first count on_gone s p = λ e. e
-  refers_work o first count on_other s p = λ e. e
-  refers_work o first count (finds cell) s p = referred_works o first (record_in cell.values first count) s p
+  refers_work : (o : Value) (place : Place) (count : ℕ) (found : Found (Cell Value)) (s : State) → Over b s.control → Works s (refers_next named o place count found s)
+  refers_work o place count on_null s p = stays refl p refl refl refl
+  refers_work o place count on_gone s p = λ e. e
+  refers_work o place count on_other s p = λ e. e
+  refers_work o place count (finds cell) s p = referred_works o place (record_in cell.values place.component count) s p
 
   open_works : (cs : List ℕ) (x : ℕ) (s : State) → Over b s.control → Works s (open_next named cs x s)
   open_works [] x s p = λ e. e
@@ -291,11 +293,24 @@ module _ (types : List TypeDefinition) (b : Control) where
   call_works procedure actuals None s p = λ e. e
   call_works procedure actuals (Some c) s p = stays refl (computing_over actuals _ (more tt p)) refl refl refl
 
+  -- A record is assigned: one with controlled parts once it and the other one are found.
+  copy_works : (target : RecordPathForm) (items : List ItemForm) (s : State) → Over b s.control → Works s (copy_next named target items s)
+  copy_works target [] s p = λ e. e
+  copy_works target (null_item ∷ is) s p = λ e. e
+  copy_works target (item_of_path path ∷ is) s p = λ e. e
+  copy_works target (item_of_value e ∷ is) s p = λ e. e
+  copy_works target (item_of_record source ∷ []) s p = seeks target source target.record_type s.control refl refl p refl refl refl refl
+  copy_works target (item_of_record source ∷ i ∷ is) s p = λ e. e
+
+  record_assign_works : (parts : Bool) (target : RecordPathForm) (items : List ItemForm) (s : State) → Over b s.control → Works s (record_assign_next named parts target items s)
+  record_assign_works true target items s p = copy_works target items s p
+  record_assign_works false target items s p =
+      record_holder_works target (λ place. frame.TargetsRecord place.component target.record_type items) s (λ n. tt) p
+
   stmt_works : (bodies : List BodyForm) (f : StmtForm) (s : State) → Over b s.control → Works s (stmt_next named types bodies f s)
   stmt_works bodies skips s p = stays refl p refl refl refl
   stmt_works bodies (assigns target right) s p = assign_works target.selectors target.root right s p
-  stmt_works bodies (assigns_record target items) s p =
-      record_holder_works target (λ first. frame.TargetsRecord first target.record_type items) s (λ n. tt) p
+  stmt_works bodies (assigns_record target items) s p = record_assign_works (has_parts types target.record_type) target items s p
   stmt_works bodies (frees access path) s p = frees_work path.selectors access path.root s p
   stmt_works bodies (gets target) s p = gets_work target.selectors target.root s.input s p
   stmt_works bodies (writes e) s p = stays refl (more tt (more tt p)) refl refl refl
@@ -318,7 +333,7 @@ module _ (types : List TypeDefinition) (b : Control) where
   line_works (Some i) s p = stays refl p refl refl refl
 
   record_works : (x t : ℕ) (initial : Option (List ItemForm)) (s : State) → Over b s.control → Works s (record_next named types x t initial s)
-  record_works x t None s p = makes t _ s.control (parts_held types t) refl refl refl p refl refl refl refl refl refl
+  record_works x t None s p = makes t Creation _ s.control (parts_held types t) tt refl refl refl p refl refl refl refl refl refl
   record_works x t (Some items) s p = stays refl (more tt (more tt p)) refl refl refl
 
   declaration_works : (d : DeclarationForm) (s : State) → Over b s.control → Works s (declaration_next named types d s)
@@ -351,9 +366,9 @@ module _ (types : List TypeDefinition) (b : Control) where
   frame_works bodies (frame.Computes e) s is p = expression_works e s p
   frame_works bodies (frame.Follows cs) s is p = path_works cs (newest named s) (popped s) p
   frame_works bodies (frame.TestsNull equal) s is p = null_test_works equal (reads_null (newest named s)) (popped s) p
-  frame_works bodies (frame.Refers r) s is p = record_holder_works r (λ first. frame.RefersIn first r.record_type) s (λ n. tt) p
-  frame_works bodies (frame.RefersIn first t) s is p =
-      refers_work (newest named s) first (width_of types t) (look s.heap (newest named s)) (popped s) p
+  frame_works bodies (frame.Refers r) s is p = record_holder_works r (λ place. frame.RefersIn place r.record_type) s (λ n. tt) p
+  frame_works bodies (frame.RefersIn place t) s is p =
+      refers_work (newest named s) place (width_of types t) (look s.heap (newest named s)) (popped s) p
   frame_works bodies (frame.Opens path) s is p = open_works path.selectors path.root s p
   frame_works bodies (frame.OpensIn c) s is p = opens_work (newest named s) c (look s.heap (newest named s)) (popped s) p
   frame_works bodies (frame.Continues links) s is p = links_work links s p
@@ -368,10 +383,11 @@ module _ (types : List TypeDefinition) (b : Control) where
   frame_works bodies (frame.TargetsRecord first t items) s is p =
       record_target_works (newest named s) first (width_of types t) items (look s.heap (newest named s)) (popped s) p
   frame_works bodies (frame.StoresRecord object first count) s is p = store_record_works object first count (look s.heap object) s p
+  frame_works bodies (frame.Assigns t) s is p = absurd is
   frame_works bodies (frame.Receives c) s is p = receive_works (newest named s) c (look s.heap (newest named s)) (popped s) p
   frame_works bodies (frame.FreesIn access c) s is p = free_in_works access (newest named s) c (look s.heap (newest named s)) (popped s) p
   frame_works bodies (frame.Declares x) s is p = owns (declared x) tt refl p refl refl refl refl
-  frame_works bodies (frame.DeclaresRecord x t) s is p = makes t _ s.control (parts_held types t) refl refl refl p refl refl refl refl refl refl
+  frame_works bodies (frame.DeclaresRecord x t) s is p = makes t Copy _ s.control (parts_held types t) tt refl refl refl p refl refl refl refl refl refl
   frame_works bodies (frame.Treats v treatment tasks) s is p = absurd is
   frame_works bodies frame.Writes s is p = line_works (reads_integer (newest named s)) (popped s) p
   frame_works bodies (frame.Ends v) s is p = absurd is

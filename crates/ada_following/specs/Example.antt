@@ -1,4 +1,4 @@
--- A run that is followed, and one in which a declared object is freed.
+-- Runs that are followed, and one in which a declared object is freed.
 
 use Rattle.std.specs.Prelude.{◌≡◌, List, [], ◌∷◌, map}
 use Rattle.ada_program.specs.declared.program.Program.{Program}
@@ -6,7 +6,7 @@ use Rattle.ada_program.specs.Form.{stmt_forms}
 use Rattle.ada_meaning.specs.declared.event.Halt.TheVariants.{Finished}
 use Rattle.ada_meaning.specs.Run.{Halts}
 use Rattle.ada_order.specs.Example.{nested_stmts, InSomeRun}
-use Rattle.ada_storage.specs.State.{leaving, creation, Event, born, finalized, back, left}
+use Rattle.ada_storage.specs.State.{leaving, assigning, creation, adjustment, Event, born, finalized, back, left}
 use Rattle.ada_storage.specs.Example.{seen}
 use Rattle.ada_following.specs.Reading.{event_seen, IsFreeingDeclared}
 use Rattle.ada_following.specs.Law.{IsFollowed}
@@ -50,3 +50,25 @@ AControlledObjectIsFollowed =
     (program : Program)
     × InSomeRun program (λ events last.
     Halts program last Finished × (seen (map event_seen events) ≡ controlled_events) × IsFollowed program.types.items events last)
+
+-- What storage shows where a program declares two objects of a controlled type, and assigns the second one to the first: both are initialized; the value of
+-- the first one is finalized, and its new one is adjusted; and both are finalized as the main procedure is left, the second one first.
+abbrev pub assigned_events : List Event
+assigned_events =
+    born (record { object = 0; part = 0; turn = 0 }) creation
+    ∷ born (record { object = 1; part = 0; turn = 0 }) creation
+    ∷ finalized (record { object = 0; part = 0; turn = 0 }) (assigning 2)
+    ∷ born (record { object = 0; part = 0; turn = 1 }) adjustment
+    ∷ finalized (record { object = 1; part = 0; turn = 0 }) (leaving 1 1)
+    ∷ back 1 (leaving 1 1)
+    ∷ finalized (record { object = 0; part = 0; turn = 1 }) (leaving 1 0)
+    ∷ back 0 (leaving 1 0)
+    ∷ left 1
+    ∷ []
+
+-- There is such a run, which is followed to its end.
+abbrev pub AnAssignmentIsFollowed : Type 0
+AnAssignmentIsFollowed =
+    (program : Program)
+    × InSomeRun program (λ events last.
+    Halts program last Finished × (seen (map event_seen events) ≡ assigned_events) × IsFollowed program.types.items events last)

@@ -29,10 +29,14 @@ forest_at (shape ∷ older) of first =
     then around shape first (all_of (λ c. forest_at older c.of c.first) (in_order (parts_of older) shape.components (first + own_parts shape)))
     else forest_at older of first
 
--- The parts of an object of a record type: none, if there is no such type.
+-- The parts of a record that lies in an object, where its first part has this number: none, if no such record has any.
+abbrev pub forest_in : List Shape → Option ℕ → (first : ℕ) → Forest
+forest_in shapes None first = none
+forest_in shapes (Some t) first = forest_at shapes t first
+
+-- The parts of an object, by its type's number among the record types that have any.
 abbrev pub forest_for : List Shape → Option ℕ → Forest
-forest_for shapes None = none
-forest_for shapes (Some t) = forest_at shapes t 0
+forest_for shapes t = forest_in shapes t 0
 
 -- The parts of components.
 abbrev pub forest_of : List Shape → List Component → Forest
@@ -90,3 +94,20 @@ pub record IsWhole (shapes : List Shape) (f : Forest) (tasks behind : List Task)
 abbrev pub Ends : List Shape → (left : List Forest) → List Task → Type 0
 Ends shapes [] tasks = tasks ≡ []
 Ends shapes (f ∷ fs) tasks = (behind : List Task) × (AreNext shapes f tasks behind ⊎ IsWhole shapes f tasks behind) × Ends shapes fs behind
+
+-- A record of these parts: it is controlled, if its own operation comes behind those of the parts that lie in it (7.6).
+abbrev pub over_inside : (inside : Forest) → List Task → Forest
+over_inside inside [] = inside
+over_inside inside (treats cs ∷ rest) = inside
+over_inside inside (performs of part ∷ rest) = tree part inside none
+
+-- The parts of a record, by all that is to be done where it is adjusted (7.6).
+abbrev pub forest_adjusted : List Shape → List Task → Forest
+forest_adjusted shapes [] = none
+forest_adjusted shapes (treats cs ∷ rest) = over_inside (forest_of shapes cs) rest
+forest_adjusted shapes (performs of part ∷ rest) = tree part none none
+
+-- Parts of which none lies in another one.
+abbrev pub beside : (parts : List ℕ) → Forest
+beside [] = none
+beside (p ∷ ps) = tree p none (beside ps)

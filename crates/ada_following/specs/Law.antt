@@ -8,7 +8,8 @@ use Rattle.ada_meaning.specs.declared.event.Halt.{Halt}
 use Rattle.ada_meaning.specs.Step.{parts_held}
 use Rattle.ada_meaning.specs.Named.{State}
 use Rattle.ada_meaning.specs.Run.{Event, Run, Halts, first_state}
-use Rattle.ada_meaning.specs.Law.{IsBack, HasEnded, Safe}
+use Rattle.ada_meaning.specs.Law.{IsBack, HasEnded}
+use Rattle.ada_meaning.specs.Safe.{Safe}
 use Rattle.ada_storage.specs.State as storage
 use Rattle.ada_storage.specs.State.{bit, in_items, placed}
 use Rattle.ada_storage.specs.Law as storage_law

@@ -1,18 +1,20 @@
 -- What a state of a program, and what a step of it shows, is for storage: each master stands in the frame that belongs to it, the objects of the heap are in
 -- their places, and all else that is left to do is user code.
 
-use Rattle.std.specs.Prelude.{◌≡◌, ℕ, suc, ◌==◌, ◌<◌, Bool, false, ◌||◌, if◌then◌else◌, List, [], ◌∷◌, map, length, Option, Some, None}
+use Rattle.std.specs.Prelude.{◌≡◌, ◌⊎◌, ℕ, suc, ◌==◌, ◌<◌, Bool, true, false, ◌||◌, if◌then◌else◌, List, [], ◌∷◌, map, length, Option, Some, None}
 use Rattle.std.specs.List.{slice_get}
 use Rattle.ada_program.specs.declared.program.TypeDefinition.{TypeDefinition}
-use Rattle.ada_program.specs.Typed.{designated_of}
-use Rattle.ada_program.specs.Controlled.{shapes_of}
+use Rattle.ada_program.specs.Controlled.{number_reached, shapes_of}
+use Rattle.ada_parts.specs.Part.{numbers}
+use Rattle.ada_parts.specs.Task.{Task}
+use Rattle.ada_parts.specs.Law.{parts_left}
 use Rattle.ada_meaning.specs.declared.state.Id.{Id}
 use Rattle.ada_meaning.specs.declared.state.Value.{Value}
 use Rattle.ada_meaning.specs.declared.state.Value.TheVariants.{Null, Names, Scalar, Part}
 use Rattle.ada_meaning.specs.declared.state.Mode.{Mode}
 use Rattle.ada_meaning.specs.declared.state.Mode.TheVariants.{Running, Raising, Exiting, Returning}
 use Rattle.ada_meaning.specs.declared.event.Birth.{Birth}
-use Rattle.ada_meaning.specs.declared.event.Birth.TheVariants.{Creation, Adjustment}
+use Rattle.ada_meaning.specs.declared.event.Birth.TheVariants.{Creation, Copy, Adjustment}
 use Rattle.ada_meaning.specs.declared.event.Cause.{Cause}
 use Rattle.ada_meaning.specs.declared.event.Cause.TheVariants.{Leaving, Freeing, Assigning, Undoing}
 use Rattle.ada_meaning.specs.Event.{Born, Finalized, Back, Followed, Left, Line, Quiet}
@@ -24,8 +26,9 @@ use Rattle.ada_meaning.specs.State.{Owned, declared, collection, record_object, 
 use Rattle.ada_meaning.specs.Named.{Object, State, members_of, on_object, parted, lent}
 use Rattle.ada_meaning.specs.Run.{Event}
 use Rattle.ada_meaning.specs.Law.{named_by}
+use Rattle.ada_storage.specs.State.{in_list}
 use Rattle.ada_storage.specs.State as storage
-use Rattle.ada_following.specs.Forests.{forest_for, Begins, Ends}
+use Rattle.ada_following.specs.Forests.{forest_for, forest_adjusted, beside, Begins, Ends}
 
 -- Masters and causes are numbered from 0 in a program, and from 1 in storage, where 0 is no master's number.
 
@@ -36,10 +39,11 @@ cause_seen (Freeing n) = storage.freeing (suc n)
 cause_seen (Assigning n) = storage.assigning (suc n)
 cause_seen (Undoing n) = storage.undoing (suc n)
 
--- How a value comes to exist (7.6).
+-- How a value comes to exist (7.6): an object that is declared as a copy is created, and its parts are adjusted then in the place of an initialization.
 abbrev pub birth_seen : Birth → storage.Birth
 birth_seen Creation = storage.creation
-birth_seen Adjustment = storage.adjustment
+birth_seen Copy = storage.creation
+birth_seen (Adjustment n) = storage.adjustment
 
 -- A value of an object's part has come to exist.
 abbrev pub born_seen : Option Id → (part turn : ℕ) → Birth → storage.Event
@@ -135,20 +139,33 @@ giving_seen (Undoing n) o k = k
 abbrev pub with_left : (left : List storage.Forest) → (behind : storage.Control) → storage.Control
 with_left left (storage.finalizes m i o fs mode k) = storage.finalizes m i o left mode k
 with_left left (storage.frees n o fs k) = storage.frees n o left k
+with_left left (storage.assigns n o f fs k) = storage.assigns n o f left k
 with_left left k = k
 
+-- An assignment to these parts, of which these are left to be finalized.
+abbrev pub with_parts : (parts : storage.Forest) → (left : List storage.Forest) → (behind : storage.Control) → storage.Control
+with_parts f left (storage.assigns n o g fs k) = storage.assigns n o f left k
+with_parts f left k = k
+
+-- An assignment is under way, behind which parts are adjusted (7.6): none of them is left to be finalized.
+abbrev pub copying_seen : List TypeDefinition → Birth → (object : ℕ) → List Task → (behind : storage.Control) → storage.Control
+copying_seen types Creation o tasks k = k
+copying_seen types Copy o tasks k = k
+copying_seen types (Adjustment n) o tasks k = storage.assigns (suc n) o (forest_adjusted (shapes_of types) tasks) [] k
+
 -- A frame with what is behind it. Each frame at which a jump stops takes the next master, and so does the leaving of one.
-abbrev pub frame_seen : List Object → Frame Value → (behind : List Master → storage.Control) → List Master → storage.Control
-frame_seen objects (frame.Elaborates ds fs hs) behind ms = acting_seen objects behind ms
-frame_seen objects frame.Closes behind ms = acting_seen objects behind ms
-frame_seen objects (frame.Leaves mode) behind ms = leaving_seen objects mode behind ms
-frame_seen objects (frame.GivesBack v cause pool) behind ms = giving_seen cause (object_number v) (behind ms)
-frame_seen objects f behind ms = behind ms
+abbrev pub frame_seen : List TypeDefinition → List Object → Frame Value → (behind : List Master → storage.Control) → List Master → storage.Control
+frame_seen types objects (frame.Elaborates ds fs hs) behind ms = acting_seen objects behind ms
+frame_seen types objects frame.Closes behind ms = acting_seen objects behind ms
+frame_seen types objects (frame.Leaves mode) behind ms = leaving_seen objects mode behind ms
+frame_seen types objects (frame.GivesBack v cause pool) behind ms = giving_seen cause (object_number v) (behind ms)
+frame_seen types objects (frame.Treats v (begins by) tasks) behind ms = copying_seen types by (object_number v) tasks (behind ms)
+frame_seen types objects f behind ms = behind ms
 
 -- All that is left to do, with the masters that are entered, but for the parts of an object that is treated.
-abbrev pub control_seen : List Object → List (Frame Value) → List Master → storage.Control
-control_seen objects [] ms = storage.stops
-control_seen objects (f ∷ k) ms = frame_seen objects f (control_seen objects k) ms
+abbrev pub control_seen : List TypeDefinition → List Object → List (Frame Value) → List Master → storage.Control
+control_seen types objects [] ms = storage.stops
+control_seen types objects (f ∷ k) ms = frame_seen types objects f (control_seen types objects k) ms
 
 -- Whether the words of an object are out, if there is one.
 abbrev pub is_out : Option Object → Bool
@@ -175,25 +192,6 @@ abbrev pub joins_seen : Option Object → List Master → storage.Joins
 joins_seen None ms = storage.to_items
 joins_seen (Some object) ms = joins_by object.cell.home.pool object.cell.home.item ms
 
--- What is under way. An object that is initialized is no item and no member for storage yet: it joins once it is initialized (7.6). The order in which its
--- parts were initialized so far is one that a program forgets. No object is adjusted yet.
-abbrev pub IsUnderWay : List TypeDefinition → List Object → List (Frame Value) → List Master → storage.Control → Type 0
-IsUnderWay types objects (frame.Treats v (begins Creation) tasks ∷ k) ms c =
-    (jobs : List storage.Job) × (done : List ℕ) × Begins (shapes_of types) jobs tasks
-    × (c ≡ storage.initializes (object_number v) (joins_seen (slice_get objects (object_number v)) ms) jobs done
-    (control_seen (on_object parted objects v) k ms))
-IsUnderWay types objects (frame.Treats v (begins Adjustment) tasks ∷ k) ms c = ⊥
-IsUnderWay types objects (frame.Treats v (ends cause) tasks ∷ k) ms c =
-    (left : List storage.Forest) × Ends (shapes_of types) left tasks × (c ≡ with_left left (control_seen objects k ms))
-IsUnderWay types objects (frame.Ends v ∷ k) ms c =
-    (left : List storage.Forest) × Ends (shapes_of types) left [] × (c ≡ with_left left (control_seen objects k ms))
-IsUnderWay types objects k ms c = c ≡ control_seen objects k ms
-
--- The controlled parts of an object, by its type (7.6).
-abbrev pub forest_seen : List TypeDefinition → Option Object → storage.Forest
-forest_seen types None = storage.none
-forest_seen types (Some object) = forest_for (shapes_of types) (designated_of types object.cell.access)
-
 -- A controlled part, by its number, if there is one.
 abbrev pub part_of : Option Object → (part : ℕ) → Option PartState
 part_of None p = None
@@ -203,6 +201,65 @@ part_of (Some object) p = slice_get object.cell.parts p
 abbrev pub is_alive : Option PartState → Bool
 is_alive None = false
 is_alive (Some p) = p.alive
+
+-- An object that is initialized is no item and no member for storage yet: it joins once it is initialized (7.6). The order in which its parts were initialized
+-- so far is one that a program forgets. So it is for a declared copy, too.
+abbrev pub IsInitialized : List TypeDefinition → List Object → Value → List Task → List (Frame Value) → List Master → storage.Control → Type 0
+IsInitialized types objects v tasks k ms c =
+    (jobs : List storage.Job) × (done : List ℕ) × Begins (shapes_of types) jobs tasks
+    × (c ≡ storage.initializes (object_number v) (joins_seen (slice_get objects (object_number v)) ms) jobs done
+    (control_seen types (on_object parted objects v) k ms))
+
+-- The parts of a record that was assigned are adjusted (7.6). In which order they were so far is forgotten, too.
+abbrev pub IsAdjusted : List TypeDefinition → List Object → Value → List Task → List (Frame Value) → List Master → storage.Control → Type 0
+IsAdjusted types objects v tasks k ms c =
+    (parts : storage.Forest) × (jobs : List storage.Job) × (done : List ℕ) × Begins (shapes_of types) jobs tasks
+    × (c ≡ storage.adjusts (object_number v) parts jobs done (control_seen types objects k ms))
+
+-- Values of parts come to exist.
+abbrev pub IsBegun : List TypeDefinition → List Object → Value → Birth → List Task → List (Frame Value) → List Master → storage.Control → Type 0
+IsBegun types objects v Creation tasks k ms c = IsInitialized types objects v tasks k ms c
+IsBegun types objects v Copy tasks k ms c = IsInitialized types objects v tasks k ms c
+IsBegun types objects v (Adjustment n) tasks k ms c = IsAdjusted types objects v tasks k ms c
+
+-- A part is still to be finalized.
+abbrev pub IsToEnd : List TypeDefinition → List Task → (part : ℕ) → Type 0
+IsToEnd types tasks p = 0 < in_list p (numbers (parts_left (shapes_of types) tasks))
+
+-- A program that is not well formed may refer to a place where no such record lies: some part that is still to be finalized has no value there. Those that
+-- have one are among these.
+pub record LacksValue (types : List TypeDefinition) (objects : List Object) (object : ℕ) (tasks : List Task) (left : List ℕ) : Type 0 where
+  pub dead : ℕ
+  pub to_end : IsToEnd types tasks dead
+  pub is_dead : is_alive (part_of (slice_get objects object) dead) ≡ false
+  pub others : (p : ℕ) → IsToEnd types tasks p → is_alive (part_of (slice_get objects object) p) ≡ true → 0 < in_list p left
+
+-- An assignment there is for storage one to the parts that have a value, in any order: the run halts at one that has none, before anything is copied (7.6).
+abbrev pub IsFailing : List TypeDefinition → List Object → Value → Cause → List Task → List (Frame Value) → List Master → storage.Control → Type 0
+IsFailing types objects v (Leaving m i) tasks k ms c = ⊥
+IsFailing types objects v (Freeing n) tasks k ms c = ⊥
+IsFailing types objects v (Assigning n) tasks k ms c =
+    (parts : List ℕ) × (left : List ℕ) × LacksValue types objects (object_number v) tasks left
+    × (c ≡ with_parts (beside parts) (beside left ∷ []) (control_seen types objects k ms))
+IsFailing types objects v (Undoing n) tasks k ms c = ⊥
+
+-- These parts are left to be finalized.
+abbrev pub IsEnding : List TypeDefinition → List Object → List Task → List (Frame Value) → List Master → storage.Control → Type 0
+IsEnding types objects tasks k ms c =
+    (left : List storage.Forest) × Ends (shapes_of types) left tasks × (c ≡ with_left left (control_seen types objects k ms))
+
+-- What is under way.
+abbrev pub IsUnderWay : List TypeDefinition → List Object → List (Frame Value) → List Master → storage.Control → Type 0
+IsUnderWay types objects (frame.Treats v (begins by) tasks ∷ k) ms c = IsBegun types objects v by tasks k ms c
+IsUnderWay types objects (frame.Treats v (ends cause) tasks ∷ k) ms c =
+    IsEnding types objects tasks k ms c ⊎ IsFailing types objects v cause tasks k ms c
+IsUnderWay types objects (frame.Ends v ∷ k) ms c = IsEnding types objects [] k ms c
+IsUnderWay types objects k ms c = c ≡ control_seen types objects k ms
+
+-- The controlled parts of an object, by its type (7.6).
+abbrev pub forest_seen : List TypeDefinition → Option Object → storage.Forest
+forest_seen types None = storage.none
+forest_seen types (Some object) = forest_for (shapes_of types) (number_reached types object.cell.access)
 
 -- How many of its values have been finalized.
 abbrev pub turn_of : Option PartState → ℕ

@@ -1,6 +1,7 @@
 //! The runs of programs follow storage. Each function does nothing, and its contract is the theorem.
 
-ghost use Rattle.ada_following.specs.Example.{AControlledObjectIsFollowed, ADeclaredObjectIsFreed, BlocksAreFollowed};
+ghost use Rattle.ada_following.specs.Example.{AControlledObjectIsFollowed, ADeclaredObjectIsFreed, AnAssignmentIsFollowed};
+ghost use Rattle.ada_following.specs.Example.{BlocksAreFollowed};
 ghost use Rattle.ada_following.specs.Law.{RunsFollowStorage, RunsAreShown, SafeRunsAreRead, NoneIsFreed};
 ghost use Rattle.ada_following.specs.Law.{NothingAfterBack, LeavesInReverse, FinalizedOnce, BornBefore};
 ghost use Rattle.ada_following.specs.Law.{FinalizedByBack, AllFinalized};
@@ -69,6 +70,11 @@ pub fn blocks_are_followed()
 /// Nor are those of values: a run of a program with a controlled object is followed, which is initialized and finalized.
 pub fn a_controlled_object_is_followed()
     ensures { AControlledObjectIsFollowed }
+{}
+
+/// Nor are those of assignments: a run of a program is followed that assigns one controlled object to another.
+pub fn an_assignment_is_followed()
+    ensures { AnAssignmentIsFollowed }
 {}
 
 /// One exception is needed: there is a program that frees an object that it declares.

@@ -1,6 +1,6 @@
 -- Turns that leave nothing open, and treatments that go on.
 
-use Rattle.std.proofs.Common.{◌≡◌, ℕ, suc, Bool, true, false, List, [], ◌∷◌, length, map, Option, Some, None, Result, Ok, Err, refl, sym, ap, ◌∙◌, inl, inr}
+use Rattle.std.proofs.Common.{◌≡◌, ℕ, suc, true, false, List, [], ◌∷◌, length, Option, Some, None, Result, Ok, Err, refl, sym, ap, ◌∙◌, inl, inr}
 use Rattle.std.proofs.Math.ListN.{set}
 use Rattle.std.specs.Prelude.{◌==◌}
 use Rattle.std.specs.List.{slice_get}
@@ -20,7 +20,7 @@ use Rattle.ada_meaning.specs.Named.{State, Next, Object, object_at, changed, exi
 use Rattle.ada_interpreter.specs.declared.turn.Turn.{Turn}
 use Rattle.ada_interpreter.specs.declared.turn.Turn.TheVariants.{Halts, Moves, Tells, Asks, Picks, PicksComponent}
 use Rattle.ada_interpreter.specs.Objects.{part_in, part_at, with_part_state}
-use Rattle.ada_interpreter.specs.Process.{shown, Shows, IsTurn, IsTurnOf, Turns, TurnsOf}
+use Rattle.ada_interpreter.specs.Process.{shown, Shows, Turns, TurnsOf}
 
 -- a turn that leaves nothing open is one, whatever the types are
 shown_of : (types : List TypeDefinition) (coming : Next) (turn : Turn) (after : State) → Shows turn after coming → shown types turn after ≡ coming

@@ -8,6 +8,8 @@ pub mod Objects
 pub mod Activations
 -- masters, and their items on one stack
 pub mod Masters
+-- the record types that have controlled parts, in a table by their numbers
+pub mod Loaded
 -- the state of a run in progress, and what a turn of it does
 pub mod Process
 -- values that expressions have at once

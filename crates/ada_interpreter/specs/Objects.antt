@@ -6,7 +6,7 @@ use Rattle.ada_meaning.specs.declared.state.Id.{Id}
 use Rattle.ada_meaning.specs.declared.state.Value.{Value}
 use Rattle.ada_meaning.specs.declared.state.Stage.TheVariants.{Gone}
 use Rattle.ada_meaning.specs.Heap.{Home, PartState, Cell, Found, on_null, on_gone, on_other, finds}
-use Rattle.ada_meaning.specs.Named.{Object, object_at, seen, is_member, members_of}
+use Rattle.ada_meaning.specs.Named.{Object, object_at, seen, is_member, members_of, inside}
 use Rattle.ada_interpreter.specs.declared.objects.Home.{Home as HeldHome}
 use Rattle.ada_interpreter.specs.declared.objects.Cell.{Cell as HeldCell}
 use Rattle.ada_interpreter.specs.declared.objects.Object.{Object as HeldObject}
@@ -120,6 +120,11 @@ part_at objects o part = part_in (seen (object_at objects o)) part
 -- An object once one of its controlled parts has another state (7.6, 7.6.1).
 abbrev pub with_part_state : (part : ℕ) → PartState → Object → Object
 with_part_state part state object = record object { cell = record (object.cell) { parts = slice_set object.cell.parts part state } }
+
+-- The number that a component has in the object to which these selectors lead from a value (4.1.3, 6.2): where there are none, it is that of the value.
+abbrev pub first_in : Value → (selectors : List ℕ) → (component : ℕ) → ℕ
+first_in v [] c = inside v c
+first_in v (d ∷ ds) c = c
 
 -- Entries are taken away, none of them a member's.
 pub record Trims (objects : List Object) (item : ℕ) (before after : List Id) : Type 0 where

@@ -5,7 +5,6 @@ use Rattle.std.specs.Option.{option_copied}
 use Rattle.std.specs.declared.alloc.AllocError.{AllocError}
 use Rattle.ada_program.specs.Form.{component_number, path_form, record_path_form, reads, value_of, actual_form, expression_form, links_form, item_form, right_form, initial_form, condition_form, stmts_form, branches_form, handlers_form, declaration_form}
 use Rattle.ada_program.specs.ProgramForm.{body_form}
-use Rattle.ada_parts.specs.Task.{taken as taken_task}
 use Rattle.ada_program.specs.Controlled.{shapes_of}
 use Rattle.ada_program.specs.declared.program.TypeDefinition.{TypeDefinition}
 use Rattle.ada_program.specs.declared.program.Exception.TheVariants.{ConstraintError}
@@ -19,7 +18,7 @@ use Rattle.ada_meaning.specs.Frame as frame
 use Rattle.ada_meaning.specs.Event.{Quiet, Followed, Allocate, event_of, request_of}
 use Rattle.ada_meaning.specs.Heap.{Cell, Found, on_null, on_gone, on_other, finds}
 use Rattle.ada_meaning.specs.State.{home_of, pool_freed_to}
-use Rattle.ada_meaning.specs.Step.{halts, moves, tells, asks, picks, at, older, computed, raised, numbered, answered, taken, taken_out, finalizing, treated_on, direction_of}
+use Rattle.ada_meaning.specs.Step.{halts, moves, tells, asks, picks, at, older, computed, raised, numbered, answered, taken, taken_out, finalizing, treated_on, direction_of, picked_task}
 use Rattle.ada_meaning.specs.Named.{State, Next, named, look, members}
 use Rattle.ada_interpreter.specs.declared.frame.Frame.{Frame as HeldFrame}
 use Rattle.ada_interpreter.specs.declared.frame.Frame.TheVariants as held
@@ -57,7 +56,7 @@ frame_of (held.Names path) = frame.Evaluates (value_of (path_form path.now))
 frame_of (held.Follows selectors) = frame.Follows (map component_number selectors.now)
 frame_of (held.TestsNull equal) = frame.TestsNull equal
 frame_of (held.Refers path) = frame.Refers (record_path_form path.now)
-frame_of (held.RefersIn first record_type) = frame.RefersIn first.0 record_type.0
+frame_of (held.RefersIn place record_type) = frame.RefersIn place record_type.0
 frame_of (held.Opens path) = frame.Opens (path_form path.now)
 frame_of (held.OpensIn component) = frame.OpensIn component.0
 frame_of (held.Continues links) = frame.Continues (links_form links.now)
@@ -71,6 +70,7 @@ frame_of (held.Targets component right) = frame.Targets component.0 (right_form 
 frame_of (held.StoresIn object component) = frame.StoresIn object component.0
 frame_of (held.TargetsRecord first record_type items) = frame.TargetsRecord first.0 record_type.0 (map item_form items.now)
 frame_of (held.StoresRecord object first count) = frame.StoresRecord object first.0 count
+frame_of (held.Assigns record_type) = frame.Assigns record_type.0
 frame_of (held.Receives component) = frame.Receives component.0
 frame_of (held.FreesIn access component) = frame.FreesIn access.0 component.0
 frame_of (held.Declares variable) = frame.Declares variable.0
@@ -106,7 +106,7 @@ state_of p = record {
 -- The state once one of the components that are open has been picked, where this first of what is left to do, which is taken off in the first state, is a
 -- treatment (7.6, 7.6.1).
 abbrev pub picked_first : List TypeDefinition → (i : ℕ) → Frame ValueOf → (behind s : State) → State
-picked_first types i (frame.Treats v treatment tasks) behind s = treated_on named v treatment (taken_task (shapes_of types) (direction_of treatment) tasks i) behind
+picked_first types i (frame.Treats v treatment tasks) behind s = treated_on named v treatment (picked_task (shapes_of types) (direction_of treatment) tasks i) behind
 picked_first types i f behind s = s
 
 -- That of all that is left to do.

@@ -18,7 +18,7 @@ use crate::treatment::Treatment;
 use crate::turn::{Allocation, QUIET, Turn};
 use crate::values::initial_value;
 use ada_meaning::{Birth, Exception, Value};
-use ada_program::program::{ComponentKind, Item};
+use ada_program::program::{ComponentKind, ComponentNo, Item};
 use ada_program::{Program, TypeNo};
 use std::alloc::AllocError;
 
@@ -56,14 +56,12 @@ impl<'a> Process<'a> {
                 Ok(QUIET)
             }
             Item::Record(path) => {
-                let root = path.object.root;
-                let selectors = path.object.selectors.as_slice();
-                let first = self.number_in(root, selectors, path.first)?;
+                let place = self.place_in(path)?;
                 self.find(
-                    root,
-                    selectors,
+                    path.object.root,
+                    path.object.selectors.as_slice(),
                     Frame::Copies {
-                        first,
+                        first: ComponentNo(place.component),
                         record_type: path.record,
                     },
                     rest,

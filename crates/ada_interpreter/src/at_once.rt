@@ -140,7 +140,7 @@ fn variable_at_once(places: &[Value], path: &Path) -> Option<Scalar>
         | Value::Names(_)
         | Value::Part {
             object: _,
-            first: _,
+            place: _,
         } => None,
     }
 }
@@ -158,7 +158,7 @@ fn test_at_once(places: &[Value], path: &Path, equal: bool) -> Option<Scalar>
         Value::Names(_)
         | Value::Part {
             object: _,
-            first: _,
+            place: _,
         } => Some(Scalar::Boolean(!equal)),
         Value::Scalar(_) => None,
     }

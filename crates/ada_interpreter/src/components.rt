@@ -126,7 +126,7 @@ impl<'a> Process<'a> {
             Value::Scalar(_)
             | Value::Part {
                 object: _,
-                first: _,
+                place: _,
             } => { Ok(Turn::Halts(Halt::Stuck)) }
             Value::Names(object) => self.target_object(object, component, right),
         }
@@ -214,7 +214,7 @@ impl<'a> Process<'a> {
             Value::Scalar(_)
             | Value::Part {
                 object: _,
-                first: _,
+                place: _,
             } => Turn::Halts(Halt::Stuck),
             Value::Names(object) => self.receive_in_object(object, component),
         }

@@ -148,9 +148,9 @@ impl<'a> Process<'a> {
                 Frame::Follows(selectors) => self.follow(selectors),
                 Frame::TestsNull { equal } => self.test_null(equal),
                 Frame::Refers(path) => self.refer(path),
-                Frame::RefersIn { first, record_type } => self.refer_in(
+                Frame::RefersIn { place, record_type } => self.refer_in(
                     loaded.program,
-                    first,
+                    place,
                     record_type,
                 ),
                 Frame::Opens(path) => self.open(path),
@@ -184,6 +184,7 @@ impl<'a> Process<'a> {
                     first,
                     count,
                 } => Ok(self.store_record(object, first, count)),
+                Frame::Assigns(record_type) => self.assign_parts(loaded, record_type),
                 Frame::Receives(component) => Ok(self.receive(component)),
                 Frame::FreesIn { access, component } => self.free_in(loaded, access, component),
                 Frame::Declares(variable) => self.create(variable),

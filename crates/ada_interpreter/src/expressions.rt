@@ -1,19 +1,20 @@
 //! Paths and expressions: each step evaluates one part of them.
 
 ghost use Rattle.std.specs.Prelude.{◌≡◌, ◌+◌, map, IfOk, OnOk};
-ghost use Rattle.ada_program.specs.Form.{component_number, path_form, expression_form};
+ghost use Rattle.ada_program.specs.Form.{component_number, path_form, record_path_form, expression_form};
 ghost use Rattle.ada_meaning.specs.Event.{Quiet, event_of};
 ghost use Rattle.ada_meaning.specs.Frame as frame;
 ghost use Rattle.ada_meaning.specs.Step as step;
 ghost use Rattle.ada_meaning.specs.Named.{State, named, look, whole};
+ghost use Rattle.ada_interpreter.specs.Objects.{first_in};
 ghost use Rattle.ada_interpreter.specs.Process.{frame_of, state_of, passed, replaced, pushed, Turns, behind, going_by, outcome_of};
 
 use crate::frame::Frame;
 use crate::process::Process;
 use crate::turn::{QUIET, Turn};
-use crate::values::{first_in, values_behind, whole};
-use ada_meaning::{Event, Exception, Halt, Id, Value, Why};
-use ada_program::program::{ComponentNo, Expression};
+use crate::values::{first_in, place_in, values_behind, whole};
+use ada_meaning::{Event, Exception, Halt, Id, Place, Value, Why};
+use ada_program::program::{ComponentNo, Expression, RecordPath};
 use ada_program::{Path, VariableNo};
 use ada_values::Value as Scalar;
 use std::alloc::AllocError;
@@ -165,7 +166,7 @@ impl<'a> Process<'a> {
                 Value::Scalar(_)
                 | Value::Part {
                     object: _,
-                    first: _,
+                    place: _,
                 } => Err(Halt::Stuck),
                 Value::Names(object) => self.component(object, *first, rest),
             },
@@ -189,8 +190,8 @@ impl<'a> Process<'a> {
                 Value::Null => Ok(Outcome::Raises),
                 Value::Scalar(_) => Err(Halt::Stuck),
                 Value::Names(object) => self.component(object, *component, rest),
-                Value::Part { object, first } => {
-                    self.component_behind(object, first, *component, rest)
+                Value::Part { object, place } => {
+                    self.component_behind(object, place.component, *component, rest)
                 }
             },
         }
@@ -252,9 +253,18 @@ impl<'a> Process<'a> {
     ) -> Result<ComponentNo, AllocError>
         ensures { let v = step.held named (state_of self.now) variable.0 in
             IfOk result
-            (λ number. number.0 ≡ step.first_in named v (map component_number selectors.now) component.0) }
+            (λ number. number.0 ≡ first_in v (map component_number selectors.now) component.0) }
     {
         first_in(self.held(variable), selectors, component)
+    }
+
+    /// Where a record begins in the object to which its path leads (4.1, 6.2).
+    pub(crate) fn place_in(&self, path: &RecordPath) -> Result<Place, AllocError>
+        ensures { let form = record_path_form path.now in
+            let v = step.held named (state_of self.now) form.object.root in
+            IfOk result (λ place. place ≡ step.place_in named v form.object.selectors form) }
+    {
+        place_in(self.held(path.object.root), path)
     }
 
     /// The run goes on by an outcome.

@@ -9,7 +9,7 @@ ghost use Rattle.ada_interpreter.specs.Process.{frame_of, landing_of, asks_by};
 
 use crate::handling::{Landing, landing_among};
 use crate::treatment::Treated;
-use ada_meaning::{Cause, Exception, Mode, Value};
+use ada_meaning::{Cause, Exception, Mode, Place, Value};
 use ada_program::program::{
     Actual, Branch, ComponentNo, Declaration, Expression, Handler, Item, Link, Procedure,
     ProcedureNo, RecordPath, Right,
@@ -93,10 +93,10 @@ pub(crate) enum Frame<'a> {
     },
     /// The record to which a path leads is to be found: what refers to it becomes the newest operand (6.2).
     Refers(&'a RecordPath),
-    /// The newest operand gives access to an object in which a record of this type lies, from a component on: what refers
-    /// to the record becomes the newest operand (6.2).
+    /// The newest operand gives access to an object in which a record of this type lies at a place: what refers to the
+    /// record becomes the newest operand (6.2).
     RefersIn {
-        first: ComponentNo,
+        place: Place,
         record_type: TypeNo,
     },
     /// The component to which a path leads is to be found, for a formal parameter of mode `in out` (6.4.1).
@@ -149,6 +149,9 @@ pub(crate) enum Frame<'a> {
         first: ComponentNo,
         count: usize,
     },
+    /// The two newest operands refer to records of this type, which have controlled parts: the newest one is assigned to
+    /// the other (5.2, 7.6).
+    Assigns(TypeNo),
     /// The newest operand gives access to an object, whose component takes the next number of the input.
     Receives(ComponentNo),
     /// The newest operand gives access to an object, whose component is freed by the instance for this access type

@@ -65,7 +65,7 @@ impl<'a> Process<'a> {
             Value::Scalar(_)
             | Value::Part {
                 object: _,
-                first: _,
+                place: _,
             } => { Ok(Turn::Halts(Halt::Stuck)) }
             Value::Names(object) => self.free_object(loaded, access, object, variable, rest),
         }
@@ -117,7 +117,7 @@ impl<'a> Process<'a> {
             Value::Scalar(_)
             | Value::Part {
                 object: _,
-                first: _,
+                place: _,
             } => { Ok(Turn::Halts(Halt::Stuck)) }
             Value::Names(holder) => self.free_in_object(loaded, access, holder, component),
         }
@@ -172,7 +172,7 @@ impl<'a> Process<'a> {
             Value::Scalar(_)
             | Value::Part {
                 object: _,
-                first: _,
+                place: _,
             } => { Ok(Turn::Halts(Halt::Stuck)) }
             Value::Names(object) => self.free_component_object(
                 loaded, access, holder, component, object,

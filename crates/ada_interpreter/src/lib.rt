@@ -5,16 +5,18 @@
 //! one request at most, and takes the newest member; [`Listed`] follows a list of answers.
 //!
 //! A step costs constant time, whatever the program has allocated and entered: a collection knows its members and its
-//! pool, an object its collection, an access type its newest open collection, and a declaration of a pool the newest pool
-//! of it. An exception looks at the handlers that it comes to,
+//! pool, an object its collection, an access type its newest open collection, a declaration of a pool the newest pool of it,
+//! and a table the record types that have controlled parts. An exception looks at the handlers that it comes to,
 //! the step that copies or fills a record costs as much as the record is long, the step that creates an object as much as it
-//! has controlled parts, the steps in which a call begins cost
+//! has controlled parts, the step that begins a treatment of controlled parts as much as the record has components that have
+//! some, the steps in which a call begins cost
 //! as much as it has actual parameters and its procedure has variables, and the step in which it ends costs as much as
 //! it has actual parameters. Once the machine's stacks have grown, a call takes no memory.
 #![tactic(auto)]
 
 mod activations;
 mod allocators;
+mod assignments;
 mod at_once;
 mod branches;
 mod calls;

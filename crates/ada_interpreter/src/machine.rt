@@ -1,6 +1,8 @@
 //! The machine: a run in progress, and who answers what it leaves open.
 
 ghost use Rattle.std.specs.Prelude.{◌≡◌, ◌⊎◌, ◌≤◌, ◌-◌, false, Some, None, Ok, Err, IfOk, IfErr, OnOk, OnErr, IfSome};
+ghost use Rattle.std.specs.Option.{option_copied};
+ghost use Rattle.ada_program.specs.Controlled.{type_numbered};
 ghost use Rattle.ada_meaning.specs.declared.event.Halt.TheVariants.{Memory};
 ghost use Rattle.ada_meaning.specs.State.{begins};
 ghost use Rattle.ada_meaning.specs.Run.{first_state};
@@ -13,7 +15,8 @@ use crate::loaded::Loaded;
 use crate::process::Process;
 use crate::turn::{Allocation, Leaving, Open, Turn};
 use ada_meaning::{Event, Halt, Request};
-use ada_program::Program;
+use ada_program::program::TypeDefinition;
+use ada_program::{Program, RecordNo};
 use std::alloc::{AllocError, Global};
 
 /// A machine that runs a program, step by step.
@@ -108,6 +111,15 @@ impl<'a, C: Choices + Drop> Machine<'a, C> {
                 Err(AllocError)
             }
         }
+    }
+
+    /// The record type that has a number among those that have controlled parts, as events tell it, if there is one. In a
+    /// well-formed program this costs constant time.
+    pub fn controlled_type(&self, number: RecordNo) -> Option<&'a TypeDefinition>
+        ensures { let types = (program_of self.now).types.items in
+            option_copied result ≡ type_numbered types number.0 }
+    {
+        self.loaded.controlled_type(number)
     }
 
     /// A step of a run that has not ended.

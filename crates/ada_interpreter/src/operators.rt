@@ -95,7 +95,7 @@ impl<'a> Process<'a> {
             Value::Scalar(_)
             | Value::Part {
                 object: _,
-                first: _,
+                place: _,
             } => { Ok(Turn::Halts(Halt::Stuck)) }
         }
     }

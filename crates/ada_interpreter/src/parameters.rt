@@ -12,7 +12,7 @@ use crate::frame::Frame;
 use crate::process::Process;
 use crate::turn::{QUIET, Turn};
 use crate::values::record_in;
-use ada_meaning::{Event, Exception, Halt, Id, Value, Why};
+use ada_meaning::{Event, Exception, Halt, Id, Place, Value, Why};
 use ada_program::program::{ComponentNo, RecordPath};
 use ada_program::{Path, Program, TypeNo};
 use std::alloc::AllocError;
@@ -23,17 +23,15 @@ impl<'a> Process<'a> {
         ensures { let s = passed (state_of self.old) in
             let form = record_path_form path.now in
             Turns
-            (step.record_holder_next named form (λ first. frame.RefersIn first form.record_type) s)
+            (step.record_holder_next named form (λ place. frame.RefersIn place form.record_type) s)
             (state_of self.old) result (state_of self.new) }
     {
-        let root = path.object.root;
-        let selectors = path.object.selectors.as_slice();
-        let first = self.number_in(root, selectors, path.first)?;
+        let place = self.place_in(path)?;
         self.read_then(
-            root,
-            selectors,
+            path.object.root,
+            path.object.selectors.as_slice(),
             Frame::RefersIn {
-                first,
+                place,
                 record_type: path.record,
             },
         )
@@ -44,13 +42,13 @@ impl<'a> Process<'a> {
     pub(crate) fn refer_in(
         &mut self,
         program: &Program,
-        first: ComponentNo,
+        place: Place,
         record_type: TypeNo,
     ) -> Result<Turn, AllocError>
         ensures { let s = passed (state_of self.old) in
             let v = step.newest named s in
             let count = width_of program.now.types.items record_type.0 in
-            Turns (step.refers_next named v first.0 count (look s.heap v) (step.popped s))
+            Turns (step.refers_next named v place count (look s.heap v) (step.popped s))
             (state_of self.old) result (state_of self.new) }
     {
         match self.newest() {
@@ -62,10 +60,10 @@ impl<'a> Process<'a> {
             Value::Scalar(_)
             | Value::Part {
                 object: _,
-                first: _,
+                place: _,
             } => { Ok(Turn::Halts(Halt::Stuck)) }
             Value::Names(object) => {
-                self.refer_in_object(object, first, program.width(record_type))
+                self.refer_in_object(object, place, program.width(record_type))
             }
         }
     }
@@ -74,25 +72,22 @@ impl<'a> Process<'a> {
     fn refer_in_object(
         &mut self,
         object: Id,
-        first: ComponentNo,
+        place: Place,
         count: usize,
     ) -> Result<Turn, AllocError>
         ensures { let s = passed (state_of self.old) in
             let v = Value.Names object in
-            Turns (step.refers_next named v first.0 count (look s.heap v) (step.popped s))
+            Turns (step.refers_next named v place count (look s.heap v) (step.popped s))
             (state_of self.old) result (state_of self.new) }
     {
         let Some(cell) = self.objects.existing(object) else {
             return Ok(Turn::Halts(Halt::Erroneous(Why::FollowsGone)));
         };
-        match record_in(cell.values.as_slice(), first.0, count) {
+        match record_in(cell.values.as_slice(), place.component, count) {
             None => Ok(Turn::Halts(Halt::Stuck)),
             Some(_) => {
                 self.pop();
-                self.give(Value::Part {
-                    object,
-                    first: first.0,
-                })?;
+                self.give(Value::Part { object, place })?;
                 Ok(Turn::Moves(Event::Followed { object }))
             }
         }
@@ -130,7 +125,7 @@ impl<'a> Process<'a> {
             Value::Scalar(_)
             | Value::Part {
                 object: _,
-                first: _,
+                place: _,
             } => { Ok(Turn::Halts(Halt::Stuck)) }
             Value::Names(object) => self.open_in_object(object, component),
         }
@@ -154,7 +149,10 @@ impl<'a> Process<'a> {
                 self.pop();
                 self.give(Value::Part {
                     object,
-                    first: component.0,
+                    place: Place {
+                        component: component.0,
+                        part: 0,
+                    },
                 })?;
                 self.keep(value)?;
                 Ok(Turn::Moves(Event::Followed { object }))

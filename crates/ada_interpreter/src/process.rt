@@ -32,7 +32,7 @@ pub(crate) struct Process<'a> {
     pub(crate) next: u64,
     /// How many objects have been allocated. Declared ones are not counted.
     pub(crate) allocated: u64,
-    /// How many controlled values have been born. No program has one yet.
+    /// How many controlled values have been born.
     pub(crate) born: u64,
 }
 

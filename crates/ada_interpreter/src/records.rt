@@ -46,7 +46,7 @@ impl<'a> Process<'a> {
             Value::Scalar(_)
             | Value::Part {
                 object: _,
-                first: _,
+                place: _,
             } => { Ok(Turn::Halts(Halt::Stuck)) }
             Value::Names(object) => self.copy_from(object, first, program.width(record_type)),
         }
@@ -78,8 +78,9 @@ impl<'a> Process<'a> {
         }
     }
 
-    /// An assignment to a record (5.2): the object in which it lies is found before the items are evaluated.
-    pub(crate) fn assign_record(
+    /// An assignment to a record without controlled parts (5.2): the object in which it lies is found before the items are
+    /// evaluated.
+    pub(crate) fn assign_components(
         &mut self,
         target: &'a RecordPath,
         items: &'a [Item],
@@ -89,17 +90,15 @@ impl<'a> Process<'a> {
             let form = record_path_form target.now in
             let forms = map item_form items.now in
             Turns
-            (step.record_holder_next named form (λ first. frame.TargetsRecord first form.record_type forms) s)
+            (step.record_holder_next named form (λ place. frame.TargetsRecord place.component form.record_type forms) s)
             (state_of self.old) result (state_of self.new) }
     {
-        let root = target.object.root;
-        let selectors = target.object.selectors.as_slice();
-        let first = self.number_in(root, selectors, target.first)?;
+        let place = self.place_in(target)?;
         self.find(
-            root,
-            selectors,
+            target.object.root,
+            target.object.selectors.as_slice(),
             Frame::TargetsRecord {
-                first,
+                first: ComponentNo(place.component),
                 record_type: target.record,
                 items,
             },
@@ -132,7 +131,7 @@ impl<'a> Process<'a> {
             Value::Scalar(_)
             | Value::Part {
                 object: _,
-                first: _,
+                place: _,
             } => { Ok(Turn::Halts(Halt::Stuck)) }
             Value::Names(object) => {
                 self.target_record_in(object, first, program.width(record_type), items)
@@ -206,7 +205,7 @@ impl<'a> Process<'a> {
         }
     }
 
-    /// A record object is created, and the newest operands are its components (3.3.1).
+    /// A record object is created as a copy, and the newest operands are its components (3.3.1).
     pub(crate) fn declare_record(
         &mut self,
         loaded: &Loaded<'a>,
@@ -218,12 +217,12 @@ impl<'a> Process<'a> {
             let count = words_of types object.0 in
             let values = step.newest_ones named count s in
             Turns
-            (step.moves Quiet (step.made named types variable.0 object.0 values (step.without_newest named count s)))
+            (step.moves Quiet (step.made named types variable.0 object.0 Birth.Copy values (step.without_newest named count s)))
             (state_of self.old) result (state_of self.new) }
     {
         self.pass();
         let values = self.activations.take(loaded.program.words(object))?;
-        self.make(loaded, variable, object, values)?;
+        self.make(loaded, variable, object, Birth::Copy, values)?;
         Ok(QUIET)
     }
 
@@ -237,33 +236,34 @@ impl<'a> Process<'a> {
         ensures { let types = loaded.now.program.now.types.items in
             let values = step.initial_values named (reached_of types object.0) in
             OnOk result
-            (state_of self.new ≡ step.made named types variable.0 object.0 values (state_of self.old)) }
+            (state_of self.new ≡ step.made named types variable.0 object.0 Birth.Creation values (state_of self.old)) }
     {
         let components = match loaded.program.components(object) {
             Some(components) => components,
             None => &[],
         };
         let values = self.objects.initial_values(components)?;
-        self.make(loaded, variable, object, values)
+        self.make(loaded, variable, object, Birth::Creation, values)
     }
 
     /// A record object is created, whose components hold these values (3.3.1): its variable holds its name, and the
-    /// innermost master owns it. Its controlled parts are initialized next (7.6).
+    /// innermost master owns it. Its controlled parts are initialized next, or adjusted, where it is a copy (7.6).
     fn make(
         &mut self,
         loaded: &Loaded<'a>,
         variable: VariableNo,
         object: TypeNo,
+        by: Birth,
         values: Vec<Value>,
     ) -> Result<(), AllocError>
         ensures { let types = loaded.now.program.now.types.items in OnOk result
-            (state_of self.new ≡ step.made named types variable.0 object.0 values.items (state_of self.old)) }
+            (state_of self.new ≡ step.made named types variable.0 object.0 by values.items (state_of self.old)) }
     {
         let item = self.masters.height();
         let parts = loaded.new_parts(object)?;
         let name = self.objects.create_declared(object, item, values, parts)?;
         self.put(variable, Value::Names(name));
         self.masters.own(Owned::Record(object))?;
-        self.begin_treatment(loaded, name, object, Treatment::Begins(Birth::Creation))
+        self.begin_treatment(loaded, name, object, Treatment::Begins(by))
     }
 }

@@ -143,7 +143,9 @@ impl<'a> Process<'a> {
                 Ok(QUIET)
             }
             Stmt::Assign { target, value } => self.assign(target, value, rest),
-            Stmt::AssignRecord { target, items } => self.assign_record(target, items, rest),
+            Stmt::AssignRecord { target, items } => {
+                self.assign_record(loaded.program, target, items.as_slice(), rest)
+            }
             Stmt::Free { access, path } => self.free(loaded, *access, path, rest),
             Stmt::Get(target) => self.get(target, rest),
             Stmt::PutImage(expression) => {

@@ -18,13 +18,12 @@ use crate::process::Process;
 use crate::treatment::{Treated, Treatment};
 use crate::turn::{Open, QUIET, Turn};
 use ada_meaning::{Birth, Cause, Controlled, Event, Halt, Id, Value, Why};
-use ada_parts::Next;
-use ada_program::TypeNo;
-use std::alloc::AllocError;
+use ada_parts::{Next, Tasks};
+use ada_program::{RecordNo, TypeNo};
+use std::alloc::{AllocError, Global};
 
 impl<'a> Process<'a> {
     /// The controlled parts of an object are treated before all else that is left to do, if it has some (7.6, 7.6.1).
-    #[tactic(auto, using(crate::proofs::TurnLemmas::treating_none, crate::proofs::TurnLemmas::treating_some))]
     pub(crate) fn begin_treatment(
         &mut self,
         loaded: &Loaded<'a>,
@@ -37,6 +36,39 @@ impl<'a> Process<'a> {
             OnOk result (state_of self.new ≡ step.treated_on named (Value.Names object) form tasks s) }
     {
         let tasks = loaded.tasks(access, treatment.direction())?;
+        self.treat_first(loaded.alloc, object, treatment, tasks)
+    }
+
+    /// The same of a record that lies in an object, where its first part has this number.
+    pub(crate) fn begin_record_treatment(
+        &mut self,
+        loaded: &Loaded<'a>,
+        object: Id,
+        record_type: TypeNo,
+        first: usize,
+        treatment: Treatment,
+    ) -> Result<(), AllocError>
+        ensures { let s = state_of self.old in let form = treatment_form treatment in
+            let types = loaded.now.program.now.types.items in
+            let tasks = step.record_tasks types record_type.0 (step.direction_of form) first in
+            OnOk result (state_of self.new ≡ step.treated_on named (Value.Names object) form tasks s) }
+    {
+        let tasks = loaded.record_tasks(record_type, treatment.direction(), first)?;
+        self.treat_first(loaded.alloc, object, treatment, tasks)
+    }
+
+    /// A treatment comes before all else that is left to do, if anything is to be done in it.
+    #[tactic(auto, using(crate::proofs::TurnLemmas::treating_none, crate::proofs::TurnLemmas::treating_some))]
+    fn treat_first(
+        &mut self,
+        alloc: Global,
+        object: Id,
+        treatment: Treatment,
+        tasks: Tasks,
+    ) -> Result<(), AllocError>
+        ensures { let s = state_of self.old in let form = treatment_form treatment in
+            OnOk result (state_of self.new ≡ step.treated_on named (Value.Names object) form tasks s) }
+    {
         if tasks.is_empty() {
             return Ok(());
         }
@@ -45,7 +77,7 @@ impl<'a> Process<'a> {
             treatment,
             tasks,
         };
-        self.push(Frame::Treats(Box::new(loaded.alloc, treated)?))
+        self.push(Frame::Treats(Box::new(alloc, treated)?))
     }
 
     /// What is left of a treatment goes on, if anything is.
@@ -131,7 +163,7 @@ impl<'a> Process<'a> {
                 part,
                 turn: state.turn,
             },
-            record: TypeNo(of),
+            record: RecordNo(of),
             number,
             by,
         }))
@@ -169,7 +201,7 @@ impl<'a> Process<'a> {
                 part,
                 turn: state.turn,
             },
-            record: TypeNo(of),
+            record: RecordNo(of),
             number: state.number,
             cause,
         }))

@@ -3,13 +3,13 @@
 ghost use Rattle.std.specs.Prelude.{◌≡◌, take, drop, map, IfOk};
 ghost use Rattle.std.specs.List.{slice_index_or, slice_set};
 ghost use Rattle.std.specs.Option.{option_copied};
-ghost use Rattle.ada_program.specs.Form.{component_number};
-ghost use Rattle.ada_meaning.specs.Step.{initial_value, record_in, first_in};
-ghost use Rattle.ada_meaning.specs.Named.{named, reads_boolean, reads_integer, whole, base, inside};
-ghost use Rattle.ada_interpreter.specs.Objects.{set_from};
+ghost use Rattle.ada_program.specs.Form.{component_number, record_path_form};
+ghost use Rattle.ada_meaning.specs.Step.{initial_value, record_in, place_in};
+ghost use Rattle.ada_meaning.specs.Named.{named, reads_boolean, reads_integer, whole, base, inside, part_inside};
+ghost use Rattle.ada_interpreter.specs.Objects.{set_from, first_in};
 
-use ada_meaning::Value;
-use ada_program::program::{ComponentKind, ComponentNo};
+use ada_meaning::{Place, Value};
+use ada_program::program::{ComponentKind, ComponentNo, RecordPath};
 use ada_values::Value as Scalar;
 use std::alloc::{AllocError, Global};
 
@@ -85,7 +85,7 @@ pub(crate) fn whole(value: Value) -> Value
     ensures { result ≡ whole value }
 {
     match value {
-        Value::Part { object, first: _ } => Value::Names(object),
+        Value::Part { object, place: _ } => Value::Names(object),
         Value::Null | Value::Names(_) | Value::Scalar(_) => value,
     }
 }
@@ -95,7 +95,7 @@ pub(crate) fn base(value: Value) -> ComponentNo
     ensures { result.0 ≡ base value }
 {
     match value {
-        Value::Part { object: _, first } => ComponentNo(first),
+        Value::Part { object: _, place } => ComponentNo(place.component),
         Value::Null | Value::Names(_) | Value::Scalar(_) => ComponentNo(0),
     }
 }
@@ -106,11 +106,46 @@ pub(crate) fn inside(value: Value, component: ComponentNo) -> Result<ComponentNo
     ensures { IfOk result (λ number. number.0 ≡ inside value component.0) }
 {
     match value {
-        Value::Part { object: _, first } => match first.checked_add(component.0) {
+        Value::Part { object: _, place } => match place.component.checked_add(component.0) {
             Some(number) => Ok(ComponentNo(number)),
             None => Err(AllocError),
         },
         Value::Null | Value::Names(_) | Value::Scalar(_) => Ok(component),
+    }
+}
+
+/// The number that a controlled part has in the object of a value, which may refer to a record that lies in it (6.2, 7.6). Fails
+/// where that is past every number.
+pub(crate) fn part_inside(value: Value, part: usize) -> Result<usize, AllocError>
+    ensures { IfOk result (λ number. number ≡ part_inside value part) }
+{
+    match value {
+        Value::Part { object: _, place } => match place.part.checked_add(part) {
+            Some(number) => Ok(number),
+            None => Err(AllocError),
+        },
+        Value::Null | Value::Names(_) | Value::Scalar(_) => Ok(part),
+    }
+}
+
+/// Where a record begins in the object to which its path leads from a value: in that of the value, where nothing is selected
+/// behind it (6.2).
+pub(crate) fn place_in(value: Value, path: &RecordPath) -> Result<Place, AllocError>
+    ensures { let form = record_path_form path.now in
+        IfOk result (λ place. place ≡ place_in named value form.object.selectors form) }
+{
+    if path.object.selectors.is_empty() {
+        let component = inside(value, path.first)?;
+        let part = part_inside(value, path.part.0)?;
+        Ok(Place {
+            component: component.0,
+            part,
+        })
+    } else {
+        Ok(Place {
+            component: path.first.0,
+            part: path.part.0,
+        })
     }
 }
 
@@ -122,7 +157,7 @@ pub(crate) fn first_in(
     component: ComponentNo,
 ) -> Result<ComponentNo, AllocError>
     ensures { IfOk result
-        (λ number. number.0 ≡ first_in named value (map component_number selectors.now) component.0) }
+        (λ number. number.0 ≡ first_in value (map component_number selectors.now) component.0) }
 {
     if selectors.is_empty() {
         inside(value, component)

@@ -7,10 +7,11 @@ use Rattle.ada_program.specs.Form.{RecordPathForm, ExpressionForm, integer, bool
 use Rattle.ada_parts.specs.declared.tasks.Next.{Next as Follows}
 use Rattle.ada_parts.specs.declared.tasks.Next.TheVariants.{Done, Pick, Perform}
 use Rattle.ada_parts.specs.Shape.{Shape as TypeShape}
-use Rattle.ada_parts.specs.Task.{Task, performed, taken as taken_task}
+use Rattle.ada_parts.specs.Task.{Task, performed}
 use Rattle.ada_values.specs.declared.operator.BinaryOperator.{BinaryOperator}
 use Rattle.ada_values.specs.declared.fault.OperatorFault.{OperatorFault}
 use Rattle.ada_values.specs.declared.fault.OperatorFault.TheVariants.{Overflow, DivisionByZero, WrongType}
+use Rattle.ada_meaning.specs.declared.state.Place.{Place}
 use Rattle.ada_meaning.specs.declared.state.Value.{Value}
 use Rattle.ada_meaning.specs.declared.event.Cause.{Cause}
 use Rattle.ada_meaning.specs.declared.event.Halt.TheVariants.{Erroneous, Stuck}
@@ -21,7 +22,7 @@ use Rattle.ada_meaning.specs.Frame.{Treatment, Frame, is_master, Landing, passes
 use Rattle.ada_meaning.specs.Frame as frame
 use Rattle.ada_meaning.specs.State.{Activation, Destination}
 use Rattle.ada_meaning.specs.Heap.{PartState, Cell, Found, on_null, on_gone, on_other, finds}
-use Rattle.ada_meaning.specs.Step.{direction_of, treated_on, born_next, finalized_next, performed_next, treats_next, same_pool, told_back, record_in, copied_next, copies_next, halts, moves, tells, asks, picks, at, older, places_of, operands, with_places, with_operands, set_operands, popped, put, held, newest, reading, component_next, follow_next, path_next, selected, named_next, holder_next, first_in, record_holder_next, before_last, last_of, expression_next, null_test_next, is_decided, link_next, links_next, outcome_next, item_next, items_next, answered, new_next, right_next, free_next, end_next, given_back, back_next}
+use Rattle.ada_meaning.specs.Step.{direction_of, picked_task, treated_on, born_next, finalized_next, performed_next, treats_next, same_pool, told_back, record_in, copied_next, copies_next, halts, moves, tells, asks, picks, at, older, places_of, operands, with_places, with_operands, set_operands, popped, put, held, newest, reading, component_next, follow_next, path_next, selected, named_next, holder_next, place_in, record_holder_next, before_last, last_of, expression_next, null_test_next, is_decided, link_next, links_next, outcome_next, item_next, items_next, answered, new_next, right_next, free_next, end_next, given_back, back_next}
 use Rattle.ada_meaning.specs.Named.{State, Next, named, whole, inside, look, reads_boolean, on_object, returned, finalize}
 use Rattle.ada_meaning.specs.Run.{Event}
 
@@ -106,10 +107,10 @@ holder_keeps c cs x frame_of s h =
     path_keeps (before_last first cs) (whole (held named s x)) (at (frame_of (last_of first cs) ∷ s.control) s) h
 
 pub record_holder_keeps :
-    {w : Shape} (p : RecordPathForm) (frame_of : ℕ → Frame Value) (s : State) → shape s.activations ≡ w → Keeps w (record_holder_next named p frame_of s)
+    {w : Shape} (p : RecordPathForm) (frame_of : Place → Frame Value) (s : State) → shape s.activations ≡ w → Keeps w (record_holder_next named p frame_of s)
 record_holder_keeps p frame_of s h =
     let v = held named s p.object.root in
-    path_keeps (selected named v p.object.selectors) (whole v) (at (frame_of (first_in named v p.object.selectors p.first) ∷ s.control) s) h
+    path_keeps (selected named v p.object.selectors) (whole v) (at (frame_of (place_in named v p.object.selectors p) ∷ s.control) s) h
 
 pub expression_keeps : {w : Shape} (e : ExpressionForm) (s : State) → shape s.activations ≡ w → Keeps w (expression_next named e s)
 expression_keeps (integer i) s h = operands_kept _ s h
@@ -145,7 +146,7 @@ pub item_keeps : {w : Shape} (item : ItemForm) (s : State) → shape s.activatio
 item_keeps null_item s h = operands_kept _ s h
 item_keeps (item_of_path path) s h = named_keeps path.selectors path.root s h
 item_keeps (item_of_value e) s h = h
-item_keeps (item_of_record p) s h = record_holder_keeps p (λ first. frame.Copies first p.record_type) s h
+item_keeps (item_of_record p) s h = record_holder_keeps p (λ place. frame.Copies place.component p.record_type) s h
 
 pub items_keep : {w : Shape} (items : List ItemForm) (s : State) → shape s.activations ≡ w → Keeps w (items_next named items s)
 items_keep [] s h = h
@@ -258,6 +259,6 @@ pub treats_keep :
     → Keeps w (treats_next named shapes v treatment tasks follows s)
 treats_keep shapes v treatment tasks Done s h = h
 treats_keep shapes v treatment tasks (Pick count) s h =
-    picked_keeps (count == 0) count (λ i. treated_on named v treatment (taken_task shapes (direction_of treatment) tasks i) s) (λ i. h)
+    picked_keeps (count == 0) count (λ i. treated_on named v treatment (picked_task shapes (direction_of treatment) tasks i) s) (λ i. h)
 treats_keep shapes v treatment tasks (Perform of part) s h =
     performed_keeps v treatment of part (look s.heap v) (treated_on named v treatment (performed tasks) s) h

@@ -11,6 +11,7 @@ use Rattle.ada_program.specs.ProgramForm.{VariableForm, BodyForm}
 use Rattle.ada_meaning.specs.declared.state.Id.{Id}
 use Rattle.ada_meaning.specs.declared.state.Mode.{Mode}
 use Rattle.ada_meaning.specs.declared.state.Mode.TheVariants.{Running, Raising, Exiting, Returning}
+use Rattle.ada_meaning.specs.declared.state.Place.{Place}
 use Rattle.ada_meaning.specs.declared.state.Value.{Value}
 use Rattle.ada_meaning.specs.declared.state.Value.TheVariants.{Names, Scalar, Part}
 use Rattle.ada_meaning.specs.Frame.{Frame}
@@ -406,67 +407,67 @@ module _ (a b : Activation Value) (spot : Spot) (u v : Value) (outer : List (Fra
       apart (first_held b u v (sym left ∙ returned.holds_on (subst EndsAbruptly (sym raises) tt)))
 
 -- Where the body ends normally, a component that is given gets something back at the place that was named before the call.
-module _ (o : Id) (c : ℕ) (rs : List Value) where
+module _ (o : Id) (place : Place) (rs : List Value) where
   stored_first :
-      (frames : List (Frame Value)) → AreStoredIn (Part o c ∷ rs) frames
-      → (later : List (Frame Value)) × (frames ≡ frame.StoresIn (Names o) c ∷ later) × AreStoredIn rs later
+      (frames : List (Frame Value)) → AreStoredIn (Part o place ∷ rs) frames
+      → (later : List (Frame Value)) × (frames ≡ frame.StoresIn (Names o) place.component ∷ later) × AreStoredIn rs later
   stored_first [] are = absurd are
-  stored_first (f ∷ later) are = (later, ap (λ (g : Frame Value). g ∷ later) (are.0 o c refl), are.1)
+  stored_first (f ∷ later) are = (later, ap (λ (g : Frame Value). g ∷ later) (are.0 o place refl), are.1)
 
 none_stored : (frames : List (Frame Value)) → AreStoredIn [] frames → frames ≡ []
 none_stored [] are = refl
 none_stored (f ∷ later) are = absurd are
 
-module _ (path : PathForm) (callee : Activation Value) (callers : Actives) (o : Id) (c : ℕ) (outer : List (Frame Value)) (before after : State) where
+module _ (path : PathForm) (callee : Activation Value) (callers : Actives) (o : Id) (place : Place) (outer : List (Frame Value)) (before after : State) where
   abbrev HasStoredOne : Type 0
-  HasStoredOne = HasReturned (in_out_component path ∷ []) (Part o c ∷ []) callee callers outer before after
+  HasStoredOne = HasReturned (in_out_component path ∷ []) (Part o place ∷ []) callee callers outer before after
 
-  stores_one : EndsNormally before.mode → HasStoredOne → after.control ≡ frame.StoresIn (Names o) c ∷ outer
+  stores_one : EndsNormally before.mode → HasStoredOne → after.control ≡ frame.StoresIn (Names o) place.component ∷ outer
   stores_one normal returned =
       let stores = returned.stores normal in
-      let one = stored_first o c [] stores.0 stores.1 in
-      let only = ap (λ (fs : List (Frame Value)). frame.StoresIn (Names o) c ∷ fs) (none_stored one.0 one.2) in
+      let one = stored_first o place [] stores.0 stores.1 in
+      let only = ap (λ (fs : List (Frame Value)). frame.StoresIn (Names o) place.component ∷ fs) (none_stored one.0 one.2) in
       stores.2 ∙ ap (λ (fs : List (Frame Value)). fs ++ outer) (one.1 ∙ only)
 
   -- Not a return that stores nothing.
   nothing_stored_refused : EndsNormally before.mode → after.control ≡ outer → HasStoredOne → ⊥
   nothing_stored_refused normal left returned =
-      let more : outer ≡ frame.StoresIn (Names o) c ∷ outer = sym left ∙ stores_one normal returned in
-      let long : length outer ≡ length (frame.StoresIn (Names o) c ∷ outer) = ap length more in
+      let more : outer ≡ frame.StoresIn (Names o) place.component ∷ outer = sym left ∙ stores_one normal returned in
+      let long : length outer ≡ length (frame.StoresIn (Names o) place.component ∷ outer) = ap length more in
       absurd (omega (arith, long))
 
   -- Nor one that stores in another object, or in another component.
-  other_object_refused : (p : Id) → p ≢ o → EndsNormally before.mode → after.control ≡ frame.StoresIn (Names p) c ∷ outer → HasStoredOne → ⊥
+  other_object_refused : (p : Id) → p ≢ o → EndsNormally before.mode → after.control ≡ frame.StoresIn (Names p) place.component ∷ outer → HasStoredOne → ⊥
   other_object_refused p apart normal left returned =
-      let same : frame.StoresIn (Names p) c ∷ outer ≡ frame.StoresIn (Names o) c ∷ outer = sym left ∙ stores_one normal returned in
+      let same : frame.StoresIn (Names p) place.component ∷ outer ≡ frame.StoresIn (Names o) place.component ∷ outer = sym left ∙ stores_one normal returned in
       apart (cc)
 
-  other_component_refused : (d : ℕ) → d ≢ c → EndsNormally before.mode → after.control ≡ frame.StoresIn (Names o) d ∷ outer → HasStoredOne → ⊥
+  other_component_refused : (d : ℕ) → d ≢ place.component → EndsNormally before.mode → after.control ≡ frame.StoresIn (Names o) d ∷ outer → HasStoredOne → ⊥
   other_component_refused d apart normal left returned =
-      let same : frame.StoresIn (Names o) d ∷ outer ≡ frame.StoresIn (Names o) c ∷ outer = sym left ∙ stores_one normal returned in
+      let same : frame.StoresIn (Names o) d ∷ outer ≡ frame.StoresIn (Names o) place.component ∷ outer = sym left ∙ stores_one normal returned in
       apart (cc)
 
   -- Nor one that evaluates the path once more.
   path_again_refused : (later : List (Frame Value)) → EndsNormally before.mode → after.control ≡ frame.Opens path ∷ later → HasStoredOne → ⊥
   path_again_refused later normal left returned =
-      let never : frame.Opens path ∷ later ≡ frame.StoresIn (Names o) c ∷ outer = sym left ∙ stores_one normal returned in
+      let never : frame.Opens path ∷ later ≡ frame.StoresIn (Names o) place.component ∷ outer = sym left ∙ stores_one normal returned in
       absurd (cc)
 
   -- Nor an exception that stores something.
-  raised_store_refused : (e : Exception) → before.mode ≡ Raising e → after.control ≡ frame.StoresIn (Names o) c ∷ outer → HasStoredOne → ⊥
+  raised_store_refused : (e : Exception) → before.mode ≡ Raising e → after.control ≡ frame.StoresIn (Names o) place.component ∷ outer → HasStoredOne → ⊥
   raised_store_refused e raises left returned =
-      let more : frame.StoresIn (Names o) c ∷ outer ≡ outer = sym left ∙ returned.passes (subst EndsAbruptly (sym raises) tt) in
-      let long : length (frame.StoresIn (Names o) c ∷ outer) ≡ length outer = ap length more in
+      let more : frame.StoresIn (Names o) place.component ∷ outer ≡ outer = sym left ∙ returned.passes (subst EndsAbruptly (sym raises) tt) in
+      let long : length (frame.StoresIn (Names o) place.component ∷ outer) ≡ length outer = ap length more in
       absurd (omega (arith, long))
 
 -- Two components that get something back in reverse order.
-module _ (path other : PathForm) (callee : Activation Value) (callers : Actives) (o : Id) (c d : ℕ) (outer : List (Frame Value)) (before after : State) where
+module _ (path other : PathForm) (callee : Activation Value) (callers : Actives) (o : Id) (place another : Place) (outer : List (Frame Value)) (before after : State) where
   reverse_stores_refused :
-      c ≢ d → EndsNormally before.mode → after.control ≡ frame.StoresIn (Names o) d ∷ frame.StoresIn (Names o) c ∷ outer
-      → HasReturned (in_out_component path ∷ in_out_component other ∷ []) (Part o c ∷ Part o d ∷ []) callee callers outer before after → ⊥
+      place.component ≢ another.component → EndsNormally before.mode → after.control ≡ frame.StoresIn (Names o) another.component ∷ frame.StoresIn (Names o) place.component ∷ outer
+      → HasReturned (in_out_component path ∷ in_out_component other ∷ []) (Part o place ∷ Part o another ∷ []) callee callers outer before after → ⊥
   reverse_stores_refused apart normal left returned =
       let stores = returned.stores normal in
-      let one = stored_first o c (Part o d ∷ []) stores.0 stores.1 in
-      let first : frame.StoresIn (Names o) d ∷ frame.StoresIn (Names o) c ∷ outer ≡ frame.StoresIn (Names o) c ∷ one.0 ++ outer =
+      let one = stored_first o place (Part o another ∷ []) stores.0 stores.1 in
+      let first : frame.StoresIn (Names o) another.component ∷ frame.StoresIn (Names o) place.component ∷ outer ≡ frame.StoresIn (Names o) place.component ∷ one.0 ++ outer =
       sym left ∙ stores.2 ∙ ap (λ (fs : List (Frame Value)). fs ++ outer) one.1 in
       apart (cc)

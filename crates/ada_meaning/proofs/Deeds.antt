@@ -12,11 +12,12 @@ use Rattle.ada_program.specs.Typed.{reached_of, words_of, width_of}
 use Rattle.ada_parts.specs.declared.tasks.Next.{Next as Follows}
 use Rattle.ada_parts.specs.declared.tasks.Next.TheVariants.{Done, Pick, Perform}
 use Rattle.ada_parts.specs.Shape.{Shape}
-use Rattle.ada_parts.specs.Task.{Task, performed, next as task_next, taken as taken_task}
+use Rattle.ada_parts.specs.Task.{Task, performed, next as task_next}
 use Rattle.ada_values.specs.declared.operator.BinaryOperator.{BinaryOperator}
 use Rattle.ada_values.specs.declared.fault.OperatorFault.{OperatorFault}
 use Rattle.ada_values.specs.declared.fault.OperatorFault.TheVariants.{Overflow, DivisionByZero, WrongType}
 use Rattle.ada_meaning.specs.declared.state.Id.{Id}
+use Rattle.ada_meaning.specs.declared.state.Place.{Place}
 use Rattle.ada_meaning.specs.declared.state.Value.{Value}
 use Rattle.ada_meaning.specs.declared.state.Value.TheVariants.{Null, Names, Scalar, Part}
 use Rattle.ada_meaning.specs.declared.state.Mode.{Mode}
@@ -31,8 +32,9 @@ use Rattle.ada_meaning.specs.Frame.{Treatment, Frame, is_master, Landing, passes
 use Rattle.ada_meaning.specs.Frame as frame
 use Rattle.ada_meaning.specs.State.{Owned, declared, collection, record_object, storage_pool, Item, Master, Destination, height, home_of, counted}
 use Rattle.ada_meaning.specs.Heap.{PartState, Cell, Found, on_null, on_gone, on_other, finds}
-use Rattle.ada_meaning.specs.Step.{direction_of, treated_on, born_next, finalized_next, performed_next, treats_next, taken_out, same_pool, told_back, record_cell, record_in, stored_from, newest_ones, without_newest, initial_values, copied_next, copies_next, record_target_next, record_stored_next, store_record_next, record_next, halts, moves, tells, asks, picks, at, popped, held, newest, reading, component_next, follow_next, path_next, selected, named_next, holder_next, first_in, record_holder_next, referred_next, refers_next, open_next, opened_next, opens_next, expression_next, null_test_next, is_decided, link_next, links_next, outcome_next, item_next, items_next, answered, new_next, new_cell, right_next, free_next, end_next, given_back, back_next, before_last, last_of, assign_next, target_next, stored_next, store_next, received_next, receive_next, frees_next, freed_next, free_component_next, free_in_next, branches_next, decided_next, turn_next, repeats_next, turned_next, count_turn_next, counts_next, ranges_next, gets_next, exit_next, exited_next, call_next, stmt_next, stmts_next, line_next, declaration_next, declarations_next, members_next, item_leave_next, master_leave_next, leave_next, frame_next, landed, pass_next, running_next, jump_next, mode_next}
+use Rattle.ada_meaning.specs.Step.{direction_of, picked_task, treated_on, born_next, finalized_next, performed_next, treats_next, taken_out, same_pool, told_back, record_cell, record_in, stored_from, newest_ones, without_newest, initial_values, copied_next, copies_next, record_target_next, record_stored_next, store_record_next, assigns_next, copy_next, record_assign_next, has_parts, record_next, halts, moves, tells, asks, picks, at, popped, held, newest, reading, component_next, follow_next, path_next, selected, named_next, holder_next, place_in, record_holder_next, referred_next, refers_next, open_next, opened_next, opens_next, expression_next, null_test_next, is_decided, link_next, links_next, outcome_next, item_next, items_next, answered, new_next, new_cell, right_next, free_next, end_next, given_back, back_next, before_last, last_of, assign_next, target_next, stored_next, store_next, received_next, receive_next, frees_next, freed_next, free_component_next, free_in_next, branches_next, decided_next, turn_next, repeats_next, turned_next, count_turn_next, counts_next, ranges_next, gets_next, exit_next, exited_next, call_next, stmt_next, stmts_next, line_next, declaration_next, declarations_next, members_next, item_leave_next, master_leave_next, leave_next, frame_next, landed, pass_next, running_next, jump_next, mode_next}
 use Rattle.ada_meaning.specs.Named.{bear, finalize, Object, State, Next, next, named, whole, inside, look, lent, lent_by, reads_boolean, reads_null, reads_integer, unary_given, binary_given, members, object_at, changed, on_object, new_object, parted, finished, returned, an_integer}
+use Rattle.ada_meaning.specs.Named as meaning
 use Rattle.ada_meaning.specs.Run.{Event, Choice, settled, grants, takes, Leads, Step}
 use Rattle.ada_meaning.specs.Law.{back_of}
 use Rattle.ada_meaning.proofs.Jumps.{unwound_to, unwound_by}
@@ -88,10 +90,10 @@ holder_does c cs x frame_of s =
     let first = inside (held named s x) c in
     path_does (before_last first cs) (whole (held named s x)) (at (frame_of (last_of first cs) ∷ s.control) s)
 
-record_holder_does : (p : RecordPathForm) (frame_of : ℕ → Frame Value) (s : State) → Does s.heap (record_holder_next named p frame_of s)
+record_holder_does : (p : RecordPathForm) (frame_of : Place → Frame Value) (s : State) → Does s.heap (record_holder_next named p frame_of s)
 record_holder_does p frame_of s =
     let v = held named s p.object.root in
-    path_does (selected named v p.object.selectors) (whole v) (at (frame_of (first_in named v p.object.selectors p.first) ∷ s.control) s)
+    path_does (selected named v p.object.selectors) (whole v) (at (frame_of (place_in named v p.object.selectors p) ∷ s.control) s)
 
 expression_does : (e : ExpressionForm) (s : State) → Does s.heap (expression_next named e s)
 expression_does (integer i) s = same refl refl
@@ -125,7 +127,7 @@ item_does : (item : ItemForm) (s : State) → Does s.heap (item_next named item 
 item_does null_item s = same refl refl
 item_does (item_of_path path) s = named_does path.selectors path.root s
 item_does (item_of_value e) s = same refl refl
-item_does (item_of_record p) s = record_holder_does p (λ first. frame.Copies first p.record_type) s
+item_does (item_of_record p) s = record_holder_does p (λ place. frame.Copies place.component p.record_type) s
 
 items_do : (items : List ItemForm) (s : State) → Does s.heap (items_next named items s)
 items_do [] s = same refl refl
@@ -196,7 +198,7 @@ back_does : (v : Value) (cause : Cause) (pool : Option ℕ) (s : State) → Does
 back_does Null cause pool s = tt
 back_does (Names o) cause pool s = lent_does o cause pool (object_at s.heap o) s refl
 back_does (Scalar v) cause pool s = tt
-back_does (Part o first) cause pool s = tt
+back_does (Part o place) cause pool s = tt
 
 -- Statements and declarations.
 assign_does : (cs : List ℕ) (x : ℕ) (right : RightForm) (s : State) → Does s.heap (assign_next named cs x right s)
@@ -326,15 +328,15 @@ exited_does (Some true) s = same refl refl
 exited_does (Some false) s = same refl refl
 
 -- What is given by reference.
-referred_does : (o : Value) (first : ℕ) (found : Option (List Value)) (s : State) → Does s.heap (referred_next named o first found s)
-referred_does o first None s = tt
-referred_does o first (Some vs) s = same refl refl
+referred_does : (o : Value) (place : Place) (found : Option (List Value)) (s : State) → Does s.heap (referred_next named o place found s)
+referred_does o place None s = tt
+referred_does o place (Some vs) s = same refl refl
 
-refers_do : (o : Value) (first count : ℕ) (found : Found (Cell Value)) (s : State) → Does s.heap (refers_next named o first count found s)
-refers_do o first count on_null s = same refl refl
-refers_do o first count on_gone s = tt
-refers_do o first count on_other s = tt
-refers_do o first count (finds cell) s = referred_does o first (record_in cell.values first count) s
+refers_do : (o : Value) (place : Place) (count : ℕ) (found : Found (Cell Value)) (s : State) → Does s.heap (refers_next named o place count found s)
+refers_do o place count on_null s = same refl refl
+refers_do o place count on_gone s = tt
+refers_do o place count on_other s = tt
+refers_do o place count (finds cell) s = referred_does o place (record_in cell.values place.component count) s
 
 open_does : (cs : List ℕ) (x : ℕ) (s : State) → Does s.heap (open_next named cs x s)
 open_does [] x s = tt
@@ -355,11 +357,32 @@ call_does : (procedure : ℕ) (actuals : List ActualForm) (body : Option BodyFor
 call_does procedure actuals None s = tt
 call_does procedure actuals (Some b) s = same refl refl
 
+-- A record that has controlled parts is assigned to another.
+copy_does : (target : RecordPathForm) (items : List ItemForm) (s : State) → Does s.heap (copy_next named target items s)
+copy_does target [] s = tt
+copy_does target (null_item ∷ items) s = tt
+copy_does target (item_of_path path ∷ items) s = tt
+copy_does target (item_of_value e ∷ items) s = tt
+copy_does target (item_of_record source ∷ []) s = same refl refl
+copy_does target (item_of_record source ∷ item ∷ items) s = tt
+
+record_assign_does : (parts : Bool) (target : RecordPathForm) (items : List ItemForm) (s : State) → Does s.heap (record_assign_next named parts target items s)
+record_assign_does true target items s = copy_does target items s
+record_assign_does false target items s =
+    record_holder_does target (λ place. frame.TargetsRecord place.component target.record_type items) s
+
+assigns_do :
+    (types : List TypeDefinition) (t : ℕ) (target source : Value) (one : Option Bool) (s : State)
+    → Does s.heap (assigns_next named types t target source one s)
+assigns_do types t target source None s = tt
+assigns_do types t target source (Some true) s = same refl refl
+assigns_do types t target source (Some false) s = same refl refl
+
 stmt_does : (types : List TypeDefinition) (bodies : List BodyForm) (f : StmtForm) (s : State) → Does s.heap (stmt_next named types bodies f s)
 stmt_does types bodies skips s = same refl refl
 stmt_does types bodies (assigns target right) s = assign_does target.selectors target.root right s
 stmt_does types bodies (assigns_record target items) s =
-    record_holder_does target (λ first. frame.TargetsRecord first target.record_type items) s
+    record_assign_does (has_parts types target.record_type) target items s
 stmt_does types bodies (frees access path) s = frees_do types path.selectors access path.root s
 stmt_does types bodies (gets target) s = gets_do target.selectors target.root s.input s
 stmt_does types bodies (writes e) s = same refl refl
@@ -464,7 +487,7 @@ treats_do :
     → Does s.heap (treats_next named shapes v treatment tasks follows s)
 treats_do shapes v treatment tasks Done s = same refl refl
 treats_do shapes v treatment tasks (Pick count) s =
-    picked_does (count == 0) count (λ i. treated_on named v treatment (taken_task shapes (direction_of treatment) tasks i) s) s (λ i. refl)
+    picked_does (count == 0) count (λ i. treated_on named v treatment (picked_task shapes (direction_of treatment) tasks i) s) s (λ i. refl)
 treats_do shapes v treatment tasks (Perform of part) s =
     performed_does v treatment of part (look s.heap v) (treated_on named v treatment (performed tasks) s)
 
@@ -488,9 +511,9 @@ frame_does types bodies (frame.Evaluates right) s = right_does types right s
 frame_does types bodies (frame.Computes e) s = expression_does e s
 frame_does types bodies (frame.Follows cs) s = path_does cs (newest named s) (popped s)
 frame_does types bodies (frame.TestsNull equal) s = null_test_does equal (reads_null (newest named s)) (popped s)
-frame_does types bodies (frame.Refers p) s = record_holder_does p (λ first. frame.RefersIn first p.record_type) s
-frame_does types bodies (frame.RefersIn first t) s =
-    refers_do (newest named s) first (width_of types t) (look s.heap (newest named s)) (popped s)
+frame_does types bodies (frame.Refers p) s = record_holder_does p (λ place. frame.RefersIn place p.record_type) s
+frame_does types bodies (frame.RefersIn place t) s =
+    refers_do (newest named s) place (width_of types t) (look s.heap (newest named s)) (popped s)
 frame_does types bodies (frame.Opens path) s = open_does path.selectors path.root s
 frame_does types bodies (frame.OpensIn c) s = opens_do (newest named s) c (look s.heap (newest named s)) (popped s)
 frame_does types bodies (frame.Continues links) s = links_do links s
@@ -505,6 +528,8 @@ frame_does types bodies (frame.StoresIn object c) s = store_does object c (newes
 frame_does types bodies (frame.TargetsRecord first t items) s =
     record_target_does (newest named s) first (width_of types t) items (look s.heap (newest named s)) (popped s)
 frame_does types bodies (frame.StoresRecord object first count) s = store_record_does object first count (look s.heap object) s
+frame_does types bodies (frame.Assigns t) s =
+    assigns_do types t (newest named (popped s)) (newest named s) (meaning.same (newest named (popped s)) (newest named s)) (popped (popped s))
 frame_does types bodies (frame.Receives c) s = receive_does (newest named s) c (look s.heap (newest named s)) (popped s)
 frame_does types bodies (frame.FreesIn access c) s = free_in_does types access (newest named s) c (look s.heap (newest named s)) (popped s)
 frame_does types bodies (frame.Declares x) s = same refl refl

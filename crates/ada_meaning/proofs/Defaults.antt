@@ -13,6 +13,7 @@ use Rattle.ada_program.specs.ProgramForm.{BodyForm, body_forms}
 use Rattle.ada_program.specs.Typed.{reached_of}
 use Rattle.ada_meaning.specs.declared.state.Value.{Value}
 use Rattle.ada_meaning.specs.declared.state.Mode.TheVariants.{Running}
+use Rattle.ada_meaning.specs.declared.event.Birth.TheVariants.{Creation}
 use Rattle.ada_meaning.specs.Event.{Quiet}
 use Rattle.ada_meaning.specs.Frame.{Frame, Elaborates, Evaluates, Creates}
 use Rattle.ada_meaning.specs.State.{Activation, Destination, home_of, height}
@@ -95,7 +96,7 @@ module _ (types : List TypeDefinition) (bodies : List BodyForm) (x t : ℕ) (ds 
     (fs : StmtsForm) (hs : HandlersForm) (behind : List (Frame Value)) where
   record_step :
       (s : State) → s.mode ≡ Running → s.control ≡ Elaborates (declares_record x t None ∷ ds) fs hs ∷ behind
-      → next types bodies s ≡ moves Quiet (made named types x t (initial_values named (reached_of types t)) (at (Elaborates ds fs hs ∷ behind) s))
+      → next types bodies s ≡ moves Quiet (made named types x t Creation (initial_values named (reached_of types t)) (at (Elaborates ds fs hs ∷ behind) s))
   unfolding next
   record_step s runs is = rw (runs, is) refl
 

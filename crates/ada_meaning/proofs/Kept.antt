@@ -3,12 +3,13 @@
 use Rattle.std.proofs.Common.{◌≡◌, ℕ, ℤ, int_le, Bool, true, false, if◌then◌else◌, List, [], ◌∷◌, Option, Some, None}
 use Rattle.std.specs.List.{slice_get, slice_index_or}
 use Rattle.ada_program.specs.declared.program.TypeDefinition.{TypeDefinition}
-use Rattle.ada_program.specs.Form.{ActualForm, ExpressionForm, integer, boolean, reads, is_null, applied_to, chained, LinksForm, no_more_links, a_link, ItemForm, null_item, item_of_path, item_of_value, item_of_record, RightForm, nothing, value_of, allocates, allocates_default, computes, StmtForm, skips, assigns, assigns_record, frees, gets, writes, writes_text, chooses, repeats, counts, exits, calls, raises, encloses, StmtsForm, no_stmts, a_stmt, BranchesForm, otherwise, a_branch, HandlersForm, DeclarationForm, creates_pool, collects, declares, declares_record}
+use Rattle.ada_program.specs.Form.{RecordPathForm, ActualForm, ExpressionForm, integer, boolean, reads, is_null, applied_to, chained, LinksForm, no_more_links, a_link, ItemForm, null_item, item_of_path, item_of_value, item_of_record, RightForm, nothing, value_of, allocates, allocates_default, computes, StmtForm, skips, assigns, assigns_record, frees, gets, writes, writes_text, chooses, repeats, counts, exits, calls, raises, encloses, StmtsForm, no_stmts, a_stmt, BranchesForm, otherwise, a_branch, HandlersForm, DeclarationForm, creates_pool, collects, declares, declares_record}
 use Rattle.ada_program.specs.Form as form
 use Rattle.ada_program.specs.ProgramForm.{BodyForm}
 use Rattle.ada_program.specs.Controlled.{shapes_of}
 use Rattle.ada_program.specs.Typed.{words_of, width_of}
 use Rattle.ada_parts.specs.Task.{next as task_next}
+use Rattle.ada_meaning.specs.declared.state.Place.{Place}
 use Rattle.ada_meaning.specs.declared.state.Value.{Value}
 use Rattle.ada_meaning.specs.declared.state.Value.TheVariants.{Null}
 use Rattle.ada_meaning.specs.declared.state.Mode.{Mode}
@@ -19,8 +20,8 @@ use Rattle.ada_meaning.specs.Frame.{Frame, is_master, Landing, passes_on, goes_b
 use Rattle.ada_meaning.specs.Frame as frame
 use Rattle.ada_meaning.specs.State.{Owned, declared, collection, record_object, storage_pool, Item, Master, home_of}
 use Rattle.ada_meaning.specs.Heap.{Cell, Found, on_null, on_gone, on_other, finds}
-use Rattle.ada_meaning.specs.Step.{referred_next, refers_next, open_next, opened_next, opens_next, record_in, newest_ones, without_newest, record_target_next, record_stored_next, store_record_next, record_next, moves, at, computed, popped, held, newest, assign_next, target_next, stored_next, store_next, received_next, receive_next, frees_next, freed_next, free_component_next, free_in_next, branches_next, decided_next, turn_next, repeats_next, turned_next, count_turn_next, counts_next, ranges_next, gets_next, exit_next, exited_next, call_next, stmt_next, stmts_next, line_next, declaration_next, declarations_next, taken_out, members_next, item_leave_next, master_leave_next, leave_next, frame_next}
-use Rattle.ada_meaning.specs.Named.{State, named, refer, look, lent, reads_boolean, reads_null, reads_integer, unary_given, binary_given, members}
+use Rattle.ada_meaning.specs.Step.{referred_next, refers_next, open_next, opened_next, opens_next, record_in, newest_ones, without_newest, record_target_next, record_stored_next, store_record_next, assigns_next, copy_next, record_assign_next, has_parts, record_next, moves, at, computed, popped, held, newest, assign_next, target_next, stored_next, store_next, received_next, receive_next, frees_next, freed_next, free_component_next, free_in_next, branches_next, decided_next, turn_next, repeats_next, turned_next, count_turn_next, counts_next, ranges_next, gets_next, exit_next, exited_next, call_next, stmt_next, stmts_next, line_next, declaration_next, declarations_next, taken_out, members_next, item_leave_next, master_leave_next, leave_next, frame_next}
+use Rattle.ada_meaning.specs.Named.{State, named, refer, same, look, lent, reads_boolean, reads_null, reads_integer, unary_given, binary_given, members}
 use Rattle.ada_meaning.proofs.Activations.{Shape, shape, Keeps, operands_kept, less, put_kept, path_keeps, holder_keeps, record_holder_keeps, expression_keeps, null_test_keeps, links_keep, outcome_keeps, items_keep, copies_keep, new_keeps, right_keeps, free_keeps, end_keeps, back_keeps, treats_keep}
 
 -- Statements and declarations.
@@ -174,17 +175,17 @@ exited_keeps (Some false) s h = h
 
 -- What is given by reference.
 referred_keeps :
-    {w : Shape} (o : Value) (first : ℕ) (found : Option (List Value)) (s : State) → shape s.activations ≡ w → Keeps w (referred_next named o first found s)
-referred_keeps o first None s h = tt
-referred_keeps o first (Some vs) s h = operands_kept _ s h
+    {w : Shape} (o : Value) (place : Place) (found : Option (List Value)) (s : State) → shape s.activations ≡ w → Keeps w (referred_next named o place found s)
+referred_keeps o place None s h = tt
+referred_keeps o place (Some vs) s h = operands_kept _ s h
 
 refers_keep :
-    {w : Shape} (o : Value) (first count : ℕ) (found : Found (Cell Value)) (s : State) → shape s.activations ≡ w
-    → Keeps w (refers_next named o first count found s)
-refers_keep o first count on_null s h = operands_kept _ s h
-refers_keep o first count on_gone s h = tt
-refers_keep o first count on_other s h = tt
-refers_keep o first count (finds cell) s h = referred_keeps o first (record_in cell.values first count) s h
+    {w : Shape} (o : Value) (place : Place) (count : ℕ) (found : Found (Cell Value)) (s : State) → shape s.activations ≡ w
+    → Keeps w (refers_next named o place count found s)
+refers_keep o place count on_null s h = operands_kept _ s h
+refers_keep o place count on_gone s h = tt
+refers_keep o place count on_other s h = tt
+refers_keep o place count (finds cell) s h = referred_keeps o place (record_in cell.values place.component count) s h
 
 open_keeps : {w : Shape} (cs : List ℕ) (x : ℕ) (s : State) → shape s.activations ≡ w → Keeps w (open_next named cs x s)
 open_keeps [] x s h = tt
@@ -192,7 +193,7 @@ open_keeps (c ∷ cs) x s h = holder_keeps c cs x frame.OpensIn s h
 
 opened_keeps : {w : Shape} (o : Value) (c : ℕ) (found : Option Value) (s : State) → shape s.activations ≡ w → Keeps w (opened_next named o c found s)
 opened_keeps o c None s h = tt
-opened_keeps o c (Some v) s h = operands_kept _ (computed (refer o c) s) (operands_kept _ s h)
+opened_keeps o c (Some v) s h = operands_kept _ (computed (refer o (record { component = c; part = 0 })) s) (operands_kept _ s h)
 
 opens_keep : {w : Shape} (o : Value) (c : ℕ) (found : Found (Cell Value)) (s : State) → shape s.activations ≡ w → Keeps w (opens_next named o c found s)
 opens_keep o c on_null s h = operands_kept _ s h
@@ -207,13 +208,36 @@ call_keeps :
 call_keeps procedure actuals None s h = tt
 call_keeps procedure actuals (Some b) s h = h
 
+-- A record that has controlled parts is assigned to another.
+copy_keeps : {w : Shape} (target : RecordPathForm) (items : List ItemForm) (s : State) → shape s.activations ≡ w → Keeps w (copy_next named target items s)
+copy_keeps target [] s h = tt
+copy_keeps target (null_item ∷ items) s h = tt
+copy_keeps target (item_of_path path ∷ items) s h = tt
+copy_keeps target (item_of_value e ∷ items) s h = tt
+copy_keeps target (item_of_record source ∷ []) s h = h
+copy_keeps target (item_of_record source ∷ item ∷ items) s h = tt
+
+record_assign_keeps :
+    {w : Shape} (parts : Bool) (target : RecordPathForm) (items : List ItemForm) (s : State) → shape s.activations ≡ w
+    → Keeps w (record_assign_next named parts target items s)
+record_assign_keeps true target items s h = copy_keeps target items s h
+record_assign_keeps false target items s h =
+    record_holder_keeps target (λ place. frame.TargetsRecord place.component target.record_type items) s h
+
+assigns_keep :
+    {w : Shape} (types : List TypeDefinition) (t : ℕ) (target source : Value) (one : Option Bool) (s : State) → shape s.activations ≡ w
+    → Keeps w (assigns_next named types t target source one s)
+assigns_keep types t target source None s h = tt
+assigns_keep types t target source (Some true) s h = h
+assigns_keep types t target source (Some false) s h = operands_kept _ s h
+
 stmt_keeps :
     {w : Shape} (types : List TypeDefinition) (bodies : List BodyForm) (f : StmtForm) (s : State) → shape s.activations ≡ w
     → Keeps w (stmt_next named types bodies f s)
 stmt_keeps types bodies skips s h = h
 stmt_keeps types bodies (assigns target right) s h = assign_keeps target.selectors target.root right s h
 stmt_keeps types bodies (assigns_record target items) s h =
-    record_holder_keeps target (λ first. frame.TargetsRecord first target.record_type items) s h
+    record_assign_keeps (has_parts types target.record_type) target items s h
 stmt_keeps types bodies (frees access path) s h = frees_keep types path.selectors access path.root s h
 stmt_keeps types bodies (gets target) s h = gets_keep target.selectors target.root s.input s h
 stmt_keeps types bodies (writes e) s h = h
@@ -320,9 +344,9 @@ frame_keeps types bodies (frame.Evaluates right) s i h = right_keeps types right
 frame_keeps types bodies (frame.Computes e) s i h = expression_keeps e s h
 frame_keeps types bodies (frame.Follows cs) s i h = path_keeps cs (newest named s) (popped s) (less s h)
 frame_keeps types bodies (frame.TestsNull equal) s i h = null_test_keeps equal (reads_null (newest named s)) (popped s) (less s h)
-frame_keeps types bodies (frame.Refers p) s i h = record_holder_keeps p (λ first. frame.RefersIn first p.record_type) s h
-frame_keeps types bodies (frame.RefersIn first t) s i h =
-    refers_keep (newest named s) first (width_of types t) (look s.heap (newest named s)) (popped s) (less s h)
+frame_keeps types bodies (frame.Refers p) s i h = record_holder_keeps p (λ place. frame.RefersIn place p.record_type) s h
+frame_keeps types bodies (frame.RefersIn place t) s i h =
+    refers_keep (newest named s) place (width_of types t) (look s.heap (newest named s)) (popped s) (less s h)
 frame_keeps types bodies (frame.Opens path) s i h = open_keeps path.selectors path.root s h
 frame_keeps types bodies (frame.OpensIn c) s i h = opens_keep (newest named s) c (look s.heap (newest named s)) (popped s) (less s h)
 frame_keeps types bodies (frame.Continues links) s i h = links_keep links s h
@@ -339,6 +363,9 @@ frame_keeps types bodies (frame.StoresIn object c) s i h = store_keeps object c 
 frame_keeps types bodies (frame.TargetsRecord first t items) s i h =
     record_target_keeps (newest named s) first (width_of types t) items (look s.heap (newest named s)) (popped s) (less s h)
 frame_keeps types bodies (frame.StoresRecord object first count) s i h = store_record_keeps object first count (look s.heap object) s h
+frame_keeps types bodies (frame.Assigns t) s i h =
+    assigns_keep types t (newest named (popped s)) (newest named s) (same (newest named (popped s)) (newest named s)) (popped (popped s))
+    (less (popped s) (less s h))
 frame_keeps types bodies (frame.Receives c) s i h = receive_keeps (newest named s) c (look s.heap (newest named s)) (popped s) (less s h)
 frame_keeps types bodies (frame.FreesIn access c) s i h = free_in_keeps types access (newest named s) c (look s.heap (newest named s)) (popped s) (less s h)
 frame_keeps types bodies (frame.Declares x) s i h = put_kept _ _ (popped s) (less s h)

@@ -27,6 +27,8 @@ pub mod Defaults
 pub mod Records
 -- what is given by reference, and what is stored in a component
 pub mod References
+-- assignments of records that have controlled parts
+pub mod RecordAssignments
 -- where a statement begins
 pub mod Beginnings
 -- what the law of the innermost master refuses

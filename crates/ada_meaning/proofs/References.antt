@@ -1,6 +1,6 @@
 -- Records and components that are given by reference, what a formal parameter shares with its record, and what is stored in a component.
 
-use Rattle.std.proofs.Common.{◌≡◌, ◌≢◌, ◌⊎◌, inl, inr, ℕ, zero, suc, ◌+◌, List, [], ◌∷◌, Option, Some, None, refl, sym, ap, ◌∙◌, subst}
+use Rattle.std.proofs.Common.{◌≡◌, ◌≢◌, ◌⊎◌, inl, inr, ℕ, zero, suc, ◌+◌, List, [], ◌∷◌, Option, Some, None, refl, sym, ap, ◌∙◌, subst, false}
 use Rattle.std.specs.List.{slice_get, slice_set, slice_index_or}
 use Rattle.std.proofs.lemmas.Option.{get_or_from_slice_get}
 use Rattle.ada_program.specs.declared.program.TypeDefinition.{TypeDefinition}
@@ -8,6 +8,7 @@ use Rattle.ada_program.specs.Form.{PathForm, RecordPathForm, reads, ItemForm, it
 use Rattle.ada_program.specs.ProgramForm.{BodyForm, body_forms}
 use Rattle.ada_program.specs.Typed.{width_of}
 use Rattle.ada_meaning.specs.declared.state.Id.{Id}
+use Rattle.ada_meaning.specs.declared.state.Place.{Place}
 use Rattle.ada_meaning.specs.declared.state.Mode.TheVariants.{Running}
 use Rattle.ada_meaning.specs.declared.state.Stage.{Stage}
 use Rattle.ada_meaning.specs.declared.state.Stage.TheVariants.{Building, Existing, Gone}
@@ -18,7 +19,7 @@ use Rattle.ada_meaning.specs.Frame.{Frame}
 use Rattle.ada_meaning.specs.Frame as frame
 use Rattle.ada_meaning.specs.State.{Activation}
 use Rattle.ada_meaning.specs.Heap.{Cell, Found, on_gone, finds}
-use Rattle.ada_meaning.specs.Step.{moves, at, computed, record_in, component_next, follow_next, path_next, selected, referred_next, refers_next, opened_next, opens_next, stored_next, store_next}
+use Rattle.ada_meaning.specs.Step.{moves, at, computed, record_in, component_next, follow_next, path_next, selected, referred_next, refers_next, opened_next, opens_next, stored_next, store_next, has_parts, place_in}
 use Rattle.ada_meaning.specs.Named.{Object, State, Next, named, next, whole, inside, look, seen, existing, object_at, changed, filled, store}
 use Rattle.ada_meaning.specs.Run.{Event, settled, Leads}
 use Rattle.ada_meaning.specs.Records.{component_in, component_at}
@@ -43,14 +44,14 @@ module _ (goes : Found (Cell Value) → Next) (event : Event) (after : State) (f
 -- What each step makes of the object that it has found.
 module _ (o : Id) (s after : State) (event : Event) where
   referred_leads :
-      (first : ℕ) (found : Option (List Value)) → Leads (referred_next named (Names o) first found s) settled event after
-      → after ≡ computed (Part o first) s
-  referred_leads first None leads = absurd leads
-  referred_leads first (Some vs) leads = leads.1
+      (place : Place) (found : Option (List Value)) → Leads (referred_next named (Names o) place found s) settled event after
+      → after ≡ computed (Part o place) s
+  referred_leads place None leads = absurd leads
+  referred_leads place (Some vs) leads = leads.1
 
   opened_leads :
       (c : ℕ) (found : Option Value) → Leads (opened_next named (Names o) c found s) settled event after
-      → (v : Value) × (found ≡ Some v) × (after ≡ computed v (computed (Part o c) s))
+      → (v : Value) × (found ≡ Some v) × (after ≡ computed v (computed (Part o (record { component = c; part = 0 })) s))
   opened_leads c None leads = absurd leads
   opened_leads c (Some v) leads = (v, refl, leads.1)
 
@@ -83,10 +84,10 @@ module _ (types : List TypeDefinition) (bodies : List BodyForm) (outer : List (F
   ready s = record s { control = outer; activations = holding pending }
 
   refer_step :
-      (first t : ℕ) (o : Id) (s : State) → s.mode ≡ Running → s.control ≡ frame.RefersIn first t ∷ outer → s.activations ≡ holding (Names o ∷ pending)
-      → next types bodies s ≡ refers_next named (Names o) first (width_of types t) (look s.heap (Names o)) (ready s)
+      (place : Place) (t : ℕ) (o : Id) (s : State) → s.mode ≡ Running → s.control ≡ frame.RefersIn place t ∷ outer → s.activations ≡ holding (Names o ∷ pending)
+      → next types bodies s ≡ refers_next named (Names o) place (width_of types t) (look s.heap (Names o)) (ready s)
   unfolding next
-  refer_step first t o s runs is active = rw (runs, is, active) refl
+  refer_step place t o s runs is active = rw (runs, is, active) refl
 
   open_step :
       (c : ℕ) (o : Id) (s : State) → s.mode ≡ Running → s.control ≡ frame.OpensIn c ∷ outer → s.activations ≡ holding (Names o ∷ pending)
@@ -101,7 +102,7 @@ module _ (types : List TypeDefinition) (bodies : List BodyForm) (outer : List (F
   store_step c o v s runs is active = rw (runs, is, active) refl
 
   -- A path of one component, behind a variable that refers to a record.
-  module _ (path : PathForm) (c base : ℕ) (o : Id) (s : State) (one : path.selectors ≡ c ∷ [])
+  module _ (path : PathForm) (c : ℕ) (base : Place) (o : Id) (s : State) (one : path.selectors ≡ c ∷ [])
       (refers : slice_index_or places path.root Null ≡ Part o base) where
     -- It is read in what the variable stands for.
     abbrev reading_of : Value → Next
@@ -115,7 +116,7 @@ module _ (types : List TypeDefinition) (bodies : List BodyForm) (outer : List (F
 
     read_step :
         s.mode ≡ Running → s.control ≡ frame.Computes (reads path) ∷ outer → s.activations ≡ holding pending
-        → next types bodies s ≡ follow_next named (Names o) (base + c) [] (look s.heap (Names o)) (ready s)
+        → next types bodies s ≡ follow_next named (Names o) (base.component + c) [] (look s.heap (Names o)) (ready s)
     read_step runs is active = held_step runs is active ∙ ap reading_of refers
 
     -- And an assignment goes there.
@@ -165,7 +166,7 @@ module _ (types : List TypeDefinition) (bodies : List BodyForm) (outer : List (F
     found_there frame_of k is = is ∙ ap (λ (v : Value). moves Quiet (found_at frame_of k v)) refers
 
   -- A path that is longer is followed from there, as it is written.
-  module _ (path : PathForm) (c d base : ℕ) (cs : List ℕ) (o : Id) (s : State) (long : path.selectors ≡ c ∷ d ∷ cs)
+  module _ (path : PathForm) (c d : ℕ) (base : Place) (cs : List ℕ) (o : Id) (s : State) (long : path.selectors ≡ c ∷ d ∷ cs)
       (refers : slice_index_or places path.root Null ≡ Part o base) where
     abbrev following_of : Value → Next
     following_of v = path_next named (selected named v (c ∷ d ∷ cs)) (whole v) (ready s)
@@ -178,56 +179,56 @@ module _ (types : List TypeDefinition) (bodies : List BodyForm) (outer : List (F
 
     follow_step :
         s.mode ≡ Running → s.control ≡ frame.Computes (reads path) ∷ outer → s.activations ≡ holding pending
-        → next types bodies s ≡ follow_next named (Names o) (base + c) (d ∷ cs) (look s.heap (Names o)) (ready s)
+        → next types bodies s ≡ follow_next named (Names o) (base.component + c) (d ∷ cs) (look s.heap (Names o)) (ready s)
     follow_step runs is active = held_follow runs is active ∙ ap following_of refers
 
   -- The variable alone stands for the record that it refers to.
-  module _ (p : RecordPathForm) (base : ℕ) (o : Id) (s : State) (alone : p.object.selectors ≡ [])
+  module _ (p : RecordPathForm) (base : Place) (o : Id) (s : State) (alone : p.object.selectors ≡ [])
       (refers : slice_index_or places p.object.root Null ≡ Part o base) where
     -- Its object is found, and then comes a frame for where the record begins there.
-    abbrev beginning_at : (ℕ → Frame Value) → List (Frame Value) → Value → State
-    beginning_at frame_of k v = record s { control = frame_of (inside v p.first) ∷ k; activations = holding (whole v ∷ pending) }
+    abbrev beginning_at : (Place → Frame Value) → List (Frame Value) → Value → State
+    beginning_at frame_of k v = record s { control = frame_of (place_in named v [] p) ∷ k; activations = holding (whole v ∷ pending) }
 
     held_refer :
         s.mode ≡ Running → s.control ≡ frame.Refers p ∷ outer → s.activations ≡ holding pending → next types bodies s ≡ moves Quiet (beginning_at
-        (λ first. frame.RefersIn first p.record_type) outer (slice_index_or places p.object.root Null))
+        (λ place. frame.RefersIn place p.record_type) outer (slice_index_or places p.object.root Null))
     unfolding next
     held_refer runs is active = rw (runs, is, active, alone) refl
 
     held_copy :
         (items : List ItemForm) → s.mode ≡ Running → s.control ≡ frame.Fills (item_of_record p ∷ items) ∷ outer → s.activations ≡ holding pending
         → next types bodies s ≡ moves Quiet (beginning_at
-        (λ first. frame.Copies first p.record_type) (frame.Fills items ∷ outer) (slice_index_or places p.object.root Null))
+        (λ place. frame.Copies place.component p.record_type) (frame.Fills items ∷ outer) (slice_index_or places p.object.root Null))
     unfolding next
     held_copy items runs is active = rw (runs, is, active, alone) refl
 
     held_target :
-        (items : List ItemForm) (later : StmtsForm) → s.mode ≡ Running → s.control ≡ frame.Does (a_stmt (assigns_record p items) later) ∷ outer
+        (items : List ItemForm) (later : StmtsForm) → has_parts types p.record_type ≡ false → s.mode ≡ Running → s.control ≡ frame.Does (a_stmt (assigns_record p items) later) ∷ outer
         → s.activations ≡ holding pending → next types bodies s ≡ moves Quiet (beginning_at
-        (λ first. frame.TargetsRecord first p.record_type items) (frame.Does later ∷ outer) (slice_index_or places p.object.root Null))
+        (λ place. frame.TargetsRecord place.component p.record_type items) (frame.Does later ∷ outer) (slice_index_or places p.object.root Null))
     unfolding next
-    held_target items later runs is active = rw (runs, is, active, alone) refl
+    held_target items later plain runs is active = rw (runs, is, active, plain, alone) refl
 
     begins_there :
-        (frame_of : ℕ → Frame Value) (k : List (Frame Value)) → next types bodies s ≡ moves Quiet (beginning_at frame_of k
+        (frame_of : Place → Frame Value) (k : List (Frame Value)) → next types bodies s ≡ moves Quiet (beginning_at frame_of k
         (slice_index_or places p.object.root Null))
         → next types bodies s ≡ moves Quiet (beginning_at frame_of k (Part o base))
     begins_there frame_of k is = is ∙ ap (λ (v : Value). moves Quiet (beginning_at frame_of k v)) refers
 
 -- What a step leads to, once it is known.
-leads_by : (coming known : Next) (event : Event) (after : State) → coming ≡ known → Leads coming settled event after → Leads known settled event after
+pub leads_by : (coming known : Next) (event : Event) (after : State) → coming ≡ known → Leads coming settled event after → Leads known settled event after
 leads_by coming known event after is leads = subst (λ (n : Next). Leads n settled event after) is leads
 
 pub records_are_referred_to : RecordsAreReferredTo
-records_are_referred_to program first t o outer before after procedure places pending suspended event runs is active step =
+records_are_referred_to program place t o outer before after procedure places pending suspended event runs is active step =
     let types = program.types.items in
     let bodies = body_forms program in
     let s = ready types bodies outer procedure places pending suspended before in
-    let goes : Found (Cell Value) → Next = λ found. refers_next named (Names o) first (width_of types t) found s in
+    let goes : Found (Cell Value) → Next = λ found. refers_next named (Names o) place (width_of types t) found s in
     let leads = leads_by (next types bodies before) (goes (look before.heap (Names o))) event after
-    (refer_step types bodies outer procedure places pending suspended first t o before runs is active) step in
+    (refer_step types bodies outer procedure places pending suspended place t o before runs is active) step in
     let found = found_leads goes event after (λ never. never) (object_at before.heap o) leads in
-    referred_leads o s after event first (record_in found.0.cell.values first (width_of types t)) found.2
+    referred_leads o s after event place (record_in found.0.cell.values place.component (width_of types t)) found.2
 
 pub components_are_opened : ComponentsAreOpened
 components_are_opened program c o outer before after procedure places pending suspended event runs is active step =
@@ -248,12 +249,12 @@ parameters_share_records program path c base o outer before after procedure plac
     let s = ready types bodies outer procedure places pending suspended before in
     let refers : slice_index_or places path.root Null ≡ Part o base = get_or_from_slice_get places path.root (Part o base) Null holds in (
       λ is.
-          let goes : Found (Cell Value) → Next = λ found. follow_next named (Names o) (base + c) [] found s in
+          let goes : Found (Cell Value) → Next = λ found. follow_next named (Names o) (base.component + c) [] found s in
           let leads = leads_by (next types bodies before) (goes (look before.heap (Names o))) event after
           (read_step types bodies outer procedure places pending suspended path c base o before one refers runs is active) step in
           let found = found_leads goes event after (λ never. never) (object_at before.heap o) leads in
-          let read = read_leads o s after event (slice_get found.0.cell.values (base + c)) found.2 in
-          (read.0, ap (λ (at_o : Option Object). component_in at_o (base + c)) found.1 ∙ read.1, read.2),
+          let read = read_leads o s after event (slice_get found.0.cell.values (base.component + c)) found.2 in
+          (read.0, ap (λ (at_o : Option Object). component_in at_o (base.component + c)) found.1 ∙ read.1, read.2),
       λ later right is.
           let known = targeting types bodies outer procedure places pending suspended path c base o before one refers right later (Part o base) in
           (leads_by (next types bodies before) (moves Quiet known) event after
@@ -288,35 +289,35 @@ paths_go_on_there program path c d base cs o outer before after procedure places
     let bodies = body_forms program in
     let s = ready types bodies outer procedure places pending suspended before in
     let refers : slice_index_or places path.root Null ≡ Part o base = get_or_from_slice_get places path.root (Part o base) Null holds in
-    let goes : Found (Cell Value) → Next = λ found. follow_next named (Names o) (base + c) (d ∷ cs) found s in
+    let goes : Found (Cell Value) → Next = λ found. follow_next named (Names o) (base.component + c) (d ∷ cs) found s in
     let leads = leads_by (next types bodies before) (goes (look before.heap (Names o))) event after
     (follow_step types bodies outer procedure places pending suspended path c d base cs o before long refers runs is active) step in
     let found = found_leads goes event after (λ never. never) (object_at before.heap o) leads in
-    let read = followed_leads o s after event d cs (slice_get found.0.cell.values (base + c)) found.2 in
-    (read.0, ap (λ (at_o : Option Object). component_in at_o (base + c)) found.1 ∙ read.1, read.2)
+    let read = followed_leads o s after event d cs (slice_get found.0.cell.values (base.component + c)) found.2 in
+    (read.0, ap (λ (at_o : Option Object). component_in at_o (base.component + c)) found.1 ∙ read.1, read.2)
 
 pub records_begin_there : RecordsBeginThere
 records_begin_there program p base o outer before after procedure places pending suspended event runs alone active holds step =
     let types = program.types.items in
     let bodies = body_forms program in
     let refers : slice_index_or places p.object.root Null ≡ Part o base = get_or_from_slice_get places p.object.root (Part o base) Null holds in
-    let there : (ℕ → Frame Value) → List (Frame Value) → State =
+    let there : (Place → Frame Value) → List (Frame Value) → State =
     λ frame_of k. beginning_at types bodies outer procedure places pending suspended p base o before alone refers frame_of k (Part o base) in (
       λ is.
-          let frame_of : ℕ → Frame Value = λ first. frame.RefersIn first p.record_type in
+          let frame_of : Place → Frame Value = λ place. frame.RefersIn place p.record_type in
           (leads_by (next types bodies before) (moves Quiet (there frame_of outer)) event after
           (begins_there types bodies outer procedure places pending suspended p base o before alone refers frame_of outer
           (held_refer types bodies outer procedure places pending suspended p base o before alone refers runs is active)) step).1,
       λ items is.
-          let frame_of : ℕ → Frame Value = λ first. frame.Copies first p.record_type in
+          let frame_of : Place → Frame Value = λ place. frame.Copies place.component p.record_type in
           (leads_by (next types bodies before) (moves Quiet (there frame_of (frame.Fills items ∷ outer))) event after
           (begins_there types bodies outer procedure places pending suspended p base o before alone refers frame_of (frame.Fills items ∷ outer)
           (held_copy types bodies outer procedure places pending suspended p base o before alone refers items runs is active)) step).1,
-      λ items later is.
-          let frame_of : ℕ → Frame Value = λ first. frame.TargetsRecord first p.record_type items in
+      λ items later plain is.
+          let frame_of : Place → Frame Value = λ place. frame.TargetsRecord place.component p.record_type items in
           (leads_by (next types bodies before) (moves Quiet (there frame_of (frame.Does later ∷ outer))) event after
           (begins_there types bodies outer procedure places pending suspended p base o before alone refers frame_of (frame.Does later ∷ outer)
-          (held_target types bodies outer procedure places pending suspended p base o before alone refers items later runs is active)) step).1,
+          (held_target types bodies outer procedure places pending suspended p base o before alone refers items later plain runs is active)) step).1,
     )
 
 -- An object that changes in one component changes in no other, and no other object does.

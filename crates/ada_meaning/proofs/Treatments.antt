@@ -1,6 +1,7 @@
 -- The types of a program are a table, as finalization sees them; and what is left of a treatment weighs less with each step.
 
 use Rattle.std.proofs.Common.{◌≡◌, ◌≢◌, ℕ, zero, suc, ◌+◌, ◌<◌, ◌≤◌, ◌⊎◌, Bool, true, false, ◌==◌, if◌then◌else◌, List, [], ◌∷◌, ◌++◌, length, Option, Some, None, refl, sym, ap, ◌∙◌, inl, inr, arith}
+use Rattle.std.specs.Prelude.{count_by}
 use Rattle.std.specs.List.{All, remove, slice_get, sum_by}
 use Rattle.std.proofs.lemmas.Bool.{cases_lt}
 use Rattle.std.proofs.lemmas.Bool.Decides.{eqb_tells}
@@ -10,22 +11,21 @@ use Rattle.ada_program.specs.declared.program.Part.{Part}
 use Rattle.ada_program.specs.declared.program.PartKind.{PartKind}
 use Rattle.ada_program.specs.declared.program.PartKind.TheVariants as part
 use Rattle.ada_program.specs.declared.program.TypeDefinition.{TypeDefinition}
-use Rattle.ada_program.specs.declared.program.TypeDefinition.TheVariants as definition
-use Rattle.ada_program.specs.Typed.{designated_of}
-use Rattle.ada_program.specs.Controlled.{with_parts, components_with_parts, shape_by, shapes_behind, shapes_of}
+use Rattle.ada_program.specs.Controlled.{number_of, number_reached, type_numbered, parts_by, if_parts, with_parts, components_with_parts, shape_by, shapes_up_to, has_parts, shapes_of}
 use Rattle.ada_parts.specs.declared.tasks.Component.{Component}
 use Rattle.ada_parts.specs.declared.tasks.Direction.{Direction}
 use Rattle.ada_parts.specs.declared.tasks.Direction.TheVariants.{PartsFirst, WholeFirst}
+use Rattle.ada_parts.specs.declared.tasks.Next.TheVariants.{Pick}
 use Rattle.ada_parts.specs.Shape.{Shape, IsTable, own_parts, parts_of, shape_of}
 use Rattle.ada_parts.specs.Part.{in_order, components_of}
-use Rattle.ada_parts.specs.Task.{Task, performs, treats, treatment_of, operation_of, opened, opened_if, taken}
+use Rattle.ada_parts.specs.Task.{Task, performs, treats, treatment_of, operation_of, opened, opened_if, taken, IsOpen, next as task_next}
 use Rattle.ada_parts.proofs.Facts.{eq_self, eq_not, all_cons, all_none, all_contained, sum_same}
 use Rattle.ada_parts.proofs.Tables.{shape_newest, shape_older, parts_older, table_older}
 use Rattle.ada_parts.proofs.Held.{table_newer}
 use Rattle.ada_meaning.specs.declared.state.Value.{Value}
 use Rattle.ada_meaning.specs.Frame.{Frame, Treatment}
-use Rattle.ada_meaning.specs.Step.{tasks_for, all_tasks, treating}
-use Rattle.ada_meaning.specs.Ending.{steps_of, steps_of_any, tasks_weight, treatment_weight, run_weight}
+use Rattle.ada_meaning.specs.Step.{open_count, member_at, picked_task, tasks_for, tasks_in, all_tasks, record_tasks, treating}
+use Rattle.ada_meaning.specs.Ending.{steps_of, steps_of_any, steps_for, record_steps, tasks_weight, treatment_weight, run_weight}
 
 -- Only a type of the table has parts.
 parts_known : (shapes : List Shape) (t : ℕ) → 0 < parts_of shapes t → t < length shapes
@@ -55,31 +55,34 @@ some_parts older t false is =
     more (inl h) = let never : true ≡ false = sym h.0 ∙ is in absurd (cc)
     more (inr h) = let ne = h.1 in omega (arith, ne)
 
-with_some : (older : List Shape) (kind : PartKind) → All (HasParts older) (with_parts older kind)
-with_some older (part.Elementary kind) = all_none (HasParts older)
-with_some older (part.Record t) = some_parts older t.0 (parts_of older t.0 == 0) refl
-with_some older part.Parent = all_none (HasParts older)
+if_some : (older : List Shape) (number : Option ℕ) → All (HasParts older) (if_parts older number)
+if_some older None = all_none (HasParts older)
+if_some older (Some n) = some_parts older n (parts_of older n == 0) refl
 
-pub components_some : (older : List Shape) (ps : List Part) → All (HasParts older) (components_with_parts older ps)
-components_some older [] = all_none (HasParts older)
-components_some older (p ∷ ps) =
-    All-append (HasParts older) (with_parts older p.kind) (components_with_parts older ps) (with_some older p.kind) (components_some older ps)
+with_some : (types : List TypeDefinition) (older : List Shape) (kind : PartKind) → All (HasParts older) (with_parts types older kind)
+with_some types older (part.Elementary kind) = all_none (HasParts older)
+with_some types older (part.Record t) = if_some older (number_of types (Some t.0))
+with_some types older part.Parent = all_none (HasParts older)
 
-shape_some : (older : List Shape) (t : TypeDefinition) → All (HasParts older) (shape_by older t).components
-shape_some older (definition.Record name parts components) = components_some older parts.items
-shape_some older (definition.Access name designated pool) = all_none (HasParts older)
-shape_some older (definition.Object record_type) = all_none (HasParts older)
+pub components_some : (types : List TypeDefinition) (older : List Shape) (ps : List Part) → All (HasParts older) (components_with_parts types older ps)
+components_some types older [] = all_none (HasParts older)
+components_some types older (p ∷ ps) =
+    All-append (HasParts older) (with_parts types older p.kind) (components_with_parts types older ps) (with_some types older p.kind)
+    (components_some types older ps)
 
 no_table : IsTable []
 no_table = record { earlier = λ t c lt has. absurd (omega (arith, lt)); have_parts = λ t c lt has. absurd (omega (arith, lt)) }
 
-table_behind : (older : List Shape) (types : List TypeDefinition) → IsTable older → IsTable (shapes_behind older types)
-table_behind older [] table = table
-table_behind older (t ∷ types) table = table_behind (shape_by older t ∷ older) types (table_newer (shape_by older t) older table (shape_some older t))
+table_up_to : (types : List TypeDefinition) (count : ℕ) → IsTable (shapes_up_to types count)
+table_up_to types zero = no_table
+table_up_to types (suc n) =
+    let older = shapes_up_to types n in
+    let ps = parts_by (type_numbered types n) in
+    table_newer (shape_by types older ps) older (table_up_to types n) (components_some types older ps)
 
 -- The types of any program are a table.
 pub are_table : (types : List TypeDefinition) → IsTable (shapes_of types)
-are_table types = table_behind [] types no_table
+are_table types = table_up_to types (count_by has_parts types)
 
 -- What is not in the table has no components.
 shape_unknown : (shapes : List Shape) (t : ℕ) → length shapes ≤ t → shape_of shapes t ≡ record { controlled = false; components = [] }
@@ -202,26 +205,38 @@ opened_steps shapes d of first table = elim (cases_lt of (length shapes)) [ inl 
 pub tasks_lighter :
     (types : List TypeDefinition) (access : ℕ) (d : Direction)
     → 1 + tasks_weight (shapes_of types) (all_tasks types access d) ≤ treatment_weight types access
-tasks_lighter types access d = go (designated_of types access)
+tasks_lighter types access d = go (number_reached types access)
   where
     go :
-        (t : Option ℕ)
-        → 1 + tasks_weight (shapes_of types) (tasks_for (shapes_of types) d t) ≤ 1 + tasks_weight (shapes_of types) (tasks_for (shapes_of types) WholeFirst t)
+        (number : Option ℕ)
+        → 1 + tasks_weight (shapes_of types) (tasks_for (shapes_of types) d number) ≤ 1 + tasks_weight (shapes_of types) (tasks_for (shapes_of types) WholeFirst number)
     go None = omega arith
-    go (Some t) =
-        let a = opened_by (shapes_of types) d t 0 in
-        let b = opened_by (shapes_of types) WholeFirst t 0 in
+    go (Some n) =
+        let a = opened_by (shapes_of types) d n 0 in
+        let b = opened_by (shapes_of types) WholeFirst n 0 in
         omega (arith, a, b)
 
 pub treatment_any : (types : List TypeDefinition) (access : ℕ) → treatment_weight types access ≤ 1 + steps_of_any (shapes_of types)
-treatment_any types access = go (designated_of types access)
+treatment_any types access = go (number_reached types access)
   where
-    go : (t : Option ℕ) → 1 + tasks_weight (shapes_of types) (tasks_for (shapes_of types) WholeFirst t) ≤ 1 + steps_of_any (shapes_of types)
+    go : (number : Option ℕ) → 1 + tasks_weight (shapes_of types) (tasks_for (shapes_of types) WholeFirst number) ≤ 1 + steps_of_any (shapes_of types)
     go None = omega arith
-    go (Some t) =
-        let a = opened_steps (shapes_of types) WholeFirst t 0 (are_table types) in
-        let b = steps_any (shapes_of types) t in
+    go (Some n) =
+        let a = opened_steps (shapes_of types) WholeFirst n 0 (are_table types) in
+        let b = steps_any (shapes_of types) n in
         omega (arith, a, b)
+
+-- The treatment of a record in an object weighs no more than its type says, in either order and wherever it lies.
+pub record_lighter :
+    (types : List TypeDefinition) (t : ℕ) (d : Direction) (first : ℕ)
+    → 1 + tasks_weight (shapes_of types) (record_tasks types t d first) ≤ record_steps types t
+record_lighter types t d first = go (number_of types (Some t))
+  where
+    go :
+        (number : Option ℕ)
+        → 1 + tasks_weight (shapes_of types) (tasks_in (shapes_of types) d number first) ≤ 1 + steps_for (shapes_of types) number
+    go None = omega arith
+    go (Some n) = let a = opened_steps (shapes_of types) d n first (are_table types) in omega (arith, a)
 
 -- What is left once a component is picked weighs less.
 sum_picked : (f : Component → ℕ) (cs : List Component) (i : ℕ) (c : Component) → slice_get cs i ≡ Some c → sum_by f cs ≡ f c + sum_by f (remove cs i)
@@ -242,10 +257,27 @@ get_some [] i lt = absurd (omega (arith, lt))
 get_some (c ∷ cs) zero lt = (c, refl)
 get_some (c ∷ cs) (suc i) lt = get_some cs i (omega (arith, lt))
 
-pub picked_lighter :
+-- The place of a component in either order is that of one of them.
+pub member_within : (d : Direction) (count i : ℕ) → i < count → member_at d count i < count
+member_within PartsFirst count i lt = lt
+member_within WholeFirst count i lt = omega (arith, lt)
+
+-- What can be picked can be picked in either order.
+pub member_open : (d : Direction) (tasks : List Task) (i : ℕ) → IsOpen tasks i → IsOpen tasks (member_at d (open_count tasks) i)
+member_open d [] i o = o
+member_open d (treats cs ∷ behind) i o = member_within d (length cs) i o
+member_open d (performs of part ∷ behind) i o = o
+
+-- As many are open as are offered.
+pub offered_open : (tasks : List Task) (count : ℕ) → task_next tasks ≡ Pick count → open_count tasks ≡ count
+offered_open [] count e = absurd (cc e)
+offered_open (treats cs ∷ behind) count e = cc
+offered_open (performs of part ∷ behind) count e = absurd (cc e)
+
+taken_lighter :
     (types : List TypeDefinition) (d : Direction) (cs : List Component) (behind : List Task) (i : ℕ) → i < length cs
     → 1 + tasks_weight (shapes_of types) (taken (shapes_of types) d (treats cs ∷ behind) i) ≤ tasks_weight (shapes_of types) (treats cs ∷ behind)
-picked_lighter types d cs behind i lt =
+taken_lighter types d cs behind i lt =
     let shapes = shapes_of types in
     let found = get_some cs i lt in
     let c = found.0 in
@@ -263,3 +295,9 @@ pub treating_weight :
     → run_weight types (treating v treatment tasks k) ≤ 1 + tasks_weight (shapes_of types) tasks + run_weight types k
 treating_weight types v treatment [] k = omega arith
 treating_weight types v treatment (task ∷ tasks) k = omega arith
+
+-- What is left once a component is picked weighs less.
+pub picked_lighter :
+    (types : List TypeDefinition) (d : Direction) (cs : List Component) (behind : List Task) (i : ℕ) → i < length cs
+    → 1 + tasks_weight (shapes_of types) (picked_task (shapes_of types) d (treats cs ∷ behind) i) ≤ tasks_weight (shapes_of types) (treats cs ∷ behind)
+picked_lighter types d cs behind i lt = taken_lighter types d cs behind (member_at d (length cs) i) (member_within d (length cs) i lt)

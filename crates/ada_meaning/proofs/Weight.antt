@@ -9,19 +9,20 @@ use Rattle.ada_program.specs.Handling.{handler_of}
 use Rattle.ada_program.specs.ProgramForm.{BodyForm, body_forms}
 use Rattle.ada_program.specs.Controlled.{shapes_of}
 use Rattle.ada_parts.specs.declared.tasks.Direction.TheVariants.{PartsFirst, WholeFirst}
-use Rattle.ada_parts.specs.Task.{Task, performs, treats, next as task_next, taken as taken_task}
+use Rattle.ada_parts.specs.Task.{Task, performs, treats, next as task_next}
 use Rattle.ada_program.specs.Typed.{reached_of, words_of, width_of, pool_named}
 use Rattle.ada_values.specs.declared.operator.BinaryOperator.{BinaryOperator}
 use Rattle.ada_values.specs.declared.fault.OperatorFault.{OperatorFault}
 use Rattle.ada_values.specs.declared.fault.OperatorFault.TheVariants.{Overflow, DivisionByZero, WrongType}
+use Rattle.ada_meaning.specs.declared.state.Place.{Place}
 use Rattle.ada_meaning.specs.declared.state.Value.{Value}
 use Rattle.ada_meaning.specs.declared.state.Value.TheVariants.{Null}
 use Rattle.ada_meaning.specs.declared.state.Mode.{Mode}
 use Rattle.ada_meaning.specs.declared.state.Mode.TheVariants.{Running, Raising, Exiting, Returning}
 use Rattle.ada_meaning.specs.declared.event.Cause.{Cause}
-use Rattle.ada_meaning.specs.declared.event.Cause.TheVariants.{Leaving, Freeing}
+use Rattle.ada_meaning.specs.declared.event.Cause.TheVariants.{Leaving, Freeing, Assigning}
 use Rattle.ada_meaning.specs.declared.event.Birth.{Birth}
-use Rattle.ada_meaning.specs.declared.event.Birth.TheVariants.{Creation}
+use Rattle.ada_meaning.specs.declared.event.Birth.TheVariants.{Creation, Copy, Adjustment}
 use Rattle.ada_meaning.specs.declared.state.Stage.{Stage}
 use Rattle.ada_meaning.specs.declared.state.Stage.TheVariants.{Building, Existing, Gone}
 use Rattle.ada_program.specs.declared.program.Exception.{Exception}
@@ -32,14 +33,14 @@ use Rattle.ada_meaning.specs.Frame as frame
 use Rattle.ada_meaning.specs.State.{Owned, declared, collection, record_object, storage_pool, Item, Master, Destination, height, home_of, pools_in, pool_for, pool_freed_to, counted, begins, begins_in, begins_among}
 use Rattle.ada_meaning.specs.Event.{Back, Finalized, Quiet}
 use Rattle.ada_meaning.specs.Heap.{PartState, Cell, Found, on_null, on_gone, on_other, finds}
-use Rattle.ada_meaning.specs.Step.{direction_of, all_tasks, treated_on, born_next, finalized_next, performed_next, treats_next, made, taken_out, same_pool, told_back, record_cell, record_in, newest_ones, without_newest, initial_values, copied_next, copies_next, record_target_next, record_stored_next, store_record_next, record_next, halts, moves, tells, asks, picks, at, older, owning, shorter, popped, held, newest, reading, component_next, follow_next, path_next, selected, named_next, holder_next, first_in, record_holder_next, referred_next, refers_next, open_next, opened_next, opens_next, references_in, operand_count, storing, unwound, expression_next, null_test_next, is_decided, link_next, links_next, outcome_next, item_next, items_next, answered, new_next, new_cell, right_next, free_next, end_next, given_back, back_next, assign_next, frees_next, freed_next, free_component_next, free_in_next, branches_next, decided_next, turn_next, repeats_next, turned_next, count_turn_next, counts_next, ranges_next, gets_next, exit_next, exited_next, call_next, stmt_next, line_next, before_last, last_of, target_next, stored_next, store_next, received_next, receive_next, declaration_next, declarations_next, members_next, item_leave_next, master_leave_next, leave_next, frame_next, pass_next, running_next, mode_next}
-use Rattle.ada_meaning.specs.Named.{Object, State, Next, existing, created, parted, born_part, finalized_part, finalize, next, named, whole, inside, look, lent, reads_boolean, reads_null, reads_integer, unary_given, binary_given, members, on_object, returned, new_object, an_integer}
+use Rattle.ada_meaning.specs.Step.{direction_of, picked_task, all_tasks, record_tasks, has_parts, treating, treated_on, born_next, finalized_next, performed_next, treats_next, made, taken_out, same_pool, told_back, record_cell, record_in, newest_ones, without_newest, initial_values, copied_next, copies_next, record_target_next, record_stored_next, store_record_next, record_next, halts, moves, tells, asks, picks, at, older, owning, shorter, popped, held, newest, reading, component_next, follow_next, path_next, selected, named_next, holder_next, place_in, record_holder_next, referred_next, refers_next, open_next, opened_next, opens_next, references_in, operand_count, storing, unwound, expression_next, null_test_next, is_decided, link_next, links_next, outcome_next, item_next, items_next, answered, new_next, new_cell, right_next, free_next, end_next, given_back, back_next, assigns_next, assign_next, copy_next, record_assign_next, frees_next, freed_next, free_component_next, free_in_next, branches_next, decided_next, turn_next, repeats_next, turned_next, count_turn_next, counts_next, ranges_next, gets_next, exit_next, exited_next, call_next, stmt_next, line_next, before_last, last_of, target_next, stored_next, store_next, received_next, receive_next, declaration_next, declarations_next, members_next, item_leave_next, master_leave_next, leave_next, frame_next, pass_next, running_next, mode_next}
+use Rattle.ada_meaning.specs.Named.{Object, State, Next, existing, created, parted, born_part, finalized_part, finalize, next, named, whole, inside, base, part_base, same, look, lent, reads_boolean, reads_null, reads_integer, unary_given, binary_given, members, on_object, returned, new_object, an_integer}
 use Rattle.ada_meaning.specs.Run.{Event, Choice, settled, grants, takes, Leads, Step}
 use Rattle.ada_meaning.specs.Beginning.{BeginsStatement}
-use Rattle.ada_meaning.specs.Ending.{steps_of_any, tasks_weight, treatment_weight, new_weight, path_weight, expression_weight, links_weight, item_weight, items_weight, right_weight, branches_weight, condition_weight, initial_weight, declaration_weight, declarations_weight, frame_weight, has_handlers, stored_behind, pass_weight, passed_weight, by_mode, behind_weight, run_weight, exit_weight, return_weight, heap_weight, masters_weight, weight, GoesOn, WithinStatement, here, there}
+use Rattle.ada_meaning.specs.Ending.{steps_of_any, record_steps, tasks_weight, treatment_weight, new_weight, path_weight, expression_weight, links_weight, item_weight, items_weight, right_weight, branches_weight, condition_weight, initial_weight, declaration_weight, declarations_weight, frame_weight, has_handlers, stored_behind, pass_weight, passed_weight, by_mode, behind_weight, run_weight, exit_weight, return_weight, heap_weight, masters_weight, weight, GoesOn, WithinStatement, here, there}
 use Rattle.ada_meaning.proofs.Members.{IsListed, member_seen, part_lighter, member_listed, heap_append, finished_lighter, returned_lighter, filled_lighter, stored_lighter, parted_lighter, taken_lighter}
 use Rattle.ada_meaning.proofs.Beginnings.{statements_begin}
-use Rattle.ada_meaning.proofs.Treatments.{tasks_lighter, treatment_any, picked_lighter, treating_weight}
+use Rattle.ada_meaning.proofs.Treatments.{tasks_lighter, treatment_any, record_lighter, picked_lighter, treating_weight}
 use Rattle.ada_meaning.proofs.Jumps.{unwound_to, unwound_by, master_no_loop, master_no_return}
 
 -- The state in a mode.
@@ -130,7 +131,7 @@ module _ (types : List TypeDefinition) where
   frame_passed (frame.Follows cs) passed exited returned run h i j = omega (arith, h)
   frame_passed (frame.TestsNull equal) passed exited returned run h i j = omega (arith, h)
   frame_passed (frame.Refers p) passed exited returned run h i j = omega (arith, h)
-  frame_passed (frame.RefersIn first t) passed exited returned run h i j = omega (arith, h)
+  frame_passed (frame.RefersIn place t) passed exited returned run h i j = omega (arith, h)
   frame_passed (frame.Opens path) passed exited returned run h i j = omega (arith, h)
   frame_passed (frame.OpensIn c) passed exited returned run h i j = omega (arith, h)
   frame_passed (frame.Continues links) passed exited returned run h i j = omega (arith, h, some_links links)
@@ -144,6 +145,7 @@ module _ (types : List TypeDefinition) where
   frame_passed (frame.StoresIn object c) passed exited returned run h i j = omega (arith, h)
   frame_passed (frame.TargetsRecord first t items) passed exited returned run h i j = omega (arith, h)
   frame_passed (frame.StoresRecord object first count) passed exited returned run h i j = omega (arith, h)
+  frame_passed (frame.Assigns t) passed exited returned run h i j = omega (arith, h)
   frame_passed (frame.Receives c) passed exited returned run h i j = omega (arith, h)
   frame_passed (frame.FreesIn access c) passed exited returned run h i j = omega (arith, h)
   frame_passed (frame.Declares x) passed exited returned run h i j = omega (arith, h)
@@ -212,9 +214,9 @@ module _ (types : List TypeDefinition) where
   before_length c [] = refl
   before_length c (d ∷ cs) = ap suc (before_length d cs)
 
-  -- A frame that weighs 1, whatever component it is for.
-  abbrev WeighsOne : (ℕ → Frame Value) → List (Frame Value) → Type 0
-  WeighsOne frame_of k = (n : ℕ) → run_weight types (frame_of n ∷ k) ≡ 1 + run_weight types k
+  -- A frame that weighs 1, whatever component or place it is for.
+  abbrev WeighsOne : (X : Type 0) → (X → Frame Value) → List (Frame Value) → Type 0
+  WeighsOne X frame_of k = (x : X) → run_weight types (frame_of x ∷ k) ≡ 1 + run_weight types k
 
   named_lightens : (cs : List ℕ) (x : ℕ) (s : State) (w : ℕ) → load (running s) + length cs + 1 ≤ w → Lightens (named_next named cs x (running s)) w
   named_lightens cs x s w h =
@@ -222,7 +224,7 @@ module _ (types : List TypeDefinition) where
       path_lightens (selected named v cs) (whole v) s w (omega (arith, h, selected_length v cs))
 
   holder_lightens :
-      (c : ℕ) (cs : List ℕ) (x : ℕ) (frame_of : ℕ → Frame Value) (s : State) (w : ℕ) → WeighsOne frame_of s.control
+      (c : ℕ) (cs : List ℕ) (x : ℕ) (frame_of : ℕ → Frame Value) (s : State) (w : ℕ) → WeighsOne ℕ frame_of s.control
       → load (running s) + length cs + 2 ≤ w → Lightens (holder_next named c cs x frame_of (running s)) w
   holder_lightens c cs x frame_of s w one h =
       let v = held named s x in
@@ -231,13 +233,13 @@ module _ (types : List TypeDefinition) where
       (omega (arith, h, before_length first cs, one (last_of first cs)))
 
   record_holder_lightens :
-      (p : RecordPathForm) (frame_of : ℕ → Frame Value) (s : State) (w : ℕ) → WeighsOne frame_of s.control
+      (p : RecordPathForm) (frame_of : Place → Frame Value) (s : State) (w : ℕ) → WeighsOne Place frame_of s.control
       → load (running s) + 1 + path_weight p.object ≤ w → Lightens (record_holder_next named p frame_of (running s)) w
   record_holder_lightens p frame_of s w one h =
       let v = held named s p.object.root in
-      let first = first_in named v p.object.selectors p.first in
-      path_lightens (selected named v p.object.selectors) (whole v) (at (frame_of first ∷ s.control) s) w
-      (omega (arith, h, selected_length v p.object.selectors, one first))
+      let place = place_in named v p.object.selectors p in
+      path_lightens (selected named v p.object.selectors) (whole v) (at (frame_of place ∷ s.control) s) w
+      (omega (arith, h, selected_length v p.object.selectors, one place))
 
   -- Expressions.
   expression_lightens : (e : ExpressionForm) (s : State) (w : ℕ) → load (running s) + expression_weight e ≤ w → Lightens (expression_next named e (running s)) w
@@ -274,7 +276,7 @@ module _ (types : List TypeDefinition) where
   item_lightens (item_of_path path) s w h = named_lightens path.selectors path.root s w (omega (arith, h))
   item_lightens (item_of_value e) s w h = omega (arith, h)
   item_lightens (item_of_record p) s w h =
-      record_holder_lightens p (λ first. frame.Copies first p.record_type) s w (λ first. refl) (omega (arith, h))
+      record_holder_lightens p (λ place. frame.Copies place.component p.record_type) s w (λ place. refl) (omega (arith, h))
 
   items_lighten : (items : List ItemForm) (s : State) (w : ℕ) → load (running s) + items_weight items ≤ w → Lightens (items_next named items (running s)) w
   items_lighten [] s w h = omega (arith, h)
@@ -378,6 +380,22 @@ module _ (types : List TypeDefinition) where
   store_record_lightens o first count (finds cell) s w h =
       record_stored_lightens o first (newest_ones named count s) (record_in cell.values first count) (without_newest named count s) w h
 
+  -- A record with controlled parts that is assigned: its target is finalized, gets its components, and is adjusted.
+  assigns_lighten :
+      (t : ℕ) (target source : Value) (same : Option Bool) (s : State) (w : ℕ)
+      → load (running s) + 3 + (record_steps types t + record_steps types t) ≤ w
+      → Lightens (assigns_next named types t target source same (running s)) w
+  assigns_lighten t target source None s w h = λ memory. cc
+  assigns_lighten t target source (Some true) s w h = omega (arith, h)
+  assigns_lighten t target source (Some false) s w h =
+      let o = whole target in
+      let part = part_base target in
+      let adjusts = treating o (frame.begins (Adjustment s.next)) (record_tasks types t PartsFirst part) s.control in
+      let copies = frame.Copies (base source) t ∷ frame.StoresRecord o (base target) (width_of types t) ∷ adjusts in
+      let adjusted = treating_weight types o (frame.begins (Adjustment s.next)) (record_tasks types t PartsFirst part) s.control in
+      let finalized = treating_weight types o (frame.ends (Assigning s.next)) (record_tasks types t WholeFirst part) copies in
+      omega (arith, h, adjusted, finalized, record_lighter types t PartsFirst part, record_lighter types t WholeFirst part)
+
   received_lightens : (o : Value) (c : ℕ) (input : List ℤ) (before : Option Value) (s : State) (w : ℕ) → load (running s) + 1 ≤ w → Lightens (received_next named o c input before (running s)) w
   received_lightens o c input None s w h = λ memory. cc
   received_lightens o c [] (Some before) s w h = omega (arith, h, passed_run s.control)
@@ -472,18 +490,18 @@ module _ (types : List TypeDefinition) where
 
   -- What is given by reference.
   referred_lightens :
-      (o : Value) (first : ℕ) (found : Option (List Value)) (s : State) (w : ℕ) → load (running s) + 1 ≤ w
-      → Lightens (referred_next named o first found (running s)) w
-  referred_lightens o first None s w h = λ memory. cc
-  referred_lightens o first (Some vs) s w h = omega (arith, h)
+      (o : Value) (place : Place) (found : Option (List Value)) (s : State) (w : ℕ) → load (running s) + 1 ≤ w
+      → Lightens (referred_next named o place found (running s)) w
+  referred_lightens o place None s w h = λ memory. cc
+  referred_lightens o place (Some vs) s w h = omega (arith, h)
 
   refers_lighten :
-      (o : Value) (first count : ℕ) (found : Found (Cell Value)) (s : State) (w : ℕ) → load (running s) + 1 ≤ w
-      → Lightens (refers_next named o first count found (running s)) w
-  refers_lighten o first count on_null s w h = omega (arith, h, passed_run s.control)
-  refers_lighten o first count on_gone s w h = λ memory. cc
-  refers_lighten o first count on_other s w h = λ memory. cc
-  refers_lighten o first count (finds cell) s w h = referred_lightens o first (record_in cell.values first count) s w h
+      (o : Value) (place : Place) (count : ℕ) (found : Found (Cell Value)) (s : State) (w : ℕ) → load (running s) + 1 ≤ w
+      → Lightens (refers_next named o place count found (running s)) w
+  refers_lighten o place count on_null s w h = omega (arith, h, passed_run s.control)
+  refers_lighten o place count on_gone s w h = λ memory. cc
+  refers_lighten o place count on_other s w h = λ memory. cc
+  refers_lighten o place count (finds cell) s w h = referred_lightens o place (record_in cell.values place.component count) s w h
 
   open_lightens : (cs : List ℕ) (x : ℕ) (s : State) (w : ℕ) → load (running s) + length cs + 2 ≤ w → Lightens (open_next named cs x (running s)) w
   open_lightens [] x s w h = λ memory. cc
@@ -529,10 +547,10 @@ module _ (types : List TypeDefinition) where
 
   -- A record object that is made: it is to be initialized, and to be finalized and ended later.
   made_lightens :
-      (x t : ℕ) (values : List Value) (s : State) (w : ℕ) → load (running s) + 2 + new_weight types t ≤ w
-      → load (made named types x t values (running s)) < w
-  made_lightens x t values s w h =
-      let initializes = treating_weight types (created s.heap (words_of types t)) (frame.begins Creation) (all_tasks types t PartsFirst) s.control in
+      (x t : ℕ) (by : Birth) (values : List Value) (s : State) (w : ℕ) → load (running s) + 2 + new_weight types t ≤ w
+      → load (made named types x t by values (running s)) < w
+  made_lightens x t by values s w h =
+      let initializes = treating_weight types (created s.heap (words_of types t)) (frame.begins by) (all_tasks types t PartsFirst) s.control in
       let owned = masters_owning (record { number = height s.masters; owned = record_object t }) s.masters in
       let more = heap_append types s.heap (new_object (record_cell named types t (height s.masters) values) ∷ []) in
       omega (arith, h, owned, more, initializes, tasks_lighter types t PartsFirst)
@@ -542,7 +560,7 @@ module _ (types : List TypeDefinition) where
       (x t : ℕ) (initial : Option (List ItemForm)) (s : State) (w : ℕ)
       → load (running s) + 2 + new_weight types t + initial_weight initial ≤ w
       → Lightens (record_next named types x t initial (running s)) w
-  record_lightens x t None s w h = made_lightens x t (initial_values named (reached_of types t)) s w (omega (arith, h))
+  record_lightens x t None s w h = made_lightens x t Creation (initial_values named (reached_of types t)) s w (omega (arith, h))
   record_lightens x t (Some items) s w h = omega (arith, h)
 
   declaration_lightens :
@@ -663,7 +681,7 @@ module _ (types : List TypeDefinition) where
   treats_lightens v treatment (performs of part ∷ tasks) s w h = performed_lightens v treatment of part tasks (look s.heap v) s w (omega (arith, h))
   treats_lightens v treatment (treats [] ∷ tasks) s w h = λ memory. cc
   treats_lightens v treatment (treats (c ∷ cs) ∷ tasks) s w h =
-      let left : ℕ → List Task = λ i. taken_task (shapes_of types) (direction_of treatment) (treats (c ∷ cs) ∷ tasks) i in
+      let left : ℕ → List Task = λ i. picked_task (shapes_of types) (direction_of treatment) (treats (c ∷ cs) ∷ tasks) i in
       picked_lightens (length (c ∷ cs) == 0) (length (c ∷ cs)) (λ i. treated_on named v treatment (left i) (running s)) w (omega arith) (λ i lt.
       omega (arith, h, treating_weight types v treatment (left i) s.control, picked_lighter types (direction_of treatment) (c ∷ cs) tasks i lt))
 
@@ -693,9 +711,9 @@ module _ (types : List TypeDefinition) where
   frame_lightens bodies (frame.Follows cs) s w b h = path_lightens cs (newest named s) (popped s) w (omega (arith, h))
   frame_lightens bodies (frame.TestsNull equal) s w b h = null_test_lightens equal (reads_null (newest named s)) (popped s) w (omega (arith, h))
   frame_lightens bodies (frame.Refers p) s w b h =
-      record_holder_lightens p (λ first. frame.RefersIn first p.record_type) s w (λ first. refl) (omega (arith, h))
-  frame_lightens bodies (frame.RefersIn first t) s w b h =
-      refers_lighten (newest named s) first (width_of types t) (look s.heap (newest named s)) (popped s) w (omega (arith, h))
+      record_holder_lightens p (λ place. frame.RefersIn place p.record_type) s w (λ place. refl) (omega (arith, h))
+  frame_lightens bodies (frame.RefersIn place t) s w b h =
+      refers_lighten (newest named s) place (width_of types t) (look s.heap (newest named s)) (popped s) w (omega (arith, h))
   frame_lightens bodies (frame.Opens path) s w b h = open_lightens path.selectors path.root s w (omega (arith, h))
   frame_lightens bodies (frame.OpensIn c) s w b h = opens_lighten (newest named s) c (look s.heap (newest named s)) (popped s) w (omega (arith, h))
   frame_lightens bodies (frame.Continues links) s w b h = links_lighten links s w (omega (arith, h))
@@ -716,13 +734,17 @@ module _ (types : List TypeDefinition) where
       record_target_lightens (newest named s) first (width_of types t) items (look s.heap (newest named s)) (popped s) w (omega (arith, h))
   frame_lightens bodies (frame.StoresRecord object first count) s w b h =
       store_record_lightens object first count (look s.heap object) s w (omega (arith, h))
+  frame_lightens bodies (frame.Assigns t) s w b h =
+      let target = newest named (popped s) in
+      let source = newest named s in
+      assigns_lighten t target source (same target source) (popped (popped s)) w (omega (arith, h))
   frame_lightens bodies (frame.Receives c) s w b h =
       receive_lightens (newest named s) c (look s.heap (newest named s)) (popped s) w (omega (arith, h))
   frame_lightens bodies (frame.FreesIn access c) s w b h =
       free_in_lightens access (newest named s) c (look s.heap (newest named s)) (popped s) w (omega (arith, h))
   frame_lightens bodies (frame.Declares x) s w b h = omega (arith, h, masters_owning (record { number = height s.masters; owned = declared x }) s.masters)
   frame_lightens bodies (frame.DeclaresRecord x t) s w b h =
-      made_lightens x t (newest_ones named (words_of types t) s) (without_newest named (words_of types t) s) w (omega (arith, h))
+      made_lightens x t Copy (newest_ones named (words_of types t) s) (without_newest named (words_of types t) s) w (omega (arith, h))
   frame_lightens bodies (frame.Treats v treatment tasks) s w b h = treats_lightens v treatment tasks s w (omega (arith, h))
   frame_lightens bodies frame.Writes s w b h = line_lightens (reads_integer (newest named s)) (popped s) w (omega (arith, h))
   frame_lightens bodies (frame.Ends v) s w b h = end_lightens v (look s.heap v) s w (omega (arith, h))
@@ -765,7 +787,7 @@ module _ (types : List TypeDefinition) where
   exception_lands e (frame.Follows cs) = tt
   exception_lands e (frame.TestsNull equal) = tt
   exception_lands e (frame.Refers p) = tt
-  exception_lands e (frame.RefersIn first t) = tt
+  exception_lands e (frame.RefersIn place t) = tt
   exception_lands e (frame.Opens path) = tt
   exception_lands e (frame.OpensIn c) = tt
   exception_lands e (frame.Continues links) = tt
@@ -779,6 +801,7 @@ module _ (types : List TypeDefinition) where
   exception_lands e (frame.StoresIn object c) = tt
   exception_lands e (frame.TargetsRecord first t items) = tt
   exception_lands e (frame.StoresRecord object first count) = tt
+  exception_lands e (frame.Assigns t) = tt
   exception_lands e (frame.Receives c) = tt
   exception_lands e (frame.FreesIn access c) = tt
   exception_lands e (frame.Declares x) = tt
@@ -928,14 +951,27 @@ holder_goes_on c cs x frame_of s =
     let first = inside (held named s x) c in
     path_goes_on (before_last first cs) (whole (held named s x)) (at (frame_of (last_of first cs) ∷ s.control) s)
 
-record_holder_goes_on : (p : RecordPathForm) (frame_of : ℕ → Frame Value) (s : State) → GoesOn (record_holder_next named p frame_of s)
+record_holder_goes_on : (p : RecordPathForm) (frame_of : Place → Frame Value) (s : State) → GoesOn (record_holder_next named p frame_of s)
 record_holder_goes_on p frame_of s =
     let v = held named s p.object.root in
-    path_goes_on (selected named v p.object.selectors) (whole v) (at (frame_of (first_in named v p.object.selectors p.first) ∷ s.control) s)
+    path_goes_on (selected named v p.object.selectors) (whole v) (at (frame_of (place_in named v p.object.selectors p) ∷ s.control) s)
 
 assign_goes_on : (cs : List ℕ) (x : ℕ) (right : RightForm) (s : State) → GoesOn (assign_next named cs x right s)
 assign_goes_on [] x right s = tt
 assign_goes_on (c ∷ cs) x right s = holder_goes_on c cs x (λ last. frame.Targets last right) s
+
+copy_goes_on : (target : RecordPathForm) (items : List ItemForm) (s : State) → GoesOn (copy_next named target items s)
+copy_goes_on target [] s = λ memory. cc
+copy_goes_on target (null_item ∷ is) s = λ memory. cc
+copy_goes_on target (item_of_path path ∷ is) s = λ memory. cc
+copy_goes_on target (item_of_value e ∷ is) s = λ memory. cc
+copy_goes_on target (item_of_record source ∷ []) s = tt
+copy_goes_on target (item_of_record source ∷ i ∷ is) s = λ memory. cc
+
+record_assign_goes_on : (parts : Bool) (target : RecordPathForm) (items : List ItemForm) (s : State) → GoesOn (record_assign_next named parts target items s)
+record_assign_goes_on true target items s = copy_goes_on target items s
+record_assign_goes_on false target items s =
+    record_holder_goes_on target (λ place. frame.TargetsRecord place.component target.record_type items) s
 
 free_goes_on :
     (types : List TypeDefinition) (access x : ℕ) (v : Value) (found : Found (Cell Value)) (s : State)
@@ -969,8 +1005,7 @@ call_goes_on procedure actuals (Some b) s = tt
 stmt_goes_on : (types : List TypeDefinition) (bodies : List BodyForm) (f : StmtForm) (s : State) → GoesOn (stmt_next named types bodies f s)
 stmt_goes_on types bodies skips s = tt
 stmt_goes_on types bodies (assigns target right) s = assign_goes_on target.selectors target.root right s
-stmt_goes_on types bodies (assigns_record target items) s =
-    record_holder_goes_on target (λ first. frame.TargetsRecord first target.record_type items) s
+stmt_goes_on types bodies (assigns_record target items) s = record_assign_goes_on (has_parts types target.record_type) target items s
 stmt_goes_on types bodies (frees access path) s = frees_go_on types path.selectors access path.root s
 stmt_goes_on types bodies (gets target) s = gets_go_on target.selectors target.root s.input s
 stmt_goes_on types bodies (writes e) s = tt

@@ -19,6 +19,7 @@ use Rattle.ada_meaning.specs.Frame as frame
 use Rattle.ada_meaning.specs.State.{Activation}
 use Rattle.ada_meaning.specs.Named.{State}
 use Rattle.ada_meaning.specs.declared.state.Id.{Id}
+use Rattle.ada_meaning.specs.declared.state.Place.{Place}
 use Rattle.ada_meaning.specs.Run.{Event, Choice, settled, Step}
 
 -- Callers stay.
@@ -239,7 +240,7 @@ abbrev pub AreStoredIn : List Value → (frames : List (Frame Value)) → Type 0
 AreStoredIn [] [] = Unit {0}
 AreStoredIn [] (f ∷ k) = ⊥
 AreStoredIn (r ∷ rs) [] = ⊥
-AreStoredIn (r ∷ rs) (f ∷ k) = ((o : Id) (c : ℕ) → r ≡ Part o c → f ≡ frame.StoresIn (Names o) c) × AreStoredIn rs k
+AreStoredIn (r ∷ rs) (f ∷ k) = ((o : Id) (place : Place) → r ≡ Part o place → f ≡ frame.StoresIn (Names o) place.component) × AreStoredIn rs k
 
 -- The body of a call has ended: its activation is gone, and what was behind the call is left. Where it has ended normally, its caller has what it gets
 -- back, and runs (6.4.1, 6.5); where an exception passes, it holds what it held, and the exception goes on in it (11.4).

@@ -4,7 +4,7 @@ use Rattle.std.specs.Prelude.{◌≡◌, ◌≢◌, ℕ, Bool, true, false, ◌|
 use Rattle.std.specs.List.{sum_by}
 use Rattle.ada_program.specs.declared.program.Program.{Program}
 use Rattle.ada_program.specs.declared.program.TypeDefinition.{TypeDefinition}
-use Rattle.ada_program.specs.Controlled.{shapes_of}
+use Rattle.ada_program.specs.Controlled.{number_of, shapes_of}
 use Rattle.ada_parts.specs.declared.tasks.Direction.TheVariants.{WholeFirst}
 use Rattle.ada_parts.specs.Shape.{Shape, own_parts}
 use Rattle.ada_parts.specs.Task.{Task, performs, treats}
@@ -62,6 +62,15 @@ steps_of (shape ∷ older) t =
 abbrev pub steps_of_any : List Shape → ℕ
 steps_of_any [] = 0
 steps_of_any (shape ∷ older) = own_parts shape + sum_by (λ c. 1 + steps_of older c) shape.components + steps_of_any older
+
+-- The same of a record type by its number, if it has controlled parts.
+abbrev pub steps_for : List Shape → (number : Option ℕ) → ℕ
+steps_for shapes None = 0
+steps_for shapes (Some n) = steps_of shapes n
+
+-- The treatment of a record of a type weighs this at most, wherever the record lies.
+abbrev pub record_steps : List TypeDefinition → (record_type : ℕ) → ℕ
+record_steps types t = 1 + steps_for (shapes_of types) (number_of types (Some t))
 
 -- What is left of a treatment.
 abbrev pub tasks_weight : List Shape → List Task → ℕ
@@ -132,7 +141,7 @@ frame_weight types (frame.Computes e) = expression_weight e
 frame_weight types (frame.Follows cs) = 1 + length cs
 frame_weight types (frame.TestsNull equal) = 1
 frame_weight types (frame.Refers p) = 1 + path_weight p.object
-frame_weight types (frame.RefersIn first t) = 1
+frame_weight types (frame.RefersIn place t) = 1
 frame_weight types (frame.Opens path) = 1 + path_weight path
 frame_weight types (frame.OpensIn c) = 1
 frame_weight types (frame.Continues links) = links_weight links
@@ -146,6 +155,7 @@ frame_weight types (frame.Targets c right) = 2 + right_weight types right
 frame_weight types (frame.StoresIn o c) = 1
 frame_weight types (frame.TargetsRecord first t items) = 2 + items_weight items
 frame_weight types (frame.StoresRecord o first count) = 1
+frame_weight types (frame.Assigns t) = 5 + (record_steps types t + record_steps types t)
 frame_weight types (frame.Receives c) = 1
 frame_weight types (frame.FreesIn access c) = 5 + steps_of_any (shapes_of types)
 frame_weight types (frame.Declares x) = 2

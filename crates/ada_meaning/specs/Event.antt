@@ -11,7 +11,8 @@ use Rattle.ada_meaning.specs.declared.event.Line.{Line as LineOf}
 use Rattle.ada_meaning.specs.declared.request.Request.{Request as Asked}
 use Rattle.ada_meaning.specs.declared.request.Request.TheVariants as asked
 
--- An event. An object is shown by a value that names it; a controlled value by its object, its part, and how often the part had a value before.
+-- An event. An object is shown by a value that names it; a controlled value by its object, its part, and how often the part had a value before, with its
+-- type, by its number among the record types that have controlled parts.
 pub data Event (V : Type 0) : Type 0 where
   Born : (object : V) → (part turn type number : ℕ) → Birth → Event V
   Finalized : (object : V) → (part turn type number : ℕ) → Cause → Event V

@@ -10,6 +10,7 @@ use Rattle.ada_program.specs.Handling.{handler_of}
 use Rattle.ada_program.specs.ProgramForm.{BodyForm}
 use Rattle.ada_meaning.specs.declared.state.Mode.{Mode}
 use Rattle.ada_meaning.specs.declared.state.Mode.TheVariants.{Running, Raising, Exiting, Returning}
+use Rattle.ada_meaning.specs.declared.state.Place.{Place}
 use Rattle.ada_meaning.specs.declared.event.Birth.{Birth}
 use Rattle.ada_meaning.specs.declared.event.Cause.{Cause}
 use Rattle.ada_parts.specs.Task.{Task}
@@ -58,9 +59,8 @@ pub data Frame (V : Type 0) : Type 0 where
   TestsNull : (equal : Bool) → Frame V
   -- the record to which a path leads is to be found: what refers to it becomes the newest operand (6.2)
   Refers : RecordPathForm → Frame V
-  -- the newest operand gives access to an object in which a record of this type lies, from a component on: what refers to the record becomes the newest
-  -- operand (6.2)
-  RefersIn : (first record_type : ℕ) → Frame V
+  -- the newest operand gives access to an object in which a record of this type lies at a place: what refers to the record becomes the newest operand (6.2)
+  RefersIn : (place : Place) → (record_type : ℕ) → Frame V
   -- the component to which a path leads is to be found, for a formal parameter of mode `in out` (6.4.1)
   Opens : PathForm → Frame V
   -- the newest operand gives access to an object, whose component is given for such a parameter: what refers to it becomes an operand, and its value the
@@ -90,6 +90,8 @@ pub data Frame (V : Type 0) : Type 0 where
   TargetsRecord : (first record_type : ℕ) → List ItemForm → Frame V
   -- the newest operands go to the components of an object, as many as `count` from one on (5.2)
   StoresRecord : (object : V) → (first count : ℕ) → Frame V
+  -- the two newest operands refer to records of this type, which have controlled parts: the newest one is assigned to the other (5.2, 7.6)
+  Assigns : (record_type : ℕ) → Frame V
   -- the newest operand gives access to an object, whose component takes the next number of the input
   Receives : (component : ℕ) → Frame V
   -- the newest operand gives access to an object, whose component is freed by the instance for this access type (13.11.2)

@@ -4,6 +4,7 @@ use Rattle.std.specs.Prelude.{ℕ, ℤ, Bool, List, Option, Result}
 use Rattle.ada_values.specs.declared.operator.BinaryOperator.{BinaryOperator}
 use Rattle.ada_values.specs.declared.operator.UnaryOperator.{UnaryOperator}
 use Rattle.ada_values.specs.declared.fault.OperatorFault.{OperatorFault}
+use Rattle.ada_meaning.specs.declared.state.Place.{Place}
 
 -- Where an object lies, and with which item it goes: a collection or a record object, by its item's number; the pool that its words are from, none
 -- where it is declared (3.3.1); its subpool (13.11.4).
@@ -47,12 +48,17 @@ pub record Ops (V H : Type 0) : Type 0 where
   -- what the predefined operators give (4.5)
   pub unary : UnaryOperator → V → Result V OperatorFault
   pub binary : BinaryOperator → V → V → Result V OperatorFault
-  -- what refers to a record, or to a component, that lies in the object of a value, from a component on (6.2); and of what refers to one the object in
-  -- which it lies, where it begins, and which component of the object a component of it is. Any other value stands for all of its object.
-  pub refer : V → (first : ℕ) → V
+  -- what refers to a record, or to a component, that lies in the object of a value at a place (6.2); and of what refers to one the object in which it
+  -- lies, the component and the controlled part with which it begins, and which component and which part of the object a component and a part of it are. Any
+  -- other value stands for all of its object.
+  pub refer : V → Place → V
   pub whole : V → V
   pub base : V → ℕ
+  pub part_base : V → ℕ
   pub inside : V → (component : ℕ) → ℕ
+  pub part_inside : V → (part : ℕ) → ℕ
+  -- whether two references to records that have controlled parts, and are of one type, are to one record: none, where either is no reference
+  pub same : V → V → Option Bool
   -- the object that a value gives access to, as long as it exists
   pub look : H → V → Found (Cell V)
   -- the same as long as its words are out

@@ -1,7 +1,6 @@
 -- The laws of storage over whole runs, and what a safe program is.
 
-use Rattle.std.specs.Prelude.{◌≡◌, ◌≢◌, ◌⊎◌, ◌↔◌, ℕ, ℤ, true, false, ◌<◌, ◌≤◌, List, [], ◌∷◌, ◌++◌, Option, Some, None, All, AllPairs, Contains, IfSome}
-use Rattle.ada_program.specs.declared.program.Program.{Program}
+use Rattle.std.specs.Prelude.{◌≡◌, ◌≢◌, ◌⊎◌, ◌↔◌, ℕ, true, false, ◌<◌, ◌≤◌, List, [], ◌∷◌, ◌++◌, Option, Some, None, All, AllPairs, Contains, IfSome}
 use Rattle.ada_meaning.specs.declared.state.Id.{Id}
 use Rattle.ada_meaning.specs.declared.state.Value.{Value}
 use Rattle.ada_meaning.specs.declared.state.Value.TheVariants.{Null, Names, Scalar, Part}
@@ -9,12 +8,11 @@ use Rattle.ada_meaning.specs.declared.event.Cause.{Cause}
 use Rattle.ada_meaning.specs.declared.event.Cause.TheVariants.{Leaving, Freeing, Assigning, Undoing}
 use Rattle.ada_meaning.specs.declared.event.Halt.{Halt}
 use Rattle.ada_meaning.specs.declared.event.Halt.TheVariants.{Finished, Unhandled, Erroneous, Stuck, Memory}
-use Rattle.ada_meaning.specs.declared.event.Why.{Why}
 use Rattle.ada_meaning.specs.Event.{Finalized, Back, Followed, Left}
 use Rattle.ada_meaning.specs.State.{Owned, declared, collection, record_object, storage_pool, pool_housed, Item, Master}
 use Rattle.ada_meaning.specs.Heap.{Home}
 use Rattle.ada_meaning.specs.Named.{Object, State, object_at}
-use Rattle.ada_meaning.specs.Run.{Event, Choice, Step, Run, Halts, first_state}
+use Rattle.ada_meaning.specs.Run.{Event}
 
 -- What an event is about.
 
@@ -23,7 +21,7 @@ abbrev pub named_by : Value → Option Id
 named_by Null = None
 named_by (Names o) = Some o
 named_by (Scalar v) = None
-named_by (Part o first) = None
+named_by (Part o place) = None
 
 -- The object whose words go back.
 abbrev pub back_of : Event → Option Id
@@ -229,11 +227,3 @@ HasEnded (Unhandled e) = Unit {0}
 HasEnded (Erroneous why) = ⊥
 HasEnded Stuck = ⊥
 HasEnded Memory = ⊥
-
--- Every run, whatever its input and whatever is granted and picked, is not at an erroneous action and keeps the laws; masters are left inner
--- first; where the run has come to its end, each master has been left, and the words of each object are back.
-pub record Safe (program : Program) : Type 0 where
-  pub never_erroneous : (input : List ℤ) (events : List Event) (last : State) (why : Why) → Run program (first_state program input) events last → Halts program last (Erroneous why) → ⊥
-  pub keeps : (input : List ℤ) (events : List Event) (last : State) → Run program (first_state program input) events last → Law events last
-  pub ends : (input : List ℤ) (events : List Event) (last : State) (halt : Halt) → Run program (first_state program input) events last → Halts program last halt → HasEnded halt → (last.masters ≡ []) × All IsBack last.heap
-  pub inner_first : (input : List ℤ) (events : List Event) (before : State) (choice : Choice) (event : Event) (after : State) → Run program (first_state program input) events before → Step program before choice event after → LeavesInnermost event before.masters

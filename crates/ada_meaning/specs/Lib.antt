@@ -16,10 +16,12 @@ pub mod Named
 pub mod Run
 -- runs in which somebody answers what is open
 pub mod Chosen
--- the laws of storage, and what a safe program is (7.6.1, 13.11.2)
+-- the laws of storage (7.6.1, 13.11.2)
 pub mod Law
 -- the laws of finalization (7.6, 7.6.1)
 pub mod Finalization
+-- what a safe program is
+pub mod Safe
 -- laws of names and objects over any run (4.8, 7.6.1, 13.11.2)
 pub mod Life
 -- what objects of allocators without items hold when they come to be (4.8)

@@ -12,6 +12,7 @@ use Rattle.ada_values.specs.Outcome.{outcome_of, unary_outcome_of}
 use Rattle.ada_program.specs.declared.program.TypeDefinition.{TypeDefinition}
 use Rattle.ada_program.specs.ProgramForm.{BodyForm}
 use Rattle.ada_meaning.specs.declared.state.Id.{Id}
+use Rattle.ada_meaning.specs.declared.state.Place.{Place}
 use Rattle.ada_meaning.specs.declared.state.Value.{Value}
 use Rattle.ada_meaning.specs.declared.state.Value.TheVariants.{Null, Names, Scalar, Part}
 use Rattle.ada_meaning.specs.declared.state.Stage.{Stage}
@@ -60,7 +61,7 @@ abbrev pub look : List Object → Value → Found (Cell Value)
 look objects Null = on_null
 look objects (Names o) = seen (object_at objects o)
 look objects (Scalar v) = on_other
-look objects (Part o first) = on_other
+look objects (Part o place) = on_other
 
 -- The cell of an object as long as its words are out.
 abbrev pub lent_by : Option Object → Found (Cell Value)
@@ -72,7 +73,7 @@ abbrev pub lent : List Object → Value → Found (Cell Value)
 lent objects Null = on_null
 lent objects (Names o) = lent_by (object_at objects o)
 lent objects (Scalar v) = on_other
-lent objects (Part o first) = on_other
+lent objects (Part o place) = on_other
 
 -- A new object exists, is in its collection, and its words are out.
 abbrev pub new_object : Cell Value → Object
@@ -125,7 +126,7 @@ abbrev pub on_object : (Object → Object) → List Object → Value → List Ob
 on_object change objects Null = objects
 on_object change objects (Names o) = changed change (object_at objects o) objects o
 on_object change objects (Scalar v) = objects
-on_object change objects (Part o first) = objects
+on_object change objects (Part o place) = objects
 
 -- A component of the object that a value names gets another value (5.2).
 abbrev pub store : List Object → Value → ℕ → Value → List Object
@@ -171,21 +172,21 @@ abbrev pub reads_integer : Value → Option ℤ
 reads_integer Null = None
 reads_integer (Names o) = None
 reads_integer (Scalar v) = integer_in v
-reads_integer (Part o first) = None
+reads_integer (Part o place) = None
 
 -- The truth that a value is, if it is one (3.5.3).
 abbrev pub reads_boolean : Value → Option Bool
 reads_boolean Null = None
 reads_boolean (Names o) = None
 reads_boolean (Scalar v) = boolean_in v
-reads_boolean (Part o first) = None
+reads_boolean (Part o place) = None
 
 -- Whether an access value is null (4.5.2): the object that it names need not exist.
 abbrev pub reads_null : Value → Option Bool
 reads_null Null = Some true
 reads_null (Names o) = Some false
 reads_null (Scalar v) = None
-reads_null (Part o first) = None
+reads_null (Part o place) = None
 
 -- What an operator gives of values (4.5): Integers and Booleans have operators, access values have none yet.
 abbrev pub as_value : Result ScalarValue OperatorFault → Result Value OperatorFault
@@ -203,32 +204,52 @@ binary_given operator (Scalar a) (Scalar b) = as_value (outcome_of operator a b)
 binary_given operator a b = Err WrongType
 
 -- What refers to a record, or to a component, of the object of a name (6.2).
-abbrev pub refer : Value → (first : ℕ) → Value
-refer Null first = Null
-refer (Names o) first = Part o first
-refer (Scalar v) first = Scalar v
-refer (Part o base) first = Part o base
+abbrev pub refer : Value → Place → Value
+refer Null place = Null
+refer (Names o) place = Part o place
+refer (Scalar v) place = Scalar v
+refer (Part o base) place = Part o base
 
 -- The object in which it lies.
 abbrev pub whole : Value → Value
 whole Null = Null
 whole (Names o) = Names o
 whole (Scalar v) = Scalar v
-whole (Part o first) = Names o
+whole (Part o place) = Names o
 
--- Where it begins there.
+-- The component with which it begins there.
 abbrev pub base : Value → ℕ
 base Null = 0
 base (Names o) = 0
 base (Scalar v) = 0
-base (Part o first) = first
+base (Part o place) = place.component
+
+-- The controlled part with which it begins there.
+abbrev pub part_base : Value → ℕ
+part_base Null = 0
+part_base (Names o) = 0
+part_base (Scalar v) = 0
+part_base (Part o place) = place.part
 
 -- Which component of the object a component of it is.
 abbrev pub inside : Value → (component : ℕ) → ℕ
 inside Null c = c
 inside (Names o) c = c
 inside (Scalar v) c = c
-inside (Part o first) c = first + c
+inside (Part o place) c = place.component + c
+
+-- Which controlled part of the object a part of it is.
+abbrev pub part_inside : Value → (part : ℕ) → ℕ
+part_inside Null p = p
+part_inside (Names o) p = p
+part_inside (Scalar v) p = p
+part_inside (Part o place) p = place.part + p
+
+-- Two references to records that have controlled parts, and are of one type, are to one record where they are to one object, and to one part: a record
+-- without components begins with the same component as the one behind it.
+abbrev pub same : Value → Value → Option Bool
+same (Part o place) (Part p other) = Some ((o.0 == p.0) && (place.part == other.part))
+same a b = None
 
 -- A number as a value.
 abbrev pub an_integer : ℤ → Value
@@ -252,7 +273,10 @@ named = record {
   refer = refer;
   whole = whole;
   base = base;
+  part_base = part_base;
   inside = inside;
+  part_inside = part_inside;
+  same = same;
   look = look;
   lent = lent;
   create = create;

@@ -1,16 +1,22 @@
 -- A record is copied as a whole (4.3.1, 5.2), in any run of any program: from one object to another, or within one.
 
-use Rattle.std.specs.Prelude.{◌≡◌, ◌≢◌, ℕ, ◌+◌, ◌<◌, ◌≤◌, ◌⊎◌, List, [], ◌∷◌, length, Option, Some, None}
+use Rattle.std.specs.Prelude.{◌≡◌, ◌≢◌, ℕ, suc, ◌+◌, true, ◌<◌, ◌≤◌, ◌⊎◌, List, [], ◌∷◌, length, Option, Some, None}
 use Rattle.std.specs.List.{slice_get}
 use Rattle.ada_program.specs.declared.program.Program.{Program}
+use Rattle.ada_program.specs.Form.{RecordPathForm, item_of_record, assigns_record, StmtsForm, a_stmt}
 use Rattle.ada_program.specs.Typed.{width_of}
+use Rattle.ada_parts.specs.declared.tasks.Direction.TheVariants.{PartsFirst, WholeFirst}
+use Rattle.ada_meaning.specs.declared.event.Birth.TheVariants.{Adjustment}
+use Rattle.ada_meaning.specs.declared.event.Cause.TheVariants.{Assigning}
 use Rattle.ada_meaning.specs.declared.state.Id.{Id}
+use Rattle.ada_meaning.specs.declared.state.Place.{Place}
 use Rattle.ada_meaning.specs.declared.state.Mode.TheVariants.{Running}
 use Rattle.ada_meaning.specs.declared.state.Value.{Value}
-use Rattle.ada_meaning.specs.declared.state.Value.TheVariants.{Names}
-use Rattle.ada_meaning.specs.Frame.{Frame}
+use Rattle.ada_meaning.specs.declared.state.Value.TheVariants.{Names, Part}
+use Rattle.ada_meaning.specs.Frame.{Frame, begins, ends}
 use Rattle.ada_meaning.specs.Frame as frame
 use Rattle.ada_meaning.specs.State.{Activation}
+use Rattle.ada_meaning.specs.Step.{has_parts, record_tasks, treating}
 use Rattle.ada_meaning.specs.Named.{Object, State, object_at}
 use Rattle.ada_meaning.specs.Run.{Event, settled, Step}
 
@@ -58,3 +64,42 @@ RecordsAreCopied =
     → Step program before settled one mid → Step program mid settled two later → Step program later settled three after
     → IsCopied before.heap after.heap source target first to (width_of program.types.items record_type)
     × (after.mode ≡ Running) × (after.control ≡ behind) × (after.activations ≡ record { procedure = procedure; places = places; operands = pending } ∷ suspended)
+
+-- A record that has controlled parts is assigned to another (5.2, 7.6).
+
+-- The target is found, and then the source.
+abbrev pub TargetsComeFirst : Type 0
+TargetsComeFirst =
+    (program : Program) (target source : RecordPathForm) (later : StmtsForm) (outer : List (Frame Value)) (before after : State) (event : Event)
+    → before.mode ≡ Running → has_parts program.types.items target.record_type ≡ true
+    → before.control ≡ frame.Does (a_stmt (assigns_record target (item_of_record source ∷ [])) later) ∷ outer → Step program before settled event after
+    → after ≡ record before { control = frame.Refers target ∷ frame.Refers source ∷ frame.Assigns target.record_type ∷ frame.Does later ∷ outer }
+
+-- Where both are one record, nothing is done.
+abbrev pub OntoItselfNothingIsDone : Type 0
+OntoItselfNothingIsDone =
+    (program : Program) (record_type : ℕ) (o : Id) (target source : Place) (outer : List (Frame Value)) (before after : State) (procedure : Option ℕ)
+    (places pending : List Value) (suspended : List (Activation Value)) (event : Event)
+    → before.mode ≡ Running → before.control ≡ frame.Assigns record_type ∷ outer
+    → before.activations ≡ record { procedure = procedure; places = places; operands = Part o source ∷ Part o target ∷ pending } ∷ suspended
+    → target.part ≡ source.part → Step program before settled event after
+    → after ≡ record before {
+      control = outer;
+      activations = record { procedure = procedure; places = places; operands = pending } ∷ suspended;
+    }
+
+-- Else the target is finalized, the components of the source are copied to it, and then it is adjusted, under a number that no other assignment has.
+abbrev pub AssignmentsFinalizeCopyAdjust : Type 0
+AssignmentsFinalizeCopyAdjust =
+    (program : Program) (record_type : ℕ) (o p : Id) (target source : Place) (outer : List (Frame Value)) (before after : State) (procedure : Option ℕ)
+    (places pending : List Value) (suspended : List (Activation Value)) (event : Event)
+    → before.mode ≡ Running → before.control ≡ frame.Assigns record_type ∷ outer
+    → before.activations ≡ record { procedure = procedure; places = places; operands = Part p source ∷ Part o target ∷ pending } ∷ suspended
+    → (o ≢ p) ⊎ (target.part ≢ source.part) → Step program before settled event after
+    → after ≡ record before {
+      next = suc before.next;
+      control = treating (Names o) (ends (Assigning before.next)) (record_tasks program.types.items record_type WholeFirst target.part)
+          (frame.Copies source.component record_type ∷ frame.StoresRecord (Names o) target.component (width_of program.types.items record_type)
+          ∷ treating (Names o) (begins (Adjustment before.next)) (record_tasks program.types.items record_type PartsFirst target.part) outer);
+      activations = record { procedure = procedure; places = places; operands = Names p ∷ pending } ∷ suspended;
+    }

@@ -1,6 +1,6 @@
 -- The small steps: what a state does next, form by form in the order of the manual. They are generic in what a value is and in the heap.
 
-use Rattle.std.specs.Prelude.{ℕ, ◌+◌, ◌==◌, ℤ, pos, ◌+ℤ◌, int_le, Bool, true, false, not, if◌then◌else◌, List, [], ◌∷◌, ◌++◌, length, map, replicate, take, drop, reverse, Option, Some, None, Result, Ok, Err}
+use Rattle.std.specs.Prelude.{ℕ, ◌+◌, ◌-◌, ◌==◌, ℤ, pos, ◌+ℤ◌, int_le, Bool, true, false, not, if◌then◌else◌, List, [], ◌∷◌, ◌++◌, length, map, replicate, take, drop, reverse, Option, Some, None, is_some, Result, Ok, Err}
 use Rattle.std.specs.List.{slice_get, slice_index_or, slice_set}
 use Rattle.ada_values.specs.declared.operator.BinaryOperator.{BinaryOperator}
 use Rattle.ada_values.specs.declared.operator.BinaryOperator.TheVariants as binary
@@ -13,20 +13,21 @@ use Rattle.ada_program.specs.declared.program.VariableKind.{VariableKind}
 use Rattle.ada_program.specs.declared.program.VariableKind.TheVariants as variable
 use Rattle.ada_program.specs.Form.{RecordPathForm, ActualForm, in_value, in_null, in_access, in_record, in_out_path, in_out_access, in_out_component, in_out_record, ExpressionForm, integer, boolean, reads, is_null, applied_to, chained, LinksForm, no_more_links, a_link, ItemForm, null_item, item_of_path, item_of_value, item_of_record, RightForm, nothing, value_of, allocates, allocates_default, computes, StmtForm, skips, assigns, assigns_record, frees, gets, writes, writes_text, chooses, repeats, counts, exits, calls, returns, raises, encloses, StmtsForm, no_stmts, a_stmt, BranchesForm, otherwise, a_branch, HandlersForm, DeclarationForm, creates_pool, collects, declares, declares_record}
 use Rattle.ada_program.specs.ProgramForm.{VariableForm, BodyForm}
-use Rattle.ada_program.specs.Typed.{designated_of, reached_of, words_of, width_of, pool_named}
-use Rattle.ada_program.specs.Controlled.{shapes_of}
+use Rattle.ada_program.specs.Typed.{reached_of, words_of, width_of, pool_named}
+use Rattle.ada_program.specs.Controlled.{number_of, number_reached, shapes_of}
 use Rattle.ada_parts.specs.declared.tasks.Direction.{Direction}
 use Rattle.ada_parts.specs.declared.tasks.Direction.TheVariants.{PartsFirst, WholeFirst}
 use Rattle.ada_parts.specs.declared.tasks.Next.{Next as Follows}
 use Rattle.ada_parts.specs.declared.tasks.Next.TheVariants.{Done, Pick, Perform}
 use Rattle.ada_parts.specs.Shape.{Shape, parts_of}
-use Rattle.ada_parts.specs.Task.{Task, opened, performed, next as task_next, taken as taken_task}
+use Rattle.ada_parts.specs.Task.{Task, performs, treats, opened, performed, next as task_next, taken as taken_task}
 use Rattle.ada_meaning.specs.declared.event.Birth.{Birth}
-use Rattle.ada_meaning.specs.declared.event.Birth.TheVariants.{Creation}
+use Rattle.ada_meaning.specs.declared.event.Birth.TheVariants.{Creation, Copy, Adjustment}
+use Rattle.ada_meaning.specs.declared.state.Place.{Place}
 use Rattle.ada_meaning.specs.declared.state.Mode.{Mode}
 use Rattle.ada_meaning.specs.declared.state.Mode.TheVariants.{Running, Raising, Exiting, Returning}
 use Rattle.ada_meaning.specs.declared.event.Cause.{Cause}
-use Rattle.ada_meaning.specs.declared.event.Cause.TheVariants.{Leaving, Freeing}
+use Rattle.ada_meaning.specs.declared.event.Cause.TheVariants.{Leaving, Freeing, Assigning}
 use Rattle.ada_program.specs.declared.program.Exception.{Exception}
 use Rattle.ada_program.specs.declared.program.Exception.TheVariants.{ConstraintError, StorageError, EndError}
 use Rattle.ada_meaning.specs.declared.event.Halt.{Halt}
@@ -55,23 +56,52 @@ abbrev pub direction_of : Treatment → Direction
 direction_of (begins by) = PartsFirst
 direction_of (ends cause) = WholeFirst
 
--- All that is to be done for an object of a record type: nothing, if there is no such type.
+-- How many components are open, of which one is to be picked.
+abbrev pub open_count : List Task → ℕ
+open_count [] = 0
+open_count (treats components ∷ behind) = length components
+open_count (performs of part ∷ behind) = 0
+
+-- Which of so many components comes at a place in the order in which the profile takes them: that of their declaration where they are initialized or
+-- adjusted, and the reverse of it where they are finalized.
+abbrev pub member_at : Direction → (count i : ℕ) → ℕ
+member_at PartsFirst count i = i
+member_at WholeFirst count i = count - (i + 1)
+
+-- What is left once the component at such a place is picked.
+abbrev pub picked_task : List Shape → Direction → List Task → (i : ℕ) → List Task
+picked_task shapes direction tasks i = taken_task shapes direction tasks (member_at direction (open_count tasks) i)
+
+-- All that is to be done for an object of a record type, by its number among those that have controlled parts: nothing, if it has none.
 abbrev pub tasks_for : List Shape → Direction → Option ℕ → List Task
 tasks_for shapes direction None = []
-tasks_for shapes direction (Some t) = opened shapes direction t 0
+tasks_for shapes direction (Some n) = opened shapes direction n 0
+
+-- The same of a record that lies in an object, where its first part has this number.
+abbrev pub tasks_in : List Shape → Direction → Option ℕ → (first : ℕ) → List Task
+tasks_in shapes direction None first = []
+tasks_in shapes direction (Some n) first = opened shapes direction n first
 
 -- How many controlled parts such an object has.
 abbrev pub parts_for : List Shape → Option ℕ → ℕ
 parts_for shapes None = 0
-parts_for shapes (Some t) = parts_of shapes t
+parts_for shapes (Some n) = parts_of shapes n
 
 -- How many controlled parts the objects have that an access type's values name, or the one that is known by a type.
 abbrev pub parts_held : List TypeDefinition → (access : ℕ) → ℕ
-parts_held types access = parts_for (shapes_of types) (designated_of types access)
+parts_held types access = parts_for (shapes_of types) (number_reached types access)
 
 -- All that is to be done for an object that is initialized, or finalized: one that an access type's values name, or the one that is known by a type.
 abbrev pub all_tasks : List TypeDefinition → (access : ℕ) → Direction → List Task
-all_tasks types access direction = tasks_for (shapes_of types) direction (designated_of types access)
+all_tasks types access direction = tasks_for (shapes_of types) direction (number_reached types access)
+
+-- All that is to be done for a record of a type that lies in an object, where its first part has this number.
+abbrev pub record_tasks : List TypeDefinition → (record_type : ℕ) → Direction → (first : ℕ) → List Task
+record_tasks types t direction first = tasks_in (shapes_of types) direction (number_of types (Some t)) first
+
+-- The records of a type have controlled parts.
+abbrev pub has_parts : List TypeDefinition → (record_type : ℕ) → Bool
+has_parts types t = is_some (number_of types (Some t))
 
 -- The controlled parts of a new object: none has a value yet.
 abbrev pub new_parts : (count : ℕ) → List PartState
@@ -356,15 +386,15 @@ module _ {V H : Type 0} (ops : Ops V H) where
       path_next (before_last (ops.inside (held s x) c) cs) (ops.whole (held s x)) (at (frame_of (last_of (ops.inside (held s x) c) cs) ∷ s.control) s)
 
   -- Where a record begins in its object: in that of a record parameter, if the path is that alone.
-  abbrev pub first_in : V → List ℕ → (first : ℕ) → ℕ
-  first_in v [] first = ops.inside v first
-  first_in v (c ∷ cs) first = first
+  abbrev pub place_in : V → List ℕ → RecordPathForm → Place
+  place_in v [] p = record { component = ops.inside v p.first; part = ops.part_inside v p.part }
+  place_in v (c ∷ cs) p = record { component = p.first; part = p.part }
 
-  -- The object in which a record lies is found first, and then this frame comes, for the number of the record's first component there.
-  abbrev pub record_holder_next : RecordPathForm → (ℕ → Frame V) → State V H → Next V H
+  -- The object in which a record lies is found first, and then this frame comes, for the place of the record there.
+  abbrev pub record_holder_next : RecordPathForm → (Place → Frame V) → State V H → Next V H
   record_holder_next p frame_of s =
       path_next (selected (held s p.object.root) p.object.selectors) (ops.whole (held s p.object.root))
-      (at (frame_of (first_in (held s p.object.root) p.object.selectors p.first) ∷ s.control) s)
+      (at (frame_of (place_in (held s p.object.root) p.object.selectors p) ∷ s.control) s)
 
   -- Expressions (4.4); the left operand comes before the right one.
   abbrev pub expression_next : ExpressionForm → State V H → Next V H
@@ -408,7 +438,7 @@ module _ {V H : Type 0} (ops : Ops V H) where
   item_next null_item s = moves Quiet (computed ops.null s)
   item_next (item_of_path path) s = named_next path.selectors path.root s
   item_next (item_of_value e) s = moves Quiet (at (frame.Computes e ∷ s.control) s)
-  item_next (item_of_record p) s = record_holder_next p (λ first. frame.Copies first p.record_type) s
+  item_next (item_of_record p) s = record_holder_next p (λ place. frame.Copies place.component p.record_type) s
 
   abbrev pub items_next : List ItemForm → State V H → Next V H
   items_next [] s = moves Quiet s
@@ -463,7 +493,7 @@ module _ {V H : Type 0} (ops : Ops V H) where
   abbrev pub treats_next : List Shape → V → Treatment → List Task → Follows → State V H → Next V H
   treats_next shapes v treatment tasks Done s = moves Quiet s
   treats_next shapes v treatment tasks (Pick count) s =
-      if count == 0 then halts Stuck else picks count (λ i. treated_on v treatment (taken_task shapes (direction_of treatment) tasks i) s)
+      if count == 0 then halts Stuck else picks count (λ i. treated_on v treatment (picked_task shapes (direction_of treatment) tasks i) s)
   treats_next shapes v treatment tasks (Perform of part) s =
       performed_next v treatment of part (ops.look s.heap v) (treated_on v treatment (performed tasks) s)
 
@@ -558,6 +588,20 @@ module _ {V H : Type 0} (ops : Ops V H) where
   back_next v cause pool on_other s = halts Stuck
   back_next v cause pool (finds cell) s = if same_pool pool cell.home.pool then given_back v cause cell s else halts (Erroneous GivesElsewhere)
 
+  -- A record that has controlled parts is assigned to another of its type (5.2, 7.6): nothing is done where both are one; else the target is finalized, the
+  -- components are copied, and the target is adjusted. Target and source are found before.
+  abbrev pub assigning : List TypeDefinition → (record_type : ℕ) → (target source : V) → State V H → State V H
+  assigning types t target source s = numbered (computed (ops.whole source) (record s {
+    control = treating (ops.whole target) (ends (Assigning s.next)) (record_tasks types t WholeFirst (ops.part_base target))
+        (frame.Copies (ops.base source) t ∷ frame.StoresRecord (ops.whole target) (ops.base target) (width_of types t)
+        ∷ treating (ops.whole target) (begins (Adjustment s.next)) (record_tasks types t PartsFirst (ops.part_base target)) s.control);
+  }))
+
+  abbrev pub assigns_next : List TypeDefinition → (record_type : ℕ) → (target source : V) → (same : Option Bool) → State V H → Next V H
+  assigns_next types t target source None s = halts Stuck
+  assigns_next types t target source (Some true) s = moves Quiet s
+  assigns_next types t target source (Some false) s = moves Quiet (assigning types t target source s)
+
   -- Statements (5.1). An assignment finds its target first (5.2): a variable, or a component of the object to which the path before its last
   -- name leads. Null there raises Constraint_Error before the right side is evaluated, and a target in an object that is gone is erroneous.
   abbrev pub assign_next : List ℕ → ℕ → RightForm → State V H → Next V H
@@ -605,6 +649,17 @@ module _ {V H : Type 0} (ops : Ops V H) where
   store_record_next o first count on_other s = halts Stuck
   store_record_next o first count (finds cell) s =
       record_stored_next o first (newest_ones count s) (record_in cell.values first count) (without_newest count s)
+
+  -- A record that has controlled parts gets its value from one other record.
+  abbrev pub copy_next : RecordPathForm → List ItemForm → State V H → Next V H
+  copy_next target (item_of_record source ∷ []) s =
+      moves Quiet (at (frame.Refers target ∷ frame.Refers source ∷ frame.Assigns target.record_type ∷ s.control) s)
+  copy_next target items s = halts Stuck
+
+  abbrev pub record_assign_next : (parts : Bool) → RecordPathForm → List ItemForm → State V H → Next V H
+  record_assign_next true target items s = copy_next target items s
+  record_assign_next false target items s =
+      record_holder_next target (λ place. frame.TargetsRecord place.component target.record_type items) s
 
   abbrev pub frees_next : List TypeDefinition → List ℕ → (access x : ℕ) → State V H → Next V H
   frees_next types [] access x s = free_next types access x (held s x) (ops.look s.heap (held s x)) s
@@ -724,15 +779,15 @@ module _ {V H : Type 0} (ops : Ops V H) where
 
   -- A record that is given (6.2): its object is found, and what refers to it is the value of the formal parameter. Null in its place raises
   -- Constraint_Error.
-  abbrev pub referred_next : V → (first : ℕ) → Option (List V) → State V H → Next V H
-  referred_next o first None s = halts Stuck
-  referred_next o first (Some vs) s = moves (Followed o) (computed (ops.refer o first) s)
+  abbrev pub referred_next : V → Place → Option (List V) → State V H → Next V H
+  referred_next o place None s = halts Stuck
+  referred_next o place (Some vs) s = moves (Followed o) (computed (ops.refer o place) s)
 
-  abbrev pub refers_next : V → (first count : ℕ) → Found (Cell V) → State V H → Next V H
-  refers_next o first count on_null s = moves Quiet (raised ConstraintError s)
-  refers_next o first count on_gone s = halts (Erroneous FollowsGone)
-  refers_next o first count on_other s = halts Stuck
-  refers_next o first count (finds cell) s = referred_next o first (record_in cell.values first count) s
+  abbrev pub refers_next : V → Place → (count : ℕ) → Found (Cell V) → State V H → Next V H
+  refers_next o place count on_null s = moves Quiet (raised ConstraintError s)
+  refers_next o place count on_gone s = halts (Erroneous FollowsGone)
+  refers_next o place count on_other s = halts Stuck
+  refers_next o place count (finds cell) s = referred_next o place (record_in cell.values place.component count) s
 
   -- A component that is given (6.4.1): what refers to it is kept, so that it gets back what the formal parameter holds whatever is assigned meanwhile.
   abbrev pub open_next : List ℕ → (x : ℕ) → State V H → Next V H
@@ -741,7 +796,7 @@ module _ {V H : Type 0} (ops : Ops V H) where
 
   abbrev pub opened_next : V → (c : ℕ) → Option V → State V H → Next V H
   opened_next o c None s = halts Stuck
-  opened_next o c (Some v) s = moves (Followed o) (computed v (computed (ops.refer o c) s))
+  opened_next o c (Some v) s = moves (Followed o) (computed v (computed (ops.refer o (record { component = c; part = 0 })) s))
 
   abbrev pub opens_next : V → (c : ℕ) → Found (Cell V) → State V H → Next V H
   opens_next o c on_null s = moves Quiet (raised ConstraintError s)
@@ -786,7 +841,7 @@ module _ {V H : Type 0} (ops : Ops V H) where
   abbrev pub stmt_next : List TypeDefinition → List BodyForm → StmtForm → State V H → Next V H
   stmt_next types bodies skips s = moves Quiet s
   stmt_next types bodies (assigns target right) s = assign_next target.selectors target.root right s
-  stmt_next types bodies (assigns_record target items) s = record_holder_next target (λ first. frame.TargetsRecord first target.record_type items) s
+  stmt_next types bodies (assigns_record target items) s = record_assign_next (has_parts types target.record_type) target items s
   stmt_next types bodies (frees access path) s = frees_next types path.selectors access path.root s
   stmt_next types bodies (gets target) s = gets_next target.selectors target.root s.input s
   stmt_next types bodies (writes e) s = moves Quiet (at (frame.Computes e ∷ frame.Writes ∷ s.control) s)
@@ -820,16 +875,17 @@ module _ {V H : Type 0} (ops : Ops V H) where
     parts = new_parts (parts_held types t);
   }
 
-  -- The variable holds the name of the object, which is there from now on, and which the innermost master owns. Its controlled parts are initialized next.
-  abbrev pub made : List TypeDefinition → (x object_type : ℕ) → List V → State V H → State V H
-  made types x t values s =
-      treated_on (ops.created s.heap (words_of types t)) (begins Creation) (all_tasks types t PartsFirst)
+  -- The variable holds the name of the object, which is there from now on, and which the innermost master owns. Its controlled parts are initialized next,
+  -- or adjusted, where it is a copy.
+  abbrev pub made : List TypeDefinition → (x object_type : ℕ) → Birth → List V → State V H → State V H
+  made types x t by values s =
+      treated_on (ops.created s.heap (words_of types t)) (begins by) (all_tasks types t PartsFirst)
       (owned (record_object t) (put x (ops.created s.heap (words_of types t))
       (record s { heap = ops.create s.heap (words_of types t) (record_cell types t (height s.masters) values) })))
 
   -- Where no initial value is written, its components hold what their declarations say; else the items of its initial value come first.
   abbrev pub record_next : List TypeDefinition → (x object_type : ℕ) → (initial : Option (List ItemForm)) → State V H → Next V H
-  record_next types x t None s = moves Quiet (made types x t (initial_values (reached_of types t)) s)
+  record_next types x t None s = moves Quiet (made types x t Creation (initial_values (reached_of types t)) s)
   record_next types x t (Some items) s = moves Quiet (at (frame.Fills items ∷ frame.DeclaresRecord x t ∷ s.control) s)
 
   -- A pool begins under a number (13.11).
@@ -900,8 +956,8 @@ module _ {V H : Type 0} (ops : Ops V H) where
   frame_next types bodies (frame.Computes e) s = expression_next e s
   frame_next types bodies (frame.Follows cs) s = path_next cs (newest s) (popped s)
   frame_next types bodies (frame.TestsNull equal) s = null_test_next equal (ops.reads_null (newest s)) (popped s)
-  frame_next types bodies (frame.Refers p) s = record_holder_next p (λ first. frame.RefersIn first p.record_type) s
-  frame_next types bodies (frame.RefersIn first t) s = refers_next (newest s) first (width_of types t) (ops.look s.heap (newest s)) (popped s)
+  frame_next types bodies (frame.Refers p) s = record_holder_next p (λ place. frame.RefersIn place p.record_type) s
+  frame_next types bodies (frame.RefersIn place t) s = refers_next (newest s) place (width_of types t) (ops.look s.heap (newest s)) (popped s)
   frame_next types bodies (frame.Opens path) s = open_next path.selectors path.root s
   frame_next types bodies (frame.OpensIn c) s = opens_next (newest s) c (ops.look s.heap (newest s)) (popped s)
   frame_next types bodies (frame.Continues links) s = links_next links s
@@ -916,11 +972,13 @@ module _ {V H : Type 0} (ops : Ops V H) where
   frame_next types bodies (frame.TargetsRecord first t items) s =
       record_target_next (newest s) first (width_of types t) items (ops.look s.heap (newest s)) (popped s)
   frame_next types bodies (frame.StoresRecord o first count) s = store_record_next o first count (ops.look s.heap o) s
+  frame_next types bodies (frame.Assigns t) s =
+      assigns_next types t (newest (popped s)) (newest s) (ops.same (newest (popped s)) (newest s)) (popped (popped s))
   frame_next types bodies (frame.Receives c) s = receive_next (newest s) c (ops.look s.heap (newest s)) (popped s)
   frame_next types bodies (frame.FreesIn access c) s = free_in_next types access (newest s) c (ops.look s.heap (newest s)) (popped s)
   frame_next types bodies (frame.Declares x) s = moves Quiet (owned (declared x) (put x (newest s) (popped s)))
   frame_next types bodies (frame.DeclaresRecord x t) s =
-      moves Quiet (made types x t (newest_ones (words_of types t) s) (without_newest (words_of types t) s))
+      moves Quiet (made types x t Copy (newest_ones (words_of types t) s) (without_newest (words_of types t) s))
   frame_next types bodies (frame.Treats v treatment tasks) s = treats_next (shapes_of types) v treatment tasks (task_next tasks) s
   frame_next types bodies frame.Writes s = line_next (ops.reads_integer (newest s)) (popped s)
   frame_next types bodies (frame.Ends v) s = end_next v (ops.look s.heap v) s

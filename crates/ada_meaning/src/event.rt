@@ -1,25 +1,26 @@
 //! What a step shows to the outside, and how a run ends.
 
 use crate::state::Id;
-use ada_program::TypeNo;
 use ada_program::program::{Exception, TextNo};
+use ada_program::{RecordNo, TypeNo};
 use std::fmt;
 
 /// What one step does that can be seen from outside.
 #[derive(Clone, Copy)]
 pub enum Event {
-    /// A controlled value has come to exist (7.6). No program has one yet.
+    /// A controlled value has come to exist (7.6).
     Born {
         value: Controlled,
-        record: TypeNo,
+        /// Its type.
+        record: RecordNo,
         /// The trace number: births are counted from 1.
         number: u64,
         by: Birth,
     },
-    /// Finalize of a controlled value begins (7.6.1). No program has one yet.
+    /// Finalize of a controlled value begins (7.6.1).
     Finalized {
         value: Controlled,
-        record: TypeNo,
+        record: RecordNo,
         number: u64,
         cause: Cause,
     },
@@ -64,8 +65,10 @@ pub struct Controlled {
 pub enum Birth {
     /// Its object is created, and it has been initialized.
     Creation,
-    /// It was copied by an assignment, and has been adjusted.
-    Adjustment,
+    /// Its object is created as a copy of another, and it has been adjusted.
+    Copy,
+    /// It was copied by the assignment of this number, and has been adjusted.
+    Adjustment { number: u64 },
 }
 
 /// What ends an object or a value, each with a number of its own, so that two of them are told apart.
@@ -75,9 +78,9 @@ pub enum Cause {
     Leaving { master: u64, item: usize },
     /// A call of an instance of Unchecked_Deallocation.
     Freeing { number: u64 },
-    /// An assignment. Nothing is ended by one yet.
+    /// An assignment to a record that has controlled parts.
     Assigning { number: u64 },
-    /// An Initialize that raised an exception. No program has one yet.
+    /// An Initialize that raised an exception. None does yet.
     Undoing { number: u64 },
 }
 
@@ -114,7 +117,7 @@ pub enum Why {
     EndsTwice,
     /// It would give words to another pool than the object's own.
     GivesElsewhere,
-    /// It would finalize a controlled value that is not alive. No program has one yet.
+    /// It would finalize a controlled value that is not alive.
     FinalizesTwice,
 }
 

@@ -6,7 +6,7 @@ ghost use Rattle.ada_meaning.specs.References.{RecordsAreReferredTo, ComponentsA
 ghost use Rattle.ada_meaning.specs.Defaults.{MakesByDefault, MakesRecords};
 ghost use Rattle.ada_meaning.specs.Life.{NamesAreUsedOnce, GoneForEver, BackOnce};
 ghost use Rattle.ada_meaning.specs.Ending.{StepsMakeLighter, StatesGoOn, StatementsEnd};
-ghost use Rattle.ada_meaning.specs.Records.{RecordsAreCopied};
+ghost use Rattle.ada_meaning.specs.Records.{RecordsAreCopied, TargetsComeFirst, OntoItselfNothingIsDone, AssignmentsFinalizeCopyAdjust};
 
 /// Each step that begins no statement makes the weight of the state smaller, so a loop that runs a machine comes to the
 /// next statement, or to the end.
@@ -58,6 +58,15 @@ pub fn makes_records()
 /// object changes, and no other object (4.3.1, 5.2). Copied onto itself it stays as it is.
 pub fn copies_are_alike()
     ensures { RecordsAreCopied }
+{}
+
+/// A record that has controlled parts is assigned in order: the target is found, and then the source. Where both are one
+/// record nothing is done; else the target is finalized, the components of the source are copied to it, and it is adjusted
+/// (5.2, 7.6).
+pub fn records_are_assigned()
+    ensures targets_first { TargetsComeFirst }
+    ensures onto_itself { OntoItselfNothingIsDone }
+    ensures in_order { AssignmentsFinalizeCopyAdjust }
 {}
 
 /// Whatever step a program makes, the activations behind the running one are those before; or a

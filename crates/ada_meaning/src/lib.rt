@@ -12,5 +12,5 @@ mod state;
 
 pub use crate::event::{Birth, Cause, Controlled, Event, Halt, Line, Why};
 pub use crate::request::Request;
-pub use crate::state::{Id, Mode, Stage, Value};
+pub use crate::state::{Id, Mode, Place, Stage, Value};
 pub use ada_program::program::Exception;

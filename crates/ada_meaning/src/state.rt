@@ -13,9 +13,16 @@ pub enum Value {
     Names(Id),
     /// An Integer or a Boolean.
     Scalar(ada_values::Value),
-    /// What refers to a record that lies in an object, from its component `first` on, as a record parameter does (6.2); or to
-    /// that component, where it is given for a formal parameter of mode `in out`.
-    Part { object: Id, first: usize },
+    /// What refers to a record that lies in an object at a place, as a record parameter does (6.2); or to the component there,
+    /// where that is given for a formal parameter of mode `in out`.
+    Part { object: Id, place: Place },
+}
+
+/// Where a record lies in an object: the numbers of its first elementary component, and of its first controlled part (7.6).
+#[derive(Clone, Copy)]
+pub struct Place {
+    pub component: usize,
+    pub part: usize,
 }
 
 /// The stages of an object's life; none comes back (7.6.1, 13.11.2).

@@ -30,7 +30,7 @@ use Rattle.ada_order.proofs.Example.{steps, vec, no_name, spot, value, access_ty
 
 -- type Cell is record Value : Integer; end record; type A is access Cell;
 abbrev types : List TypeDefinition
-types = definition.Record no_name (vec value (omega arith)) (vec (component.Integer (pos 0) ∷ []) (omega arith)) ∷ access_type ∷ []
+types = definition.Record no_name (vec value (omega arith)) (vec (component.Integer (pos 0) ∷ []) (omega arith)) None ∷ access_type ∷ []
 
 -- N : Integer; Z : Integer;
 abbrev of_integer : Variable

@@ -52,10 +52,10 @@ abbrev pub access_type : TypeDefinition
 access_type = definition.Access no_name (record { 0 = 0 }) None
 
 abbrev pub value : List Part
-value = record { name = no_name; kind = part.Elementary (component.Integer (pos 0)); first = record { 0 = 0 } } ∷ []
+value = record { name = no_name; kind = part.Elementary (component.Integer (pos 0)); first = record { 0 = 0 }; part = record { 0 = 0 } } ∷ []
 
 abbrev types : List TypeDefinition
-types = definition.Record no_name (vec value (omega arith)) (vec (component.Integer (pos 0) ∷ []) (omega arith)) ∷ access_type ∷ access_type ∷ access_type ∷ []
+types = definition.Record no_name (vec value (omega arith)) (vec (component.Integer (pos 0) ∷ []) (omega arith)) None ∷ access_type ∷ access_type ∷ access_type ∷ []
 
 -- X : A; Y : B; Z : C;
 abbrev pub of_type : ℕ → Variable

@@ -10,7 +10,7 @@ use Rattle.ada_parts.specs.declared.tasks.Direction.TheVariants.{WholeFirst}
 use Rattle.ada_parts.specs.declared.tasks.Next.{Next as Follows}
 use Rattle.ada_parts.specs.declared.tasks.Next.TheVariants.{Done, Pick, Perform}
 use Rattle.ada_parts.specs.Shape.{Shape}
-use Rattle.ada_parts.specs.Task.{Task, performed, next as task_next, taken as taken_task}
+use Rattle.ada_parts.specs.Task.{Task, performed, next as task_next}
 use Rattle.ada_meaning.specs.declared.state.Value.{Value}
 use Rattle.ada_meaning.specs.declared.state.Value.TheVariants.{Null}
 use Rattle.ada_meaning.specs.declared.state.Mode.{Mode}
@@ -22,7 +22,7 @@ use Rattle.ada_meaning.specs.Event.{Finalized, Quiet, Request}
 use Rattle.ada_meaning.specs.Frame.{begins, ends, Frame, Leaves, Treats, Ends, GivesBack}
 use Rattle.ada_meaning.specs.Heap.{PartState, Cell, Found, on_null, on_gone, on_other, finds}
 use Rattle.ada_meaning.specs.State.{Owned, declared, collection, record_object, storage_pool, Item, Master}
-use Rattle.ada_meaning.specs.Step.{all_tasks, treated_on, finalized_next, performed_next, treats_next, taken_out, moves, picks, halts, end_next, same_pool, told_back, given_back, back_next, members_next, item_leave_next, master_leave_next, leave_next, running_next, mode_next}
+use Rattle.ada_meaning.specs.Step.{picked_task, all_tasks, treated_on, finalized_next, performed_next, treats_next, taken_out, moves, picks, halts, end_next, same_pool, told_back, given_back, back_next, members_next, item_leave_next, master_leave_next, leave_next, running_next, mode_next}
 use Rattle.ada_meaning.specs.Named.{finalize, Object, State, Next, look, lent, members, named, next}
 use Rattle.ada_meaning.specs.Run.{Event, Choice, Step}
 use Rattle.ada_meaning.specs.Law.{leaving_of, left_by}
@@ -146,7 +146,7 @@ module _ (v : Value) (m i : ℕ) (pool : Option ℕ) (mode : Mode) (k : Control)
       (shapes : List Shape) (tasks : List Task) (follows : Follows)
       → LeavesBy s (treats_next named shapes v (ends (Leaving m i)) tasks follows (running (Ends v ∷ GivesBack v (Leaving m i) pool ∷ Leaves mode ∷ k) s))
   treats_leave shapes tasks Done = waits tt refl (refl, tt) (ending v m i pool mode k newest p) refl refl
-  treats_leave shapes tasks (Pick count) = picked_leaves (count == 0) count (λ j. taken_task shapes WholeFirst tasks j)
+  treats_leave shapes tasks (Pick count) = picked_leaves (count == 0) count (λ j. picked_task shapes WholeFirst tasks j)
   treats_leave shapes tasks (Perform of part) = performed_leaves of part (performed tasks) (look s.heap v)
 
 -- A master is being left, or another frame is next.

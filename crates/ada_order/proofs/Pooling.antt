@@ -26,7 +26,7 @@ abbrev pooled_type : ℕ → TypeDefinition
 pooled_type p = definition.Access no_name (record { 0 = 0 }) (Some (record { 0 = p }))
 
 abbrev types : List TypeDefinition
-types = definition.Record no_name (vec value (omega arith)) (vec (component.Integer (pos 0) ∷ []) (omega arith)) ∷ pooled_type 0 ∷ pooled_type 1 ∷ access_type ∷ []
+types = definition.Record no_name (vec value (omega arith)) (vec (component.Integer (pos 0) ∷ []) (omega arith)) None ∷ pooled_type 0 ∷ pooled_type 1 ∷ access_type ∷ []
 
 -- A pool, the collection of an access type, and a variable of it.
 abbrev pool : ℕ → Declaration

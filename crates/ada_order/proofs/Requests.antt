@@ -11,12 +11,13 @@ use Rattle.ada_program.specs.Controlled.{shapes_of}
 use Rattle.ada_parts.specs.declared.tasks.Next.{Next as Follows}
 use Rattle.ada_parts.specs.declared.tasks.Next.TheVariants.{Done, Pick, Perform}
 use Rattle.ada_parts.specs.Shape.{Shape}
-use Rattle.ada_parts.specs.Task.{Task, performed, next as task_next, taken as taken_task}
+use Rattle.ada_parts.specs.Task.{Task, performed, next as task_next}
 use Rattle.ada_program.specs.Typed.{reached_of, words_of, width_of}
 use Rattle.ada_values.specs.declared.operator.BinaryOperator.{BinaryOperator}
 use Rattle.ada_values.specs.declared.fault.OperatorFault.{OperatorFault}
 use Rattle.ada_values.specs.declared.fault.OperatorFault.TheVariants.{Overflow, DivisionByZero, WrongType}
 use Rattle.ada_meaning.specs.declared.state.Id.{Id}
+use Rattle.ada_meaning.specs.declared.state.Place.{Place}
 use Rattle.ada_meaning.specs.declared.state.Value.{Value}
 use Rattle.ada_meaning.specs.declared.state.Value.TheVariants.{Null, Names, Scalar, Part}
 use Rattle.ada_meaning.specs.declared.state.Mode.{Mode}
@@ -31,8 +32,8 @@ use Rattle.ada_meaning.specs.Frame.{Treatment, Frame, is_master, Landing, passes
 use Rattle.ada_meaning.specs.Frame as frame
 use Rattle.ada_meaning.specs.State.{Activation, Owned, declared, collection, record_object, storage_pool, Item, Master, Destination, height, home_of, counted}
 use Rattle.ada_meaning.specs.Heap.{PartState, Cell, Found, on_null, on_gone, on_other, finds}
-use Rattle.ada_meaning.specs.Step.{direction_of, treated_on, born_next, finalized_next, performed_next, treats_next, taken_out, picks, first_or, operands_of, with_operands, operands, same_pool, told_back, record_cell, record_in, stored_from, newest_ones, without_newest, initial_values, copied_next, copies_next, record_target_next, record_stored_next, store_record_next, record_next, halts, moves, at, popped, held, newest, component_next, follow_next, path_next, selected, named_next, holder_next, first_in, record_holder_next, referred_next, refers_next, open_next, opened_next, opens_next, expression_next, null_test_next, is_decided, link_next, links_next, outcome_next, item_next, items_next, new_next, new_cell, right_next, free_next, end_next, given_back, back_next, before_last, last_of, assign_next, target_next, stored_next, store_next, received_next, receive_next, frees_next, freed_next, free_component_next, free_in_next, branches_next, decided_next, turn_next, repeats_next, turned_next, count_turn_next, counts_next, ranges_next, gets_next, exit_next, exited_next, call_next, stmt_next, stmts_next, line_next, declaration_next, declarations_next, members_next, item_leave_next, master_leave_next, leave_next, frame_next, landed, pass_next, running_next, jump_next, mode_next}
-use Rattle.ada_meaning.specs.Named.{born_part, finalized_part, treated, finalize, Object, State, Next, next, named, whole, inside, look, lent, lent_by, reads_boolean, reads_null, reads_integer, unary_given, binary_given, members, object_at, changed, on_object, new_object, parted, finished, returned, filled, store, an_integer}
+use Rattle.ada_meaning.specs.Step.{picked_task, direction_of, treated_on, born_next, finalized_next, performed_next, treats_next, taken_out, picks, first_or, operands_of, with_operands, operands, same_pool, told_back, record_cell, record_in, stored_from, newest_ones, without_newest, initial_values, copied_next, copies_next, record_target_next, record_stored_next, store_record_next, assigns_next, copy_next, record_assign_next, has_parts, record_next, halts, moves, at, popped, held, newest, component_next, follow_next, path_next, selected, named_next, holder_next, place_in, record_holder_next, referred_next, refers_next, open_next, opened_next, opens_next, expression_next, null_test_next, is_decided, link_next, links_next, outcome_next, item_next, items_next, new_next, new_cell, right_next, free_next, end_next, given_back, back_next, before_last, last_of, assign_next, target_next, stored_next, store_next, received_next, receive_next, frees_next, freed_next, free_component_next, free_in_next, branches_next, decided_next, turn_next, repeats_next, turned_next, count_turn_next, counts_next, ranges_next, gets_next, exit_next, exited_next, call_next, stmt_next, stmts_next, line_next, declaration_next, declarations_next, members_next, item_leave_next, master_leave_next, leave_next, frame_next, landed, pass_next, running_next, jump_next, mode_next}
+use Rattle.ada_meaning.specs.Named.{same, born_part, finalized_part, treated, finalize, Object, State, Next, next, named, whole, inside, look, lent, lent_by, reads_boolean, reads_null, reads_integer, unary_given, binary_given, members, object_at, changed, on_object, new_object, parted, finished, returned, filled, store, an_integer}
 use Rattle.ada_meaning.proofs.Jumps.{unwound_to, unwound_by}
 use Rattle.ada_order.specs.Requests.{next_name, lent_from, SameAreLent, GoesBack, RequestsFit}
 
@@ -55,7 +56,7 @@ on_object_same : (change : Object → Object) (xs : Heap) (v : Value) → ((x : 
 on_object_same change xs Null kept = λ p. refl
 on_object_same change xs (Names o) kept = changed_same change xs o (object_at xs o) kept refl
 on_object_same change xs (Scalar v) kept = λ p. refl
-on_object_same change xs (Part o first) kept = λ p. refl
+on_object_same change xs (Part o place) kept = λ p. refl
 
 parted_same : (xs : Heap) (v : Value) → SameAreLent xs (on_object parted xs v)
 parted_same xs v = on_object_same parted xs v (λ x. refl)
@@ -138,10 +139,10 @@ module _ (types : List TypeDefinition) where
       let first = inside (held named s x) c in
       path_fits (before_last first cs) (whole (held named s x)) (at (frame_of (last_of first cs) ∷ s.control) s)
 
-  record_holder_fits : (p : RecordPathForm) (frame_of : ℕ → Frame Value) (s : State) → Fits s (record_holder_next named p frame_of s)
+  record_holder_fits : (p : RecordPathForm) (frame_of : Place → Frame Value) (s : State) → Fits s (record_holder_next named p frame_of s)
   record_holder_fits p frame_of s =
       let v = held named s p.object.root in
-      path_fits (selected named v p.object.selectors) (whole v) (at (frame_of (first_in named v p.object.selectors p.first) ∷ s.control) s)
+      path_fits (selected named v p.object.selectors) (whole v) (at (frame_of (place_in named v p.object.selectors p) ∷ s.control) s)
 
   expression_fits : (e : ExpressionForm) (s : State) → Fits s (expression_next named e s)
   expression_fits (integer i) s = (tt, λ o. refl)
@@ -175,7 +176,7 @@ module _ (types : List TypeDefinition) where
   item_fits null_item s = (tt, λ o. refl)
   item_fits (item_of_path path) s = named_fits path.selectors path.root s
   item_fits (item_of_value e) s = (tt, λ o. refl)
-  item_fits (item_of_record p) s = record_holder_fits p (λ first. frame.Copies first p.record_type) s
+  item_fits (item_of_record p) s = record_holder_fits p (λ place. frame.Copies place.component p.record_type) s
 
   items_fit : (items : List ItemForm) (s : State) → Fits s (items_next named items s)
   items_fit [] s = (tt, λ o. refl)
@@ -255,7 +256,7 @@ module _ (types : List TypeDefinition) where
   back_fits Null cause pool s = tt
   back_fits (Names o) cause pool s = lent_fits o cause pool (object_at s.heap o) s refl
   back_fits (Scalar v) cause pool s = tt
-  back_fits (Part o first) cause pool s = tt
+  back_fits (Part o place) cause pool s = tt
 
   -- Statements and declarations.
   assign_fits : (cs : List ℕ) (x : ℕ) (right : RightForm) (s : State) → Fits s (assign_next named cs x right s)
@@ -379,15 +380,15 @@ module _ (types : List TypeDefinition) where
   exited_fits (Some false) s = (tt, λ o. refl)
 
   -- What is given by reference.
-  referred_fits : (o : Value) (first : ℕ) (found : Option (List Value)) (s : State) → Fits s (referred_next named o first found s)
-  referred_fits o first None s = tt
-  referred_fits o first (Some vs) s = (tt, λ o. refl)
+  referred_fits : (o : Value) (place : Place) (found : Option (List Value)) (s : State) → Fits s (referred_next named o place found s)
+  referred_fits o place None s = tt
+  referred_fits o place (Some vs) s = (tt, λ o. refl)
 
-  refers_fit : (o : Value) (first count : ℕ) (found : Found (Cell Value)) (s : State) → Fits s (refers_next named o first count found s)
-  refers_fit o first count on_null s = (tt, λ o. refl)
-  refers_fit o first count on_gone s = tt
-  refers_fit o first count on_other s = tt
-  refers_fit o first count (finds cell) s = referred_fits o first (record_in cell.values first count) s
+  refers_fit : (o : Value) (place : Place) (count : ℕ) (found : Found (Cell Value)) (s : State) → Fits s (refers_next named o place count found s)
+  refers_fit o place count on_null s = (tt, λ o. refl)
+  refers_fit o place count on_gone s = tt
+  refers_fit o place count on_other s = tt
+  refers_fit o place count (finds cell) s = referred_fits o place (record_in cell.values place.component count) s
 
   open_fits : (cs : List ℕ) (x : ℕ) (s : State) → Fits s (open_next named cs x s)
   open_fits [] x s = tt
@@ -408,11 +409,30 @@ module _ (types : List TypeDefinition) where
   call_fits procedure actuals None s = tt
   call_fits procedure actuals (Some b) s = (tt, λ o. refl)
 
+  -- A record that has controlled parts is assigned to another.
+  copy_fits : (target : RecordPathForm) (items : List ItemForm) (s : State) → Fits s (copy_next named target items s)
+  copy_fits target [] s = tt
+  copy_fits target (null_item ∷ items) s = tt
+  copy_fits target (item_of_path path ∷ items) s = tt
+  copy_fits target (item_of_value e ∷ items) s = tt
+  copy_fits target (item_of_record source ∷ []) s = (tt, λ o. refl)
+  copy_fits target (item_of_record source ∷ item ∷ items) s = tt
+
+  record_assign_fits : (parts : Bool) (target : RecordPathForm) (items : List ItemForm) (s : State) → Fits s (record_assign_next named parts target items s)
+  record_assign_fits true target items s = copy_fits target items s
+  record_assign_fits false target items s =
+      record_holder_fits target (λ place. frame.TargetsRecord place.component target.record_type items) s
+
+  assigns_fit : (t : ℕ) (target source : Value) (one : Option Bool) (s : State) → Fits s (assigns_next named types t target source one s)
+  assigns_fit t target source None s = tt
+  assigns_fit t target source (Some true) s = (tt, λ o. refl)
+  assigns_fit t target source (Some false) s = (tt, λ o. refl)
+
   stmt_fits : (bodies : List BodyForm) (f : StmtForm) (s : State) → Fits s (stmt_next named types bodies f s)
   stmt_fits bodies skips s = (tt, λ o. refl)
   stmt_fits bodies (assigns target right) s = assign_fits target.selectors target.root right s
   stmt_fits bodies (assigns_record target items) s =
-      record_holder_fits target (λ first. frame.TargetsRecord first target.record_type items) s
+      record_assign_fits (has_parts types target.record_type) target items s
   stmt_fits bodies (frees access path) s = frees_fit path.selectors access path.root s
   stmt_fits bodies (gets target) s = gets_fit target.selectors target.root s.input s
   stmt_fits bodies (writes e) s = (tt, λ o. refl)
@@ -513,7 +533,7 @@ module _ (types : List TypeDefinition) where
       → Fits s (treats_next named shapes v treatment tasks follows s)
   treats_fit shapes v treatment tasks Done s = (tt, λ o. refl)
   treats_fit shapes v treatment tasks (Pick count) s =
-      picked_fits (count == 0) count (λ i. treated_on named v treatment (taken_task shapes (direction_of treatment) tasks i) s) s (λ i o. refl)
+      picked_fits (count == 0) count (λ i. treated_on named v treatment (picked_task shapes (direction_of treatment) tasks i) s) s (λ i o. refl)
   treats_fit shapes v treatment tasks (Perform of part) s =
       performed_fits v treatment of part (look s.heap v) (treated_on named v treatment (performed tasks) s)
 
@@ -537,9 +557,9 @@ module _ (types : List TypeDefinition) where
   frame_fits bodies (frame.Computes e) s = expression_fits e s
   frame_fits bodies (frame.Follows cs) s = path_fits cs (newest named s) (popped s)
   frame_fits bodies (frame.TestsNull equal) s = null_test_fits equal (reads_null (newest named s)) (popped s)
-  frame_fits bodies (frame.Refers p) s = record_holder_fits p (λ first. frame.RefersIn first p.record_type) s
-  frame_fits bodies (frame.RefersIn first t) s =
-      refers_fit (newest named s) first (width_of types t) (look s.heap (newest named s)) (popped s)
+  frame_fits bodies (frame.Refers p) s = record_holder_fits p (λ place. frame.RefersIn place p.record_type) s
+  frame_fits bodies (frame.RefersIn place t) s =
+      refers_fit (newest named s) place (width_of types t) (look s.heap (newest named s)) (popped s)
   frame_fits bodies (frame.Opens path) s = open_fits path.selectors path.root s
   frame_fits bodies (frame.OpensIn c) s = opens_fit (newest named s) c (look s.heap (newest named s)) (popped s)
   frame_fits bodies (frame.Continues links) s = links_fit links s
@@ -554,6 +574,8 @@ module _ (types : List TypeDefinition) where
   frame_fits bodies (frame.TargetsRecord first t items) s =
       record_target_fits (newest named s) first (width_of types t) items (look s.heap (newest named s)) (popped s)
   frame_fits bodies (frame.StoresRecord object first count) s = store_record_fits object first count (look s.heap object) s
+  frame_fits bodies (frame.Assigns t) s =
+      assigns_fit t (newest named (popped s)) (newest named s) (same (newest named (popped s)) (newest named s)) (popped (popped s))
   frame_fits bodies (frame.Receives c) s = receive_fits (newest named s) c (look s.heap (newest named s)) (popped s)
   frame_fits bodies (frame.FreesIn access c) s = free_in_fits access (newest named s) c (look s.heap (newest named s)) (popped s)
   frame_fits bodies (frame.Declares x) s = (tt, λ o. refl)

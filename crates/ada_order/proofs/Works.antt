@@ -12,17 +12,18 @@ use Rattle.ada_parts.specs.declared.tasks.Direction.TheVariants.{PartsFirst, Who
 use Rattle.ada_parts.specs.declared.tasks.Next.{Next as Follows}
 use Rattle.ada_parts.specs.declared.tasks.Next.TheVariants.{Done, Pick, Perform}
 use Rattle.ada_parts.specs.Shape.{Shape}
-use Rattle.ada_parts.specs.Task.{Task, performed, next as task_next, taken as taken_task}
+use Rattle.ada_parts.specs.Task.{Task, performed, next as task_next}
 use Rattle.ada_program.specs.Typed.{words_of, width_of, pool_named}
 use Rattle.ada_values.specs.declared.operator.BinaryOperator.{BinaryOperator}
 use Rattle.ada_values.specs.declared.fault.OperatorFault.{OperatorFault}
 use Rattle.ada_values.specs.declared.fault.OperatorFault.TheVariants.{Overflow, DivisionByZero, WrongType}
+use Rattle.ada_meaning.specs.declared.state.Place.{Place}
 use Rattle.ada_meaning.specs.declared.state.Value.{Value}
 use Rattle.ada_meaning.specs.declared.state.Value.TheVariants.{Null}
 use Rattle.ada_meaning.specs.declared.state.Mode.{Mode}
 use Rattle.ada_meaning.specs.declared.state.Mode.TheVariants.{Running, Raising, Exiting, Returning}
 use Rattle.ada_meaning.specs.declared.event.Birth.{Birth}
-use Rattle.ada_meaning.specs.declared.event.Birth.TheVariants.{Creation}
+use Rattle.ada_meaning.specs.declared.event.Birth.TheVariants.{Creation, Copy, Adjustment}
 use Rattle.ada_meaning.specs.declared.event.Cause.{Cause}
 use Rattle.ada_meaning.specs.declared.event.Cause.TheVariants.{Leaving, Freeing, Assigning, Undoing}
 use Rattle.ada_meaning.specs.declared.event.Halt.TheVariants.{Erroneous, Stuck}
@@ -32,8 +33,8 @@ use Rattle.ada_meaning.specs.Frame.{Treatment, Frame, is_master, Landing, passes
 use Rattle.ada_meaning.specs.Frame as frame
 use Rattle.ada_meaning.specs.State.{declared, collection, record_object, storage_pool, Destination, home_of, pools_in, pool_for}
 use Rattle.ada_meaning.specs.Heap.{PartState, Cell, Found, on_null, on_gone, on_other, finds}
-use Rattle.ada_meaning.specs.Step.{direction_of, all_tasks, treated_on, born_next, finalized_next, performed_next, treats_next, moves, picks, record_in, newest_ones, without_newest, copied_next, copies_next, record_target_next, record_stored_next, store_record_next, record_next, halts, at, popped, held, newest, reading, component_next, follow_next, path_next, selected, named_next, holder_next, first_in, record_holder_next, referred_next, refers_next, open_next, opened_next, opens_next, storing, expression_next, null_test_next, is_decided, link_next, links_next, outcome_next, item_next, items_next, answered, new_next, right_next, free_next, end_next, same_pool, told_back, given_back, back_next, before_last, last_of, assign_next, target_next, stored_next, store_next, received_next, receive_next, frees_next, freed_next, free_component_next, free_in_next, branches_next, decided_next, turn_next, repeats_next, turned_next, count_turn_next, counts_next, ranges_next, gets_next, exit_next, exited_next, computing, call_next, stmt_next, stmts_next, line_next, declaration_next, declarations_next, frame_next, landed, unwound, pass_next, jump_next}
-use Rattle.ada_meaning.specs.Named.{finalize, Object, State, Next, named, whole, inside, look, lent, reads_boolean, reads_null, reads_integer, unary_given, binary_given}
+use Rattle.ada_meaning.specs.Step.{picked_task, direction_of, all_tasks, treated_on, born_next, finalized_next, performed_next, treats_next, moves, picks, record_in, newest_ones, without_newest, copied_next, copies_next, record_target_next, record_stored_next, store_record_next, assigns_next, copy_next, record_assign_next, has_parts, record_tasks, record_next, halts, at, popped, held, newest, reading, component_next, follow_next, path_next, selected, named_next, holder_next, place_in, record_holder_next, referred_next, refers_next, open_next, opened_next, opens_next, storing, expression_next, null_test_next, is_decided, link_next, links_next, outcome_next, item_next, items_next, answered, new_next, right_next, free_next, end_next, same_pool, told_back, given_back, back_next, before_last, last_of, assign_next, target_next, stored_next, store_next, received_next, receive_next, frees_next, freed_next, free_component_next, free_in_next, branches_next, decided_next, turn_next, repeats_next, turned_next, count_turn_next, counts_next, ranges_next, gets_next, exit_next, exited_next, computing, call_next, stmt_next, stmts_next, line_next, declaration_next, declarations_next, frame_next, landed, unwound, pass_next, jump_next}
+use Rattle.ada_meaning.specs.Named.{same, finalize, Object, State, Next, named, whole, part_base, inside, look, lent, reads_boolean, reads_null, reads_integer, unary_given, binary_given}
 use Rattle.ada_meaning.specs.Run.{Event}
 use Rattle.ada_meaning.specs.Law.{left_by}
 use Rattle.ada_meaning.proofs.Jumps.{unwound_to, unwound_by}
@@ -112,11 +113,11 @@ module _ (types : List TypeDefinition) where
       path_works (before_last (inside (held named s x) c) cs) (whole (held named s x))
       (at (frame_of (last_of (inside (held named s x) c) cs) ∷ s.control) s) (plain (last_of (inside (held named s x) c) cs), p)
 
-  record_holder_works : (r : RecordPathForm) (frame_of : ℕ → Frame Value) (s : State) → ((n : ℕ) → IsPlain (frame_of n)) → Plain s.control → Works s (record_holder_next named r frame_of s)
+  record_holder_works : (r : RecordPathForm) (frame_of : Place → Frame Value) (s : State) → ((place : Place) → IsPlain (frame_of place)) → Plain s.control → Works s (record_holder_next named r frame_of s)
   record_holder_works r frame_of s plain p =
       path_works (selected named (held named s r.object.root) r.object.selectors) (whole (held named s r.object.root))
-      (at (frame_of (first_in named (held named s r.object.root) r.object.selectors r.first) ∷ s.control) s)
-      (plain (first_in named (held named s r.object.root) r.object.selectors r.first), p)
+      (at (frame_of (place_in named (held named s r.object.root) r.object.selectors r) ∷ s.control) s)
+      (plain (place_in named (held named s r.object.root) r.object.selectors r), p)
 
   expression_works : (e : ExpressionForm) (s : State) → Plain s.control → Works s (expression_next named e s)
   expression_works (integer i) s p = stays tt refl p refl refl
@@ -150,7 +151,7 @@ module _ (types : List TypeDefinition) where
   item_works null_item s p = stays tt refl p refl refl
   item_works (item_of_path path) s p = named_works path.selectors path.root s p
   item_works (item_of_value e) s p = stays tt refl (tt, p) refl refl
-  item_works (item_of_record r) s p = record_holder_works r (λ first. frame.Copies first r.record_type) s (λ n. tt) p
+  item_works (item_of_record r) s p = record_holder_works r (λ place. frame.Copies place.component r.record_type) s (λ place. tt) p
 
   items_work : (items : List ItemForm) (s : State) → Plain s.control → Works s (items_next named items s)
   items_work [] s p = stays tt refl p refl refl
@@ -261,7 +262,7 @@ module _ (types : List TypeDefinition) where
       → Works s (treats_next named shapes v treatment tasks follows s)
   treats_work shapes v treatment tasks Done s is p = stays tt refl p refl refl
   treats_work shapes v treatment tasks (Pick count) s is p =
-      let left : ℕ → List Task = λ i. taken_task shapes (direction_of treatment) tasks i in
+      let left : ℕ → List Task = λ i. picked_task shapes (direction_of treatment) tasks i in
       picked_works (count == 0) count (λ i. treated_on named v treatment (left i) s) s
       (λ i. stays tt refl (treating_plain v treatment (left i) s.control is p) refl refl)
   treats_work shapes v treatment tasks (Perform of part) s is p =
@@ -398,15 +399,15 @@ module _ (types : List TypeDefinition) where
   exited_works (Some false) s p = stays tt refl p refl refl
 
   -- What is passed by reference, and the components that get something back.
-  referred_works : (o : Value) (first : ℕ) (found : Option (List Value)) (s : State) → Plain s.control → Works s (referred_next named o first found s)
-  referred_works o first None s p = tt
-  referred_works o first (Some vs) s p = stays tt refl p refl refl
+  referred_works : (o : Value) (place : Place) (found : Option (List Value)) (s : State) → Plain s.control → Works s (referred_next named o place found s)
+  referred_works o place None s p = tt
+  referred_works o place (Some vs) s p = stays tt refl p refl refl
 
-  refers_work : (o : Value) (first count : ℕ) (found : Found (Cell Value)) (s : State) → Plain s.control → Works s (refers_next named o first count found s)
-  refers_work o first count on_null s p = stays tt refl p refl refl
-  refers_work o first count on_gone s p = tt
-  refers_work o first count on_other s p = tt
-  refers_work o first count (finds cell) s p = referred_works o first (record_in cell.values first count) s p
+  refers_work : (o : Value) (place : Place) (count : ℕ) (found : Found (Cell Value)) (s : State) → Plain s.control → Works s (refers_next named o place count found s)
+  refers_work o place count on_null s p = stays tt refl p refl refl
+  refers_work o place count on_gone s p = tt
+  refers_work o place count on_other s p = tt
+  refers_work o place count (finds cell) s p = referred_works o place (record_in cell.values place.component count) s p
 
   open_works : (cs : List ℕ) (x : ℕ) (s : State) → Plain s.control → Works s (open_next named cs x s)
   open_works [] x s p = tt
@@ -427,11 +428,33 @@ module _ (types : List TypeDefinition) where
   call_works procedure actuals None s p = tt
   call_works procedure actuals (Some b) s p = stays tt refl (computing_is_plain actuals _ (tt, p)) refl refl
 
+  -- A record that has controlled parts is assigned to another: under a number that is used up.
+  copy_works : (target : RecordPathForm) (items : List ItemForm) (s : State) → Plain s.control → Works s (copy_next named target items s)
+  copy_works target [] s p = tt
+  copy_works target (null_item ∷ items) s p = tt
+  copy_works target (item_of_path path ∷ items) s p = tt
+  copy_works target (item_of_value e ∷ items) s p = tt
+  copy_works target (item_of_record source ∷ []) s p = stays tt refl (tt, (tt, (tt, p))) refl refl
+  copy_works target (item_of_record source ∷ item ∷ items) s p = tt
+
+  record_assign_works : (parts : Bool) (target : RecordPathForm) (items : List ItemForm) (s : State) → Plain s.control → Works s (record_assign_next named parts target items s)
+  record_assign_works true target items s p = copy_works target items s p
+  record_assign_works false target items s p =
+      record_holder_works target (λ place. frame.TargetsRecord place.component target.record_type items) s (λ place. tt) p
+
+  assigns_work : (t : ℕ) (target source : Value) (one : Option Bool) (s : State) → Plain s.control → Works s (assigns_next named types t target source one s)
+  assigns_work t target source None s p = tt
+  assigns_work t target source (Some true) s p = stays tt refl p refl refl
+  assigns_work t target source (Some false) s p =
+      let adjusting = treating_plain (whole target) (frame.begins (Adjustment s.next)) (record_tasks types t PartsFirst (part_base target)) s.control tt p in
+      numbers tt refl
+      (treating_plain (whole target) (frame.ends (Assigning s.next)) (record_tasks types t WholeFirst (part_base target)) _ tt (tt, (tt, adjusting))) refl refl
+
   stmt_works : (bodies : List BodyForm) (f : StmtForm) (s : State) → Plain s.control → Works s (stmt_next named types bodies f s)
   stmt_works bodies skips s p = stays tt refl p refl refl
   stmt_works bodies (assigns target right) s p = assign_works target.selectors target.root right s p
   stmt_works bodies (assigns_record target items) s p =
-      record_holder_works target (λ first. frame.TargetsRecord first target.record_type items) s (λ n. tt) p
+      record_assign_works (has_parts types target.record_type) target items s p
   stmt_works bodies (frees access path) s p = frees_work path.selectors access path.root s p
   stmt_works bodies (gets target) s p = gets_work target.selectors target.root s.input s p
   stmt_works bodies (writes e) s p = stays tt refl (tt, (tt, p)) refl refl
@@ -487,9 +510,9 @@ module _ (types : List TypeDefinition) where
   frame_works bodies (frame.Computes e) s is p = expression_works e s p
   frame_works bodies (frame.Follows cs) s is p = path_works cs (newest named s) (popped s) p
   frame_works bodies (frame.TestsNull equal) s is p = null_test_works equal (reads_null (newest named s)) (popped s) p
-  frame_works bodies (frame.Refers r) s is p = record_holder_works r (λ first. frame.RefersIn first r.record_type) s (λ n. tt) p
-  frame_works bodies (frame.RefersIn first t) s is p =
-      refers_work (newest named s) first (width_of types t) (look s.heap (newest named s)) (popped s) p
+  frame_works bodies (frame.Refers r) s is p = record_holder_works r (λ place. frame.RefersIn place r.record_type) s (λ place. tt) p
+  frame_works bodies (frame.RefersIn place t) s is p =
+      refers_work (newest named s) place (width_of types t) (look s.heap (newest named s)) (popped s) p
   frame_works bodies (frame.Opens path) s is p = open_works path.selectors path.root s p
   frame_works bodies (frame.OpensIn c) s is p = opens_work (newest named s) c (look s.heap (newest named s)) (popped s) p
   frame_works bodies (frame.Continues links) s is p = links_work links s p
@@ -504,11 +527,13 @@ module _ (types : List TypeDefinition) where
   frame_works bodies (frame.TargetsRecord first t items) s is p =
       record_target_works (newest named s) first (width_of types t) items (look s.heap (newest named s)) (popped s) p
   frame_works bodies (frame.StoresRecord object first count) s is p = store_record_works object first count (look s.heap object) s p
+  frame_works bodies (frame.Assigns t) s is p =
+      assigns_work t (newest named (popped s)) (newest named s) (same (newest named (popped s)) (newest named s)) (popped (popped s)) p
   frame_works bodies (frame.Receives c) s is p = receive_works (newest named s) c (look s.heap (newest named s)) (popped s) p
   frame_works bodies (frame.FreesIn access c) s is p = free_in_works access (newest named s) c (look s.heap (newest named s)) (popped s) p
   frame_works bodies (frame.Declares x) s is p = owns (declared x) tt tt refl p refl refl
   frame_works bodies (frame.DeclaresRecord x t) s is p =
-      owns (record_object t) tt tt refl (treating_plain _ (frame.begins Creation) (all_tasks types t PartsFirst) s.control tt p) refl refl
+      owns (record_object t) tt tt refl (treating_plain _ (frame.begins Copy) (all_tasks types t PartsFirst) s.control tt p) refl refl
   frame_works bodies (frame.Treats v treatment tasks) s is p = treats_work (shapes_of types) v treatment tasks (task_next tasks) s is p
   frame_works bodies frame.Writes s is p = line_works (reads_integer (newest named s)) (popped s) p
   frame_works bodies (frame.Ends v) s is p = end_works v (look s.heap v) s p

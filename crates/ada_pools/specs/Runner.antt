@@ -48,7 +48,7 @@ abbrev pub name_in : Value → Option ℕ
 name_in Null = None
 name_in (Names object) = Some object.0
 name_in (Scalar v) = None
-name_in (Part object first) = None
+name_in (Part object place) = None
 
 -- The blocks of objects, once the object of a name has another one, or none.
 abbrev pub with_block : Option ℕ → Option Block → (ℕ → Option Block) → ℕ → Option Block

@@ -41,11 +41,12 @@ pub record PathForm : Type 0 where
   pub selectors : List ℕ
   pub spot : Spot
 
--- A path to a record (4.1): the path to the object in which it lies, a record object or an access value, the number of its first elementary
--- component there, and its type.
+-- A path to a record (4.1): the path to the object in which it lies, a record object or an access value, the numbers of its first elementary
+-- component and of its first controlled part there, and its type.
 pub record RecordPathForm : Type 0 where
   pub object : PathForm
   pub first : ℕ
+  pub part : ℕ
   pub record_type : ℕ
 
 mutual
@@ -148,7 +149,7 @@ path_form p = record { root = p.root.0; of_record = p.of_record; selectors = map
 
 -- A path to a record as plain data.
 abbrev pub record_path_form : RecordPath → RecordPathForm
-record_path_form p = record { object = path_form p.object; first = p.first.0; record_type = p.record.0 }
+record_path_form p = record { object = path_form p.object; first = p.first.0; part = p.part.0; record_type = p.record.0 }
 
 unfoldable mutual
   -- An expression.

@@ -179,9 +179,9 @@ condition_fits types variables condition =
     fits.condition_fits (types_in types) (variables_in variables) (condition_form condition)
 
 -- Whether the items of a record are values of its components, and no borrowers (4.3.1).
-abbrev pub record_fits : List TypeDefinition → List Variable → Option (List ComponentKind) → List Item → Bool
-record_fits types variables components items =
-    fits.record_fits (types_in types) (variables_in variables) components (map item_form items)
+abbrev pub record_fits : List TypeDefinition → List Variable → (record_type : ℕ) → List Item → Bool
+record_fits types variables t items =
+    fits.record_fits (types_in types) (variables_in variables) t (map item_form items)
 
 -- Whether a statement names variables and texts of the program, and has the types that it wants.
 abbrev pub statement_fits : List TypeDefinition → List Variable → (texts exceptions : List (String Global)) → (callable : List Procedure) → (inside_loop : Bool) → Stmt → Bool

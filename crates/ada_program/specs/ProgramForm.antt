@@ -5,6 +5,7 @@ use Rattle.std.specs.List.{slice_get}
 use Rattle.std.specs.String.{string_bytes}
 use Rattle.ada_text.specs.declared.spot.Spot.{Spot}
 use Rattle.ada_program.specs.declared.program.ComponentKind.{ComponentKind}
+use Rattle.ada_program.specs.declared.program.Finalization.{Finalization}
 use Rattle.ada_program.specs.declared.program.FormalMode.{FormalMode}
 use Rattle.ada_program.specs.declared.program.Part.{Part}
 use Rattle.ada_program.specs.declared.program.PartKind.{PartKind}
@@ -18,17 +19,20 @@ use Rattle.ada_program.specs.declared.program.TypeDefinition.{TypeDefinition}
 use Rattle.ada_program.specs.declared.program.TypeDefinition.TheVariants as definition
 use Rattle.ada_program.specs.Form.{StmtsForm, HandlersForm, DeclarationForm, declaration_form, stmts_form, handlers_form, declaration_forms, stmt_forms, handler_forms}
 
--- A component of a record type as it is declared: its name, what it is, and the number of its first elementary component in the record type (3.8).
+-- A component of a record type as it is declared: its name, what it is, and the numbers of its first elementary component and of its first controlled
+-- part in the record type (3.8, 7.6).
 pub record PartForm : Type 0 where
   pub name : List ℕ
   pub kind : PartKind
   pub first : ℕ
+  pub part : ℕ
 
--- A type (3.2.1): a record type, its components as they are declared and its elementary components at any depth, each in order; an access type,
+-- A type (3.2.1): a record type, its components as they are declared and its elementary components at any depth, each in order, and how its objects are
+-- finalized, where they have controlled parts (7.6); an access type,
 -- the type that it designates, and the declared pool of its objects, where it is not the standard one (13.11); or what one record object is known by,
 -- and its record type.
 pub data TypeForm : Type 0 where
-  record_of : List ℕ → (parts : List PartForm) → (components : List ComponentKind) → TypeForm
+  record_of : List ℕ → (parts : List PartForm) → (components : List ComponentKind) → Option Finalization → TypeForm
   access_to : List ℕ → (designated : ℕ) → (pool : Option ℕ) → TypeForm
   object_of : (record_type : ℕ) → TypeForm
 
@@ -77,7 +81,7 @@ nowhere = record { line = 0; column = 0 }
 
 -- A declared component, as the program keeps it.
 abbrev pub part_form : Part → PartForm
-part_form p = record { name = string_bytes p.name; kind = p.kind; first = p.first.0 }
+part_form p = record { name = string_bytes p.name; kind = p.kind; first = p.first.0; part = p.part.0 }
 
 -- The number of a pool, where there is one.
 abbrev pub pool_number : Option PoolNo → Option ℕ
@@ -86,7 +90,8 @@ pool_number (Some pool) = Some pool.0
 
 -- A type, as the program keeps it.
 abbrev pub type_form : TypeDefinition → TypeForm
-type_form (definition.Record name parts components) = record_of (string_bytes name) (map part_form parts.items) components.items
+type_form (definition.Record name parts components finalization) =
+    record_of (string_bytes name) (map part_form parts.items) components.items finalization
 type_form (definition.Access name designated pool) = access_to (string_bytes name) designated.0 (pool_number pool)
 type_form (definition.Object record_type) = object_of record_type.0
 

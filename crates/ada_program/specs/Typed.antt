@@ -11,7 +11,7 @@ use Rattle.ada_program.specs.ProgramForm.{pool_number}
 -- the type. None, if it is a record type.
 abbrev pub designated_by : Option TypeDefinition → Option ℕ
 designated_by None = None
-designated_by (Some (definition.Record name parts components)) = None
+designated_by (Some (definition.Record name parts components finalization)) = None
 designated_by (Some (definition.Access name designated pool)) = Some designated.0
 designated_by (Some (definition.Object record_type)) = Some record_type.0
 
@@ -22,7 +22,7 @@ designated_of types t = designated_by (slice_get types t)
 -- The declared pool of the objects of an access type (13.11): none, where it is the standard pool.
 abbrev pub pool_by : Option TypeDefinition → Option ℕ
 pool_by None = None
-pool_by (Some (definition.Record name parts components)) = None
+pool_by (Some (definition.Record name parts components finalization)) = None
 pool_by (Some (definition.Access name designated pool)) = pool_number pool
 pool_by (Some (definition.Object record_type)) = None
 
@@ -33,7 +33,7 @@ pool_named types access = pool_by (slice_get types access)
 -- The elementary components of a record type, in order (3.8): none, if it is no record type.
 abbrev pub components_by : Option TypeDefinition → Option (List ComponentKind)
 components_by None = None
-components_by (Some (definition.Record name parts components)) = Some components.items
+components_by (Some (definition.Record name parts components finalization)) = Some components.items
 components_by (Some (definition.Access name designated pool)) = None
 components_by (Some (definition.Object record_type)) = None
 

@@ -12,19 +12,22 @@ use Rattle.ada_program.specs.declared.program.ComponentKind.{ComponentKind}
 use Rattle.ada_program.specs.declared.program.ComponentKind.TheVariants as component
 use Rattle.ada_program.specs.declared.program.Exception.{Exception}
 use Rattle.ada_program.specs.declared.program.Exception.TheVariants.{ConstraintError, ProgramError, StorageError, EndError, Declared}
+use Rattle.ada_program.specs.declared.program.Finalization.{Finalization}
 use Rattle.ada_program.specs.declared.program.FormalMode.{FormalMode}
 use Rattle.ada_program.specs.declared.program.FormalMode.TheVariants.{In, InOut}
+use Rattle.ada_program.specs.declared.program.PartKind.{PartKind}
+use Rattle.ada_program.specs.declared.program.PartKind.TheVariants as part
 use Rattle.ada_program.specs.declared.program.VariableKind.{VariableKind}
 use Rattle.ada_program.specs.declared.program.VariableKind.TheVariants as variable
 use Rattle.ada_program.specs.declared.program.ScalarType.{ScalarType}
 use Rattle.ada_program.specs.declared.program.ScalarType.TheVariants.{Integer, Boolean}
 use Rattle.ada_program.specs.Form.{PathForm, ActualForm, in_value, in_null, in_access, in_record, in_out_path, in_out_access, in_out_component, in_out_record, RecordPathForm, ExpressionForm, integer, boolean, reads, is_null, applied_to, chained, LinksForm, no_more_links, a_link, ItemForm, null_item, item_of_path, item_of_value, item_of_record, RightForm, nothing, value_of, allocates, allocates_default, computes, StmtForm, skips, assigns, assigns_record, frees, gets, writes, writes_text, chooses, repeats, counts, exits, calls, returns, raises, encloses, StmtsForm, no_stmts, a_stmt, BranchesForm, otherwise, a_branch, HandlersForm, no_handlers, a_handler, DeclarationForm, creates_pool, collects, declares, declares_record}
-use Rattle.ada_program.specs.ProgramForm.{TypeForm, record_of, access_to, object_of, VariableForm, BodyForm, ProgramForm, main_body}
+use Rattle.ada_program.specs.ProgramForm.{PartForm, TypeForm, record_of, access_to, object_of, VariableForm, BodyForm, ProgramForm, main_body}
 
 -- The type that an access type designates (3.10): none, if it is no access type.
 abbrev pub designated_in : Option TypeForm → Option ℕ
 designated_in None = None
-designated_in (Some (record_of name parts components)) = None
+designated_in (Some (record_of name parts components finalization)) = None
 designated_in (Some (access_to name designated pool)) = Some designated
 designated_in (Some (object_of record_type)) = None
 
@@ -35,7 +38,7 @@ designated_type types t = designated_in (slice_get types t)
 -- The elementary components of a record type, in order (3.8): none, if it is no record type.
 abbrev pub components_in : Option TypeForm → Option (List ComponentKind)
 components_in None = None
-components_in (Some (record_of name parts components)) = Some components
+components_in (Some (record_of name parts components finalization)) = Some components
 components_in (Some (access_to name designated pool)) = None
 components_in (Some (object_of record_type)) = None
 
@@ -46,14 +49,14 @@ record_components types t = components_in (slice_get types t)
 -- The record type that one record object is known by a type for (3.3.1): none, if the type is another one.
 abbrev pub object_in : Option TypeForm → Option ℕ
 object_in None = None
-object_in (Some (record_of name parts components)) = None
+object_in (Some (record_of name parts components finalization)) = None
 object_in (Some (access_to name designated pool)) = None
 object_in (Some (object_of record_type)) = Some record_type
 
 -- The record type of the objects that values of a type name: those that an access type designates (3.10), or one record object.
 abbrev pub named_in : Option TypeForm → Option ℕ
 named_in None = None
-named_in (Some (record_of name parts components)) = None
+named_in (Some (record_of name parts components finalization)) = None
 named_in (Some (access_to name designated pool)) = Some designated
 named_in (Some (object_of record_type)) = Some record_type
 
@@ -84,9 +87,85 @@ kind_fits types (component.Integer initial) = true
 kind_fits types (component.Boolean initial) = true
 kind_fits types (component.Access access) = is_access types access.0
 
--- A type has such components, or designates a record type (3.10), or one record object is known by it.
+-- Controlled parts (7.6).
+
+-- How objects of a record type are finalized, if the type is one whose objects have controlled parts.
+abbrev pub finalization_in : Option TypeForm → Option Finalization
+finalization_in None = None
+finalization_in (Some (record_of name parts components finalization)) = finalization
+finalization_in (Some (access_to name designated pool)) = None
+finalization_in (Some (object_of record_type)) = None
+
+-- The same of the type of a number.
+abbrev pub finalization_of : List TypeForm → ℕ → Option Finalization
+finalization_of types t = finalization_in (slice_get types t)
+
+-- How many controlled parts an object has.
+abbrev pub count_said : Option Finalization → ℕ
+count_said None = 0
+count_said (Some f) = f.parts
+
+-- How many controlled parts the objects of the record type of a number have.
+abbrev pub part_count : List TypeForm → ℕ → ℕ
+part_count types t = count_said (finalization_of types t)
+
+-- How many a declared component has: the parent part is one.
+abbrev pub parts_within : List TypeForm → PartKind → ℕ
+parts_within types (part.Elementary kind) = 0
+parts_within types (part.Record t) = part_count types t.0
+parts_within types part.Parent = 1
+
+-- A declared component is the parent part.
+abbrev pub is_parent : PartKind → Bool
+is_parent (part.Elementary kind) = false
+is_parent (part.Record t) = false
+is_parent part.Parent = true
+
+-- Where it has controlled parts, a type has a less number than this.
+abbrev pub is_numbered_below : (number : ℕ) → Option Finalization → Bool
+is_numbered_below number None = true
+is_numbered_below number (Some f) = nat_lt f.number.0 number
+
+-- The record type of a declared component, if it is one with controlled parts, has a less number than this.
+abbrev pub is_of_earlier : List TypeForm → (number : ℕ) → PartKind → Bool
+is_of_earlier types number (part.Elementary kind) = true
+is_of_earlier types number (part.Record t) = is_numbered_below number (finalization_of types t.0)
+is_of_earlier types number part.Parent = true
+
+-- The controlled parts of declared components are numbered in order from one on, up to their count.
+abbrev pub parts_in_order : List TypeForm → (count from : ℕ) → List PartForm → Bool
+parts_in_order types count from [] = from == count
+parts_in_order types count from (p ∷ ps) = (p.part == from) && parts_in_order types count (from + parts_within types p.kind) ps
+
+-- Behind the first component there is no parent part.
+abbrev pub parent_first : List PartForm → Bool
+parent_first [] = true
+parent_first (p ∷ ps) = list_all (λ q. not (is_parent q.kind)) ps
+
+-- A record type says how many controlled parts its objects have, and is numbered behind the types of its components.
+abbrev pub says_parts : List TypeForm → Option Finalization → List PartForm → Bool
+says_parts types None ps = parts_in_order types 0 0 ps
+says_parts types (Some f) ps = nat_lt 0 f.parts && parts_in_order types f.parts 0 ps && list_all (λ p. is_of_earlier types f.number.0 p.kind) ps
+
+-- Whether this is the number of a record type among those that have controlled parts.
+abbrev pub has_number : ℕ → Option Finalization → Bool
+has_number n None = false
+has_number n (Some f) = f.number.0 == n
+
+-- How many record types have controlled parts.
+abbrev pub numbered_types : List TypeForm → ℕ
+numbered_types types = count_by (λ t. is_some (finalization_in (Some t))) types
+
+-- Where it has controlled parts, a type has a number of its own, below how many there are.
+abbrev pub is_numbered_alone : List TypeForm → Option Finalization → Bool
+is_numbered_alone types None = true
+is_numbered_alone types (Some f) =
+    nat_lt f.number.0 (numbered_types types) && (count_by (λ t. has_number f.number.0 (finalization_in (Some t))) types == 1)
+
+-- A type has such components, and as many controlled parts as it says, or designates a record type (3.10), or one record object is known by it.
 abbrev pub type_fits : List TypeForm → TypeForm → Bool
-type_fits types (record_of name parts components) = list_all (kind_fits types) components
+type_fits types (record_of name parts components finalization) =
+    list_all (kind_fits types) components && parent_first parts && says_parts types finalization parts && is_numbered_alone types finalization
 type_fits types (access_to name designated pool) = is_record types designated
 type_fits types (object_of record_type) = is_record types record_type
 
@@ -210,7 +289,7 @@ is_collection access (of_variable x) = false
 -- Each access type, from a number on, has one collection (7.6.1).
 abbrev pub has_collections : List Creation → ℕ → List TypeForm → Bool
 has_collections cs t [] = true
-has_collections cs t (record_of name parts components ∷ types) = has_collections cs (t + 1) types
+has_collections cs t (record_of name parts components finalization ∷ types) = has_collections cs (t + 1) types
 has_collections cs t (access_to name designated pool ∷ types) = (count_by (is_collection t) cs == 1) && has_collections cs (t + 1) types
 has_collections cs t (object_of record_type ∷ types) = has_collections cs (t + 1) types
 
@@ -227,7 +306,7 @@ is_known_pool count (Some pool) = nat_lt pool count
 
 -- The declared pool of an access type is one of so many (13.11).
 abbrev pub has_known_pool : (count : ℕ) → TypeForm → Bool
-has_known_pool count (record_of name parts components) = true
+has_known_pool count (record_of name parts components finalization) = true
 has_known_pool count (access_to name designated pool) = is_known_pool count pool
 has_known_pool count (object_of record_type) = true
 
@@ -441,10 +520,26 @@ abbrev pub object_components : List TypeForm → Option ℕ → Option (List Com
 object_components types None = None
 object_components types (Some t) = reached_components types t
 
--- A path leads to a record of its type (4.1): such a record lies in the object to which the path leads, from that component on.
+-- The record type of the object to which a path leads, where it is a record object or an access value.
+abbrev pub object_named : List TypeForm → Option ℕ → Option ℕ
+object_named types None = None
+object_named types (Some t) = named_in (slice_get types t)
+
+-- So many controlled parts of an object lie behind those before one of them, where there are any.
+abbrev pub has_parts_from : (count part : ℕ) → (within : ℕ) → Bool
+has_parts_from count part within = (count == 0) || not (nat_lt within (part + count))
+
+-- How many controlled parts such an object has.
+abbrev pub parts_named : List TypeForm → Option ℕ → ℕ
+parts_named types None = 0
+parts_named types (Some t) = part_count types t
+
+-- A path leads to a record of its type (4.1): such a record lies in the object to which the path leads, from that component on, and so do its controlled
+-- parts.
 abbrev pub is_record_path : List TypeForm → List VariableForm → RecordPathForm → Bool
 is_record_path types variables p =
     has_record_at (object_components types (access_of (path_kind types variables p.object))) p.first (record_components types p.record_type)
+    && has_parts_from (part_count types p.record_type) p.part (parts_named types (object_named types (access_of (path_kind types variables p.object))))
 
 -- An item for one component is null or a path of the component's very type for an access component, and else an expression of the component's
 -- type (4.3.1).
@@ -507,7 +602,8 @@ is_filled types variables (Some components) items = items_fit types variables co
 abbrev pub access_fits : List TypeForm → List VariableForm → ℕ → RightForm → Bool
 access_fits types variables access nothing = true
 access_fits types variables access (value_of path) = is_this access (path_access types variables path)
-access_fits types variables access (allocates t items) = (t == access) && is_filled types variables (reached_components types access) items
+access_fits types variables access (allocates t items) =
+    (t == access) && is_filled types variables (reached_components types access) items && (parts_named types (object_named types (Some access)) == 0)
 access_fits types variables access (allocates_default t) = (t == access) && is_some (reached_components types access)
 access_fits types variables access (computes e) = false
 
@@ -589,15 +685,38 @@ is_record_object t (Some variable.Boolean) = false
 is_record_object t (Some (variable.Access access)) = false
 is_record_object t (Some (variable.Record object)) = object.0 == t
 
--- The items of a record are values of its components, and no borrowers (4.3.1).
-abbrev pub record_fits : List TypeForm → List VariableForm → Option (List ComponentKind) → List ItemForm → Bool
-record_fits types variables components items = is_filled types variables components items && list_all (item_owns variables) items
+-- The item is a record of a type.
+abbrev pub is_record_item : (record_type : ℕ) → ItemForm → Bool
+is_record_item t null_item = false
+is_record_item t (item_of_path path) = false
+is_record_item t (item_of_value e) = false
+is_record_item t (item_of_record p) = p.record_type == t
 
--- The items of a record object's initial value, where there is one, fit its components, and name what is declared before (3.3.1).
-abbrev pub record_initial_fits : List TypeForm → List VariableForm → (x : ℕ) → Option (List ComponentKind) → Option (List ItemForm) → Bool
-record_initial_fits types variables x components None = true
-record_initial_fits types variables x components (Some items) =
-    list_all (item_before x) items && record_fits types variables components items
+-- There is one item, a record of a type.
+abbrev pub is_copy : (record_type : ℕ) → List ItemForm → Bool
+is_copy t [] = false
+is_copy t (i ∷ is) = is_record_item t i && (length is == 0)
+
+-- A record is copied whole, where it has controlled parts: no aggregate gives it its components, and its type is not limited (7.5, 7.6).
+abbrev pub copies_whole : (record_type : ℕ) → Option Finalization → List ItemForm → Bool
+copies_whole t None items = true
+copies_whole t (Some f) items = not f.limited && is_copy t items
+
+-- The items of a record of a type are values of its components, and no borrowers (4.3.1).
+abbrev pub record_fits : List TypeForm → List VariableForm → (record_type : ℕ) → List ItemForm → Bool
+record_fits types variables t items =
+    is_filled types variables (record_components types t) items && list_all (item_owns variables) items
+    && copies_whole t (finalization_of types t) items
+
+-- The same of an object of such a type, if there is one.
+abbrev pub object_fits : List TypeForm → List VariableForm → (record_type : Option ℕ) → List ItemForm → Bool
+object_fits types variables None items = false
+object_fits types variables (Some t) items = record_fits types variables t items
+
+-- The items of a record object's initial value, where there is one, fit its type, and name what is declared before (3.3.1).
+abbrev pub record_initial_fits : List TypeForm → List VariableForm → (x : ℕ) → (record_type : Option ℕ) → Option (List ItemForm) → Bool
+record_initial_fits types variables x t None = true
+record_initial_fits types variables x t (Some items) = list_all (item_before x) items && object_fits types variables t items
 
 -- An initial value names what is declared before, and is one that could be assigned (3.3.1); a record object is known by its own type.
 abbrev pub initial_fits : List TypeForm → List VariableForm → DeclarationForm → Bool
@@ -606,7 +725,7 @@ initial_fits types variables (collects access) = true
 initial_fits types variables (declares x right) =
     names_before x right && right_fits types variables (variable_kind variables x) right && lends_to variables (is_borrower variables x) right
 initial_fits types variables (declares_record x object initial) =
-    is_record_object object (variable_kind variables x) && record_initial_fits types variables x (reached_components types object) initial
+    is_record_object object (variable_kind variables x) && record_initial_fits types variables x (object_named types (Some object)) initial
 
 -- Two access types designate one record type (13.11.2): the types that they designate, if any, are the same.
 abbrev pub same_record : Option ℕ → Option ℕ → Bool
@@ -772,7 +891,7 @@ abbrev mutual
   statement_fits types variables texts exceptions callable inside_loop (assigns target right) =
       right_fits types variables (path_kind types variables target) right && lends_to variables (names_borrower variables target) right
   statement_fits types variables texts exceptions callable inside_loop (assigns_record target items) =
-      is_record_path types variables target && record_fits types variables (record_components types target.record_type) items
+      is_record_path types variables target && record_fits types variables target.record_type items
   statement_fits types variables texts exceptions callable inside_loop (frees access path) =
       is_freed_by types access (path_access types variables path) && not (names_borrower variables path)
   statement_fits types variables texts exceptions callable inside_loop (gets target) = is_integer_target types variables target

@@ -1,13 +1,15 @@
 //! Whether the declarations of a part fit (3.11): its collections, and its variables' initial values.
 
-ghost use Rattle.std.specs.Prelude.{◌≡◌};
+ghost use Rattle.std.specs.Prelude.{◌≡◌, Some, map};
 ghost use Rattle.std.specs.List.{list_all};
+ghost use Rattle.ada_program.specs.Form.{item_form};
 ghost use Rattle.ada_program.specs.Kept as kept;
+ghost use Rattle.ada_program.specs.Kept.{types_in, variables_in};
 ghost use Rattle.ada_program.specs.WellFormed as fits;
 
 use crate::borrowers::{is_borrower, lends_to};
-use crate::lookup::{is_access, reached_components, variable_kind};
-use crate::program::{Declaration, TypeDefinition, TypeNo, Variable, VariableKind};
+use crate::lookup::{is_access, named_type, variable_kind};
+use crate::program::{Declaration, Item, TypeDefinition, TypeNo, Variable, VariableKind};
 use crate::records::record_fits;
 use crate::values::{items_before, names_before, right_fits};
 
@@ -112,7 +114,23 @@ fn initial_fits(types: &[TypeDefinition], variables: &[Variable], declaration: &
             initial: Some(items),
         } => is_record_object(*object, variable_kind(variables, variable.0))
             && items_before(variable.0, items)
-            && record_fits(types, variables, reached_components(types, object.0), items),
+            && object_fits(types, variables, object.0, items),
+    }
+}
+
+/// Whether items fit the record type of the object that is known by a type.
+fn object_fits(
+    types: &[TypeDefinition],
+    variables: &[Variable],
+    object: usize,
+    items: &[Item],
+) -> bool
+    ensures { let known = fits.object_named (types_in types.now) (Some object) in
+        result ≡ fits.object_fits (types_in types.now) (variables_in variables.now) known (map item_form items.now) }
+{
+    match named_type(types, object) {
+        None => false,
+        Some(record) => record_fits(types, variables, record, items),
     }
 }
 

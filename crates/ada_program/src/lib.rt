@@ -12,6 +12,7 @@ mod creations;
 mod declarations;
 mod kinds;
 pub mod lookup;
+pub mod parts;
 pub mod program;
 mod queries;
 mod records;
@@ -20,5 +21,7 @@ mod typing;
 mod values;
 mod well_formed;
 
-pub use crate::program::{Path, PoolNo, ProcedureNo, Program, Stmt, TypeNo, VariableNo};
+pub use crate::program::{
+    PartNo, Path, PoolNo, ProcedureNo, Program, RecordNo, Stmt, TypeNo, VariableNo,
+};
 pub use ada_text::Spot;

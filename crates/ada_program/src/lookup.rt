@@ -43,7 +43,7 @@ pub(crate) fn record_of(types: &[TypeDefinition], number: usize) -> Option<usize
 }
 
 /// The record type of the objects that values of a type name: none, if it is a record type.
-fn named_type(types: &[TypeDefinition], number: usize) -> Option<usize>
+pub(crate) fn named_type(types: &[TypeDefinition], number: usize) -> Option<usize>
     ensures { result ≡ fits.named_in (slice_get (types_in types.now) number) }
 {
     match types.get(number) {
@@ -89,6 +89,7 @@ pub fn record_components<'p>(
                 name: _,
                 parts: _,
                 components,
+                finalization: _,
             },
         ) => Some(components),
         Some(TypeDefinition::Access { .. } | TypeDefinition::Object { .. }) | None => None,

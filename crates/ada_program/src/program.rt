@@ -31,6 +31,16 @@ pub struct PoolNo(pub usize);
 #[derive(Clone, Copy, Debug, PartialEq, Eq)]
 pub struct ComponentNo(pub usize);
 
+/// The number of a controlled part in its record type, from 0 (7.6): a controlled record stands before its components, and
+/// these in order.
+#[derive(Clone, Copy, Debug, PartialEq, Eq)]
+pub struct PartNo(pub usize);
+
+/// The number of a record type among those that have controlled parts, in the order in which they are complete: each stands
+/// behind the types of its components.
+#[derive(Clone, Copy, Debug, PartialEq, Eq)]
+pub struct RecordNo(pub usize);
+
 /// A whole program: its types, its pools, its procedures, the variables of its main procedure, and what that does.
 #[derive(Drop)]
 pub struct Program {
@@ -87,6 +97,8 @@ pub enum TypeDefinition {
         parts: Vec<Part>,
         /// Its elementary components at any depth, in order.
         components: Vec<ComponentKind>,
+        /// How its objects are finalized (7.6). None, where they have no controlled parts.
+        finalization: Option<Finalization>,
     },
     /// An access type and the record type that it designates (3.10).
     Access {
@@ -100,6 +112,17 @@ pub enum TypeDefinition {
     Object {
         record: TypeNo,
     },
+}
+
+/// How objects of a record type are finalized that have controlled parts (7.6).
+#[derive(Clone, Copy, Debug, PartialEq, Eq)]
+pub struct Finalization {
+    pub number: RecordNo,
+    /// How many controlled parts an object has at any depth, itself included.
+    pub parts: usize,
+    /// Whether the type is limited (7.5): derived from `Ada.Finalization.Limited_Controlled`, or with a component that is. Its
+    /// objects are not copied.
+    pub limited: bool,
 }
 
 /// A storage pool that a declaration creates (13.11): a `First_Fit_Pool`.
@@ -117,6 +140,8 @@ pub struct Part {
     pub kind: PartKind,
     /// The number of its first elementary component in the record type: that of the next one, where it has none.
     pub first: ComponentNo,
+    /// The number of its first controlled part in the record type: that of the next one, where it has none.
+    pub part: PartNo,
 }
 
 /// What a declared component is.
@@ -125,8 +150,8 @@ pub enum PartKind {
     Elementary(ComponentKind),
     /// A record, of a type that is declared before.
     Record(TypeNo),
-    /// The parent part of a type that is derived from `Ada.Finalization.Limited_Controlled` (3.4, 7.6): the type is
-    /// controlled. It has no name, and no component lies in it.
+    /// The parent part of a type that is derived from `Ada.Finalization.Controlled` or `Limited_Controlled` (3.4, 7.6): the
+    /// type is controlled. It has no name, and no component lies in it.
     Parent,
 }
 
@@ -398,6 +423,8 @@ pub struct RecordPath {
     pub object: Path,
     /// The number of the record's first elementary component in the object.
     pub first: ComponentNo,
+    /// The number of its first controlled part there.
+    pub part: PartNo,
     /// Its record type.
     pub record: TypeNo,
 }

@@ -1,6 +1,6 @@
 //! Records as wholes: where they lie, and the items that give their components values (4.1, 4.3.1).
 
-ghost use Rattle.std.specs.Prelude.{◌≡◌, drop};
+ghost use Rattle.std.specs.Prelude.{◌≡◌, Some, drop, map};
 ghost use Rattle.std.specs.Option.{option_copied};
 ghost use Rattle.ada_program.specs.Form.{item_form};
 ghost use Rattle.ada_program.specs.Kept as kept;
@@ -9,9 +9,12 @@ ghost use Rattle.ada_program.specs.WellFormed as fits;
 
 use crate::borrowers::items_own;
 use crate::lookup::{
-    access_of, is_this, path_access, path_kind, reached_components, record_components,
+    access_of, is_this, named_type, path_access, path_kind, reached_components, record_components,
 };
-use crate::program::{ComponentKind, Item, RecordPath, ScalarType, TypeDefinition, Variable};
+use crate::parts::{finalization_of, part_count};
+use crate::program::{
+    ComponentKind, Finalization, Item, RecordPath, ScalarType, TypeDefinition, Variable,
+};
 use crate::typing::has_type;
 
 /// Whether a path leads to a record of its type (4.1).
@@ -29,8 +32,33 @@ pub(crate) fn is_record_path(
             Some(components) => begins_with_record(
                 behind(components, path.first.0),
                 record_components(types, path.record.0),
+            ) && has_parts_from(
+                part_count(types, path.record.0),
+                path.part.0,
+                parts_named(types, known),
             ),
         },
+    }
+}
+
+/// Whether so many controlled parts of an object lie behind those before one of them, where there are any.
+fn has_parts_from(count: usize, part: usize, within: usize) -> bool
+    ensures { result ≡ fits.has_parts_from count part within }
+{
+    match part.checked_add(count) {
+        Some(end) => count == 0 || end <= within,
+        None => count == 0,
+    }
+}
+
+/// How many controlled parts the objects have that values of a type name.
+pub(crate) fn parts_named(types: &[TypeDefinition], access: usize) -> usize
+    ensures { let known = fits.object_named (types_in types.now) (Some access) in
+        result ≡ fits.parts_named (types_in types.now) known }
+{
+    match named_type(types, access) {
+        None => 0,
+        Some(record) => part_count(types, record),
     }
 }
 
@@ -98,16 +126,36 @@ fn is_alike(component: ComponentKind, other: ComponentKind) -> bool
 pub(crate) fn record_fits(
     types: &[TypeDefinition],
     variables: &[Variable],
-    components: Option<&[ComponentKind]>,
+    number: usize,
     items: &[Item],
 ) -> bool
-    ensures { result
-        ≡ kept.record_fits types.now variables.now (option_copied components.entry) items.now }
+    ensures { result ≡ kept.record_fits types.now variables.now number items.now }
 {
-    match components {
+    match record_components(types, number) {
         None => false,
         Some(components) => items_fit(types, variables, components, items)
-            && items_own(variables, items),
+            && items_own(variables, items)
+            && copies_whole(number, finalization_of(types, number), items),
+    }
+}
+
+/// Whether a record is copied whole, where it has controlled parts, and is not limited (7.5, 7.6).
+fn copies_whole(number: usize, finalization: Option<Finalization>, items: &[Item]) -> bool
+    ensures { result ≡ fits.copies_whole number finalization (map item_form items.now) }
+{
+    match finalization {
+        None => true,
+        Some(finalization) => !finalization.limited && is_copy(number, items),
+    }
+}
+
+/// Whether there is one item, a record of a type.
+fn is_copy(number: usize, items: &[Item]) -> bool
+    ensures { result ≡ fits.is_copy number (map item_form items.now) }
+{
+    match items {
+        [Item::Record(path)] => path.record.0 == number,
+        _ => false,
     }
 }
 

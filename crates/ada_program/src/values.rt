@@ -10,7 +10,7 @@ use crate::lookup::{is_this, path_access, reached_components};
 use crate::program::{
     Expression, Item, Link, Right, ScalarType, TypeDefinition, Variable, VariableKind,
 };
-use crate::records::items_fit;
+use crate::records::{items_fit, parts_named};
 use crate::typing::has_type;
 
 /// Whether there is something to assign to, and what is assigned fits it (5.2).
@@ -61,7 +61,9 @@ fn access_fits(
         Right::Allocator {
             access: created,
             items,
-        } => created.0 == access && is_filled(types, variables, access, items),
+        } => created.0 == access
+            && is_filled(types, variables, access, items)
+            && parts_named(types, access) == 0,
         Right::Default(created) => created.0 == access
             && reached_components(types, access).is_some(),
         Right::Value(_) => false,

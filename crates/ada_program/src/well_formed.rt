@@ -14,7 +14,7 @@ use crate::calls::call_fits;
 use crate::creations::{has_collections, pools_fit};
 use crate::declarations::declarations_fit;
 use crate::kinds::types_fit;
-use crate::lookup::{path_access, path_kind, record_components, scalar_of, variable_kind};
+use crate::lookup::{path_access, path_kind, scalar_of, variable_kind};
 use crate::program::{
     Branch, Choice, Exception, Expression, Handler, Procedure, Program, ScalarType, Stmt,
     TypeDefinition, Variable,
@@ -101,12 +101,7 @@ fn statement_fits(
             value,
         ) && lends_to(variables, names_borrower(variables, target), value),
         Stmt::AssignRecord { target, items } => is_record_path(types, variables, target)
-            && record_fits(
-                types,
-                variables,
-                record_components(types, target.record.0),
-                items,
-            ),
+            && record_fits(types, variables, target.record.0, items),
         Stmt::Free { access, path } => is_freed_by(
             types,
             access.0,

@@ -57,6 +57,7 @@ pub record Agrees (k : Known) (place : Place) : Type 0 where
   pub variables : place.variables ≡ length k.variables
   pub exceptions : place.exceptions ≡ length k.exceptions
   pub texts : place.texts ≡ length k.texts
+  pub controlled : place.controlled ≡ k.controlled
 
 -- the tables of what is known are beginnings of those of the program, but that types may get pools
 pub record Ahead (k : Known) (p : Context) : Type 0 where
@@ -252,8 +253,8 @@ outer_same k m place around outer w text =
     (subst (λ (ps : List Part). Stands (from_part k.here.around (named_in text ps)) (meaning_among text place.outer)) (sym outer) (w.outer text))
 
 -- what a part elaborates is no name
-pub agrees_same : (k m : Known) (place : Place) → m.here.names ≡ k.here.names → m.here.first_type ≡ k.here.first_type → m.here.around ≡ k.here.around → m.outer ≡ k.outer → length m.types ≡ length k.types → length m.bodies ≡ length k.bodies → length m.variables ≡ length k.variables → length m.exceptions ≡ length k.exceptions → length m.texts ≡ length k.texts → length m.pools ≡ length k.pools → ((t : ℕ) → pool_of m.types t ≡ pool_of k.types t) → Agrees k place → Agrees m place
-agrees_same k m place names first around outer types bodies variables exceptions texts pools placed w = record {
+pub agrees_same : (k m : Known) (place : Place) → m.here.names ≡ k.here.names → m.here.first_type ≡ k.here.first_type → m.here.around ≡ k.here.around → m.outer ≡ k.outer → length m.types ≡ length k.types → length m.bodies ≡ length k.bodies → length m.variables ≡ length k.variables → length m.exceptions ≡ length k.exceptions → length m.texts ≡ length k.texts → length m.pools ≡ length k.pools → ((t : ℕ) → pool_of m.types t ≡ pool_of k.types t) → m.controlled ≡ k.controlled → Agrees k place → Agrees m place
+agrees_same k m place names first around outer types bodies variables exceptions texts pools placed controlled w = record {
   here = λ text. subst (λ (ns : List Named). Stands (named text ns) (meaning_among text place.here)) (sym names) (w.here text);
   outer = λ text. outer_same k m place around outer w text;
   bodies = w.bodies ∙ sym bodies;
@@ -264,6 +265,7 @@ agrees_same k m place names first around outer types bodies variables exceptions
   variables = w.variables ∙ sym variables;
   exceptions = w.exceptions ∙ sym exceptions;
   texts = w.texts ∙ sym texts;
+  controlled = w.controlled ∙ sym controlled;
 }
 
 -- an inner part begins
@@ -279,6 +281,7 @@ agrees_inside k place w = record {
   variables = w.variables;
   exceptions = w.exceptions;
   texts = w.texts;
+  controlled = w.controlled;
 }
 
 -- the part of a loop parameter
@@ -294,11 +297,12 @@ agrees_parameter k place name w = record {
   variables = ap (λ (n : ℕ). n + 1) w.variables ∙ sym (length-append k.variables (record { name = name.text; spot = name.spot; kind = variable.Integer; borrows = false } ∷ []));
   exceptions = w.exceptions;
   texts = w.texts;
+  controlled = w.controlled;
 }
 
 -- an inner part ends
-pub agrees_behind : (k m z : Known) (place end : Place) → z.here.names ≡ k.here.names → z.here.first_type ≡ k.here.first_type → z.here.around ≡ k.here.around → z.outer ≡ k.outer → length z.types ≡ length m.types → length z.bodies ≡ length m.bodies → length z.variables ≡ length m.variables → length z.exceptions ≡ length m.exceptions → length z.texts ≡ length m.texts → length z.pools ≡ length m.pools → ((t : ℕ) → pool_of z.types t ≡ pool_of m.types t) → Agrees k place → Agrees m end → Agrees z (behind place end)
-agrees_behind k m z place end names first around outer types bodies variables exceptions texts pools placed w v = record {
+pub agrees_behind : (k m z : Known) (place end : Place) → z.here.names ≡ k.here.names → z.here.first_type ≡ k.here.first_type → z.here.around ≡ k.here.around → z.outer ≡ k.outer → length z.types ≡ length m.types → length z.bodies ≡ length m.bodies → length z.variables ≡ length m.variables → length z.exceptions ≡ length m.exceptions → length z.texts ≡ length m.texts → length z.pools ≡ length m.pools → ((t : ℕ) → pool_of z.types t ≡ pool_of m.types t) → z.controlled ≡ m.controlled → Agrees k place → Agrees m end → Agrees z (behind place end)
+agrees_behind k m z place end names first around outer types bodies variables exceptions texts pools placed controlled w v = record {
   here = λ text. subst (λ (ns : List Named). Stands (named text ns) (meaning_among text place.here)) (sym names) (w.here text);
   outer = λ text. outer_same k z place around outer w text;
   bodies = v.bodies ∙ sym bodies;
@@ -309,4 +313,5 @@ agrees_behind k m z place end names first around outer types bodies variables ex
   variables = v.variables ∙ sym variables;
   exceptions = v.exceptions ∙ sym exceptions;
   texts = v.texts ∙ sym texts;
+  controlled = v.controlled ∙ sym controlled;
 }

@@ -15,7 +15,7 @@ skip_at : (types : List TypeForm) (es : List DeclarationForm) (i n : ℕ) → (i
 unfolding designated_of
 skip_at [] es zero n e = refl
 skip_at [] es (suc i) n e = refl
-skip_at (record_of name ps cs ∷ ts) es zero n e = refl
+skip_at (record_of name ps cs final ∷ ts) es zero n e = refl
 skip_at (object_of r ∷ ts) es zero n e = refl
 skip_at (access_to name d pool ∷ ts) es zero n e = by_test (is_collected n es) e
   where
@@ -28,7 +28,7 @@ skip_at (t ∷ ts) es (suc i) n e = skip_at ts es i n e
 made_at : (types : List TypeForm) (es : List DeclarationForm) (i n : ℕ) → (is_some (designated_of types i) && not (is_collected n es)) ≡ true → collections_of n (drop i types) es ≡ collects n ∷ collections_of (n + 1) (drop (suc i) types) es
 unfolding designated_of
 made_at [] es i n e = absurd (cc e)
-made_at (record_of name ps cs ∷ ts) es zero n e = absurd (cc e)
+made_at (record_of name ps cs final ∷ ts) es zero n e = absurd (cc e)
 made_at (object_of r ∷ ts) es zero n e = absurd (cc e)
 made_at (access_to name d pool ∷ ts) es zero n e = by_test (is_collected n es) e
   where

@@ -16,7 +16,10 @@ use Rattle.ada_program.specs.ProgramForm.{PartForm}
 use Rattle.ada_tree.specs.Records.{ComponentTree, component_of}
 use Rattle.ada_tree.specs.declared.records.ComponentDefinition.{ComponentDefinition}
 use Rattle.ada_resolve.specs.declared.notes.Notes.{Notes}
-use Rattle.ada_resolve.specs.Kept.{composition_in, entry_form, forms_of, kept_from, kept_meant, kept_with, with_component}
+use Rattle.ada_resolve.specs.Kept.{composition_in, entry_form, forms_of, kept_from, kept_with, with_component}
+use Rattle.ada_program.specs.WellFormed.{parts_within}
+use Rattle.ada_resolve.specs.Controlled.{limited_within}
+use Rattle.ada_resolve.specs.Derived.{with_parent}
 use Rattle.ada_resolve.specs.Known.{Known}
 use Rattle.ada_resolve.specs.Paths.{component_at, component_named, known_component}
 use Rattle.ada_resolve.specs.Records.{Composition, component_meant, component_remark, components_remark, composed, composed_with, composition_of, further_component_remark, is_component, kind_of_component, kinds_within, no_components, size_of_component}
@@ -26,11 +29,11 @@ use Rattle.ada_resolve.proofs.WellFormed.Names.{text_same, no_text, other_text}
 use Rattle.ada_resolve.specs.declared.fault.NameRule.TheVariants.{DeclaredTwice}
 
 -- a component that is added is inserted
-pub with_component_map : (name : Bor (List ℕ)) (kind : PartKind) (start : ℕ) (entries : List (Bor (List ℕ) × KnownComponent)) → with_component (record { name = name.now; kind = kind; first = start }) (map entry_form entries) ≡ map entry_form (insert_entry (λ a b. bytes_eq a.now b.now) entries name (record { kind = kind; first = start }))
-with_component_map name kind start [] = refl
-with_component_map name kind start (e ∷ es) =
-    elim (bytes_eq name.now e.0.now) as (λ b. cond b (record { name = e.0.now; kind = kind; first = start } ∷ map entry_form es) (entry_form e ∷ with_component (record { name = name.now; kind = kind; first = start }) (map entry_form es)) ≡ map entry_form (cond b ((e.0, record { kind = kind; first = start }) ∷ es) (e ∷ insert_entry (λ a b. bytes_eq a.now b.now) es name (record { kind = kind; first = start }))))
-    [ true ↦ refl | false ↦ ap (λ (cs : List PartForm). entry_form e ∷ cs) (with_component_map name kind start es) ]
+pub with_component_map : (name : Bor (List ℕ)) (kind : PartKind) (start part : ℕ) (entries : List (Bor (List ℕ) × KnownComponent)) → with_component (record { name = name.now; kind = kind; first = start; part = part }) (map entry_form entries) ≡ map entry_form (insert_entry (λ a b. bytes_eq a.now b.now) entries name (record { kind = kind; first = start; part = part }))
+with_component_map name kind start part [] = refl
+with_component_map name kind start part (e ∷ es) =
+    elim (bytes_eq name.now e.0.now) as (λ b. cond b (record { name = e.0.now; kind = kind; first = start; part = part } ∷ map entry_form es) (entry_form e ∷ with_component (record { name = name.now; kind = kind; first = start; part = part }) (map entry_form es)) ≡ map entry_form (cond b ((e.0, record { kind = kind; first = start; part = part }) ∷ es) (e ∷ insert_entry (λ a b. bytes_eq a.now b.now) es name (record { kind = kind; first = start; part = part }))))
+    [ true ↦ refl | false ↦ ap (λ (cs : List PartForm). entry_form e ∷ cs) (with_component_map name kind start part es) ]
 
 -- the place of the first that passes a test
 first : {X : Type 0} → (X → Bool) → List X → Option ℕ
@@ -108,7 +111,7 @@ kept_in : (text : List ℕ) (c : PartForm) (ds : List PartForm) → is_component
 kept_in text c [] = in_more text [] c
 kept_in text c (d ∷ ds) = at_head (bytes_eq c.name d.name) refl (bytes_eq text d.name) refl (kept_in text c ds)
   where
-    at_head : (b : Bool) → bytes_eq c.name d.name ≡ b → (e : Bool) → bytes_eq text d.name ≡ e → is_component text (with_component c ds) ≡ (is_component text ds || bytes_eq text c.name) → is_component text (cond b (record { name = d.name; kind = c.kind; first = c.first } ∷ ds) (d ∷ with_component c ds)) ≡ ((e || is_component text ds) || bytes_eq text c.name)
+    at_head : (b : Bool) → bytes_eq c.name d.name ≡ b → (e : Bool) → bytes_eq text d.name ≡ e → is_component text (with_component c ds) ≡ (is_component text ds || bytes_eq text c.name) → is_component text (cond b (record { name = d.name; kind = c.kind; first = c.first; part = c.part } ∷ ds) (d ∷ with_component c ds)) ≡ ((e || is_component text ds) || bytes_eq text c.name)
     at_head true same true on h = rw on refl
     at_head true same false off h =
         let other : bytes_eq text c.name ≡ false = other_text text c.name (λ is. no_text text d.name off (is ∙ text_same c.name d.name same)) in
@@ -123,7 +126,7 @@ same_remark k a b [] h s = refl
 same_remark k a b (c ∷ cs) h s =
     ap (λ (r : Remark). both (further_component_remark k a c) r)
     (same_remark k (composed_with k a c) (composed_with k b c) cs
-    (λ text. in_more text a.parts (component_meant k (length a.kinds) c) ∙ (ap (λ (x : Bool). x || bytes_eq text c.name.text) (h text) ∙ sym (in_more text b.parts (component_meant k (length b.kinds) c))))
+    (λ text. in_more text a.parts (component_meant k (length a.kinds) a.controlled c) ∙ (ap (λ (x : Bool). x || bytes_eq text c.name.text) (h text) ∙ sym (in_more text b.parts (component_meant k (length b.kinds) b.controlled c))))
     (ap (λ (n : ℕ). n + size_of_component k c) s)) ∙
     (ap (λ (x : Bool). both (component_remark k x (a.size + size_of_component k c) c) (components_remark k (composed_with k b c) cs)) (h c.name.text) ∙
     ap (λ (n : ℕ). both (component_remark k (is_component c.name.text b.parts) (n + size_of_component k c) c) (components_remark k (composed_with k b c) cs)) s)
@@ -132,14 +135,10 @@ same_remark k a b (c ∷ cs) h s =
 pub remark_next : (k : Known) (before : Composition) (c : ComponentTree) (cs : List ComponentTree) → components_remark k before (c ∷ cs) ≡ both (further_component_remark k before c) (components_remark k (kept_with k before c) cs)
 unfolding kept_with
 remark_next k before c cs =
-    let one = component_meant k (length before.kinds) c in
+    let one = component_meant k (length before.kinds) before.controlled c in
     ap (λ (r : Remark). both (further_component_remark k before c) r)
     (sym (same_remark k (kept_with k before c) (composed_with k before c) cs
     (λ text. kept_in text one before.parts ∙ sym (in_more text before.parts one)) refl))
-
--- the first component, and those behind it
-pub remark_first : (k : Known) (c : ComponentTree) (cs : List ComponentTree) → components_remark k no_components (c ∷ cs) ≡ both (further_component_remark k no_components c) (components_remark k (kept_with k no_components c) cs)
-remark_first k c cs = remark_next k no_components c cs
 
 -- one component further
 pub step_meant : (k : Known) (before after end : Composition) (c : ComponentTree) (cs rest : List ComponentTree) → after ≡ kept_with k before c → rest ≡ c ∷ cs → kept_from k before rest ≡ end → kept_from k after cs ≡ end
@@ -175,7 +174,7 @@ last_one : (c : PartForm) (ds : List PartForm) → is_component c.name ds ≡ fa
 last_one c [] e = refl
 last_one c (d ∷ ds) e = at_head (bytes_eq c.name d.name) e (last_one c ds)
   where
-    at_head : (b : Bool) → (b || is_component c.name ds) ≡ false → (is_component c.name ds ≡ false → with_component c ds ≡ ds ++ c ∷ []) → cond b (record { name = d.name; kind = c.kind; first = c.first } ∷ ds) (d ∷ with_component c ds) ≡ d ∷ (ds ++ c ∷ [])
+    at_head : (b : Bool) → (b || is_component c.name ds) ≡ false → (is_component c.name ds ≡ false → with_component c ds ≡ ds ++ c ∷ []) → cond b (record { name = d.name; kind = c.kind; first = c.first; part = c.part } ∷ ds) (d ∷ with_component c ds) ≡ d ∷ (ds ++ c ∷ [])
     at_head true e h = absurd (cc e)
     at_head false e h = ap (λ (xs : List PartForm). d ∷ xs) (h e)
 
@@ -184,12 +183,19 @@ once : (k : Known) (before : Composition) (cs : List ComponentTree) → Quiet (c
 unfolding component_remark component_meant kept_with
 once k before [] q = refl
 once k before (c ∷ cs) q =
-    let one = component_meant k (length before.kinds) c in
+    let one = component_meant k (length before.kinds) before.controlled c in
     let fresh : is_component c.name.text before.parts ≡ false = quiet_if (is_component c.name.text before.parts) c.name.spot DeclaredTwice q.0.1.1.0 in
     let same : kept_with k before c ≡ composed_with k before c =
-    ap (λ (ps : List PartForm). let made : Composition = record { parts = ps; kinds = before.kinds ++ kinds_within k.types (kind_of_component k c); size = before.size + size_of_component k c } in made)
+    ap (λ (ps : List PartForm). let made : Composition = record { parts = ps; kinds = before.kinds ++ kinds_within k.types (kind_of_component k c); size = before.size + size_of_component k c; controlled = before.controlled + parts_within k.types (kind_of_component k c); limited = before.limited || limited_within k.types (kind_of_component k c) } in made)
     (last_one one before.parts fresh) in
     ap (λ (b : Composition). kept_from k b cs) same ∙ once k (composed_with k before c) cs q.1
 
-pub listed_once : (k : Known) (cs : List ComponentTree) (notes : Notes) → (noted (components_remark k no_components cs) notes).fault ≡ None → kept_meant k cs ≡ composition_of k cs
-listed_once k cs notes e = once k no_components cs (noted_quiet (components_remark k no_components cs) notes e).0
+kept_once : (k : Known) (before : Composition) (cs : List ComponentTree) (notes : Notes) → (noted (components_remark k before cs) notes).fault ≡ None → kept_from k before cs ≡ composed k before cs
+kept_once k before cs notes e = once k before cs (noted_quiet (components_remark k before cs) notes e).0
+
+pub listed_once : (k : Known) (cs : List ComponentTree) (notes : Notes) → (noted (components_remark k no_components cs) notes).fault ≡ None → kept_from k no_components cs ≡ composition_of k cs
+listed_once k cs notes e = kept_once k no_components cs notes e
+
+-- the same behind a parent part
+pub derived_once : (k : Known) (limited : Bool) (cs : List ComponentTree) (notes : Notes) → (noted (components_remark k (with_parent limited) cs) notes).fault ≡ None → kept_from k (with_parent limited) cs ≡ composed k (with_parent limited) cs
+derived_once k limited cs notes e = kept_once k (with_parent limited) cs notes e

@@ -7,23 +7,25 @@ use Rattle.std.proofs.lemmas.List.{append-nil, length-set}
 use Rattle.std.proofs.lemmas.Bool.{ne_eqb, both_ways, false_from_ne_true, leb-true, ltb-false}
 use Rattle.ada_text.specs.declared.spot.Spot.{Spot}
 use Rattle.ada_tree.specs.Names.{Ident, NameTree}
-use Rattle.ada_tree.specs.Records.{RecordTree}
+use Rattle.ada_tree.specs.Records.{ComponentTree, RecordTree}
 use Rattle.ada_tree.specs.Declarations.{AspectTree, HeadTree, SizeTree, number_size, named_size}
 use Rattle.ada_resolve.specs.Procedures.{body_head_remark}
 use Rattle.ada_resolve.specs.Spots.{end_of, first_or}
 use Rattle.ada_tree.specs.Expressions.{RightTree}
-use Rattle.ada_tree.specs.Statements.{DeclarationTree, exception_declaration, constant_declaration, pool_declaration, attribute_clause, incomplete_type, access_type, record_type, instance, body_declaration, SequenceTree, object_declaration, borrower_declaration, DeclarationsTree, no_declarations, a_declaration}
+use Rattle.ada_tree.specs.Statements.{DeclarationTree, exception_declaration, constant_declaration, pool_declaration, attribute_clause, incomplete_type, access_type, record_type, derived_type, instance, body_declaration, SequenceTree, object_declaration, borrower_declaration, DeclarationsTree, no_declarations, a_declaration}
 use Rattle.ada_program.specs.declared.program.Exception.TheVariants as exception
 use Rattle.ada_program.specs.declared.program.PoolNo.{PoolNo}
 use Rattle.ada_program.specs.declared.program.TypeNo.{TypeNo}
 use Rattle.ada_program.specs.declared.program.VariableKind.{VariableKind}
 use Rattle.ada_program.specs.declared.program.VariableKind.TheVariants as variable
 use Rattle.ada_program.specs.Form.{value_of, DeclarationForm, creates_pool, collects, declares, declares_record}
-use Rattle.ada_program.specs.ProgramForm.{PoolForm, TypeForm, record_of, access_to, object_of, pool_number, VariableForm}
+use Rattle.ada_program.specs.declared.program.ComponentKind.{ComponentKind}
+use Rattle.ada_program.specs.declared.program.Finalization.{Finalization as Finalized}
+use Rattle.ada_program.specs.ProgramForm.{PartForm, PoolForm, TypeForm, record_of, access_to, object_of, pool_number, VariableForm}
 use Rattle.ada_program.specs.WellFormed as well
 use Rattle.ada_resolve.specs.declared.fault.NameRule.TheVariants.{UnknownName, NotInProfile, Layout, Limit}
 use Rattle.ada_resolve.specs.declared.library.LibraryName.{LibraryName}
-use Rattle.ada_resolve.specs.declared.library.LibraryName.TheVariants.{TextIo, PutLine, UncheckedDeallocation, Finalization, OfFinalization, Pools, FirstFitPool, OfPools, RunInput, Get, EndError, OtherUnit, Unknown}
+use Rattle.ada_resolve.specs.declared.library.LibraryName.TheVariants.{TextIo, PutLine, UncheckedDeallocation, Finalization, Controlled, LimitedControlled, Pools, FirstFitPool, OfPools, RunInput, Get, EndError, OtherUnit, Unknown}
 use Rattle.ada_resolve.specs.declared.library.Withs.{Withs}
 use Rattle.ada_resolve.specs.Borrowers.{borrower_remark, borrower_known}
 use Rattle.ada_resolve.specs.declared.rights.Held.{Held}
@@ -39,12 +41,13 @@ use Rattle.ada_resolve.specs.Known.{Known, Named, named, visible, missing, is_wi
 use Rattle.ada_resolve.specs.Types.{completed_type, defined, number_of, record_found, access_defined, new_unless}
 use Rattle.ada_resolve.specs.Exceptions.{next_exception}
 use Rattle.ada_resolve.specs.Statics.{static_value}
-use Rattle.ada_resolve.specs.Records.{components_written, composition_of, record_type_remark, record_type_known}
+use Rattle.ada_resolve.specs.Derived.{derived_type_known, derived_type_remark, limited_parent, parent_part, with_parent}
+use Rattle.ada_resolve.specs.Records.{Composition, components_written, composed, counted, finalization_made, no_components, record_made as type_made, record_type_remark, record_type_known, with_record}
 use Rattle.ada_resolve.specs.Instances.{access_type_in, freed_found, frozen_by, generic_remark, is_collected, instance_of, with_frozen}
 use Rattle.ada_resolve.specs.Objects.{missing_collections, ends_types, after_types, next_record, object_remark, variable_created, record_created, created_of, object_known, held_of, object_type_found, initial_found, initial_items_in, initial_source, initial_value_in}
 use Rattle.ada_resolve.specs.Resolution.{gives, At, known_at, declaration_remark, declaration_known, single_told, declaration_told, declarations_told}
-use Rattle.ada_resolve.specs.Naming.{Context, Place, Meaning, an_incomplete_type, a_type, a_number, an_exception, a_pool, an_instance, a_variable, meaning_among, is_one_of, IsTypeRead, IsInstanceRead, IsNumberNamed, IsPoolNamed, IsSizeRead, IsLabelRead, IsPoolRead, IsAspectRead, IsClauseRead}
-use Rattle.ada_resolve.specs.Reading.{read_at, IsNew, with_binding, with_incomplete_type, with_new_type, with_new_exception, with_new_variable, with_new_record, with_new_pool, with_placed, with_aspect, AreObjectsRead, AreCompleted, IsTypeDeclared, by_completion, by_new_type, DoTypesEnd, IsPartRead}
+use Rattle.ada_resolve.specs.Naming.{Context, Place, Meaning, an_incomplete_type, a_type, a_number, an_exception, a_pool, an_instance, a_variable, meaning_among, is_one_of, IsTypeRead, IsInstanceRead, IsNumberNamed, IsPoolNamed, IsSizeRead, IsLabelRead, IsPoolRead, IsAspectRead, IsClauseRead, AreComponentsRead, AreNamedApart, AreLaidOut, IsFinalized}
+use Rattle.ada_resolve.specs.Reading.{read_at, IsNew, with_binding, with_incomplete_type, with_new_type, with_new_exception, with_new_variable, with_new_record, with_new_pool, with_placed, with_aspect, with_complete, AreObjectsRead, AreCompleted, IsTypeDeclared, by_completion, by_new_type, DoTypesEnd, IsPartRead}
 use Rattle.ada_resolve.proofs.WellFormed.Forms.{forms, get_form, access_there, object_stays, record_there}
 use Rattle.ada_resolve.proofs.WellFormed.Placed.{none_defined, none_more, placed_forms, placed_length, placed_pool, placed_there, pool_placed, some_defined}
 use Rattle.ada_resolve.proofs.WellFormed.Remarks.{Quiet, quiet_if, quiet_unless}
@@ -54,7 +57,8 @@ use Rattle.ada_resolve.proofs.WellFormed.Tables.{get_last, second_part}
 use Rattle.ada_resolve.proofs.Standing.{Sound, Complete, Grows, Keeps, no_pool, storage_quiet, complete_grows, record_settled, longer, ended_sound, declarations_done, single_done, ProcedureDone, procedure_done, told_sound, told_keeps, head_new, body_stays, around_body, around_sound, body_ended_names, body_ended_some, declarations_keep, IsSlot, new_slot, slot_of, old_name, defined_there}
 use Rattle.ada_resolve.proofs.Agreeing.{bound_to, Stands, Agrees, Ahead, EntityRead, Readable, stands_entered, agrees_same, visible_read, not_predefined}
 use Rattle.ada_resolve.proofs.Keeping.{Lasts, lasts_ahead, lasts_on}
-use Rattle.ada_resolve.proofs.Written.{Legible, static_read, all_read, all_laid, all_apart, FoundRecord, record_read, designated_read, FoundAccess, access_read, generic_read, ObjectRead, RecordRead, TypeRead, object_read, IsObjectType, object_type_is}
+use Rattle.ada_resolve.proofs.WellFormed.Types.{by_none, by_parent}
+use Rattle.ada_resolve.proofs.Written.{Legible, static_read, further_parts, composed_parts, components_read, all_laid, all_apart, all_finalized, parent_apart, parent_read, FoundRecord, record_read, designated_read, FoundAccess, access_read, generic_read, ObjectRead, RecordRead, TypeRead, object_read, IsObjectType, object_type_is}
 use Rattle.ada_resolve.proofs.Lent.{borrower_read}
 use Rattle.ada_resolve.proofs.Others.{others_of}
 
@@ -96,7 +100,7 @@ unfolding after_types
 after_agrees k place w = by_end (types_go_on k)
   where
     by_end : (b : Bool) → Agrees (ends_types b k) place
-    by_end true = agrees_same k (ends_types true k) place refl refl refl refl refl refl refl refl refl refl (λ t. refl) w
+    by_end true = agrees_same k (ends_types true k) place refl refl refl refl refl refl refl refl refl refl (λ t. refl) refl w
     by_end false = w
 
 pub after_full : (k : Known) → types_go_on k ≡ false → after_types k ≡ k
@@ -136,6 +140,7 @@ agrees_declared k place name e meaning types variables exceptions frozen elabora
   variables = v;
   exceptions = x;
   texts = w.texts;
+  controlled = w.controlled;
 }
 
 one_longer : {X : Type 0} (xs : List X) (x : X) (n : ℕ) → n ≡ length xs → n + 1 ≡ length (xs ++ x ∷ [])
@@ -443,6 +448,7 @@ complete_back (a_declaration (borrower_declaration name designated initial) ds) 
 complete_back (a_declaration (incomplete_type spot name) ds) at after s full e c = absurd (no_types at.0 spot full (next_of (incomplete_type spot name) ds at after tt s e).quiet.0)
 complete_back (a_declaration (access_type spot name designated aspect) ds) at after s full e c = absurd (no_types at.0 spot full (next_of (access_type spot name designated aspect) ds at after tt s e).quiet.0)
 complete_back (a_declaration (record_type spot name definition) ds) at after s full e c = absurd (no_types at.0 spot full (next_of (record_type spot name definition) ds at after tt s e).quiet.0)
+complete_back (a_declaration (derived_type spot name parent definition) ds) at after s full e c = absurd (no_types at.0 spot full (next_of (derived_type spot name parent definition) ds at after tt s e).quiet.0)
 complete_back (a_declaration (instance spot name generic object access) ds) at after s full e c = absurd (no_types at.0 spot full (next_of (instance spot name generic object access) ds at after tt s e).quiet.0)
 complete_back (a_declaration (constant_declaration name value) ds) at after s full e c = absurd (no_types at.0 name.spot full (next_of (constant_declaration name value) ds at after tt s e).quiet.0)
 complete_back (a_declaration (exception_declaration name) ds) at after s full e c = absurd (no_types at.0 name.spot full (next_of (exception_declaration name) ds at after tt s e).quiet.0)
@@ -540,6 +546,7 @@ objects_read p (a_declaration (borrower_declaration name designated initial) ds)
 objects_read p (a_declaration (incomplete_type spot name) ds) at after s w full c ahead e = absurd (no_types at.0 spot (some_variable at.0 full) (next_of (incomplete_type spot name) ds at after tt s e).quiet.0)
 objects_read p (a_declaration (access_type spot name designated aspect) ds) at after s w full c ahead e = absurd (no_types at.0 spot (some_variable at.0 full) (next_of (access_type spot name designated aspect) ds at after tt s e).quiet.0)
 objects_read p (a_declaration (record_type spot name definition) ds) at after s w full c ahead e = absurd (no_types at.0 spot (some_variable at.0 full) (next_of (record_type spot name definition) ds at after tt s e).quiet.0)
+objects_read p (a_declaration (derived_type spot name parent definition) ds) at after s w full c ahead e = absurd (no_types at.0 spot (some_variable at.0 full) (next_of (derived_type spot name parent definition) ds at after tt s e).quiet.0)
 objects_read p (a_declaration (instance spot name generic object access) ds) at after s w full c ahead e = absurd (no_types at.0 spot (some_variable at.0 full) (next_of (instance spot name generic object access) ds at after tt s e).quiet.0)
 objects_read p (a_declaration (constant_declaration name value) ds) at after s w full c ahead e = absurd (no_types at.0 name.spot (some_variable at.0 full) (next_of (constant_declaration name value) ds at after tt s e).quiet.0)
 objects_read p (a_declaration (exception_declaration name) ds) at after s w full c ahead e = absurd (no_types at.0 name.spot (some_variable at.0 full) (next_of (exception_declaration name) ds at after tt s e).quiet.0)
@@ -619,12 +626,28 @@ plain_first k m z p q d ds same on more = record {
 }
 
 -- the place behind a full type declaration
-abbrev type_place : Option TypeNo → Ident → DeclarationTree → Place → Place
-type_place (Some t) name d place = with_binding name (a_type t.0) (with_aspect d t.0 place)
-type_place None name d place = with_new_type name (with_aspect d place.types place)
+abbrev type_place : Option TypeNo → Ident → DeclarationTree → Option Finalized → Place → Place
+type_place (Some t) name d final place = with_binding name (a_type t.0) (with_complete final (with_aspect d t.0 place))
+type_place None name d final place = with_new_type name (with_complete final (with_aspect d place.types place))
 
-abbrev defining : Known → Ident → Option TypeNo → TypeForm → Entity → Known
-defining k name c form e = declared (record k { types = defined c form k.types }) name.text e
+abbrev defining : Known → Ident → Option TypeNo → TypeForm → Entity → ℕ → Known
+defining k name c form e n = declared (record k { types = defined c form k.types; controlled = n }) name.text e
+
+-- one more type is complete
+agrees_complete : (k : Known) (final : Option Finalized) (place : Place) → Agrees k place → Agrees (record k { controlled = counted final k.controlled }) (with_complete final place)
+agrees_complete k final place w = record {
+  here = w.here;
+  outer = w.outer;
+  first_type = w.first_type;
+  types = w.types;
+  pools = w.pools;
+  placed = w.placed;
+  bodies = w.bodies;
+  variables = w.variables;
+  exceptions = w.exceptions;
+  texts = w.texts;
+  controlled = ap (λ (n : ℕ). counted final n) w.controlled;
+}
 
 -- an aspect names the pool of its type
 abbrev aspect_placed : Option AspectTree → ℕ → List ℕ → List ℕ
@@ -638,12 +661,14 @@ names_pool d t ps = ps
 abbrev IsFullType : DeclarationTree → Type 0
 IsFullType (access_type spot name designated aspect) = Unit {0}
 IsFullType (record_type spot name definition) = Unit {0}
+IsFullType (derived_type spot name parent definition) = Unit {0}
 IsFullType d = ⊥
 
 aspect_place : (d : DeclarationTree) (t : ℕ) (place : Place) → IsFullType d → with_aspect d t place ≡ record place { placed = names_pool d t place.placed }
 aspect_place (access_type spot name designated None) t place full = refl
 aspect_place (access_type spot name designated (Some aspect)) t place full = refl
 aspect_place (record_type spot name definition) t place full = refl
+aspect_place (derived_type spot name parent definition) t place full = refl
 aspect_place d t place full = absurd full
 
 -- what a declaration completes had no pool
@@ -651,24 +676,29 @@ had_none : (k : Known) (text : List ℕ) (c : Option TypeNo) → Sound k → IsS
 had_none k text None s slot u is = absurd (cc is)
 had_none k text (Some t) s slot u is =
     let same : t ≡ u = cc is in
-    (record_of text [] [], subst (λ (v : TypeNo). slice_get k.types v.0 ≡ Some (record_of text [] [])) same (s.names.0 text (entity.Incomplete t) slot), refl)
+    (record_of text [] [] None, subst (λ (v : TypeNo). slice_get k.types v.0 ≡ Some (record_of text [] [] None)) same (s.names.0 text (entity.Incomplete t) slot), refl)
 
-agrees_type : (k : Known) (place : Place) (name : Ident) (c : Option TypeNo) (d : DeclarationTree) (form : TypeForm) (e : Entity) → IsFullType d → bound_to e ≡ Some (a_type (number_of c k.types).0) → ((u : ℕ) → is_one_of u (names_pool d (number_of c k.types).0 place.placed) ≡ is_some (pool_of (defined c form k.types) u)) → Agrees k place → Agrees (defining k name c form e) (type_place c name d place)
-agrees_type k place name (Some t) d form e full own h w =
-    subst (λ (q : Place). Agrees (defining k name (Some t) form e) (with_binding name (a_type t.0) q)) (sym (aspect_place d t.0 place full))
-    (agrees_declared k place name e (a_type t.0) (slice_set k.types t.0 form) k.variables k.exceptions k.frozen k.here.elaborated place.types place.variables place.exceptions
-    (names_pool d t.0 place.placed) own (w.types ∙ sym (length-set k.types t.0 form)) w.variables w.exceptions h w)
-agrees_type k place name None d form e full own h w =
-    subst (λ (q : Place). Agrees (defining k name None form e) (with_new_type name q)) (sym (aspect_place d place.types place full))
-    (agrees_declared k place name e (a_type place.types) (k.types ++ form ∷ []) k.variables k.exceptions k.frozen k.here.elaborated (place.types + 1) place.variables place.exceptions
+agrees_type : (k : Known) (place : Place) (name : Ident) (c : Option TypeNo) (d : DeclarationTree) (form : TypeForm) (e : Entity) (final : Option Finalized) → IsFullType d → bound_to e ≡ Some (a_type (number_of c k.types).0) → ((u : ℕ) → is_one_of u (names_pool d (number_of c k.types).0 place.placed) ≡ is_some (pool_of (defined c form k.types) u)) → Agrees k place → Agrees (defining k name c form e (counted final k.controlled)) (type_place c name d final place)
+agrees_type k place name (Some t) d form e final full own h w =
+    let counts = agrees_complete k final place w in
+    subst (λ (q : Place). Agrees (defining k name (Some t) form e (counted final k.controlled)) (with_binding name (a_type t.0) (with_complete final q))) (sym (aspect_place d t.0 place full))
+    (agrees_declared (record k { controlled = counted final k.controlled }) (with_complete final place) name e (a_type t.0) (slice_set k.types t.0 form) k.variables k.exceptions k.frozen k.here.elaborated place.types place.variables place.exceptions
+    (names_pool d t.0 place.placed) own (w.types ∙ sym (length-set k.types t.0 form)) w.variables w.exceptions h counts)
+agrees_type k place name None d form e final full own h w =
+    let counts = agrees_complete k final place w in
+    subst (λ (q : Place). Agrees (defining k name None form e (counted final k.controlled)) (with_new_type name (with_complete final q))) (sym (aspect_place d place.types place full))
+    (agrees_declared (record k { controlled = counted final k.controlled }) (with_complete final place) name e (a_type place.types) (k.types ++ form ∷ []) k.variables k.exceptions k.frozen k.here.elaborated (place.types + 1) place.variables place.exceptions
     (names_pool d place.types place.placed) (own ∙ ap (λ (n : ℕ). Some (a_type n)) (sym w.types)) (one_longer k.types form place.types w.types) w.variables w.exceptions
-    (λ u. ap (λ (n : ℕ). is_one_of u (names_pool d n place.placed)) w.types ∙ h u) w)
+    (λ u. ap (λ (n : ℕ). is_one_of u (names_pool d n place.placed)) w.types ∙ h u) counts)
 
 -- a full type declaration completes a type, or declares the next
-type_first : (k : Known) (p : Context) (name : Ident) (c : Option TypeNo) (d : DeclarationTree) (spot : Spot) → Agrees k p.place → IsSlot k name.text c → Quiet (new_unless c (new_name_remark k name spot)) → IsTypeRead p d (number_of c k.types).0 → IsTypeDeclared p d name (type_place c name d p.place)
-type_first k p name (Some t) d spot w slot q r = by_completion (bound_here k p.place name.text (entity.Incomplete t) (an_incomplete_type t.0) w slot refl) r
-type_first k p name None d spot w slot q r =
-    by_new_type (new_there k p.place name spot w q) (subst (λ (n : ℕ). IsTypeRead p d n) (sym w.types) r)
+type_first : (k : Known) (p : Context) (name : Ident) (c : Option TypeNo) (d : DeclarationTree) (spot : Spot) (final : Option Finalized) → Agrees k p.place → IsSlot k name.text c → Quiet (new_unless c (new_name_remark k name spot)) → IsTypeRead p d (number_of c k.types).0 → well.finalization_of p.types (number_of c k.types).0 ≡ final → IsTypeDeclared p d name (type_place c name d final p.place)
+type_first k p name (Some t) d spot final w slot q r f =
+    subst (λ (o : Option Finalized). IsTypeDeclared p d name (type_place (Some t) name d o p.place)) f
+    (by_completion (bound_here k p.place name.text (entity.Incomplete t) (an_incomplete_type t.0) w slot refl) r)
+type_first k p name None d spot final w slot q r f =
+    subst (λ (o : Option Finalized). IsTypeDeclared p d name (type_place None name d o p.place)) (ap (λ (n : ℕ). well.finalization_of p.types n) w.types ∙ f)
+    (by_new_type (new_there k p.place name spot w q) (subst (λ (n : ℕ). IsTypeRead p d n) (sym w.types) r))
 
 -- what declarations are read by
 legible_at : (k z : Known) (p : Context) → Sound k → Agrees k p.place → Keeps k z → Ahead z p → Legible k p
@@ -721,7 +751,7 @@ aspect_agrees k p name (Some aspect) c r s slot w q u =
 -- what an access type leaves
 record AccessDone (k m : Known) (p : Context) (name designated : Ident) (aspect : Option AspectTree) : Type 0 where
   r : TypeNo
-  is : m ≡ defining k name (completed_type k name) (access_to name.text r.0 (pool_number (aspect_found k aspect))) (entity.Access (number_of (completed_type k name) k.types))
+  is : m ≡ defining k name (completed_type k name) (access_to name.text r.0 (pool_number (aspect_found k aspect))) (entity.Access (number_of (completed_type k name) k.types)) k.controlled
   found : FoundRecord k p designated (Some r)
 
 access_done : (k m : Known) (p : Context) (name designated : Ident) (aspect : Option AspectTree) (o : Option TypeNo) → FoundRecord k p designated o → m ≡ access_defined k name (completed_type k name) o (aspect_found k aspect) → AccessDone k m p name designated aspect
@@ -753,21 +783,71 @@ access_type_read k m p spot name designated aspect w lasts slot fit q r =
       aspect_read k m p aspect t name.text r.r.0 last.0 w.agrees q lasts there last.1,
     )
 
--- `type T is record .. end record;`
-record_type_read : (k m : Known) (p : Context) (spot : Spot) (name : Ident) (definition : RecordTree) → Legible k p → Sound m → Lasts m p → IsSlot k name.text (completed_type k name) → m ≡ record_type_known k name definition → Quiet (record_type_remark k spot name definition) → IsTypeRead p (record_type spot name definition) (number_of (completed_type k name) k.types).0
-record_type_read k m p spot name definition w sound lasts slot is q =
+-- a record type that is made of these components, with a parent part or without one
+made_there : (k m : Known) (p : Context) (name : Ident) (before : Composition) (cs : List ComponentTree) → Legible k p → Sound m → Lasts m p → IsSlot k name.text (completed_type k name) → m ≡ with_record k name (composed k before cs) → slice_get p.types (number_of (completed_type k name) k.types).0 ≡ Some (type_made k.controlled name (composed k before cs))
+made_there k m p name before cs w sound lasts slot is =
     let c = completed_type k name in
-    let cs = components_written definition in
-    let made = composition_of k cs in
+    let made = composed k before cs in
     let n = number_of c k.types in
-    let form = record_of name.text made.parts made.kinds in
+    let form = type_made k.controlled name made in
     let e = entity.Record n made.size in
     let there : slice_get m.types n.0 ≡ Some form = ap (λ (v : Known). slice_get v.types n.0) is ∙ defined_there k name.text c form w.sound slot in
     let on : bytes_eq name.text name.text ≡ true = same_text name.text name.text refl in
     let mine : named name.text m.here.names ≡ Some e =
     ap (λ (v : Known). named name.text v.here.names) is ∙ (named_entered k.here.names name.text name.text e ∙ ap (λ (b : Bool). cond b (Some e) (named name.text k.here.names)) on) in
-    let last = record_there p.types n.0 name.text made.parts made.kinds (lasts.settled n.0 form (get_form m.types n.0 form there) (record_settled m name.text n made.size sound mine)) in
-    (made.parts, made.kinds, last, all_read k p cs w q.1.1, all_apart k cs q.1.1, all_laid k p cs w)
+    record_there p.types n.0 name.text made.parts made.kinds (finalization_made k.controlled made) (lasts.settled n.0 form (get_form m.types n.0 form there) (record_settled m name.text n made.size sound mine))
+
+-- `type T is record .. end record;`
+record_type_read : (k m : Known) (p : Context) (spot : Spot) (name : Ident) (definition : RecordTree) → Legible k p → Sound m → Lasts m p → IsSlot k name.text (completed_type k name) → m ≡ record_type_known k name definition → Quiet (record_type_remark k spot name definition) → IsTypeRead p (record_type spot name definition) (number_of (completed_type k name) k.types).0
+record_type_read k m p spot name definition w sound lasts slot is q =
+    let cs = components_written definition in
+    let made = composed k no_components cs in
+    let whole = composed_parts k no_components cs in (
+      made.parts,
+      made.kinds,
+      finalization_made k.controlled made,
+      made_there k m p name no_components cs w sound lasts slot is,
+      subst (λ (ps : List PartForm). AreComponentsRead p cs ps) whole (components_read k p no_components cs w q.1.1),
+      subst (λ (ps : List PartForm). AreNamedApart ps) whole (all_apart k no_components cs q.1.1),
+      all_laid k p no_components cs by_none w,
+      all_finalized k p false no_components cs by_none refl w,
+    )
+
+-- `type T is new Ada.Finalization.Controlled with record .. end record;`
+abbrev IsMadeOf : Context → ℕ → List ℕ → (limited : Bool) → List PartForm → List ComponentKind → Option Finalized → Type 0
+IsMadeOf p t name limited ps kinds final =
+    (slice_get p.types t ≡ Some (record_of name ps kinds final)) × AreLaidOut p.types 0 ps kinds × IsFinalized p.types p.place.controlled limited ps final
+
+parent_limits : (limited : Bool) → limited ≡ (limited || (false || false))
+parent_limits true = refl
+parent_limits false = refl
+
+derived_type_read : (k m : Known) (p : Context) (spot : Spot) (name : Ident) (parent : NameTree) (definition : RecordTree) → Legible k p → Sound m → Lasts m p → IsSlot k name.text (completed_type k name) → m ≡ derived_type_known k name parent definition → Quiet (derived_type_remark k spot name parent definition) → IsTypeRead p (derived_type spot name parent definition) (number_of (completed_type k name) k.types).0
+derived_type_read k m p spot name parent definition w sound lasts slot is q =
+    let cs = components_written definition in
+    let limited = limited_parent k parent in
+    let before = with_parent limited in
+    let made = composed k before cs in
+    let parts = further_parts k before cs in
+    let t = (number_of (completed_type k name) k.types).0 in
+    let final = finalization_made k.controlled made in
+    let of : IsMadeOf p t name.text limited (parent_part ∷ parts) made.kinds final =
+    subst (λ (ps : List PartForm). IsMadeOf p t name.text limited ps made.kinds final) (sym (composed_parts k before cs)) (
+      made_there k m p name before cs w sound lasts slot is,
+      all_laid k p before cs (by_parent limited) w,
+      all_finalized k p limited before cs (by_parent limited) (parent_limits limited) w,
+    ) in (
+      limited,
+      parts,
+      made.kinds,
+      final,
+      of.0,
+      parent_read k parent q.1.1.0,
+      components_read k p before cs w q.1.1.1,
+      parent_apart k limited cs q.1.1.1,
+      of.1,
+      of.2,
+    )
 
 -- `procedure Free is new Ada.Unchecked_Deallocation (T, A);`
 record Freed (k m : Known) (p : Context) (name object access : Ident) : Type 0 where
@@ -812,7 +892,8 @@ first_fit_is withs TextIo spot q d = absurd (subst (λ (b : Bool). Quiet (first_
 first_fit_is withs PutLine spot q d = absurd (subst (λ (b : Bool). Quiet (first_fit_wanted (if_with b PutLine) spot)) (quiet_unless withs.text_io spot UnknownName q) d)
 first_fit_is withs UncheckedDeallocation spot q d = absurd (subst (λ (b : Bool). Quiet (first_fit_wanted (if_with b UncheckedDeallocation) spot)) (quiet_unless withs.deallocation spot UnknownName q) d)
 first_fit_is withs Finalization spot q d = absurd (subst (λ (b : Bool). Quiet (first_fit_wanted (if_with b Finalization) spot)) (quiet_unless withs.finalization spot UnknownName q) d)
-first_fit_is withs OfFinalization spot q d = absurd q
+first_fit_is withs Controlled spot q d = absurd (subst (λ (b : Bool). Quiet (first_fit_wanted (if_with b Controlled) spot)) (quiet_unless withs.finalization spot UnknownName q) d)
+first_fit_is withs LimitedControlled spot q d = absurd (subst (λ (b : Bool). Quiet (first_fit_wanted (if_with b LimitedControlled) spot)) (quiet_unless withs.finalization spot UnknownName q) d)
 first_fit_is withs Pools spot q d = absurd (subst (λ (b : Bool). Quiet (first_fit_wanted (if_with b Pools) spot)) (quiet_unless withs.pools spot UnknownName q) d)
 first_fit_is withs OfPools spot q d = absurd q
 first_fit_is withs RunInput spot q d = absurd (subst (λ (b : Bool). Quiet (first_fit_wanted (if_with b RunInput) spot)) (quiet_unless withs.run_input spot UnknownName q) d)
@@ -860,6 +941,7 @@ pool_agrees k place name size w = record {
   variables = w.variables;
   exceptions = w.exceptions;
   texts = w.texts;
+  controlled = w.controlled;
 }
 
 collected_pool : (es : List DeclarationForm) (n u : ℕ) → is_collected u (es ++ creates_pool n ∷ []) ≡ is_collected u es
@@ -906,6 +988,7 @@ placed_agrees k place t pool is none w = record {
   variables = w.variables;
   exceptions = w.exceptions;
   texts = w.texts;
+  controlled = w.controlled;
 }
 
 clause_named : (k m : Known) (p : Context) (spot : Spot) (name attribute pool_name : Ident) (t : TypeNo) → Sound k → Agrees k p.place → is_storage_pool attribute ≡ true → EntityFits k.types k.variables name.text (entity.Access t) → EntityRead p name.text (entity.Access t) → Quiet (clause_place_remark k (Some t) spot) → PoolRead k p pool_name → m ≡ placed_if (Some t) (pool_found k pool_name) k → ClauseDone k m p name attribute (named_size pool_name)
@@ -953,13 +1036,28 @@ ReadsRest ds after =
     (q : Context) (next : At) → Sound next.0 → Agrees next.0 q.place → types_go_on next.0 ≡ true → Ahead after.0 q → list_all (well.type_fits q.types) q.types ≡ true →
     declarations_told ds next ≡ gives after → PartRead q ds next.0 after.0
 
+-- a record type, and what follows it
+record_first : (p : Context) (d : DeclarationTree) (ds : DeclarationsTree) (at after : At) (name : Ident) (spot : Spot) (made : Composition) → IsFullType d → ((t : ℕ) (ps : List ℕ) → names_pool d t ps ≡ ps) → Sound at.0 → Agrees at.0 p.place → types_go_on at.0 ≡ true → Ahead after.0 p → list_all (well.type_fits p.types) p.types ≡ true → (next : Next d ds at after) → next.then.0 ≡ with_record at.0 name made → Quiet (new_unless (completed_type at.0 name) (new_name_remark at.0 name spot)) → IsSlot at.0 name.text (completed_type at.0 name) → IsTypeRead p d (number_of (completed_type at.0 name) at.0.types).0 → slice_get p.types (number_of (completed_type at.0 name) at.0.types).0 ≡ Some (type_made at.0.controlled name made) → ((collected : List ℕ) (place : Place) → IsTypeDeclared p d name place → (forms : List DeclarationForm) (end : Place) → IsPartRead (read_at place p) (Some collected) ds forms end → IsPartRead p (Some collected) (a_declaration d ds) forms end) → ReadsRest ds after → PartRead p (a_declaration d ds) at.0 after.0
+record_first p d ds at after name spot made full unplaced s w none ahead fit next is q slot own there more rest =
+    let k = at.0 in
+    let completes = completed_type k name in
+    let final = finalization_made k.controlled made in
+    let place = type_place completes name d final p.place in
+    let form = type_made k.controlled name made in
+    let agrees : Agrees next.then.0 place = subst (λ u. Agrees u place) (sym is)
+    (agrees_type k p.place name completes d form (entity.Record (number_of completes k.types) made.size) final full refl
+    (λ u. ap (λ (ps : List ℕ). is_one_of u ps) (unplaced (number_of completes k.types).0 p.place.placed) ∙ (w.placed u ∙ sym (none_defined k.types completes form u (had_none k name.text completes s slot) refl))) w) in
+    let on = rest (read_at place p) next.then next.sound agrees (ap (λ (v : Known). types_go_on v) is ∙ none) (ahead_at after.0 p place ahead) fit next.rest in
+    plain_first k next.then.0 after.0 p (read_at place p) d ds (ap (λ (v : Known). v.here.elaborated) is) on
+    (λ collected m. more collected place (type_first k p name completes d spot final w slot q own (ap (λ (o : Option TypeForm). well.finalization_in o) there)) on.forms on.end m)
+
 -- a declaration with no others in it, where the types go on
 pub part_first : (p : Context) (d : DeclarationTree) (ds : DeclarationsTree) (at after : At) → IsSingle d → Sound at.0 → Agrees at.0 p.place → types_go_on at.0 ≡ true → Complete after.0 → Ahead after.0 p → list_all (well.type_fits p.types) p.types ≡ true → declarations_told (a_declaration d ds) at ≡ gives after → ReadsRest ds after → PartRead p (a_declaration d ds) at.0 after.0
 part_first p (body_declaration head inner body end_name) ds at after single s w none c ahead fit e rest = absurd single
 part_first p (incomplete_type spot name) ds at after single s w none c ahead fit e rest =
     let next = next_of (incomplete_type spot name) ds at after tt s e in
     let place = with_incomplete_type name p.place in
-    let form = record_of name.text [] [] in
+    let form = record_of name.text [] [] None in
     let agrees : Agrees next.then.0 place = subst (λ u. Agrees u place) (sym next.is)
     (agrees_declared at.0 p.place name (entity.Incomplete (record { 0 = length at.0.types })) (an_incomplete_type p.place.types) (at.0.types ++ form ∷ []) at.0.variables at.0.exceptions at.0.frozen at.0.here.elaborated
     (p.place.types + 1) p.place.variables p.place.exceptions p.place.placed (ap (λ (n : ℕ). Some (an_incomplete_type n)) (sym w.types)) (one_longer at.0.types form p.place.types w.types) w.variables w.exceptions (λ u. w.placed u ∙ sym (none_more at.0.types form u refl)) w) in
@@ -973,33 +1071,36 @@ part_first p (access_type spot name designated aspect) ds at after single s w no
     let completes = completed_type k name in
     let r = access_done k next.then.0 p name designated aspect (record_found k designated) (record_read k p designated s.names w q.1.1.1.0) next.is in
     let slot = slot_of k name spot q.1.1.0 in
-    let place = type_place completes name d p.place in
+    let place = type_place completes name d None p.place in
     let agrees : Agrees next.then.0 place = subst (λ u. Agrees u place) (sym r.is)
-    (agrees_type k p.place name completes d (access_to name.text r.r.0 (pool_number (aspect_found k aspect))) (entity.Access (number_of completes k.types)) tt refl
+    (agrees_type k p.place name completes d (access_to name.text r.r.0 (pool_number (aspect_found k aspect))) (entity.Access (number_of completes k.types)) None tt refl
     (aspect_agrees k p name aspect completes r.r s slot w q.1.1.1.1) w) in
     let on = rest (read_at place p) next.then next.sound agrees (ap (λ (v : Known). types_go_on v) r.is ∙ none) (ahead_at after.0 p place ahead) fit next.rest in
     let legible = legible_at k after.0 p s w (declarations_keep (a_declaration d ds) at after s e) ahead in
     let lasts = lasts_on next.then.0 after.0 p next.sound next.to_end (lasts_ahead after.0 p ahead) in
     let own = access_type_read k next.then.0 p spot name designated aspect legible lasts slot fit q.1.1.1.1 r in
     plain_first k next.then.0 after.0 p (read_at place p) d ds (ap (λ (v : Known). v.here.elaborated) r.is) on
-    (λ made m. (place, type_first k p name completes d spot w slot q.1.1.0 own, m))
+    (λ made m. (place, type_first k p name completes d spot None w slot q.1.1.0 own (ap (λ (o : Option TypeForm). well.finalization_in o) own.2), m))
 part_first p (record_type spot name definition) ds at after single s w none c ahead fit e rest =
     let d = record_type spot name definition in
     let next = next_of d ds at after tt s e in
     let k = at.0 in
-    let completes = completed_type k name in
-    let made = composition_of k (components_written definition) in
     let slot = slot_of k name spot next.quiet.1.0 in
-    let place = type_place completes name d p.place in
-    let agrees : Agrees next.then.0 place = subst (λ u. Agrees u place) (sym next.is)
-    (agrees_type k p.place name completes d (record_of name.text made.parts made.kinds) (entity.Record (number_of completes k.types) made.size) tt refl
-    (λ u. w.placed u ∙ sym (none_defined k.types completes (record_of name.text made.parts made.kinds) u (had_none k name.text completes s slot) refl)) w) in
-    let on = rest (read_at place p) next.then next.sound agrees (ap (λ (v : Known). types_go_on v) next.is ∙ none) (ahead_at after.0 p place ahead) fit next.rest in
     let legible = legible_at k after.0 p s w (declarations_keep (a_declaration d ds) at after s e) ahead in
     let lasts = lasts_on next.then.0 after.0 p next.sound next.to_end (lasts_ahead after.0 p ahead) in
-    let own = record_type_read k next.then.0 p spot name definition legible next.sound lasts slot next.is next.quiet in
-    plain_first k next.then.0 after.0 p (read_at place p) d ds (ap (λ (v : Known). v.here.elaborated) next.is) on
-    (λ made m. (place, type_first k p name completes d spot w slot next.quiet.1.0 own, m))
+    record_first p d ds at after name spot (composed k no_components (components_written definition)) tt (λ t ps. refl) s w none ahead fit next next.is next.quiet.1.0 slot
+    (record_type_read k next.then.0 p spot name definition legible next.sound lasts slot next.is next.quiet)
+    (made_there k next.then.0 p name no_components (components_written definition) legible next.sound lasts slot next.is) (λ made place more forms end m. (place, more, m)) rest
+part_first p (derived_type spot name parent definition) ds at after single s w none c ahead fit e rest =
+    let d = derived_type spot name parent definition in
+    let next = next_of d ds at after tt s e in
+    let k = at.0 in
+    let slot = slot_of k name spot next.quiet.1.0 in
+    let legible = legible_at k after.0 p s w (declarations_keep (a_declaration d ds) at after s e) ahead in
+    let lasts = lasts_on next.then.0 after.0 p next.sound next.to_end (lasts_ahead after.0 p ahead) in
+    record_first p d ds at after name spot (composed k (with_parent (limited_parent k parent)) (components_written definition)) tt (λ t ps. refl) s w none ahead fit next next.is next.quiet.1.0 slot
+    (derived_type_read k next.then.0 p spot name parent definition legible next.sound lasts slot next.is next.quiet)
+    (made_there k next.then.0 p name (with_parent (limited_parent k parent)) (components_written definition) legible next.sound lasts slot next.is) (λ made place more forms end m. (place, more, m)) rest
 part_first p (constant_declaration name value) ds at after single s w none c ahead fit e rest =
     let next = next_of (constant_declaration name value) ds at after tt s e in
     let n = static_value at.0 value in
@@ -1118,6 +1219,7 @@ late_first p (borrower_declaration name designated initial) ds at after single s
 late_first p (incomplete_type spot name) ds at after single s w late c ahead e = absurd (no_types at.0 spot late (next_of (incomplete_type spot name) ds at after tt s e).quiet.0)
 late_first p (access_type spot name designated aspect) ds at after single s w late c ahead e = absurd (no_types at.0 spot late (next_of (access_type spot name designated aspect) ds at after tt s e).quiet.0)
 late_first p (record_type spot name definition) ds at after single s w late c ahead e = absurd (no_types at.0 spot late (next_of (record_type spot name definition) ds at after tt s e).quiet.0)
+late_first p (derived_type spot name parent definition) ds at after single s w late c ahead e = absurd (no_types at.0 spot late (next_of (derived_type spot name parent definition) ds at after tt s e).quiet.0)
 late_first p (instance spot name generic object access) ds at after single s w late c ahead e = absurd (no_types at.0 spot late (next_of (instance spot name generic object access) ds at after tt s e).quiet.0)
 late_first p (constant_declaration name value) ds at after single s w late c ahead e = absurd (no_types at.0 name.spot late (next_of (constant_declaration name value) ds at after tt s e).quiet.0)
 late_first p (exception_declaration name) ds at after single s w late c ahead e = absurd (no_types at.0 name.spot late (next_of (exception_declaration name) ds at after tt s e).quiet.0)

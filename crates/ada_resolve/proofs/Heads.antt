@@ -82,6 +82,7 @@ around_agrees k place head w = record {
   variables = w.variables;
   exceptions = w.exceptions;
   texts = w.texts;
+  controlled = w.controlled;
 }
 
 -- where its body begins, before its formals
@@ -101,6 +102,7 @@ body_agrees k place head w = let none = ap (λ (ts : List TypeForm). length ts) 
   variables = refl;
   exceptions = w.exceptions;
   texts = w.texts;
+  controlled = w.controlled;
 }
 
 -- what a formal of a mode is bound to
@@ -154,12 +156,13 @@ record SamePlace (p q : Place) : Type 0 where
   bodies : p.bodies ≡ q.bodies
   exceptions : p.exceptions ≡ q.exceptions
   texts : p.texts ≡ q.texts
+  controlled : p.controlled ≡ q.controlled
 
 own_same : (kind : VariableKind) (place : Place) → SamePlace (with_own_type kind place) place
-own_same variable.Integer place = record { here = refl; outer = refl; pools = refl; placed = refl; bodies = refl; exceptions = refl; texts = refl }
-own_same variable.Boolean place = record { here = refl; outer = refl; pools = refl; placed = refl; bodies = refl; exceptions = refl; texts = refl }
-own_same (variable.Access t) place = record { here = refl; outer = refl; pools = refl; placed = refl; bodies = refl; exceptions = refl; texts = refl }
-own_same (variable.Record object) place = record { here = refl; outer = refl; pools = refl; placed = refl; bodies = refl; exceptions = refl; texts = refl }
+own_same variable.Integer place = record { here = refl; outer = refl; pools = refl; placed = refl; bodies = refl; exceptions = refl; texts = refl; controlled = refl }
+own_same variable.Boolean place = record { here = refl; outer = refl; pools = refl; placed = refl; bodies = refl; exceptions = refl; texts = refl; controlled = refl }
+own_same (variable.Access t) place = record { here = refl; outer = refl; pools = refl; placed = refl; bodies = refl; exceptions = refl; texts = refl; controlled = refl }
+own_same (variable.Record object) place = record { here = refl; outer = refl; pools = refl; placed = refl; bodies = refl; exceptions = refl; texts = refl; controlled = refl }
 
 -- a formal is the next variable, and, where it is a record, is known by the next type
 formal_agrees : (k m : Known) (place : Place) (f : FormalTree) (before : Formals) → Agrees (with_body before m) place → Agrees (with_body (with_formal k f before) m) (with_new_formal (formal_mode f.input f.output) (formal_kind (known_by k before) (formal_type k before f.type_name)) f.name place)
@@ -189,6 +192,7 @@ formal_agrees k m place f before w =
       variables = ap (λ (n : ℕ). n + 1) w.variables ∙ sym (length-append before.variables (v ∷ []));
       exceptions = same.exceptions ∙ w.exceptions;
       texts = same.texts ∙ w.texts;
+      controlled = same.controlled ∙ w.controlled;
     })
 
 formal_modes : (k : Known) (f : FormalTree) (before : Formals) → (with_formal k f before).modes ≡ before.modes ++ formal_mode f.input f.output ∷ []
@@ -268,7 +272,7 @@ record_read : (k : Known) (p : Context) (around : Place) (before : Formals) (nam
 record_read k p around before name t size s f v here types is =
     let there = around_named k p around before name (entity.Record t size) (a_type t.0) tt refl f v here (λ r. r) is in
     let found = visible_fits k s.names name.text (entity.Record t size) there.0 in
-    (there.1, found.0, found.1, record_stays k.types p.types types t.0 name.text found.0 found.1 found.2)
+    (there.1, found.0, found.1, found.2, record_stays k.types p.types types t.0 name.text found.0 found.1 found.2 found.3)
 
 -- no formal has the name of a type
 type_read : (k : Known) (p : Context) (own : Option Entity) (m : Option Meaning) (name : Ident) (e : Entity) → bound_to e ≡ None → Agrees k p.place → Stands own m → first_named own (visible k name.text) ≡ Some e → EntityRead p name.text e
@@ -397,6 +401,7 @@ ended_agrees k z head fs hs last place done f w v =
       variables = w.variables;
       exceptions = v.exceptions;
       texts = v.texts;
+      controlled = v.controlled;
     })
 
 -- the tables within a body

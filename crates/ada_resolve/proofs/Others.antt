@@ -91,7 +91,7 @@ past_access t name d pool ts es r false is = record {
 
 rest_of : (t : ℕ) (ts : List TypeForm) (es : List DeclarationForm) → Rest t ts es
 rest_of t [] es = record { others = []; these = refl; from = tt; each = λ i. refl }
-rest_of t (record_of name ps cs ∷ ts) es = past_other t (record_of name ps cs) ts es refl refl (rest_of (t + 1) ts es)
+rest_of t (record_of name ps cs final ∷ ts) es = past_other t (record_of name ps cs final) ts es refl refl (rest_of (t + 1) ts es)
 rest_of t (object_of record_type ∷ ts) es = past_other t (object_of record_type) ts es refl refl (rest_of (t + 1) ts es)
 rest_of t (access_to name d pool ∷ ts) es = past_access t name d pool ts es (rest_of (t + 1) ts es) (is_collected t es) refl
 

@@ -13,7 +13,7 @@ pub left_parts : (m : Known) (outer : List Part) (here : Part) (rest : List Part
 left_parts m outer here rest is = ap (λ (ps : List Part). left_to ps m) is
 
 -- where an inner part ends, all is known that was known before it, but for the tables, which keep their numbers
-pub left_as_before : (k m : Known) → m.withs ≡ k.withs → m.procedure ≡ k.procedure → m.outer ≡ parts k → without_part m ≡ record k { types = m.types; pools = m.pools; frozen = m.frozen; bodies = m.bodies; variables = m.variables; exceptions = m.exceptions; texts = m.texts }
+pub left_as_before : (k m : Known) → m.withs ≡ k.withs → m.procedure ≡ k.procedure → m.outer ≡ parts k → without_part m ≡ record k { types = m.types; pools = m.pools; frozen = m.frozen; controlled = m.controlled; bodies = m.bodies; variables = m.variables; exceptions = m.exceptions; texts = m.texts }
 left_as_before k m withs procedure outer =
     left_parts m m.outer k.here k.outer outer ∙
     (ap (λ (w : Withs). record m { withs = w; here = k.here; outer = k.outer }) withs ∙

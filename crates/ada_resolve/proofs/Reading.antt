@@ -16,6 +16,7 @@ use Rattle.ada_tree.specs.Expressions.{ArgumentTree, expression_argument, text_a
 use Rattle.ada_tree.specs.Statements.{StatementTree, null_statement, assignment, call, exit_statement, return_statement, raise_statement}
 use Rattle.ada_program.specs.declared.program.ComponentKind.{ComponentKind}
 use Rattle.ada_program.specs.declared.program.ComponentKind.TheVariants as kind
+use Rattle.ada_program.specs.declared.program.Finalization.{Finalization as Finalized}
 use Rattle.ada_program.specs.declared.program.PartKind.{PartKind}
 use Rattle.ada_program.specs.declared.program.PartKind.TheVariants as part
 use Rattle.ada_program.specs.declared.program.Exception.{Exception}
@@ -44,7 +45,7 @@ use Rattle.ada_resolve.specs.Paths.{constant_wanted, follows_to, follows_value, 
 use Rattle.ada_resolve.specs.Operators.{record_value_wanted, Signature, arithmetic, ordering, equality, logical, signature_of, integer_in, boolean_in, asks_equal, equality_meant, binary_by, unary_meant, integer_wanted, boolean_wanted, equal_wanted, operands_by, operand_remark}
 use Rattle.ada_resolve.specs.Expressions.{after_items, all_items_remark, expression_meant, expression_remark, filling_of, items_remark}
 use Rattle.ada_resolve.specs.declared.library.LibraryName.{LibraryName}
-use Rattle.ada_resolve.specs.declared.library.LibraryName.TheVariants.{TextIo, PutLine, UncheckedDeallocation, Finalization, OfFinalization, Pools, FirstFitPool, OfPools, RunInput, Get, EndError, OtherUnit, Unknown}
+use Rattle.ada_resolve.specs.declared.library.LibraryName.TheVariants.{TextIo, PutLine, UncheckedDeallocation, Finalization, Controlled, LimitedControlled, Pools, FirstFitPool, OfPools, RunInput, Get, EndError, OtherUnit, Unknown}
 use Rattle.ada_resolve.specs.declared.library.Withs.{Withs}
 use Rattle.ada_resolve.specs.Calls.{freed_wanted, got_wanted, actual_wanted, actual_remark, freeing, getting, taking, actual_found, taker_remark, taker_found, library_call_remark, library_call_found, own_call_remark, own_call_found, call_remark, call_found}
 use Rattle.ada_resolve.specs.declared.calls.Callee.{Callee}
@@ -103,9 +104,10 @@ pub record AggregateRead (p : Context) (e : ExpressionTree) (t : ℕ) (forms : L
   pub items : ItemsTree
   pub parts : List PartForm
   pub components : List ComponentKind
+  pub finalization : Option Finalized
   pub written : IsAggregate e type_name items
   pub bound : IsFullTypeNamed p type_name.text t
-  pub there : slice_get p.types t ≡ Some (record_of type_name.text parts components)
+  pub there : slice_get p.types t ≡ Some (record_of type_name.text parts components finalization)
   pub count : how_many items ≡ length parts
   pub given : AreGiven p items 0 parts forms
 
@@ -122,7 +124,7 @@ MeantRead p e (aggregate_value t forms) = AggregateRead p e t.0 forms
 
 -- a component that is found by a name is one of these, by its place, and has the name
 abbrev the_part : List ℕ → KnownComponent → PartForm
-the_part text found = record { name = text; kind = found.kind; first = found.first }
+the_part text found = record { name = text; kind = found.kind; first = found.first; part = found.part }
 
 abbrev IsFound : (at : ℕ) → List ℕ → List PartForm → ℕ × KnownComponent → Type 0
 IsFound at text cs found = (j : ℕ) × (found.0 ≡ at + j) × (slice_get cs j ≡ Some (the_part text found.1))
@@ -140,7 +142,7 @@ component_found at text cs found e =
 -- the component that is found has the name, and a name can select it
 abbrev IsNamed : Context → ℕ → List ℕ → Option (ℕ × KnownComponent) → Type 0
 IsNamed p t text None = ⊥
-IsNamed p t text (Some found) = IsComponentNamed p t text found.1.kind found.1.first × IsSelectable found.1.kind
+IsNamed p t text (Some found) = IsComponentNamed p t text found.1.kind found.1.first found.1.part × IsSelectable found.1.kind
 
 within_read : (k : Known) (p : Context) (spot : Spot) (t : ℕ) (c : Ident) → Ahead k p → Quiet (component_within_remark k spot (Some t) c) → IsNamed p t c.text (component_in k (Some t) c)
 within_read k p spot t c w q = complete_or (is_incomplete_type k t) q
@@ -150,7 +152,7 @@ within_read k p spot t c w q = complete_or (is_incomplete_type k t) q
     found_or (Some found) is q =
         let at = component_found 0 c.text (components_of k.types t) found is in
         let there = has_record k.types t at.0 (the_part c.text found.1) at.2 in
-        ((there.0, there.1, there.2, at.0, record_stays k.types p.types w.types t there.0 there.1 there.2 there.3, there.4), is_selectable found.1.kind c q)
+        ((there.0, there.1, there.2, there.3, at.0, record_stays k.types p.types w.types t there.0 there.1 there.2 there.3 there.4, there.5), is_selectable found.1.kind c q)
 
     complete_or : (b : Bool) → Quiet (cond b (wrong spot WrongType) (component_wanted (component_named 0 c.text (components_of k.types t)) c)) → IsNamed p t c.text (cond b None (component_named 0 c.text (components_of k.types t)))
     complete_or true q = absurd q
@@ -160,35 +162,35 @@ within_read k p spot t c w q = complete_or (is_incomplete_type k t) q
 abbrev way_of : Reached → Way
 way_of reached.Nothing = at_value None
 way_of (reached.Value kind) = at_value (Some kind)
-way_of (reached.Object t first) = at_object t.0 first
+way_of (reached.Object t first from) = at_object t.0 first from
 
 -- what stands behind what is reached
 abbrev AreReadBehind : Context → Reached → List SelectorTree → List ℕ → Way → Type 0
 AreReadBehind p reached.Nothing ss cs end = ⊥
 AreReadBehind p (reached.Value kind) ss cs end = AreSelectorsRead p (at_value (Some kind)) ss cs end
-AreReadBehind p (reached.Object t first) ss cs end = AreSelectorsRead p (at_object t.0 first) ss cs end
+AreReadBehind p (reached.Object t first from) ss cs end = AreSelectorsRead p (at_object t.0 first from) ss cs end
 
 -- something is reached
 abbrev IsThere : Reached → Type 0
 IsThere reached.Nothing = ⊥
 IsThere (reached.Value kind) = Unit {0}
-IsThere (reached.Object t first) = Unit {0}
+IsThere (reached.Object t first from) = Unit {0}
 
-held_there : (p : Context) (t before : ℕ) (text : List ℕ) (o : Option (ℕ × KnownComponent)) → IsNamed p t text o → IsThere (held_in before o)
-held_there p t before text None h = absurd h
-held_there p t before text (Some found) h = by_kind found.1.kind h.1
+held_there : (p : Context) (t before parts : ℕ) (text : List ℕ) (o : Option (ℕ × KnownComponent)) → IsNamed p t text o → IsThere (held_in before parts o)
+held_there p t before parts text None h = absurd h
+held_there p t before parts text (Some found) h = by_kind found.1.kind h.1
   where
-    by_kind : (kind : PartKind) → IsSelectable kind → IsThere (held_by kind (before + found.1.first))
+    by_kind : (kind : PartKind) → IsSelectable kind → IsThere (held_by kind (before + found.1.first) (parts + found.1.part))
     by_kind (part.Elementary kind) s = tt
     by_kind (part.Record inner) s = tt
     by_kind part.Parent s = absurd s
 
 -- a component of an object, and what is selected from it
-held_read : (p : Context) (t before : ℕ) (c : Ident) (ss : List SelectorTree) (cs : List ℕ) (end : Way) (o : Option (ℕ × KnownComponent)) → IsNamed p t c.text o → AreReadBehind p (held_in before o) ss cs end → AreSelectorsRead p (at_object t before) (component c ∷ ss) (number_in before o ++ cs) end
-held_read p t before c ss cs end None h r = absurd h
-held_read p t before c ss cs end (Some found) h r = by_kind found.1.kind h.0 r
+held_read : (p : Context) (t before parts : ℕ) (c : Ident) (ss : List SelectorTree) (cs : List ℕ) (end : Way) (o : Option (ℕ × KnownComponent)) → IsNamed p t c.text o → AreReadBehind p (held_in before parts o) ss cs end → AreSelectorsRead p (at_object t before parts) (component c ∷ ss) (number_in before o ++ cs) end
+held_read p t before parts c ss cs end None h r = absurd h
+held_read p t before parts c ss cs end (Some found) h r = by_kind found.1.kind h.0 r
   where
-    by_kind : (kind : PartKind) → IsComponentNamed p t c.text kind found.1.first → AreReadBehind p (held_by kind (before + found.1.first)) ss cs end → AreSelectorsRead p (at_object t before) (component c ∷ ss) (number_by kind (before + found.1.first) ++ cs) end
+    by_kind : (kind : PartKind) → IsComponentNamed p t c.text kind found.1.first found.1.part → AreReadBehind p (held_by kind (before + found.1.first) (parts + found.1.part)) ss cs end → AreSelectorsRead p (at_object t before parts) (component c ∷ ss) (number_by kind (before + found.1.first) ++ cs) end
     by_kind (part.Elementary kind) h r = to_value h r
     by_kind (part.Record inner) h r = to_record h r
     by_kind part.Parent h r = absurd r
@@ -201,19 +203,19 @@ value_designates : (k : Known) (p : Context) (t : TypeNo) (d : ℕ) → Ahead k 
 value_designates k p t d w e = type_designated k p t.0 d w (sym (designated_same k.types t.0) ∙ e)
 
 -- a component behind an access value, and what is selected from it
-behind_read : (k : Known) (p : Context) (spot : Spot) (t : TypeNo) (o : Option ℕ) (c : Ident) (ss : List SelectorTree) (cs : List ℕ) (end : Way) → Ahead k p → designated_of k.types t.0 ≡ o → Quiet (component_within_remark k spot o c) → (IsThere (held_in 0 (component_in k o c)) → AreReadBehind p (held_in 0 (component_in k o c)) ss cs end) → AreSelectorsRead p (at_value (Some (variable.Access t))) (component c ∷ ss) (number_in 0 (component_in k o c) ++ cs) end
+behind_read : (k : Known) (p : Context) (spot : Spot) (t : TypeNo) (o : Option ℕ) (c : Ident) (ss : List SelectorTree) (cs : List ℕ) (end : Way) → Ahead k p → designated_of k.types t.0 ≡ o → Quiet (component_within_remark k spot o c) → (IsThere (held_in 0 0 (component_in k o c)) → AreReadBehind p (held_in 0 0 (component_in k o c)) ss cs end) → AreSelectorsRead p (at_value (Some (variable.Access t))) (component c ∷ ss) (number_in 0 (component_in k o c) ++ cs) end
 behind_read k p spot t None c ss cs end w is q rest = absurd q
 behind_read k p spot t (Some d) c ss cs end w is q rest =
     let o = component_in k (Some d) c in
     let named_so = within_read k p spot d c w q in
-    by_value (value_designates k p t d w is) (held_read p d 0 c ss cs end o named_so (rest (held_there p d 0 c.text o named_so)))
+    by_value (value_designates k p t d w is) (held_read p d 0 0 c ss cs end o named_so (rest (held_there p d 0 0 c.text o named_so)))
 
 -- `all`, and what is selected behind it
 all_read : (k : Known) (p : Context) (spot all : Spot) (t : TypeNo) (o : Option ℕ) (ss : List SelectorTree) (cs : List ℕ) (end : Way) → Ahead k p → designated_of k.types t.0 ≡ o → Quiet (complete_behind k spot o) → (IsThere (object_in k o) → AreReadBehind p (object_in k o) ss cs end) → AreSelectorsRead p (at_value (Some (variable.Access t))) (dereference all ∷ ss) cs end
 all_read k p spot all t None ss cs end w is q rest = absurd q
 all_read k p spot all t (Some d) ss cs end w is q rest = complete_or (is_incomplete_type k d) q rest
   where
-    complete_or : (b : Bool) → Quiet (wrong_if b spot WrongType) → (IsThere (cond b reached.Nothing (reached.Object (record { 0 = d }) 0)) → AreReadBehind p (cond b reached.Nothing (reached.Object (record { 0 = d }) 0)) ss cs end) → AreSelectorsRead p (at_value (Some (variable.Access t))) (dereference all ∷ ss) cs end
+    complete_or : (b : Bool) → Quiet (wrong_if b spot WrongType) → (IsThere (cond b reached.Nothing (reached.Object (record { 0 = d }) 0 0)) → AreReadBehind p (cond b reached.Nothing (reached.Object (record { 0 = d }) 0 0)) ss cs end) → AreSelectorsRead p (at_value (Some (variable.Access t))) (dereference all ∷ ss) cs end
     complete_or true q rest = absurd q
     complete_or false q rest = by_all (value_designates k p t d w is) (rest tt)
 
@@ -221,15 +223,15 @@ all_read k p spot all t (Some d) ss cs end w is q rest = complete_or (is_incompl
 selectors_read : (k : Known) (p : Context) (spot : Spot) (at : Reached) (ss : List SelectorTree) → Ahead k p → Quiet (selectors_remark k spot at ss) → IsThere at → AreReadBehind p at ss (components_selected k at ss) (way_of (selectors_reached k at ss))
 selectors_read k p spot reached.Nothing ss w q there = absurd there
 selectors_read k p spot (reached.Value kind) [] w q there = at_end
-selectors_read k p spot (reached.Object t first) [] w q there = at_end
+selectors_read k p spot (reached.Object t first from) [] w q there = at_end
 selectors_read k p spot (reached.Value (variable.Access t)) (component c ∷ ss) w q there =
-    let next = held_in 0 (component_in k (designated_of k.types t.0) c) in
+    let next = held_in 0 0 (component_in k (designated_of k.types t.0) c) in
     behind_read k p spot t (designated_of k.types t.0) c ss (components_selected k next ss) (way_of (selectors_reached k next ss)) w refl q.0 (λ on. selectors_read k p spot next ss w q.1 on)
-selectors_read k p spot (reached.Object t first) (component c ∷ ss) w q there =
+selectors_read k p spot (reached.Object t first from) (component c ∷ ss) w q there =
     let o = component_in k (Some t.0) c in
     let named_so = within_read k p spot t.0 c w q.0 in
-    held_read p t.0 first c ss (components_selected k (held_in first o) ss) (way_of (selectors_reached k (held_in first o) ss)) o named_so
-    (selectors_read k p spot (held_in first o) ss w q.1 (held_there p t.0 first c.text o named_so))
+    held_read p t.0 first from c ss (components_selected k (held_in first from o) ss) (way_of (selectors_reached k (held_in first from o) ss)) o named_so
+    (selectors_read k p spot (held_in first from o) ss w q.1 (held_there p t.0 first from c.text o named_so))
 selectors_read k p spot (reached.Value (variable.Access t)) (dereference all ∷ ss) w q there =
     let next = object_in k (designated_of k.types t.0) in
     all_read k p spot all t (designated_of k.types t.0) ss (components_selected k next ss) (way_of (selectors_reached k next ss)) w refl q.0 (λ on. selectors_read k p spot next ss w q.1 on)
@@ -254,7 +256,7 @@ meant_whole p tree path (reached.Value variable.Integer) whole = read_path (reco
 meant_whole p tree path (reached.Value variable.Boolean) whole = read_path (record { kind = Some variable.Boolean; leads = whole })
 meant_whole p tree path (reached.Value (variable.Access t)) whole = record { kind = Some (variable.Access t); leads = whole }
 meant_whole p tree path (reached.Value (variable.Record object)) whole = tt
-meant_whole p tree path (reached.Object t first) whole = whole
+meant_whole p tree path (reached.Object t first from) whole = whole
 meant_whole p tree path reached.Nothing whole = tt
 
 -- a variable that holds a value, and what is selected behind that
@@ -268,12 +270,12 @@ value_path_read k p x name of ss h w b v q = record {
 }
 
 -- a record object or a component of it, and what is selected behind it
-object_path_read : (k : Known) (p : Context) (x : VariableNo) (name : Ident) (object : TypeNo) (t : ℕ) (ss : List SelectorTree) → Ahead k p → IsObjectNamed p name.text x.0 → fits.variable_kind p.variables x.0 ≡ Some (variable.Record object) → slice_get k.types object.0 ≡ Some (object_of t) → Quiet (selectors_remark k name.spot (reached.Object (record { 0 = t }) 0) ss) → IsWayRead p (record { root = name; selectors = ss }) (selected_path x true name.spot (components_selected k (reached.Object (record { 0 = t }) 0) ss)) (way_of (selectors_reached k (reached.Object (record { 0 = t }) 0) ss))
+object_path_read : (k : Known) (p : Context) (x : VariableNo) (name : Ident) (object : TypeNo) (t : ℕ) (ss : List SelectorTree) → Ahead k p → IsObjectNamed p name.text x.0 → fits.variable_kind p.variables x.0 ≡ Some (variable.Record object) → slice_get k.types object.0 ≡ Some (object_of t) → Quiet (selectors_remark k name.spot (reached.Object (record { 0 = t }) 0 0) ss) → IsWayRead p (record { root = name; selectors = ss }) (selected_path x true name.spot (components_selected k (reached.Object (record { 0 = t }) 0 0) ss)) (way_of (selectors_reached k (reached.Object (record { 0 = t }) 0 0) ss))
 object_path_read k p x name object t ss w b v is q = record {
   root = b;
-  way = at_object t 0;
-  begins = subst (λ (o : Option VariableKind). IsBegun p.types o true (at_object t 0)) (sym v) (refl, t, object_stays k.types p.types w.types object.0 t is, refl);
-  selectors = selectors_read k p name.spot (reached.Object (record { 0 = t }) 0) ss w q tt;
+  way = at_object t 0 0;
+  begins = subst (λ (o : Option VariableKind). IsBegun p.types o true (at_object t 0 0)) (sym v) (refl, t, object_stays k.types p.types w.types object.0 t is, refl);
+  selectors = selectors_read k p name.spot (reached.Object (record { 0 = t }) 0 0) ss w q tt;
   spot = refl;
 }
 
@@ -292,9 +294,9 @@ record_place_read k p x name object ss w b v q = by_form (slice_get k.types obje
 
     by_form : (o : Option TypeForm) → slice_get k.types object.0 ≡ o → Quiet (selectors_remark k name.spot (whole_object (record_known_by o) (variable.Record object)) ss also record_type_wanted (selectors_reached k (whole_object (record_known_by o) (variable.Record object)) ss) name.spot) → MeantRead p (path_expression tree) (reached_meant (selected_path x true name.spot (components_selected k (whole_object (record_known_by o) (variable.Record object)) ss)) (selectors_reached k (whole_object (record_known_by o) (variable.Record object)) ss))
     by_form (Some (object_of t)) is q =
-        let at = reached.Object (record { 0 = t }) 0 in
+        let at = reached.Object (record { 0 = t }) 0 0 in
         meant_whole p tree (selected_path x true name.spot (components_selected k at ss)) (selectors_reached k at ss) (object_path_read k p x name object t ss w b v is q.0)
-    by_form (Some (record_of n ps cs)) is q = unknown_read k p name (selected_path x true name.spot (components_selected k (reached.Value (variable.Record object)) ss)) object ss q.0
+    by_form (Some (record_of n ps cs final)) is q = unknown_read k p name (selected_path x true name.spot (components_selected k (reached.Value (variable.Record object)) ss)) object ss q.0
     by_form (Some (access_to n d pool)) is q = unknown_read k p name (selected_path x true name.spot (components_selected k (reached.Value (variable.Record object)) ss)) object ss q.0
     by_form None is q = unknown_read k p name (selected_path x true name.spot (components_selected k (reached.Value (variable.Record object)) ss)) object ss q.0
 
@@ -390,7 +392,7 @@ enclosed_read p spot e (integer_value form) r = r
 enclosed_read p spot e (boolean_value form) r = r
 enclosed_read p spot e (record_value path) r = r
 enclosed_read p spot e (aggregate_value t forms) r =
-    record { type_name = r.type_name; items = r.items; parts = r.parts; components = r.components; written = r.written; bound = r.bound; there = r.there; count = r.count; given = r.given }
+    record { type_name = r.type_name; items = r.items; parts = r.parts; components = r.components; finalization = r.finalization; written = r.written; bound = r.bound; there = r.there; count = r.count; given = r.given }
 
 -- what a value gives a component
 
@@ -398,9 +400,9 @@ record_given : (p : Context) (e : ExpressionTree) (t : TypeNo) (m : Meant) (spot
 record_given p e t (record_value path) spot f r q = by_copy (sym (eqb-true t.0 path.record_type (quiet_unless (eqb t.0 path.record_type) spot WrongType q))) r
 record_given p e t (aggregate_value found forms) spot f r q =
     let same : t.0 ≡ found.0 = eqb-true t.0 found.0 (quiet_unless (eqb t.0 found.0) spot WrongType q) in
-    by_aggregate r.type_name r.items r.parts r.components r.written
+    by_aggregate r.type_name r.items r.parts r.components r.finalization r.written
     (subst (λ (u : ℕ). IsFullTypeNamed p r.type_name.text u) (sym same) r.bound)
-    (subst (λ (u : ℕ). slice_get p.types u ≡ Some (record_of r.type_name.text r.parts r.components)) (sym same) r.there) r.count r.given
+    (subst (λ (u : ℕ). slice_get p.types u ≡ Some (record_of r.type_name.text r.parts r.components r.finalization)) (sym same) r.there) r.count r.given
 record_given p e t unknown spot f r q = absurd f
 record_given p e t (lent_value u) spot f r q = absurd f
 record_given p e t m spot f r q = absurd q
@@ -526,15 +528,16 @@ aggregate_one k p name items spot (Some (entity.Record t size)) w v b q i c r =
     let after = after_items k (Some cs) (names_component items) (first_filling (Some cs)) items in
     let all = items_there k cs (names_component items) (first_filling (Some cs)) items spot w.fits refl i c in
     let count = items_all k cs items i all in
-    let whole : cs ≡ f.0 = components_are k.types t.0 name.text f.0 f.1 f.2 in
+    let whole : cs ≡ f.0 = components_are k.types t.0 name.text f.0 f.1 f.2 f.3 in
     record {
       type_name = name;
       items = items;
       parts = f.0;
       components = f.1;
+      finalization = f.2;
       written = (refl, refl);
       bound = b (entity.Record t size) refl;
-      there = record_stays k.types p.types w.ahead.types t.0 name.text f.0 f.1 f.2;
+      there = record_stays k.types p.types w.ahead.types t.0 name.text f.0 f.1 f.2 f.3;
       count = count.0 ∙ ap (λ (ps : List PartForm). length ps) whole;
       given = subst (λ (ps : List PartForm). AreGiven p items 0 ps (flattened after.slots)) whole (whole_read p cs items after.slots all count.1 r);
     }
@@ -552,8 +555,8 @@ mutual
   expression_read k p (aggregate_expression type_name items) w q =
       let components = filled_components k (complete_in (visible k type_name.text)) in
       aggregate_one k p type_name items type_name.spot (visible k type_name.text) w (visible_fits k w.fits type_name.text) (visible_read k p w.agrees type_name.text)
-      q.1.0 q.1.1.0 q.1.1.1
-      (items_read k p components (names_component items) items (first_filling components) items w (λ n name e h. h) (first_read p components items) q.1.1.0)
+      q.1.0 q.1.1.1.0 q.1.1.1.1
+      (items_read k p components (names_component items) items (first_filling components) items w (λ n name e h. h) (first_read p components items) q.1.1.1.0)
   expression_read k p (enclosed_expression spot inner) w q = enclosed_read p spot inner (expression_meant k inner) (expression_read k p inner w q)
   expression_read k p (unary_expression o spot operand) w q =
       unary_read p o spot operand (expression_meant k operand) (expression_spot operand) (expression_known k operand w.fits q.1.0) (expression_read k p operand w q.1.0) q.1.1
@@ -594,15 +597,15 @@ assigned_whole p e t unknown spot f r q = absurd f
 assigned_whole p e t (lent_value u) spot f r q = absurd f
 assigned_whole p e t m spot f r q = absurd q
 
-assigned_read : (p : Context) (e : ExpressionTree) (of : Held) (m : Meant) (spot : Spot) → IsMeant m → MeantRead p e m → Quiet (assigned_wanted (Some of) m spot) → FoundRight p of (expression_right e) (assigned m)
-assigned_read p e held.Integer (integer_value form) spot f r q = r
-assigned_read p e held.Boolean (boolean_value form) spot f r q = r
-assigned_read p e (held.Access access) null_value spot f r q = r
-assigned_read p e (held.Access access) (access_value path t) spot f r q = r
-assigned_read p e (held.Record t) m spot f r q = assigned_whole p e t m spot f r q
-assigned_read p e of unknown spot f r q = absurd f
-assigned_read p e of (lent_value u) spot f r q = absurd f
-assigned_read p e of m spot f r q = absurd q
+assigned_read : (p : Context) (types : List TypeForm) (e : ExpressionTree) (of : Held) (m : Meant) (spot : Spot) → IsMeant m → MeantRead p e m → Quiet (assigned_wanted types (Some of) m spot) → FoundRight p of (expression_right e) (assigned m)
+assigned_read p types e held.Integer (integer_value form) spot f r q = r
+assigned_read p types e held.Boolean (boolean_value form) spot f r q = r
+assigned_read p types e (held.Access access) null_value spot f r q = r
+assigned_read p types e (held.Access access) (access_value path t) spot f r q = r
+assigned_read p types e (held.Record t) m spot f r q = assigned_whole p e t m spot f r q.0
+assigned_read p types e of unknown spot f r q = absurd f
+assigned_read p types e of (lent_value u) spot f r q = absurd f
+assigned_read p types e of m spot f r q = absurd q
 
 -- an allocator with items
 abbrev FoundAllocation : Context → Ident → ItemsTree → Option RightForm → Type 0
@@ -619,11 +622,12 @@ allocation_one k p (entity.Record t size) access spot end_spot name items w f r 
   t = t.0;
   parts = f.0;
   components = f.1;
+  finalization = f.2;
   designates = type_designated k p access.0 t.0 w.ahead (access_designates k.types access.0 t.0 (quiet_unless (designates k.types access.0 t.0) spot WrongType q));
   bound = r;
-  named = record_stays k.types p.types w.ahead.types t.0 name.text f.0 f.1 f.2;
+  named = record_stays k.types p.types w.ahead.types t.0 name.text f.0 f.1 f.2 f.3;
   filled = subst (λ (cs : List PartForm). AreItemsRead p cs items (flattened (filling_of k (Some (components_of k.types t.0)) items).slots))
-      (components_are k.types t.0 name.text f.0 f.1 f.2) (aggregate_items_read k p (components_of k.types t.0) items end_spot w i);
+      (components_are k.types t.0 name.text f.0 f.1 f.2 f.3) (aggregate_items_read k p (components_of k.types t.0) items end_spot w i);
 }
 allocation_one k p e access spot end_spot name items w f r q i = absurd q
 
@@ -634,7 +638,7 @@ allocation_named k p None access spot end_spot name items w v r q i = absurd q
 aggregate_read : (k : Known) (p : Context) (access : TypeNo) (at : Spot) (name : Ident) (items : ItemsTree) → Readable k p → Quiet (aggregate_remark k (Some access) at name items) → FoundAllocation p name items (aggregate_found k (Some access) name items)
 unfolding aggregate_remark aggregate_found allocated_remark complete_found
 aggregate_read k p access at name items w q =
-    allocation_named k p (visible k name.text) access at name.spot name items w (visible_fits k w.fits name.text) (visible_read k p w.agrees name.text) q.0 q.1
+    allocation_named k p (visible k name.text) access at name.spot name items w (visible_fits k w.fits name.text) (visible_read k p w.agrees name.text) q.0 q.1.1
 
 allocation_right : (p : Context) (at : Spot) (name : Ident) (label : Option Ident) (e : ExpressionTree) (rest : ItemsTree) (o : Option RightForm) → FoundAllocation p name (an_item label e rest) o → FoundNew p (allocator_right at None name (an_item label e rest)) o
 allocation_right p at name label e rest (Some (allocates access forms)) r = r
@@ -645,7 +649,7 @@ default_one : (k : Known) (p : Context) (e : Entity) (access : TypeNo) (at spot 
 default_one k p (entity.Record t size) access at spot name w f r q = (
   t.0,
   type_designated k p access.0 t.0 w.ahead (access_designates k.types access.0 t.0 (quiet_unless (designates k.types access.0 t.0) spot WrongType q)),
-  (r, f.0, f.1, record_stays k.types p.types w.ahead.types t.0 name.text f.0 f.1 f.2),
+  (r, f.0, f.1, f.2, record_stays k.types p.types w.ahead.types t.0 name.text f.0 f.1 f.2 f.3),
 )
 default_one k p e access at spot name w f r q = absurd q
 
@@ -671,7 +675,7 @@ new_read p access right (Some form) f = f
 
 pub right_read : (k : Known) (p : Context) (of : Held) (borrows : Bool) (right : RightTree) → Readable k p → Quiet (right_remark k (Some of) borrows right) → FoundRight p of right (right_found k (Some of) right)
 right_read k p of borrows (expression_right e) w q =
-    assigned_read p e of (expression_meant k e) (expression_spot e) (expression_known k e w.fits q.0) (expression_read k p e w q.0) q.1.0
+    assigned_read p k.types e of (expression_meant k e) (expression_spot e) (expression_known k e w.fits q.0) (expression_read k p e w q.0) q.1.0
 right_read k p (held.Access access) borrows (allocator_right at handle name items) w q =
     new_read p access (allocator_right at handle name items) (allocator_found k (Some access) handle name items) (allocator_read k p access at handle name items w q.1.1)
 right_read k p held.Integer borrows (allocator_right at handle name items) w q = absurd q.0
@@ -716,18 +720,18 @@ written_read k p tree (record_value path) w q r =
 written_read k p tree m w q r = tt
 
 -- a path to a value that selects no component is a name
-object_selects : (p : Context) (t before : ℕ) (ss : List SelectorTree) (cs : List ℕ) (kind : Option VariableKind) → AreSelectorsRead p (at_object t before) ss cs (at_value kind) → cs ≡ [] → ⊥
-object_selects p t before ss cs kind (to_value named_so more) e = cc e
-object_selects p t before (component i ∷ ss) cs kind (to_record {first} {inner} named_so more) e = object_selects p inner.0 (before + first) ss cs kind more e
+object_selects : (p : Context) (t before parts : ℕ) (ss : List SelectorTree) (cs : List ℕ) (kind : Option VariableKind) → AreSelectorsRead p (at_object t before parts) ss cs (at_value kind) → cs ≡ [] → ⊥
+object_selects p t before parts ss cs kind (to_value named_so more) e = cc e
+object_selects p t before parts (component i ∷ ss) cs kind (to_record {first} {from} {inner} named_so more) e = object_selects p inner.0 (before + first) (parts + from) ss cs kind more e
 
 value_alone : (p : Context) (of : Option VariableKind) (ss : List SelectorTree) (cs : List ℕ) (kind : Option VariableKind) → AreSelectorsRead p (at_value of) ss cs (at_value kind) → cs ≡ [] → ss ≡ []
 value_alone p of ss cs kind at_end e = refl
-value_alone p of (dereference spot ∷ ss) cs kind (by_all {t} behind_so more) e = absurd (object_selects p t 0 ss cs kind more e)
-value_alone p of (component i ∷ ss) cs kind (by_value {t} behind_so more) e = absurd (object_selects p t 0 (component i ∷ ss) cs kind more e)
+value_alone p of (dereference spot ∷ ss) cs kind (by_all {t} behind_so more) e = absurd (object_selects p t 0 0 ss cs kind more e)
+value_alone p of (component i ∷ ss) cs kind (by_value {t} behind_so more) e = absurd (object_selects p t 0 0 (component i ∷ ss) cs kind more e)
 
 way_alone : (p : Context) (way : Way) (ss : List SelectorTree) (cs : List ℕ) (kind : Option VariableKind) → AreSelectorsRead p way ss cs (at_value kind) → cs ≡ [] → ss ≡ []
 way_alone p (at_value of) ss cs kind r e = value_alone p of ss cs kind r e
-way_alone p (at_object t before) ss cs kind r e = absurd (object_selects p t before ss cs kind r e)
+way_alone p (at_object t before parts) ss cs kind r e = absurd (object_selects p t before parts ss cs kind r e)
 
 -- a variable that is given alone
 variable_alone : (p : Context) (tree : PathTree) (path : PathForm) → path.selectors ≡ [] → IsTargetRead p tree path → IsVariableRead p tree path
@@ -883,7 +887,8 @@ no_name withs TextIo spot q e = no_with withs.text_io TextIo spot UnknownName q 
 no_name withs PutLine spot q e = no_with withs.text_io PutLine spot UnknownName q e
 no_name withs UncheckedDeallocation spot q e = no_with withs.deallocation UncheckedDeallocation spot UnknownName q e
 no_name withs Finalization spot q e = no_with withs.finalization Finalization spot UnknownName q e
-no_name withs OfFinalization spot q e = q
+no_name withs Controlled spot q e = no_with withs.finalization Controlled spot UnknownName q e
+no_name withs LimitedControlled spot q e = no_with withs.finalization LimitedControlled spot UnknownName q e
 no_name withs Pools spot q e = no_with withs.pools Pools spot UnknownName q e
 no_name withs FirstFitPool spot q e = no_with withs.pools FirstFitPool spot UnknownName q e
 no_name withs OfPools spot q e = q

@@ -8,6 +8,8 @@ pub mod Forms
 pub mod Tables
 -- the components of record types lie one behind the other
 pub mod Laid
+-- record types that have controlled parts are numbered, and say how many
+pub mod Numbered
 -- what names stand for is there
 pub mod Names
 -- types that get pools

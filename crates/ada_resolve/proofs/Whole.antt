@@ -87,20 +87,21 @@ record SameCounts (k m : Known) : Type 0 where
   exceptions : length k.exceptions ≡ length m.exceptions
   texts : length k.texts ≡ length m.texts
   bodies : length k.bodies ≡ length m.bodies
+  controlled : k.controlled ≡ m.controlled
 
 left_counts : (m : Known) (outer : List Part) → SameCounts (left_to outer m) m
-left_counts m [] = record { types = refl; pools = refl; placed = λ t. refl; variables = refl; exceptions = refl; texts = refl; bodies = refl }
-left_counts m (part ∷ outer) = record { types = refl; pools = refl; placed = λ t. refl; variables = refl; exceptions = refl; texts = refl; bodies = refl }
+left_counts m [] = record { types = refl; pools = refl; placed = λ t. refl; variables = refl; exceptions = refl; texts = refl; bodies = refl; controlled = refl }
+left_counts m (part ∷ outer) = record { types = refl; pools = refl; placed = λ t. refl; variables = refl; exceptions = refl; texts = refl; bodies = refl; controlled = refl }
 
 agrees_left : (k m z : Known) (place end : Place) → Stays k z → z ≡ without_part m → Agrees k place → Agrees m end → Agrees z (behind place end)
 agrees_left k m z place end f is w v =
     let c : SameCounts z m = subst (λ u. SameCounts u m) (sym is) (left_counts m m.outer) in
-    agrees_behind k m z place end (ap (λ (x : Part). x.names) f.here) (ap (λ (x : Part). x.first_type) f.here) (ap (λ (x : Part). x.around) f.here) f.outer c.types c.bodies c.variables c.exceptions c.texts c.pools c.placed w v
+    agrees_behind k m z place end (ap (λ (x : Part). x.names) f.here) (ap (λ (x : Part). x.first_type) f.here) (ap (λ (x : Part). x.around) f.here) f.outer c.types c.bodies c.variables c.exceptions c.texts c.pools c.placed c.controlled w v
 
 -- behind a statement with no others in it, where the texts that it writes are counted
 no_texts : (k : Known) (place : Place) → Agrees k place → Agrees (with_texts [] k) place
 no_texts k place w =
-    agrees_same k (with_texts [] k) place refl refl refl refl refl refl refl refl (ap (λ (ts : List (List ℕ)). length ts) (append-nil k.texts)) refl (λ t. refl) w
+    agrees_same k (with_texts [] k) place refl refl refl refl refl refl refl refl (ap (λ (ts : List (List ℕ)). length ts) (append-nil k.texts)) refl (λ t. refl) refl w
 
 one_text : (k : Known) (place : Place) (text : List ℕ) → Agrees k place → Agrees (with_texts (text ∷ []) k) (record place { texts = place.texts + 1 })
 one_text k place text w = record {
@@ -113,6 +114,7 @@ one_text k place text w = record {
   bodies = w.bodies;
   variables = w.variables;
   exceptions = w.exceptions;
+  controlled = w.controlled;
   texts = ap (λ (n : ℕ). n + 1) w.texts ∙ sym (length-append k.texts (text ∷ []));
 }
 
@@ -641,7 +643,7 @@ mutual
 -- nothing is bound before the first declaration
 first_agrees : (withs : Withs) (procedure : List ℕ) → Agrees (known_first withs procedure) first_place
 unfolding pool_of
-first_agrees withs procedure = record { here = λ text. refl; outer = λ text. refl; first_type = refl; types = refl; pools = refl; placed = λ t. refl; bodies = refl; variables = refl; exceptions = refl; texts = refl }
+first_agrees withs procedure = record { here = λ text. refl; outer = λ text. refl; first_type = refl; types = refl; pools = refl; placed = λ t. refl; bodies = refl; variables = refl; exceptions = refl; texts = refl; controlled = refl }
 
 -- a whole unit
 unit_read : (tree : UnitTree) (p : ProgramForm) (b : BodyDone tree p) → IsReadAs tree p

@@ -1,43 +1,50 @@
 -- What each declaration writes is what is known after it.
 
-use Rattle.std.proofs.Common.{◌≡◌, ◌∙◌, zero, suc, inl, inr, ℕ, Bool, true, false, ◌||◌, cond, List, [], ◌∷◌, ◌++◌, length, append_assoc, refl, sym, ap, subst, eqb-true}
+use Rattle.std.proofs.Common.{◌≡◌, ◌∙◌, zero, suc, inl, inr, ℕ, ◌+◌, Bool, true, false, ◌||◌, cond, List, [], ◌∷◌, ◌++◌, length, append_assoc, refl, sym, ap, subst, eqb, eqb-true}
 use Rattle.std.specs.Prelude.{Option, Some, None, codes, bytes_eq, is_some}
-use Rattle.std.specs.List.{slice_get, list_all}
+use Rattle.std.specs.List.{slice_get, list_all, list_any}
+use Rattle.std.proofs.lemmas.List.Folds.{list_any-append}
 use Rattle.ada_text.specs.declared.spot.Spot.{Spot}
 use Rattle.ada_tree.specs.Names.{Ident, NameTree}
 use Rattle.ada_tree.specs.Records.{StaticTree, plain, minus, named as static_name, ComponentTree}
 use Rattle.ada_tree.specs.Expressions.{RightTree}
 use Rattle.ada_program.specs.declared.program.ComponentKind.{ComponentKind}
+use Rattle.ada_program.specs.declared.program.PartKind.{PartKind}
+use Rattle.ada_program.specs.declared.program.PartKind.TheVariants as part
 use Rattle.ada_program.specs.declared.program.TypeNo.{TypeNo}
 use Rattle.ada_program.specs.declared.program.VariableKind.{VariableKind}
 use Rattle.ada_program.specs.declared.program.VariableKind.TheVariants as variable
+use Rattle.ada_program.specs.declared.program.Finalization.{Finalization as Finalized}
 use Rattle.ada_program.specs.ProgramForm.{PartForm, TypeForm, record_of, access_to, object_of}
 use Rattle.ada_program.specs.WellFormed as well
 use Rattle.ada_resolve.specs.declared.fault.NameRule.TheVariants.{UnknownName, DeclaredTwice, WrongType}
 use Rattle.ada_resolve.specs.declared.library.LibraryName.{LibraryName}
-use Rattle.ada_resolve.specs.declared.library.LibraryName.TheVariants.{TextIo, PutLine, UncheckedDeallocation, Finalization, OfFinalization, Pools, FirstFitPool, OfPools, RunInput, Get, EndError, OtherUnit, Unknown}
+use Rattle.ada_resolve.specs.declared.library.LibraryName.TheVariants.{TextIo, PutLine, UncheckedDeallocation, Finalization, Controlled, LimitedControlled, Pools, FirstFitPool, OfPools, RunInput, Get, EndError, OtherUnit, Unknown}
 use Rattle.ada_resolve.specs.declared.library.Withs.{Withs}
 use Rattle.ada_resolve.specs.declared.rights.Held.{Held}
 use Rattle.ada_resolve.specs.declared.rights.Held.TheVariants as held
 use Rattle.ada_resolve.specs.declared.scope.Entity.{Entity}
 use Rattle.ada_resolve.specs.declared.scope.Entity.TheVariants as entity
-use Rattle.ada_resolve.specs.Known.{Known, visible, is_empty, is_with, if_with, library_wrong, library_remark, parts}
+use Rattle.ada_resolve.specs.Known.{Known, visible, is_empty, is_with, if_with, library_wrong, library_found, library_remark, parts}
 use Rattle.ada_resolve.specs.Library.{is_library_root, library_name}
 use Rattle.ada_resolve.specs.Remark.{◌also◌}
 use Rattle.ada_resolve.specs.Types.{record_in, record_found, record_wanted, record_remark, designates, is_access_to}
 use Rattle.ada_resolve.specs.Statics.{static_value, static_remark, number_in, number_wanted, truth_in, truth_wanted}
-use Rattle.ada_resolve.specs.Records.{integer_remark, boolean_remark, no_value_remark, kind_wanted, kind_in, Composition, is_component, component_remark, component_meant, no_components, composed, composed_with, composition_of, components_remark, all_components_remark}
+use Rattle.ada_resolve.specs.Records.{integer_remark, boolean_remark, no_value_remark, kind_wanted, kind_in, kind_of_component, Composition, is_component, component_remark, component_meant, composed, composed_with, components_remark, finalization_made}
+use Rattle.ada_resolve.specs.Controlled.{limited_within, says_limited}
+use Rattle.ada_resolve.specs.Derived.{is_limited_parent, limited_parent, parent_part, parent_remark, parent_wanted, with_parent}
 use Rattle.ada_resolve.specs.Instances.{deallocation_wanted, no_generic, generic_remark, access_if, access_in, access_wanted, freed_found, freed_remark}
 use Rattle.ada_resolve.specs.Paths.{library_is_no_value}
 use Rattle.ada_resolve.specs.Objects.{initial_remark, initial_found, initial_wanted, type_in, type_wanted, object_type_found, object_type_remark, held_of, initial_items_in, initial_source, initial_value_in}
-use Rattle.ada_resolve.specs.Naming.{Context, IsNumberNamed, IsStaticRead, IsKindRead, AreComponentsRead, AreNamedApart, AreLaidOut, IsFullTypeNamed, IsTypeNamed, IsRecordNamed, IsFullRecordNamed, IsKindNamed, truth_name}
+use Rattle.ada_resolve.specs.Naming.{Context, IsNumberNamed, IsStaticRead, IsKindRead, AreComponentsRead, AreNamedApart, AreLaidOut, ArePartsInOrder, IsFinalized, IsParentRead, IsFullTypeNamed, IsTypeNamed, IsRecordNamed, IsFullRecordNamed, IsKindNamed, truth_name}
 use Rattle.ada_resolve.specs.Reading.{AreInitialItems, IsInitialRead}
 use Rattle.ada_resolve.specs.Rights.{Assigned, a_value, a_whole}
 use Rattle.ada_resolve.specs.Paths.{name_of_type, elementary_of}
 use Rattle.ada_resolve.proofs.WellFormed.Remarks.{Quiet, quiet_if, quiet_unless}
 use Rattle.ada_resolve.proofs.WellFormed.Names.{EntityFits, PartsFit, same_text, visible_fits}
-use Rattle.ada_resolve.proofs.WellFormed.Laid.{append_none, elementary_same, laid_stays}
-use Rattle.ada_resolve.proofs.WellFormed.Types.{composition_has, composition_laid}
+use Rattle.ada_resolve.proofs.WellFormed.Laid.{OfParts, RecordHas, append_none, elementary_same, laid_stays}
+use Rattle.ada_resolve.proofs.WellFormed.Numbered.{order_alike, positive}
+use Rattle.ada_resolve.proofs.WellFormed.Types.{IsBegun, made_has, made_laid, made_order}
 use Rattle.ada_resolve.proofs.WellFormed.Tables.{first_part, second_part}
 use Rattle.ada_resolve.proofs.Agreeing.{Agrees, EntityRead, Readable, visible_read}
 use Rattle.ada_resolve.proofs.ComponentLists.{in_more}
@@ -88,8 +95,8 @@ no_value k (Some (minus spot n)) q = absurd q
 no_value k (Some (static_name name)) q = absurd q.1
 
 -- a record type that is settled is that of the program
-record_lasts : (k : Known) (p : Context) → Lasts k p → (t : ℕ) (name : List ℕ) (ps : List PartForm) (cs : List ComponentKind) → slice_get k.types t ≡ Some (record_of name ps cs) → IsSettled k t → slice_get p.types t ≡ Some (record_of name ps cs)
-record_lasts k p w t name ps cs is settled = forms.record_there p.types t name ps cs (w.settled t (record_of name ps cs) (get_form k.types t (record_of name ps cs) is) settled)
+record_lasts : (k : Known) (p : Context) → Lasts k p → (t : ℕ) (name : List ℕ) (ps : List PartForm) (cs : List ComponentKind) (final : Option Finalized) → slice_get k.types t ≡ Some (record_of name ps cs final) → IsSettled k t → slice_get p.types t ≡ Some (record_of name ps cs final)
+record_lasts k p w t name ps cs final is settled = forms.record_there p.types t name ps cs final (w.settled t (record_of name ps cs final) (get_form k.types t (record_of name ps cs final) is) settled)
 
 kind_read : (k : Known) (p : Context) (name type_name : Ident) (initial : Option StaticTree) (o : Option Entity) → Legible k p → visible k type_name.text ≡ o → ((e : Entity) → o ≡ Some e → EntityFits k.types k.variables type_name.text e) → ((e : Entity) → o ≡ Some e → EntityRead p type_name.text e) → Quiet (kind_wanted o k (record { name = name; type_name = type_name; initial = initial })) → IsKindRead p (record { name = name; type_name = type_name; initial = initial }) (kind_in o k initial)
 kind_read k p name type_name initial (Some entity.Integer) w is f t q = integer_read k p name type_name initial w (t entity.Integer refl) q
@@ -104,7 +111,8 @@ kind_read k p name type_name initial (Some (entity.Record u size)) w is f t q =
         t (entity.Record u size) refl,
         there.0,
         there.1,
-        record_lasts k p w.lasts u.0 type_name.text there.0 there.1 there.2 (visible_settled k type_name.text u size w.sound is),
+        there.2,
+        record_lasts k p w.lasts u.0 type_name.text there.0 there.1 there.2 there.3 (visible_settled k type_name.text u size w.sound is),
       ),
       no_value k initial q,
     )
@@ -112,18 +120,18 @@ kind_read k p name type_name initial (Some e) w is f t q = absurd q
 kind_read k p name type_name initial None w is f t q = absurd q
 
 -- the declared components that join those before them
-further_parts : Known → Composition → List ComponentTree → List PartForm
+pub further_parts : Known → Composition → List ComponentTree → List PartForm
 further_parts k before [] = []
-further_parts k before (c ∷ cs) = component_meant k (length before.kinds) c ∷ further_parts k (composed_with k before c) cs
+further_parts k before (c ∷ cs) = component_meant k (length before.kinds) before.controlled c ∷ further_parts k (composed_with k before c) cs
 
-composed_parts : (k : Known) (before : Composition) (cs : List ComponentTree) → before.parts ++ further_parts k before cs ≡ (composed k before cs).parts
+pub composed_parts : (k : Known) (before : Composition) (cs : List ComponentTree) → before.parts ++ further_parts k before cs ≡ (composed k before cs).parts
 unfolding further_parts
 composed_parts k before [] = append_none before.parts
 composed_parts k before (c ∷ cs) =
-    let one = component_meant k (length before.kinds) c in
+    let one = component_meant k (length before.kinds) before.controlled c in
     sym (append_assoc before.parts (one ∷ []) (further_parts k (composed_with k before c) cs)) ∙ composed_parts k (composed_with k before c) cs
 
-components_read : (k : Known) (p : Context) (before : Composition) (cs : List ComponentTree) → Legible k p → Quiet (components_remark k before cs) → AreComponentsRead p cs (further_parts k before cs)
+pub components_read : (k : Known) (p : Context) (before : Composition) (cs : List ComponentTree) → Legible k p → Quiet (components_remark k before cs) → AreComponentsRead p cs (further_parts k before cs)
 unfolding component_remark component_meant further_parts
 components_read k p before [] w q = tt
 components_read k p before (c ∷ cs) w q = (
@@ -132,20 +140,63 @@ components_read k p before (c ∷ cs) w q = (
   components_read k p (composed_with k before c) cs w q.1,
 )
 
-pub all_read : (k : Known) (p : Context) (cs : List ComponentTree) → Legible k p → Quiet (all_components_remark k cs) → AreComponentsRead p cs (composition_of k cs).parts
-all_read k p cs w q =
-    subst (λ (ps : List PartForm). AreComponentsRead p cs ps) (composed_parts k no_components cs) (components_read k p no_components cs w q)
+-- they lie one behind the other in the program, and so do their controlled parts
+type_lasts : (k : Known) (p : Context) → Legible k p → (text : List ℕ) (t : TypeNo) (size : ℕ) → visible k text ≡ Some (entity.Record t size) → slice_get p.types t.0 ≡ slice_get k.types t.0
+type_lasts k p w text t size is =
+    let there = visible_fits k w.sound.names text (entity.Record t size) is in
+    record_lasts k p w.lasts t.0 text there.0 there.1 there.2 there.3 (visible_settled k text t size w.sound is) ∙ sym there.3
 
--- they lie one behind the other in the program
-pub all_laid : (k : Known) (p : Context) (cs : List ComponentTree) → Legible k p → AreLaidOut p.types 0 (composition_of k cs).parts (composition_of k cs).kinds
-all_laid k p cs w =
-    laid_stays k.types p.types 0 (composition_of k cs).parts (composition_of k cs).kinds
-    (composition_has k (λ t. elementary_of p.types t ≡ elementary_of k.types t) stays cs) (composition_laid k [] cs w.sound.names).0
+pub all_laid : (k : Known) (p : Context) (before : Composition) (cs : List ComponentTree) → IsBegun before → Legible k p → AreLaidOut p.types 0 (composed k before cs).parts (composed k before cs).kinds
+all_laid k p before cs begun w =
+    laid_stays k.types p.types 0 (composed k before cs).parts (composed k before cs).kinds
+    (made_has k (λ t. elementary_of p.types t ≡ elementary_of k.types t) (λ text t size is. elementary_same k.types p.types t.0 (type_lasts k p w text t size is)) before cs begun)
+    (made_laid k [] None before cs begun w.sound.names).0
+
+order_is : (types : List TypeForm) (count from : ℕ) (ps : List PartForm) → well.parts_in_order types count from ps ≡ true → ArePartsInOrder types from ps count
+order_is types count from [] e = sym (eqb-true from count e)
+order_is types count from (p ∷ ps) e =
+    let behind = from + well.parts_within types p.kind in
+    let rest = well.parts_in_order types count behind ps in
+    (eqb-true p.part from (first_part (eqb p.part from) rest e), order_is types count behind ps (second_part (eqb p.part from) rest e))
+
+-- they make the record type limited where one of them is limited
+or_last : (a b c x : Bool) → x ≡ (a || b) → (x || c) ≡ (a || (b || (c || false)))
+or_last true b c x e = rw e refl
+or_last false true c x e = rw e refl
+or_last false false true x e = rw e refl
+or_last false false false x e = rw e refl
+
+made_limited : (k : Known) (limited : Bool) (before : Composition) (cs : List ComponentTree) → before.limited ≡ (limited || list_any (λ c. limited_within k.types c.kind) before.parts) → (composed k before cs).limited ≡ (limited || list_any (λ c. limited_within k.types c.kind) (composed k before cs).parts)
+unfolding component_meant
+made_limited k limited before [] e = e
+made_limited k limited before (c ∷ cs) e =
+    let one = component_meant k (length before.kinds) before.controlled c in
+    made_limited k limited (composed_with k before c) cs
+    (or_last limited (list_any (λ (d : PartForm). limited_within k.types d.kind) before.parts) (limited_within k.types (kind_of_component k c)) before.limited e ∙
+    ap (λ (b : Bool). limited || b) (sym (list_any-append (λ (d : PartForm). limited_within k.types d.kind) before.parts (one ∷ []))))
+
+limited_alike : (types more : List TypeForm) (kind : PartKind) → RecordHas (λ t. well.finalization_of more t ≡ well.finalization_of types t) kind → limited_within more kind ≡ limited_within types kind
+limited_alike types more (part.Elementary kind) h = refl
+limited_alike types more (part.Record t) h = ap (λ (o : Option Finalized). says_limited o) h
+limited_alike types more part.Parent h = refl
+
+any_alike : (types more : List TypeForm) (ps : List PartForm) → OfParts (RecordHas (λ t. well.finalization_of more t ≡ well.finalization_of types t)) ps → list_any (λ (c : PartForm). limited_within more c.kind) ps ≡ list_any (λ (c : PartForm). limited_within types c.kind) ps
+any_alike types more [] h = refl
+any_alike types more (c ∷ ps) h = rw (limited_alike types more c.kind (h 0 c refl), any_alike types more ps (λ i. h (suc i))) refl
+
+-- the record type is finalized as they say
+pub all_finalized : (k : Known) (p : Context) (limited : Bool) (before : Composition) (cs : List ComponentTree) → IsBegun before → before.limited ≡ (limited || list_any (λ c. limited_within k.types c.kind) before.parts) → Legible k p → IsFinalized p.types p.place.controlled limited (composed k before cs).parts (finalization_made k.controlled (composed k before cs))
+all_finalized k p limited before cs begun start w = by_count (eqb (composed k before cs).controlled 0) refl
   where
-    stays : (text : List ℕ) (t : TypeNo) (size : ℕ) → visible k text ≡ Some (entity.Record t size) → elementary_of p.types t.0 ≡ elementary_of k.types t.0
-    stays text t size is =
-        let there = visible_fits k w.sound.names text (entity.Record t size) is in
-        elementary_same k.types p.types t.0 (record_lasts k p w.lasts t.0 text there.0 there.1 there.2 (visible_settled k text t size w.sound is) ∙ sym there.2)
+    by_count : (b : Bool) → eqb (composed k before cs).controlled 0 ≡ b → IsFinalized p.types p.place.controlled limited (composed k before cs).parts (cond b None (Some (record { number = record { 0 = k.controlled }; parts = (composed k before cs).controlled; limited = (composed k before cs).limited })))
+    by_count b is =
+        let own = composed k before cs in
+        let alike = made_has k (λ t. well.finalization_of p.types t ≡ well.finalization_of k.types t) (λ text t size there. ap (λ (o : Option TypeForm). well.finalization_in o) (type_lasts k p w text t size there)) before cs begun in
+        let in_order = order_is p.types own.controlled 0 own.parts (order_alike k.types p.types own.controlled 0 own.parts alike ∙ made_order k before cs begun) in
+        elim b as (λ c. eqb own.controlled 0 ≡ c → IsFinalized p.types p.place.controlled limited own.parts (cond c None (Some (record { number = record { 0 = k.controlled }; parts = own.controlled; limited = own.limited })))) [
+          | true ↦ λ on. subst (λ (n : ℕ). ArePartsInOrder p.types 0 own.parts n) (eqb-true own.controlled 0 on) in_order
+          | false ↦ λ off. (sym w.agrees.controlled, positive own.controlled off, in_order, made_limited k limited before cs start ∙ ap (λ (c : Bool). limited || c) (sym (any_alike k.types p.types own.parts alike)))
+        ] is
 
 -- no two components have one name
 abbrev IsApart : List ℕ → List PartForm → Type 0
@@ -170,7 +221,7 @@ components_apart : (k : Known) (before : Composition) (cs : List ComponentTree) 
 unfolding component_remark component_meant further_parts
 components_apart k before [] q = (λ text on i d is. absurd (cc is), tt)
 components_apart k before (c ∷ cs) q =
-    let one : PartForm = component_meant k (length before.kinds) c in
+    let one : PartForm = component_meant k (length before.kinds) before.controlled c in
     let others = further_parts k (composed_with k before c) cs in
     let rest = components_apart k (composed_with k before c) cs q.1 in (
       λ text on. apart_more text one others (not_before text on) (rest.0 text (still_there text before.parts one on)),
@@ -182,8 +233,12 @@ components_apart k before (c ∷ cs) q =
         let off : is_component c.name.text before.parts ≡ false = quiet_if (is_component c.name.text before.parts) c.name.spot DeclaredTwice q.0.1.1.0 in
         let there : is_component c.name.text before.parts ≡ true = subst (λ (t : List ℕ). is_component t before.parts ≡ true) (sym same) on in cc (off, there)
 
-pub all_apart : (k : Known) (cs : List ComponentTree) → Quiet (all_components_remark k cs) → AreNamedApart (composition_of k cs).parts
-all_apart k cs q = subst (λ (ps : List PartForm). AreNamedApart ps) (composed_parts k no_components cs) (components_apart k no_components cs q).1
+pub all_apart : (k : Known) (before : Composition) (cs : List ComponentTree) → Quiet (components_remark k before cs) → AreNamedApart (further_parts k before cs)
+all_apart k before cs q = (components_apart k before cs q).1
+
+-- and none has the parent part's, which is empty
+pub parent_apart : (k : Known) (limited : Bool) (cs : List ComponentTree) → Quiet (components_remark k (with_parent limited) cs) → AreNamedApart (parent_part ∷ further_parts k (with_parent limited) cs)
+parent_apart k limited cs q = let apart = components_apart k (with_parent limited) cs q in (apart.0 [] refl, apart.1)
 
 -- the record type of a name
 abbrev pub FoundRecord : Known → Context → Ident → Option TypeNo → Type 0
@@ -191,8 +246,8 @@ FoundRecord k p name None = ⊥
 FoundRecord k p name (Some t) = HasName k.types name.text t.0 × IsTypeNamed p name.text t.0
 
 record_at : (k : Known) (p : Context) (name : Ident) (o : Option Entity) → ((e : Entity) → o ≡ Some e → EntityFits k.types k.variables name.text e) → ((e : Entity) → o ≡ Some e → EntityRead p name.text e) → Quiet (record_wanted o name) → FoundRecord k p name (record_in o)
-record_at k p name (Some (entity.Incomplete t)) f r q = (has_name k.types name.text t.0 (record_of name.text [] []) (f (entity.Incomplete t) refl) refl, inr (r (entity.Incomplete t) refl))
-record_at k p name (Some (entity.Record t size)) f r q = let there = f (entity.Record t size) refl in (has_name k.types name.text t.0 (record_of name.text there.0 there.1) there.2 refl, inl (r (entity.Record t size) refl))
+record_at k p name (Some (entity.Incomplete t)) f r q = (has_name k.types name.text t.0 (record_of name.text [] [] None) (f (entity.Incomplete t) refl) refl, inr (r (entity.Incomplete t) refl))
+record_at k p name (Some (entity.Record t size)) f r q = let there = f (entity.Record t size) refl in (has_name k.types name.text t.0 (record_of name.text there.0 there.1 there.2) there.3 refl, inl (r (entity.Record t size) refl))
 record_at k p name (Some e) f r q = absurd q
 record_at k p name None f r q = absurd q
 
@@ -206,16 +261,16 @@ all_at f [] i x all is = absurd (cc is)
 all_at f (y ∷ xs) zero x all is = let same : y ≡ x = cc is in rw (sym same) (first_part (f y) (list_all f xs) all)
 all_at f (y ∷ xs) (suc i) x all is = all_at f xs i x (second_part (f y) (list_all f xs) all) is
 
-record_there : (types : List TypeForm) (text : List ℕ) (d : ℕ) (o : Option TypeForm) → slice_get types d ≡ o → name_of_type o ≡ Some text → is_some (well.components_in o) ≡ true → (ps : List PartForm) × (cs : List ComponentKind) × (slice_get types d ≡ Some (record_of text ps cs))
+record_there : (types : List TypeForm) (text : List ℕ) (d : ℕ) (o : Option TypeForm) → slice_get types d ≡ o → name_of_type o ≡ Some text → is_some (well.components_in o) ≡ true → (ps : List PartForm) × (cs : List ComponentKind) × (final : Option Finalized) × (slice_get types d ≡ Some (record_of text ps cs final))
 record_there types text d None there same is = absurd (cc is)
-record_there types text d (Some (record_of name ps cs)) there same is =
-    let name_is : name ≡ text = cc same in (ps, cs, subst (λ (n : List ℕ). slice_get types d ≡ Some (record_of n ps cs)) name_is there)
+record_there types text d (Some (record_of name ps cs final)) there same is =
+    let name_is : name ≡ text = cc same in (ps, cs, final, subst (λ (n : List ℕ). slice_get types d ≡ Some (record_of n ps cs final)) name_is there)
 record_there types text d (Some (access_to name u pool)) there same is = absurd (cc is)
 record_there types text d (Some (object_of record_type)) there same is = absurd (cc is)
 
 pub designated_read : (p : Context) (text designated : List ℕ) (t d : ℕ) (pool : Option ℕ) → list_all (well.type_fits p.types) p.types ≡ true → slice_get p.types t ≡ Some (access_to text d pool) → HasName p.types designated d → IsTypeNamed p designated d → IsRecordNamed p designated d
 designated_read p text designated t d pool all there same named_so =
-    let is = record_there p.types designated d (slice_get p.types d) refl same (all_at (well.type_fits p.types) p.types t (access_to text d pool) all there) in (named_so, is.0, is.1, is.2)
+    let is = record_there p.types designated d (slice_get p.types d) refl same (all_at (well.type_fits p.types) p.types t (access_to text d pool) all there) in (named_so, is.0, is.1, is.2, is.3)
 
 -- the access type of an instance
 abbrev pub FoundAccess : Known → Context → Ident → Ident → Option TypeNo → Type 0
@@ -250,7 +305,8 @@ generic_is withs UncheckedDeallocation spot q d = refl
 generic_is withs TextIo spot q d = absurd (subst (λ (b : Bool). Quiet (deallocation_wanted (if_with b TextIo) spot)) (quiet_unless withs.text_io spot UnknownName q) d)
 generic_is withs PutLine spot q d = absurd (subst (λ (b : Bool). Quiet (deallocation_wanted (if_with b PutLine) spot)) (quiet_unless withs.text_io spot UnknownName q) d)
 generic_is withs Finalization spot q d = absurd (subst (λ (b : Bool). Quiet (deallocation_wanted (if_with b Finalization) spot)) (quiet_unless withs.finalization spot UnknownName q) d)
-generic_is withs OfFinalization spot q d = absurd q
+generic_is withs Controlled spot q d = absurd (subst (λ (b : Bool). Quiet (deallocation_wanted (if_with b Controlled) spot)) (quiet_unless withs.finalization spot UnknownName q) d)
+generic_is withs LimitedControlled spot q d = absurd (subst (λ (b : Bool). Quiet (deallocation_wanted (if_with b LimitedControlled) spot)) (quiet_unless withs.finalization spot UnknownName q) d)
 generic_is withs Pools spot q d = absurd (subst (λ (b : Bool). Quiet (deallocation_wanted (if_with b Pools) spot)) (quiet_unless withs.pools spot UnknownName q) d)
 generic_is withs FirstFitPool spot q d = absurd (subst (λ (b : Bool). Quiet (deallocation_wanted (if_with b FirstFitPool) spot)) (quiet_unless withs.pools spot UnknownName q) d)
 generic_is withs OfPools spot q d = absurd q
@@ -271,6 +327,45 @@ generic_read k generic q = by_root (is_library_root generic.first.text) q
     by_root : (b : Bool) → Quiet (cond b (library_remark k generic.first generic.rest also deallocation_wanted (if_with (is_with k.withs (library_name generic.first.text generic.rest)) (library_name generic.first.text generic.rest)) generic.first.spot) (no_generic (visible k generic.first.text) generic.first)) → library_name generic.first.text generic.rest ≡ UncheckedDeallocation
     by_root true q = generic_is k.withs (library_name generic.first.text generic.rest) generic.first.spot q.0 q.1
     by_root false q = absurd (by_entity (visible k generic.first.text) q)
+
+-- the parent of a derived type
+abbrev ParentIs : LibraryName → (limited : Bool) → Type 0
+ParentIs n false = n ≡ Controlled
+ParentIs n true = n ≡ LimitedControlled
+
+parent_is : (withs : Withs) (n : LibraryName) (spot : Spot) → Quiet (library_wrong withs n spot) → Quiet (parent_wanted (if_with (is_with withs n) n) spot) → ParentIs n (is_limited_parent (if_with (is_with withs n) n))
+parent_is withs Controlled spot q d = subst (λ (b : Bool). ParentIs Controlled (is_limited_parent (if_with b Controlled))) (sym (quiet_unless withs.finalization spot UnknownName q)) refl
+parent_is withs LimitedControlled spot q d = subst (λ (b : Bool). ParentIs LimitedControlled (is_limited_parent (if_with b LimitedControlled))) (sym (quiet_unless withs.finalization spot UnknownName q)) refl
+parent_is withs TextIo spot q d = absurd (subst (λ (b : Bool). Quiet (parent_wanted (if_with b TextIo) spot)) (quiet_unless withs.text_io spot UnknownName q) d)
+parent_is withs PutLine spot q d = absurd (subst (λ (b : Bool). Quiet (parent_wanted (if_with b PutLine) spot)) (quiet_unless withs.text_io spot UnknownName q) d)
+parent_is withs UncheckedDeallocation spot q d = absurd (subst (λ (b : Bool). Quiet (parent_wanted (if_with b UncheckedDeallocation) spot)) (quiet_unless withs.deallocation spot UnknownName q) d)
+parent_is withs Finalization spot q d = absurd (subst (λ (b : Bool). Quiet (parent_wanted (if_with b Finalization) spot)) (quiet_unless withs.finalization spot UnknownName q) d)
+parent_is withs Pools spot q d = absurd (subst (λ (b : Bool). Quiet (parent_wanted (if_with b Pools) spot)) (quiet_unless withs.pools spot UnknownName q) d)
+parent_is withs FirstFitPool spot q d = absurd (subst (λ (b : Bool). Quiet (parent_wanted (if_with b FirstFitPool) spot)) (quiet_unless withs.pools spot UnknownName q) d)
+parent_is withs RunInput spot q d = absurd (subst (λ (b : Bool). Quiet (parent_wanted (if_with b RunInput) spot)) (quiet_unless withs.run_input spot UnknownName q) d)
+parent_is withs Get spot q d = absurd (subst (λ (b : Bool). Quiet (parent_wanted (if_with b Get) spot)) (quiet_unless withs.run_input spot UnknownName q) d)
+parent_is withs EndError spot q d = absurd (subst (λ (b : Bool). Quiet (parent_wanted (if_with b EndError) spot)) (quiet_unless withs.run_input spot UnknownName q) d)
+parent_is withs OfPools spot q d = absurd q
+parent_is withs OtherUnit spot q d = absurd q
+parent_is withs Unknown spot q d = absurd q
+
+parent_read_as : (parent : NameTree) (limited : Bool) → ParentIs (library_name parent.first.text parent.rest) limited → IsParentRead parent limited
+parent_read_as parent false h = h
+parent_read_as parent true h = h
+
+pub parent_read : (k : Known) (parent : NameTree) → Quiet (parent_remark k parent) → IsParentRead parent (limited_parent k parent)
+unfolding parent_remark limited_parent
+parent_read k parent q = by_root (is_library_root parent.first.text) q
+  where
+    by_entity : (o : Option Entity) → Quiet (no_generic o parent.first) → ⊥
+    by_entity (Some e) q = q
+    by_entity None q = q
+
+    by_root : (b : Bool) → Quiet (cond b (library_remark k parent.first parent.rest also parent_wanted (library_found k parent.first parent.rest) parent.first.spot) (no_generic (visible k parent.first.text) parent.first)) → IsParentRead parent (cond b (is_limited_parent (library_found k parent.first parent.rest)) false)
+    by_root true q =
+        parent_read_as parent (is_limited_parent (library_found k parent.first parent.rest))
+        (parent_is k.withs (library_name parent.first.text parent.rest) parent.first.spot q.0 q.1)
+    by_root false q = absurd (by_entity (visible k parent.first.text) q)
 
 -- what an object holds, and its initial value
 pub record ObjectRead (k : Known) (p : Context) (type_name : NameTree) (initial : Option RightTree) (kind : Held) (of : VariableKind) : Type 0 where
@@ -329,12 +424,12 @@ object_at k p name type_name (Some right) (entity.Access a) w alone f t q g = re
 }
 object_at k p name type_name None (entity.Record u size) w alone f t q g = record {
   alone = alone;
-  record_named = (t, f.0, f.1, record_stays k.types p.types w.ahead.types u.0 type_name.first.text f.0 f.1 f.2);
+  record_named = (t, f.0, f.1, f.2, record_stays k.types p.types w.ahead.types u.0 type_name.first.text f.0 f.1 f.2 f.3);
   starts = tt;
 }
 object_at k p name type_name (Some right) (entity.Record u size) w alone f t q g = record {
   alone = alone;
-  record_named = (t, f.0, f.1, record_stays k.types p.types w.ahead.types u.0 type_name.first.text f.0 f.1 f.2);
+  record_named = (t, f.0, f.1, f.2, record_stays k.types p.types w.ahead.types u.0 type_name.first.text f.0 f.1 f.2 f.3);
   starts = record_starts p u right (initial_found k (Some (held.Record u)) (Some right)) (right_read k p (held.Record u) false right w q);
 }
 object_at k p name type_name initial e w alone f t q g = absurd g

@@ -10,6 +10,7 @@ use Rattle.ada_program.specs.declared.program.TypeNo.{TypeNo}
 use Rattle.ada_resolve.specs.declared.fault.NameRule.TheVariants.{WrongType, NotInProfile}
 use Rattle.ada_resolve.specs.declared.scope.Entity.{Entity}
 use Rattle.ada_resolve.specs.declared.scope.Entity.TheVariants as entity
+use Rattle.ada_resolve.specs.Controlled.{aggregate_wanted}
 use Rattle.ada_resolve.specs.Known.{Known, visible, missing}
 use Rattle.ada_resolve.specs.Remark.{Remark, wrong, ◌also◌, wrong_if}
 use Rattle.ada_resolve.specs.Expressions.{all_items_remark, filling_of}
@@ -34,10 +35,11 @@ allocated_wanted None types access spot name = missing None name
 unfoldable pub allocated_remark : Known → Option TypeNo → Spot → Ident → Remark
 allocated_remark known access spot name = allocated_wanted (visible known name.text) known.types access spot name
 
--- What is wrong with `new T'(..)`: its type, an item, or how many items there are.
+-- What is wrong with `new T'(..)`: its type, which has no controlled parts, an item, or how many items there are.
 unfoldable pub aggregate_remark : Known → Option TypeNo → Spot → Ident → ItemsTree → Remark
 aggregate_remark known access spot type_name items =
     allocated_remark known access spot type_name also
+    aggregate_wanted known.types (complete_found known type_name) type_name.spot also
     all_items_remark known (filled_components known (complete_found known type_name)) items type_name.spot
 
 -- The type whose objects a new object joins: the access type that is wanted, where that is known.

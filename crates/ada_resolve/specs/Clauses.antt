@@ -24,7 +24,7 @@ clause_type_wanted None spot = fine
 -- The declared pool of an access type (13.11), where an aspect or a clause names one.
 abbrev pub pool_by : Option TypeForm → Option ℕ
 pool_by (Some (access_to name designated pool)) = pool
-pool_by (Some (record_of name parts components)) = None
+pool_by (Some (record_of name parts components finalization)) = None
 pool_by (Some (object_of record_type)) = None
 pool_by None = None
 
@@ -76,7 +76,7 @@ clause_pool known (named_size name) = pool_found known name
 -- The types once the objects of the access type of a number, where it is one, go to a pool.
 abbrev pub placed_by : Option TypeForm → (pool : ℕ) → List TypeForm → ℕ → List TypeForm
 placed_by (Some (access_to name designated before)) pool types access = slice_set types access (access_to name designated (Some pool))
-placed_by (Some (record_of name parts components)) pool types access = types
+placed_by (Some (record_of name parts components finalization)) pool types access = types
 placed_by (Some (object_of record_type)) pool types access = types
 placed_by None pool types access = types
 

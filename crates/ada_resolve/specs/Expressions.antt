@@ -6,6 +6,7 @@ use Rattle.ada_tree.specs.Names.{Ident}
 use Rattle.ada_tree.specs.Expressions.{ExpressionTree, number_expression, null_expression, path_expression, aggregate_expression, enclosed_expression, unary_expression, binary_expression, ItemsTree, no_more_items, an_item}
 use Rattle.ada_program.specs.Form.{integer}
 use Rattle.ada_program.specs.ProgramForm.{PartForm}
+use Rattle.ada_resolve.specs.Controlled.{aggregate_wanted}
 use Rattle.ada_resolve.specs.Known.{Known}
 use Rattle.ada_resolve.specs.Remark.{Remark, fine, node, ◌also◌}
 use Rattle.ada_resolve.specs.Spots.{expression_spot}
@@ -37,7 +38,7 @@ unfoldable mutual
 
 unfoldable mutual
   -- What is wrong with an expression: each number, `null`, path, aggregate and operator is a node of the source, an operator before its operands,
-  -- and an aggregate before its items, of which each component of a complete record type has one (4.3.1, 4.7).
+  -- and an aggregate before its items, of which each component of a complete record type without controlled parts has one (4.3.1, 4.7).
   pub expression_remark : Known → ExpressionTree → Remark
   expression_remark known (number_expression spot n) = node spot
   expression_remark known (null_expression spot) = node spot
@@ -45,6 +46,7 @@ unfoldable mutual
   expression_remark known (aggregate_expression type_name items) =
       node type_name.spot also
       complete_remark known type_name also
+      aggregate_wanted known.types (complete_found known type_name) type_name.spot also
       items_remark known (filled_components known (complete_found known type_name)) (names_component items)
       (first_filling (filled_components known (complete_found known type_name))) items also
       count_remark (names_component items)

@@ -12,7 +12,7 @@ use Rattle.ada_program.specs.declared.program.VariableNo.{VariableNo}
 use Rattle.ada_resolve.specs.declared.fault.NameRule.{NameRule}
 use Rattle.ada_resolve.specs.declared.fault.NameRule.TheVariants.{UnknownName, DeclaredTwice, NotInProfile, Layout, Limit}
 use Rattle.ada_resolve.specs.declared.library.LibraryName.{LibraryName}
-use Rattle.ada_resolve.specs.declared.library.LibraryName.TheVariants.{TextIo, PutLine, UncheckedDeallocation, Finalization, OfFinalization, Pools, FirstFitPool, OfPools, RunInput, Get, EndError, OtherUnit, Unknown}
+use Rattle.ada_resolve.specs.declared.library.LibraryName.TheVariants.{TextIo, PutLine, UncheckedDeallocation, Finalization, Controlled, LimitedControlled, Pools, FirstFitPool, OfPools, RunInput, Get, EndError, OtherUnit, Unknown}
 use Rattle.ada_resolve.specs.declared.library.Withs.{Withs}
 use Rattle.ada_resolve.specs.declared.scope.Entity.{Entity}
 use Rattle.ada_resolve.specs.declared.scope.Entity.TheVariants as entity
@@ -40,8 +40,8 @@ pub record Part : Type 0 where
 
 -- What is known: the library units of the with clauses, the main procedure's name, the declarative part that declares here, those around it, the
 -- inner ones first (8.1); by their numbers all types, all pools, the bodies of the procedures that have ended, the variables of the body at this
--- place, all exceptions, of which that is the name, and all texts; and the numbers of the access types that instances of Unchecked_Deallocation have
--- frozen (13.14).
+-- place, all exceptions, of which that is the name, and all texts; the numbers of the access types that instances of Unchecked_Deallocation have
+-- frozen (13.14); and how many record types with controlled parts are complete (7.6).
 pub record Known : Type 0 where
   pub withs : Withs
   pub procedure : List ℕ
@@ -54,6 +54,7 @@ pub record Known : Type 0 where
   pub exceptions : List (List ℕ)
   pub texts : List (List ℕ)
   pub frozen : List ℕ
+  pub controlled : ℕ
 
 -- The declarative parts of a place, the innermost first (8.1).
 abbrev pub parts : Known → List Part
@@ -180,7 +181,8 @@ is_with withs TextIo = withs.text_io
 is_with withs PutLine = withs.text_io
 is_with withs UncheckedDeallocation = withs.deallocation
 is_with withs Finalization = withs.finalization
-is_with withs OfFinalization = false
+is_with withs Controlled = withs.finalization
+is_with withs LimitedControlled = withs.finalization
 is_with withs Pools = withs.pools
 is_with withs FirstFitPool = withs.pools
 is_with withs OfPools = false
@@ -199,7 +201,6 @@ unused_rule false = UnknownName
 -- stands in no with clause.
 abbrev pub library_rule : Withs → LibraryName → NameRule
 library_rule withs Unknown = NotInProfile
-library_rule withs OfFinalization = unused_rule withs.finalization
 library_rule withs OfPools = unused_rule withs.pools
 library_rule withs name = UnknownName
 

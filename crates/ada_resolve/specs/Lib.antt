@@ -16,12 +16,16 @@ pub mod Types
 pub mod Statics
 -- record types (3.8)
 pub mod Records
+-- types that are derived from one of Ada.Finalization (3.4, 7.6)
+pub mod Derived
 -- instances of Unchecked_Deallocation (12.3, 13.11.2)
 pub mod Instances
 -- attribute clauses (13.3)
 pub mod Clauses
 -- paths where a value is wanted (4.1)
 pub mod Paths
+-- controlled parts of records (7.6)
+pub mod Controlled
 -- operators (4.5)
 pub mod Operators
 -- the items of aggregates (4.3.1)

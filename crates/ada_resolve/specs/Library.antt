@@ -6,7 +6,7 @@ use Rattle.ada_program.specs.declared.program.Exception.TheVariants.{ConstraintE
 use Rattle.ada_resolve.specs.declared.fault.NameRule.{NameRule}
 use Rattle.ada_resolve.specs.declared.fault.NameRule.TheVariants.{UnknownName, NotInProfile}
 use Rattle.ada_resolve.specs.declared.library.LibraryName.{LibraryName}
-use Rattle.ada_resolve.specs.declared.library.LibraryName.TheVariants.{TextIo, PutLine, UncheckedDeallocation, Finalization, OfFinalization, Pools, FirstFitPool, OfPools, RunInput, Get, EndError, OtherUnit, Unknown}
+use Rattle.ada_resolve.specs.declared.library.LibraryName.TheVariants.{TextIo, PutLine, UncheckedDeallocation, Finalization, Controlled, LimitedControlled, Pools, FirstFitPool, OfPools, RunInput, Get, EndError, OtherUnit, Unknown}
 use Rattle.ada_resolve.specs.declared.scope.Entity.{Entity}
 use Rattle.ada_resolve.specs.declared.scope.Entity.TheVariants.{Integer, Boolean, Truth, Exception}
 
@@ -51,12 +51,13 @@ spelled [] (t ∷ ts) = false
 spelled (i ∷ is) [] = false
 spelled (i ∷ is) (t ∷ ts) = bytes_eq i.text t && spelled is ts
 
--- Further names under Ada: Finalization and its names (7.6), which are not in use yet, and the unit Unchecked_Deallocate_Subpool (13.11.5), which is not.
+-- Further names under Ada: Finalization and the two types from which controlled types are derived (7.6), and the unit Unchecked_Deallocate_Subpool (13.11.5),
+-- which is not in use.
 unfoldable pub other_in_ada : List Ident → LibraryName
 other_in_ada rest =
     if spelled rest (codes "FINALIZATION" ∷ []) then Finalization else (
-    if spelled rest (codes "FINALIZATION" ∷ codes "CONTROLLED" ∷ []) then OfFinalization else (
-    if spelled rest (codes "FINALIZATION" ∷ codes "LIMITED_CONTROLLED" ∷ []) then OfFinalization else (
+    if spelled rest (codes "FINALIZATION" ∷ codes "CONTROLLED" ∷ []) then Controlled else (
+    if spelled rest (codes "FINALIZATION" ∷ codes "LIMITED_CONTROLLED" ∷ []) then LimitedControlled else (
     if spelled rest (codes "UNCHECKED_DEALLOCATE_SUBPOOL" ∷ []) then OtherUnit else Unknown)))
 
 -- What the names under Ada stand for (A.2): Text_IO (A.10), Unchecked_Deallocation (13.11.2), and others.

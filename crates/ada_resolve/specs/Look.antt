@@ -55,12 +55,12 @@ use Rattle.ada_resolve.specs.Expressions.{expression_meant, expression_remark, f
 use Rattle.ada_resolve.specs.Items.{Filling, filled_components, first_filling, names_component}
 use Rattle.ada_resolve.specs.Known.{library_path_found, library_path_remark}
 use Rattle.ada_resolve.specs.Lines.{line_found, line_remark, put_line_found, put_line_remark}
-use Rattle.ada_resolve.specs.Kept.{kept_meant}
+use Rattle.ada_resolve.specs.Kept.{kept_from}
 use Rattle.ada_resolve.specs.Method.{Seen, known, IsNoted}
 use Rattle.ada_resolve.specs.Objects.{initial_found, initial_remark}
 use Rattle.ada_resolve.specs.Operators.{integer_in}
 use Rattle.ada_resolve.specs.Paths.{Meant, named_meant, named_remark, outer_meant, path_meant, path_remark, selector_reached, selector_remark, selectors_reached, selectors_remark, variable_meant, variable_path_remark}
-use Rattle.ada_resolve.specs.Records.{Composition, all_components_remark, components_written}
+use Rattle.ada_resolve.specs.Records.{Composition, components_remark, components_written}
 use Rattle.ada_resolve.specs.Procedures.{Formals, formals_remark, no_formals, with_formals}
 use Rattle.ada_resolve.specs.Remark.{Remark}
 use Rattle.ada_resolve.specs.Rights.{Assigned, right_found, right_remark}
@@ -362,16 +362,16 @@ target_look seen target = record {
   meaning = target_found (known seen) (path_of target);
 }
 
--- What a record type is made of (3.8), as the code keeps it.
-abbrev pub components_look : Seen → RecordDefinition → Look Composition
-components_look seen definition = record {
-  remark = all_components_remark (known seen) (components_written (record_of definition));
-  meaning = kept_meant (known seen) (components_written (record_of definition));
+-- What a record type is made of (3.8), as the code keeps it, with these components behind what it is made of before.
+abbrev pub components_look : Seen → Composition → RecordDefinition → Look Composition
+components_look seen before definition = record {
+  remark = components_remark (known seen) before (components_written (record_of definition));
+  meaning = kept_from (known seen) before (components_written (record_of definition));
 }
 
 -- The components that are listed.
-abbrev pub listed_look : Seen → ComponentDefinition → List ComponentDefinition → Look Composition
-listed_look seen first rest = record {
-  remark = all_components_remark (known seen) (map component_of (first ∷ rest));
-  meaning = kept_meant (known seen) (map component_of (first ∷ rest));
+abbrev pub listed_look : Seen → Composition → ComponentDefinition → List ComponentDefinition → Look Composition
+listed_look seen before first rest = record {
+  remark = components_remark (known seen) before (map component_of (first ∷ rest));
+  meaning = kept_from (known seen) before (map component_of (first ∷ rest));
 }

@@ -11,7 +11,7 @@ use Rattle.ada_tree.specs.ExpressionView.{argument_of, expression_of, optional_r
 use Rattle.ada_tree.specs.Expressions.{ExpressionTree}
 use Rattle.ada_tree.specs.Names.{Ident, ident_of, name_of, optional_ident_of}
 use Rattle.ada_tree.specs.Records.{component_of, record_of, static_of}
-use Rattle.ada_tree.specs.Statements.{DeclarationTree, access_type, attribute_clause, borrower_declaration, constant_declaration, instance, object_declaration, pool_declaration, record_type, HandlersTree, branches_from, handlers_from}
+use Rattle.ada_tree.specs.Statements.{DeclarationTree, access_type, attribute_clause, borrower_declaration, constant_declaration, derived_type, instance, object_declaration, pool_declaration, record_type, HandlersTree, branches_from, handlers_from}
 use Rattle.ada_tree.specs.StatementView.{branch_of, handler_of, unit_of}
 use Rattle.ada_tree.specs.declared.declarations.Aspect.{Aspect}
 use Rattle.ada_tree.specs.declared.declarations.Formal.{Formal}
@@ -150,6 +150,10 @@ access_tree spot name designated aspect = access_type spot (ident_of name) (iden
 -- `type T is record .. end record;` (3.8)
 abbrev pub record_tree : Spot → Identifier → RecordDefinition → DeclarationTree
 record_tree spot name definition = record_type spot (ident_of name) (record_of definition)
+
+-- `type T is new Ada.Finalization.Controlled with record .. end record;` (3.4, 7.6)
+abbrev pub derived_tree : Spot → Identifier → Name → RecordDefinition → DeclarationTree
+derived_tree spot name parent definition = derived_type spot (ident_of name) (name_of parent) (record_of definition)
 
 -- `N : constant := 1;` (3.3.2)
 abbrev pub constant_tree : Identifier → StaticValue → DeclarationTree

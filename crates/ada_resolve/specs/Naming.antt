@@ -2,13 +2,15 @@
 -- and by the tables of the program. An inner declaration hides the outer ones (8.3); types, variables and exceptions are numbered in the order
 -- of the text, and so are the texts that Put_Line writes.
 
-use Rattle.std.specs.Prelude.{◌≡◌, ◌⊎◌, ℕ, ◌+◌, ◌≤◌, Bool, true, false, ◌==◌, ◌||◌, if◌then◌else◌, List, [], ◌∷◌, ◌++◌, length, Option, Some, None, slice_get, codes, bytes_eq, ℤ, pos}
+use Rattle.std.specs.List.{list_any}
+use Rattle.std.specs.Prelude.{◌≡◌, ◌⊎◌, ℕ, ◌+◌, ◌<◌, ◌≤◌, Bool, true, false, ◌==◌, ◌||◌, if◌then◌else◌, List, [], ◌∷◌, ◌++◌, length, Option, Some, None, slice_get, codes, bytes_eq, ℤ, pos}
 use Rattle.ada_tree.specs.Names.{Ident, NameTree}
 use Rattle.ada_tree.specs.Declarations.{AspectTree, SizeTree, number_size, named_size}
 use Rattle.ada_tree.specs.Records.{StaticTree, plain, minus, named as static_name, ComponentTree}
-use Rattle.ada_tree.specs.Statements.{DeclarationTree, access_type, record_type}
+use Rattle.ada_tree.specs.Statements.{DeclarationTree, access_type, record_type, derived_type}
 use Rattle.ada_program.specs.declared.program.ComponentKind.{ComponentKind}
 use Rattle.ada_program.specs.declared.program.ComponentKind.TheVariants as component
+use Rattle.ada_program.specs.declared.program.Finalization.{Finalization}
 use Rattle.ada_program.specs.declared.program.Exception.{Exception}
 use Rattle.ada_program.specs.declared.program.Exception.TheVariants as exception
 use Rattle.ada_program.specs.declared.program.PartKind.{PartKind}
@@ -16,8 +18,11 @@ use Rattle.ada_program.specs.declared.program.PartKind.TheVariants as part
 use Rattle.ada_program.specs.declared.program.VariableKind.{VariableKind}
 use Rattle.ada_program.specs.declared.program.VariableKind.TheVariants as variable
 use Rattle.ada_program.specs.ProgramForm.{PartForm, PoolForm, TypeForm, record_of, access_to, VariableForm, BodyForm}
+use Rattle.ada_program.specs.WellFormed.{parts_within}
+use Rattle.ada_resolve.specs.Controlled.{limited_within}
+use Rattle.ada_resolve.specs.Derived.{parent_part}
 use Rattle.ada_resolve.specs.Library.{library_name}
-use Rattle.ada_resolve.specs.declared.library.LibraryName.TheVariants.{UncheckedDeallocation, FirstFitPool, EndError}
+use Rattle.ada_resolve.specs.declared.library.LibraryName.TheVariants.{UncheckedDeallocation, Controlled, LimitedControlled, FirstFitPool, EndError}
 use Rattle.ada_resolve.specs.Pools.{most_words}
 use Rattle.ada_resolve.specs.Records.{components_written, kinds_within}
 use Rattle.ada_resolve.specs.Statics.{at_most_greatest, integer_of}
@@ -45,8 +50,8 @@ pub record Binding : Type 0 where
 
 -- A place in the text: what the innermost declarative part has bound before it, the last first; what the parts around it have bound, the inner
 -- ones first; the number of the first type of the part; how many types, pools and exceptions are declared before it, how many variables of its body,
--- and how many bodies of procedures have ended before it; how many texts Put_Line writes before it; and the numbers of the types whose pools aspects
--- and clauses before it name.
+-- and how many bodies of procedures have ended before it; how many texts Put_Line writes before it; the numbers of the types whose pools aspects
+-- and clauses before it name; and how many record types with controlled parts are complete before it (7.6).
 pub record Place : Type 0 where
   pub here : List Binding
   pub outer : List Binding
@@ -58,6 +63,7 @@ pub record Place : Type 0 where
   pub exceptions : ℕ
   pub texts : ℕ
   pub placed : List ℕ
+  pub controlled : ℕ
 
 -- What a tree is read by: a place in it, the tables of the program, and the variables of the body at the place.
 pub record Context : Type 0 where
@@ -124,12 +130,14 @@ IsStaticRead p (static_name name) value = IsNumberNamed p name.text value
 -- A name is that of the record type of a number (3.8).
 abbrev pub IsRecordNamed : Context → List ℕ → ℕ → Type 0
 IsRecordNamed p text t =
-    IsTypeNamed p text t × (parts : List PartForm) × (components : List ComponentKind) × (slice_get p.types t ≡ Some (record_of text parts components))
+    IsTypeNamed p text t × (parts : List PartForm) × (components : List ComponentKind) × (finalization : Option Finalization) ×
+    (slice_get p.types t ≡ Some (record_of text parts components finalization))
 
 -- A name is that of the record type of a number, which is not incomplete there (3.8, 3.10.1).
 abbrev pub IsFullRecordNamed : Context → List ℕ → ℕ → Type 0
 IsFullRecordNamed p text t =
-    IsFullTypeNamed p text t × (parts : List PartForm) × (components : List ComponentKind) × (slice_get p.types t ≡ Some (record_of text parts components))
+    IsFullTypeNamed p text t × (parts : List PartForm) × (components : List ComponentKind) × (finalization : Option Finalization) ×
+    (slice_get p.types t ≡ Some (record_of text parts components finalization))
 
 -- A name is that of the access type of a number (3.10).
 abbrev pub IsAccessNamed : Context → List ℕ → ℕ → Type 0
@@ -193,6 +201,26 @@ AreLaidOut types before (c ∷ cs) components =
     (c.first ≡ before) × (rest : List ComponentKind) × (components ≡ kinds_within types c.kind ++ rest) ×
     AreLaidOut types (before + length (kinds_within types c.kind)) cs rest
 
+-- Controlled parts lie one behind the other (7.6): those of each component begin where those before it end, and there are as many. The first component
+-- stands behind as many of them.
+abbrev pub ArePartsInOrder : List TypeForm → (before : ℕ) → List PartForm → (count : ℕ) → Type 0
+ArePartsInOrder types before [] count = count ≡ before
+ArePartsInOrder types before (c ∷ cs) count = (c.part ≡ before) × ArePartsInOrder types (before + parts_within types c.kind) cs count
+
+-- How the objects of a record type with these components are finalized (7.6), whose parent makes it limited or not: it has as many controlled parts as
+-- its components, if any, and it is limited where its parent or one of its components makes it so (7.5). Its number tells how many record types with
+-- controlled parts are complete before it.
+abbrev pub IsFinalized : List TypeForm → (number : ℕ) → (limited : Bool) → List PartForm → Option Finalization → Type 0
+IsFinalized types number limited parts None = ArePartsInOrder types 0 parts 0
+IsFinalized types number limited parts (Some f) =
+    (f.number.0 ≡ number) × (0 < f.parts) × ArePartsInOrder types 0 parts f.parts ×
+    (f.limited ≡ (limited || list_any (λ c. limited_within types c.kind) parts))
+
+-- The parent of a derived type is Controlled or Limited_Controlled (7.6), the second of which makes it limited (7.5).
+abbrev pub IsParentRead : NameTree → (limited : Bool) → Type 0
+IsParentRead parent false = library_name parent.first.text parent.rest ≡ Controlled
+IsParentRead parent true = library_name parent.first.text parent.rest ≡ LimitedControlled
+
 -- A name is that of the pool of a number (13.11).
 abbrev pub IsPoolNamed : Context → List ℕ → ℕ → Type 0
 IsPoolNamed p text n = IsBound p text (a_pool n)
@@ -229,14 +257,22 @@ IsClauseRead p name attribute (named_size pool) t =
     (is_one_of t p.place.placed ≡ false)
 
 -- The type of a number is the one that a full type declaration declares (3.2.1): an access type, or a record type with its components, each of
--- which has a name of its own, and with their elementary components.
+-- which has a name of its own, and with their elementary components and controlled parts. Before the components of a derived type stands its parent part.
 abbrev pub IsTypeRead : Context → DeclarationTree → ℕ → Type 0
 IsTypeRead p (access_type spot name designated aspect) t =
     (d : ℕ) × (pool : Option ℕ) × (slice_get p.types t ≡ Some (access_to name.text d pool)) × IsRecordNamed p designated.text d ×
     IsAspectRead p aspect pool
 IsTypeRead p (record_type spot name definition) t =
-    (parts : List PartForm) × (components : List ComponentKind) × (slice_get p.types t ≡ Some (record_of name.text parts components)) ×
-    AreComponentsRead p (components_written definition) parts × AreNamedApart parts × AreLaidOut p.types 0 parts components
+    (parts : List PartForm) × (components : List ComponentKind) × (finalization : Option Finalization) ×
+    (slice_get p.types t ≡ Some (record_of name.text parts components finalization)) × AreComponentsRead p (components_written definition) parts ×
+    AreNamedApart parts × AreLaidOut p.types 0 parts components ×
+    IsFinalized p.types p.place.controlled false parts finalization
+IsTypeRead p (derived_type spot name parent definition) t =
+    (limited : Bool) × (parts : List PartForm) × (components : List ComponentKind) × (finalization : Option Finalization) ×
+    (slice_get p.types t ≡ Some (record_of name.text (parent_part ∷ parts) components finalization)) × IsParentRead parent limited ×
+    AreComponentsRead p (components_written definition) parts × AreNamedApart (parent_part ∷ parts) ×
+    AreLaidOut p.types 0 (parent_part ∷ parts) components ×
+    IsFinalized p.types p.place.controlled limited (parent_part ∷ parts) finalization
 IsTypeRead p other t = ⊥
 
 -- An instance of Unchecked_Deallocation is for the access type of a number (13.11.2).

@@ -100,7 +100,7 @@ object_remark known name type_name initial =
 -- The collections of the access types that have none, in the order of the types, the first of which has this number.
 abbrev pub collections_of : ℕ → List TypeForm → List DeclarationForm → List DeclarationForm
 collections_of t [] elaborated = []
-collections_of t (record_of name parts components ∷ types) elaborated = collections_of (t + 1) types elaborated
+collections_of t (record_of name parts components finalization ∷ types) elaborated = collections_of (t + 1) types elaborated
 collections_of t (access_to name designated pool ∷ types) elaborated =
     if is_collected t elaborated then collections_of (t + 1) types elaborated else collects t ∷ collections_of (t + 1) types elaborated
 collections_of t (object_of record_type ∷ types) elaborated = collections_of (t + 1) types elaborated

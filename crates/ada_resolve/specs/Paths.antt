@@ -50,7 +50,7 @@ variable_path x spot = selected_path x false spot []
 
 -- The components of a record type as they are declared (3.8); none, if it is no record type.
 abbrev pub components_in : Option TypeForm → List PartForm
-components_in (Some (record_of name parts components)) = parts
+components_in (Some (record_of name parts components finalization)) = parts
 components_in (Some (access_to name designated pool)) = []
 components_in (Some (object_of record_type)) = []
 components_in None = []
@@ -61,7 +61,7 @@ components_of types t = components_in (slice_get types t)
 
 -- The elementary components of a record type at any depth (3.8); none, if it is no record type.
 abbrev pub elementary_in : Option TypeForm → List ComponentKind
-elementary_in (Some (record_of name parts components)) = components
+elementary_in (Some (record_of name parts components finalization)) = components
 elementary_in (Some (access_to name designated pool)) = []
 elementary_in (Some (object_of record_type)) = []
 elementary_in None = []
@@ -73,7 +73,7 @@ elementary_of types t = elementary_in (slice_get types t)
 -- The type that an access type designates (3.10).
 abbrev pub designated_in : Option TypeForm → Option ℕ
 designated_in (Some (access_to name designated pool)) = Some designated
-designated_in (Some (record_of name parts components)) = None
+designated_in (Some (record_of name parts components finalization)) = None
 designated_in (Some (object_of record_type)) = None
 designated_in None = None
 
@@ -84,7 +84,7 @@ designated_of types access = designated_in (slice_get types access)
 -- The record type of the record object or parameter that is known by a type (3.3.1, 6.2).
 abbrev pub record_known_by : Option TypeForm → Option ℕ
 record_known_by (Some (object_of record_type)) = Some record_type
-record_known_by (Some (record_of name parts components)) = None
+record_known_by (Some (record_of name parts components finalization)) = None
 record_known_by (Some (access_to name designated pool)) = None
 record_known_by None = None
 
@@ -92,9 +92,9 @@ record_known_by None = None
 unfoldable pub record_of_object : List TypeForm → ℕ → Option ℕ
 record_of_object types object = record_known_by (slice_get types object)
 
--- What a component is, and the number of its first elementary component in the record type.
+-- What a component is, and the numbers of its first elementary component and of its first controlled part in the record type.
 abbrev pub known_component : PartForm → KnownComponent
-known_component c = record { kind = c.kind; first = c.first }
+known_component c = record { kind = c.kind; first = c.first; part = c.part }
 
 -- A component by its place among those that are declared, and what it is.
 abbrev pub component_at : ℕ → Option PartForm → Option (ℕ × KnownComponent)
@@ -108,7 +108,7 @@ component_named at text (c ∷ cs) = if bytes_eq text c.name then Some (at, know
 
 -- The name of a type.
 abbrev pub name_of_type : Option TypeForm → Option (List ℕ)
-name_of_type (Some (record_of name parts components)) = Some name
+name_of_type (Some (record_of name parts components finalization)) = Some name
 name_of_type (Some (access_to name designated pool)) = Some name
 name_of_type (Some (object_of record_type)) = None
 name_of_type None = None
@@ -141,29 +141,34 @@ component_in known None c = None
 -- The component of a name behind what is reached: of the object that an access value gives access to, or of the object itself.
 abbrev pub component_behind : Known → Reached → Ident → Option (ℕ × KnownComponent)
 component_behind known (reached.Value (variable.Access access)) c = component_in known (designated_of known.types access.0) c
-component_behind known (reached.Object t first) c = component_in known (Some t.0) c
+component_behind known (reached.Object t first part) c = component_in known (Some t.0) c
 component_behind known other c = None
 
 -- The number of the first elementary component of what is reached, in the object that the last access value gives access to.
 abbrev pub first_behind : Reached → ℕ
-first_behind (reached.Object t first) = first
+first_behind (reached.Object t first part) = first
 first_behind other = 0
 
--- What a component reaches (4.1.3), whose first elementary component has this number: the value of an elementary one, or a record. The
--- parent part has no name, so nothing leads to it (3.4).
-abbrev pub held_by : PartKind → ℕ → Reached
-held_by (part.Elementary kind) first = reached.Value (held_kind kind)
-held_by (part.Record t) first = reached.Object t first
-held_by part.Parent first = reached.Nothing
+-- The number of the first controlled part of what is reached, in that object (7.6).
+abbrev pub part_behind : Reached → ℕ
+part_behind (reached.Object t first part) = part
+part_behind other = 0
 
--- What a component reaches, where it is found: it lies behind as many elementary components.
-abbrev pub held_in : ℕ → Option (ℕ × KnownComponent) → Reached
-held_in before (Some found) = held_by found.1.kind (before + found.1.first)
-held_in before None = reached.Nothing
+-- What a component reaches (4.1.3), whose first elementary component and first controlled part have these numbers: the value of an elementary one, or
+-- a record. The parent part has no name, so nothing leads to it (3.4).
+abbrev pub held_by : PartKind → (first part : ℕ) → Reached
+held_by (part.Elementary kind) first from = reached.Value (held_kind kind)
+held_by (part.Record t) first from = reached.Object t first from
+held_by part.Parent first from = reached.Nothing
+
+-- What a component reaches, where it is found: it lies behind as many elementary components, and behind as many controlled parts.
+abbrev pub held_in : (before parts : ℕ) → Option (ℕ × KnownComponent) → Reached
+held_in before parts (Some found) = held_by found.1.kind (before + found.1.first) (parts + found.1.part)
+held_in before parts None = reached.Nothing
 
 -- The object of a record type is reached, which is complete (3.10.1).
 abbrev pub object_in : Known → Option ℕ → Reached
-object_in known (Some t) = if is_incomplete_type known t then reached.Nothing else reached.Object (record { 0 = t }) 0
+object_in known (Some t) = if is_incomplete_type known t then reached.Nothing else reached.Object (record { 0 = t }) 0 0
 object_in known None = reached.Nothing
 
 -- What `all` reaches (4.1): the object that an access value gives access to.
@@ -173,7 +178,7 @@ object_behind known other = reached.Nothing
 
 -- What a selector reaches.
 abbrev pub selector_reached : Known → Reached → SelectorTree → Reached
-selector_reached known at (component c) = held_in (first_behind at) (component_behind known at c)
+selector_reached known at (component c) = held_in (first_behind at) (part_behind at) (component_behind known at c)
 selector_reached known at (dereference spot) = object_behind known at
 
 -- What selectors reach, one behind the other.
@@ -209,9 +214,9 @@ is_record_kind variable.Boolean = false
 is_record_kind (variable.Access access) = false
 is_record_kind (variable.Record object) = true
 
--- A record object as a whole, where its record type is known: its first elementary component is its own.
+-- A record object as a whole, where its record type is known: its first elementary component and its first controlled part are its own.
 abbrev pub whole_object : Option ℕ → VariableKind → Reached
-whole_object (Some t) kind = reached.Object (record { 0 = t }) 0
+whole_object (Some t) kind = reached.Object (record { 0 = t }) 0 0
 whole_object None kind = reached.Value kind
 
 -- What the name of a variable reaches (4.1): its value, or the record object that it is.
@@ -221,9 +226,10 @@ variable_reached known variable.Boolean = reached.Value variable.Boolean
 variable_reached known (variable.Access access) = reached.Value (variable.Access access)
 variable_reached known (variable.Record object) = whole_object (record_of_object known.types object.0) (variable.Record object)
 
--- A path to a record of a type, which begins with this elementary component of the object to which the other path leads (4.1).
-abbrev pub record_path : PathForm → TypeNo → (first : ℕ) → RecordPathForm
-record_path object t first = record { object = object; first = first; record_type = t.0 }
+-- A path to a record of a type, which begins with this elementary component and this controlled part of the object to which the other path
+-- leads (4.1).
+abbrev pub record_path : PathForm → TypeNo → (first part : ℕ) → RecordPathForm
+record_path object t first from = record { object = object; first = first; part = from; record_type = t.0 }
 
 -- What a path means, by what it reaches.
 abbrev pub reached_meant : PathForm → Reached → Meant
@@ -231,7 +237,7 @@ reached_meant path (reached.Value variable.Integer) = integer_value (reads path)
 reached_meant path (reached.Value variable.Boolean) = boolean_value (reads path)
 reached_meant path (reached.Value (variable.Access t)) = access_value path t
 reached_meant path (reached.Value (variable.Record object)) = unknown
-reached_meant path (reached.Object t first) = record_value (record_path path t first)
+reached_meant path (reached.Object t first part) = record_value (record_path path t first part)
 reached_meant path reached.Nothing = unknown
 
 -- A variable, by what it holds and what is selected from it.
@@ -297,7 +303,7 @@ abbrev pub component_behind_remark : Known → Spot → Reached → Ident → Re
 component_behind_remark known spot reached.Nothing c = fine
 component_behind_remark known spot (reached.Value (variable.Access access)) c =
     component_within_remark known spot (designated_of known.types access.0) c
-component_behind_remark known spot (reached.Object t first) c = component_within_remark known spot (Some t.0) c
+component_behind_remark known spot (reached.Object t first part) c = component_within_remark known spot (Some t.0) c
 component_behind_remark known spot other c = wrong spot WrongType
 
 -- What is wrong with `all` behind what is reached: it names what an access value gives access to (4.1).

@@ -8,12 +8,13 @@ use Rattle.ada_values.specs.declared.operator.BinaryOperator.TheVariants as bina
 use Rattle.ada_tree.specs.Names.{Ident, NameTree, SelectorTree, component, dereference, PathTree}
 use Rattle.ada_tree.specs.Expressions.{ExpressionTree, number_expression, null_expression, path_expression, aggregate_expression, enclosed_expression, unary_expression, binary_expression, ItemsTree, no_more_items, an_item, RightTree, expression_right, allocator_right, creation_right, ArgumentTree, expression_argument, text_argument, attribute_argument}
 use Rattle.ada_tree.specs.Declarations.{ChoiceTree, named_choice, others_choice, FormalTree, HeadTree}
-use Rattle.ada_tree.specs.Statements.{DeclarationTree, exception_declaration, constant_declaration, pool_declaration, attribute_clause, object_declaration, borrower_declaration, incomplete_type, access_type, record_type, body_declaration, instance, DeclarationsTree, no_declarations, a_declaration, SchemeTree, endless, while_scheme, for_scheme, StatementTree, null_statement, assignment, call, if_statement, loop_statement, exit_statement, return_statement, raise_statement, block, declare_block, StatementsTree, no_statements, a_statement, BranchesTree, no_branches, a_branch, HandlersTree, no_handlers, a_handler, SequenceTree, a_sequence, UnitTree}
+use Rattle.ada_tree.specs.Statements.{DeclarationTree, exception_declaration, constant_declaration, pool_declaration, attribute_clause, object_declaration, borrower_declaration, incomplete_type, access_type, record_type, derived_type, body_declaration, instance, DeclarationsTree, no_declarations, a_declaration, SchemeTree, endless, while_scheme, for_scheme, StatementTree, null_statement, assignment, call, if_statement, loop_statement, exit_statement, return_statement, raise_statement, block, declare_block, StatementsTree, no_statements, a_statement, BranchesTree, no_branches, a_branch, HandlersTree, no_handlers, a_handler, SequenceTree, a_sequence, UnitTree}
 use Rattle.ada_program.specs.declared.program.FormalMode.{FormalMode}
 use Rattle.ada_program.specs.declared.program.FormalMode.TheVariants.{In, InOut}
 use Rattle.ada_program.specs.declared.program.Choice.{Choice}
 use Rattle.ada_program.specs.declared.program.Choice.TheVariants as choice
 use Rattle.ada_program.specs.declared.program.ComponentKind.{ComponentKind}
+use Rattle.ada_program.specs.declared.program.Finalization.{Finalization}
 use Rattle.ada_program.specs.declared.program.PartKind.{PartKind}
 use Rattle.ada_program.specs.declared.program.PartKind.TheVariants as part
 use Rattle.ada_program.specs.declared.program.TypeNo.{TypeNo}
@@ -30,6 +31,7 @@ use Rattle.ada_resolve.specs.Clauses.{pool_of}
 use Rattle.ada_resolve.specs.Known.{parts_of}
 use Rattle.ada_resolve.specs.Operators.{joined}
 use Rattle.ada_resolve.specs.Paths.{follows_to, follows_value}
+use Rattle.ada_resolve.specs.Records.{counted}
 use Rattle.ada_resolve.specs.Spots.{end_of}
 use Rattle.ada_resolve.specs.Statics.{at_most_greatest, integer_of}
 
@@ -39,18 +41,19 @@ type_behind types None = None
 type_behind types (Some (variable.Access access)) = fits.designated_type types access.0
 type_behind types (Some other) = None
 
--- Where selectors have led (4.1): to a value, or to an object of a record type, whose first elementary component has this number in the object
--- that the last access value gives access to, or in the record object with which the path begins.
+-- Where selectors have led (4.1): to a value, or to an object of a record type, whose first elementary component and first controlled part have these
+-- numbers in the object that the last access value gives access to, or in the record object with which the path begins.
 pub data Way : Type 0 where
   at_value : Option VariableKind → Way
-  at_object : (t first : ℕ) → Way
+  at_object : (t first part : ℕ) → Way
 
--- A component of a record type has the name, is of this kind, and begins behind as many elementary components (4.1.3).
-abbrev pub IsComponentNamed : Context → ℕ → List ℕ → PartKind → ℕ → Type 0
-IsComponentNamed p t text kind first =
-    (name : List ℕ) × (parts : List PartForm) × (components : List ComponentKind) × (c : ℕ) ×
-    (slice_get p.types t ≡ Some (record_of name parts components)) ×
-    (slice_get parts c ≡ Some (record { name = text; kind = kind; first = first }))
+-- A component of a record type has the name, is of this kind, and begins behind as many elementary components and behind as many controlled parts
+-- (4.1.3).
+abbrev pub IsComponentNamed : Context → ℕ → List ℕ → PartKind → (first part : ℕ) → Type 0
+IsComponentNamed p t text kind first from =
+    (name : List ℕ) × (parts : List PartForm) × (components : List ComponentKind) × (finalization : Option Finalization) × (c : ℕ) ×
+    (slice_get p.types t ≡ Some (record_of name parts components finalization)) ×
+    (slice_get parts c ≡ Some (record { name = text; kind = kind; first = first; part = from }))
 
 -- Selectors lead on by the elementary components of these numbers (4.1), to a value or to an object: `all`, which is written or not, leads to the
 -- object that an access value gives access to; a name leads from an object to its component of that name.
@@ -58,26 +61,27 @@ pub data AreSelectorsRead (p : Context) : Way → List SelectorTree → List ℕ
   at_end : {way : Way} → AreSelectorsRead p way [] [] way
   by_all :
       {kind : Option VariableKind} {t : ℕ} {spot : Spot} {selectors : List SelectorTree} {cs : List ℕ} {end : Way} →
-      type_behind p.types kind ≡ Some t → AreSelectorsRead p (at_object t 0) selectors cs end →
+      type_behind p.types kind ≡ Some t → AreSelectorsRead p (at_object t 0 0) selectors cs end →
       AreSelectorsRead p (at_value kind) (dereference spot ∷ selectors) cs end
   by_value :
       {kind : Option VariableKind} {t : ℕ} {i : Ident} {selectors : List SelectorTree} {cs : List ℕ} {end : Way} →
-      type_behind p.types kind ≡ Some t → AreSelectorsRead p (at_object t 0) (component i ∷ selectors) cs end →
+      type_behind p.types kind ≡ Some t → AreSelectorsRead p (at_object t 0 0) (component i ∷ selectors) cs end →
       AreSelectorsRead p (at_value kind) (component i ∷ selectors) cs end
   to_value :
-      {t before first : ℕ} {kind : ComponentKind} {i : Ident} {selectors : List SelectorTree} {cs : List ℕ} {end : Way} →
-      IsComponentNamed p t i.text (part.Elementary kind) first → AreSelectorsRead p (at_value (Some (fits.held_kind kind))) selectors cs end →
-      AreSelectorsRead p (at_object t before) (component i ∷ selectors) ((before + first) ∷ cs) end
+      {t before parts first from : ℕ} {kind : ComponentKind} {i : Ident} {selectors : List SelectorTree} {cs : List ℕ} {end : Way} →
+      IsComponentNamed p t i.text (part.Elementary kind) first from → AreSelectorsRead p (at_value (Some (fits.held_kind kind))) selectors cs end →
+      AreSelectorsRead p (at_object t before parts) (component i ∷ selectors) ((before + first) ∷ cs) end
   to_record :
-      {t before first : ℕ} {inner : TypeNo} {i : Ident} {selectors : List SelectorTree} {cs : List ℕ} {end : Way} →
-      IsComponentNamed p t i.text (part.Record inner) first → AreSelectorsRead p (at_object inner.0 (before + first)) selectors cs end →
-      AreSelectorsRead p (at_object t before) (component i ∷ selectors) cs end
+      {t before parts first from : ℕ} {inner : TypeNo} {i : Ident} {selectors : List SelectorTree} {cs : List ℕ} {end : Way} →
+      IsComponentNamed p t i.text (part.Record inner) first from →
+      AreSelectorsRead p (at_object inner.0 (before + first) (parts + from)) selectors cs end →
+      AreSelectorsRead p (at_object t before parts) (component i ∷ selectors) cs end
 
 -- Where a path begins (4.1), before its first selector: in a record object, if its variable is one, else at the value of its variable. The path
 -- says which.
 abbrev pub IsBegun : List TypeForm → Option VariableKind → (of_record : Bool) → Way → Type 0
 IsBegun types (Some (variable.Record object)) of_record way =
-    (of_record ≡ true) × (t : ℕ) × (slice_get types object.0 ≡ Some (object_of t)) × (way ≡ at_object t 0)
+    (of_record ≡ true) × (t : ℕ) × (slice_get types object.0 ≡ Some (object_of t)) × (way ≡ at_object t 0 0)
 IsBegun types kind of_record way = (of_record ≡ false) × (way ≡ at_value kind)
 
 -- A path that leads somewhere (4.1): its object has the name that is written, so have its components, and it stands where its first name does.
@@ -95,7 +99,7 @@ pub record IsPathRead (p : Context) (tree : PathTree) (path : PathForm) : Type 0
 
 -- A path to a record (4.1): it leads to such a record, in the object to which its own path leads.
 abbrev pub IsRecordPathRead : Context → PathTree → RecordPathForm → Type 0
-IsRecordPathRead p tree path = IsWayRead p tree path.object (at_object path.record_type path.first)
+IsRecordPathRead p tree path = IsWayRead p tree path.object (at_object path.record_type path.first path.part)
 
 -- A path begins at a constant, and follows an access value on its way (3.10, 4.1).
 abbrev pub FollowsConstant : Context → PathTree → (root : ℕ) → (follows : Bool) → Type 0
@@ -212,9 +216,9 @@ mutual
         IsGiven p (part.Record t) e (item_of_record path ∷ [])
     by_aggregate :
         {t : TypeNo} {e : ExpressionTree} {forms : List ItemForm} →
-        (type_name : Ident) (items : ItemsTree) (parts : List PartForm) (components : List ComponentKind) →
+        (type_name : Ident) (items : ItemsTree) (parts : List PartForm) (components : List ComponentKind) (finalization : Option Finalization) →
         IsAggregate e type_name items → IsFullTypeNamed p type_name.text t.0 →
-        slice_get p.types t.0 ≡ Some (record_of type_name.text parts components) →
+        slice_get p.types t.0 ≡ Some (record_of type_name.text parts components finalization) →
         how_many items ≡ length parts → AreGiven p items 0 parts forms → IsGiven p (part.Record t) e forms
 
   -- Each of these components, the first of which has this number, is given what is written for it among the items, in their order (4.3.1).
@@ -234,9 +238,10 @@ pub record IsAllocationRead (p : Context) (type_name : Ident) (items : ItemsTree
   pub t : ℕ
   pub parts : List PartForm
   pub components : List ComponentKind
+  pub finalization : Option Finalization
   pub designates : fits.designated_type p.types access ≡ Some t
   pub bound : IsFullTypeNamed p type_name.text t
-  pub named : slice_get p.types t ≡ Some (record_of type_name.text parts components)
+  pub named : slice_get p.types t ≡ Some (record_of type_name.text parts components finalization)
   pub filled : AreItemsRead p parts items forms
 
 -- A new object without items (4.8) is of the record type that the name stands for there, which the access type designates.
@@ -380,6 +385,10 @@ abbrev pub with_aspect : DeclarationTree → ℕ → Place → Place
 with_aspect (access_type spot name designated (Some aspect)) t place = with_placed t place
 with_aspect d t place = place
 
+-- The place once one more type is complete, which is counted where it is a record type with controlled parts (7.6).
+abbrev pub with_complete : Option Finalization → Place → Place
+with_complete finalization place = record place { controlled = counted finalization place.controlled }
+
 -- The place once the next variable has the name.
 abbrev pub with_new_variable : Ident → Place → Place
 with_new_variable name place = record (with_binding name (a_variable place.variables) place) { variables = place.variables + 1 }
@@ -476,6 +485,7 @@ AreCompleted place = (text : List ℕ) (t : ℕ) → meaning_among text place.he
 abbrev pub declared_type : DeclarationTree → Option Ident
 declared_type (access_type spot name designated aspect) = Some name
 declared_type (record_type spot name definition) = Some name
+declared_type (derived_type spot name parent definition) = Some name
 declared_type other = None
 
 -- A full type declaration of a name (3.2.1), and the place behind it: in the part of an incomplete type it completes that, which alone has a name
@@ -483,8 +493,10 @@ declared_type other = None
 pub data IsTypeDeclared (p : Context) (d : DeclarationTree) (name : Ident) : (next : Place) → Type 0 where
   by_completion :
       {t : ℕ} → meaning_among name.text p.place.here ≡ Some (an_incomplete_type t) → IsTypeRead p d t →
-      IsTypeDeclared p d name (with_binding name (a_type t) (with_aspect d t p.place))
-  by_new_type : IsNew p.place name → IsTypeRead p d p.place.types → IsTypeDeclared p d name (with_new_type name (with_aspect d p.place.types p.place))
+      IsTypeDeclared p d name (with_binding name (a_type t) (with_complete (fits.finalization_of p.types t) (with_aspect d t p.place)))
+  by_new_type :
+      IsNew p.place name → IsTypeRead p d p.place.types →
+      IsTypeDeclared p d name (with_new_type name (with_complete (fits.finalization_of p.types p.place.types) (with_aspect d p.place.types p.place)))
 
 -- A statement with no others in it (5.1): among others, an exit (5.7) and a return (6.5), each where it stands, and one that raises the
 -- exception of its name (11.3).
@@ -628,6 +640,8 @@ abbrev mutual
       (next : Place) × IsTypeDeclared p (access_type spot name designated aspect) name next × IsPartRead (read_at next p) (Some made) ds forms end
   IsPartRead p (Some made) (a_declaration (record_type spot name definition) ds) forms end =
       (next : Place) × IsTypeDeclared p (record_type spot name definition) name next × IsPartRead (read_at next p) (Some made) ds forms end
+  IsPartRead p (Some made) (a_declaration (derived_type spot name parent definition) ds) forms end =
+      (next : Place) × IsTypeDeclared p (derived_type spot name parent definition) name next × IsPartRead (read_at next p) (Some made) ds forms end
   IsPartRead p (Some made) (a_declaration (constant_declaration name value) ds) forms end =
       (n : ℤ) × IsNew p.place name × IsStaticRead p value n × IsPartRead (read_at (with_binding name (a_number n) p.place) p) (Some made) ds forms end
   IsPartRead p (Some made) (a_declaration (exception_declaration name) ds) forms end =
@@ -698,7 +712,7 @@ abbrev mutual
 
 -- The place before the first declaration of a tree.
 abbrev pub first_place : Place
-first_place = record { here = []; outer = []; first_type = 0; types = 0; pools = 0; bodies = 0; variables = 0; exceptions = 0; texts = 0; placed = [] }
+first_place = record { here = []; outer = []; first_type = 0; types = 0; pools = 0; bodies = 0; variables = 0; exceptions = 0; texts = 0; placed = []; controlled = 0 }
 
 -- A tree is read from there, by the tables of a program.
 abbrev pub first_context : ProgramForm → Context

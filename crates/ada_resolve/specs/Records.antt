@@ -1,24 +1,27 @@
 -- Record types: what is wrong with a declaration, and what is known after it.
 
-use Rattle.std.specs.Prelude.{ℕ, ◌+◌, Bool, false, ◌||◌, nat_lt, List, [], ◌∷◌, ◌++◌, length, Option, Some, None, bytes_eq, ℤ, pos}
+use Rattle.std.specs.Prelude.{ℕ, ◌+◌, ◌==◌, Bool, false, ◌||◌, nat_lt, if◌then◌else◌, List, [], ◌∷◌, ◌++◌, length, Option, Some, None, bytes_eq, ℤ, pos}
 use Rattle.ada_text.specs.declared.spot.Spot.{Spot}
 use Rattle.ada_tree.specs.Names.{Ident}
 use Rattle.ada_tree.specs.Records.{StaticTree, plain, minus, named as static_name, ComponentTree, RecordTree, null_record, null_components, components}
 use Rattle.ada_program.specs.ProgramForm.{PartForm, TypeForm, record_of}
 use Rattle.ada_program.specs.declared.program.ComponentKind.{ComponentKind}
 use Rattle.ada_program.specs.declared.program.ComponentKind.TheVariants as kind
+use Rattle.ada_program.specs.declared.program.Finalization.{Finalization}
 use Rattle.ada_program.specs.declared.program.PartKind.{PartKind}
 use Rattle.ada_program.specs.declared.program.TypeNo.{TypeNo}
 use Rattle.ada_program.specs.declared.program.PartKind.TheVariants as part
+use Rattle.ada_program.specs.WellFormed.{parts_within}
 use Rattle.ada_resolve.specs.declared.fault.NameRule.TheVariants.{DeclaredTwice, WrongType, NotInProfile, NoInitialValue, Limit}
 use Rattle.ada_resolve.specs.declared.scope.Entity.{Entity}
 use Rattle.ada_resolve.specs.declared.scope.Entity.TheVariants as entity
+use Rattle.ada_resolve.specs.Controlled.{limited_within}
 use Rattle.ada_resolve.specs.Known.{Known, declared, visible, missing, name_remark, new_name_remark, type_begins}
 use Rattle.ada_resolve.specs.Library.{is_taken, is_primitive}
 use Rattle.ada_resolve.specs.Paths.{elementary_of}
 use Rattle.ada_resolve.specs.Remark.{Remark, fine, wrong, node, ◌also◌, wrong_if}
 use Rattle.ada_resolve.specs.Statics.{static_remark, static_truth, static_truth_remark, static_value}
-use Rattle.ada_resolve.specs.Types.{completed_type, defined, new_unless, number_of}
+use Rattle.ada_resolve.specs.Types.{completed_type, new_unless, number_of, with_definition}
 
 -- An Integer component has an initial value, a static Integer (3.8; the profile wants one).
 abbrev pub integer_remark : Known → Ident → Option StaticTree → Remark
@@ -97,16 +100,18 @@ kinds_within types (part.Elementary kind) = kind ∷ []
 kinds_within types (part.Record t) = elementary_of types t.0
 kinds_within types part.Parent = []
 
--- What a record type is made of: its components as they are declared, its elementary components at any depth, each in order, and how many
--- components it has at any depth.
+-- What a record type is made of: its components as they are declared, its elementary components at any depth, each in order, how many
+-- components it has at any depth, how many controlled parts, the parent part among them (7.6), and whether one of these is limited (7.5).
 pub record Composition : Type 0 where
   pub parts : List PartForm
   pub kinds : List ComponentKind
   pub size : ℕ
+  pub controlled : ℕ
+  pub limited : Bool
 
 -- What a record type is made of before its first component.
 abbrev pub no_components : Composition
-no_components = record { parts = []; kinds = []; size = 0 }
+no_components = record { parts = []; kinds = []; size = 0; controlled = 0; limited = false }
 
 -- Whether one of the components has the name.
 abbrev pub is_component : List ℕ → List PartForm → Bool
@@ -128,16 +133,18 @@ component_remark known is_named size c =
     wrong_if (nat_lt most_components size) c.name.spot Limit also
     kind_remark known c
 
--- The component, which lies behind as many elementary components.
-unfoldable pub component_meant : Known → ℕ → ComponentTree → PartForm
-component_meant known before c = record { name = c.name.text; kind = kind_of_component known c; first = before }
+-- The component, which lies behind as many elementary components and behind as many controlled parts.
+unfoldable pub component_meant : Known → (before parts : ℕ) → ComponentTree → PartForm
+component_meant known before parts c = record { name = c.name.text; kind = kind_of_component known c; first = before; part = parts }
 
 -- What a record type is made of with one more component, whose declared component joins those before it so.
 abbrev pub composed_by : (PartForm → List PartForm → List PartForm) → Known → Composition → ComponentTree → Composition
 composed_by join known before c = record {
-  parts = join (component_meant known (length before.kinds) c) before.parts;
+  parts = join (component_meant known (length before.kinds) before.controlled c) before.parts;
   kinds = before.kinds ++ kinds_within known.types (kind_of_component known c);
   size = before.size + size_of_component known c;
+  controlled = before.controlled + parts_within known.types (kind_of_component known c);
+  limited = before.limited || limited_within known.types (kind_of_component known c);
 }
 
 -- A declared component stands behind the others.
@@ -186,10 +193,35 @@ record_type_remark known spot name definition =
     new_unless (completed_type known name) (new_name_remark known name spot) also
     all_components_remark known (components_written definition)
 
--- What is known once a record type that is made of this is declared: a new one, or the one that it completes.
+-- How the objects of a record type that is made of this are finalized (7.6), where as many types with controlled parts are complete before it: where it
+-- has some too, that is its number.
+abbrev pub finalization_made : (number : ℕ) → Composition → Option Finalization
+finalization_made number made =
+    if made.controlled == 0 then None else Some (record { number = record { 0 = number }; parts = made.controlled; limited = made.limited })
+
+-- How many record types with controlled parts are complete once this one is.
+abbrev pub counted : Option Finalization → ℕ → ℕ
+counted None before = before
+counted (Some finalization) before = before + 1
+
+-- What is known once one more record type is complete.
+abbrev pub with_counted : Option Finalization → Known → Known
+with_counted finalization known = record known { controlled = counted finalization known.controlled }
+
+-- The record type that is made of this, whose objects are finalized so.
+abbrev pub record_with : Option Finalization → Ident → Composition → TypeForm
+record_with finalization name made = record_of name.text made.parts made.kinds finalization
+
+-- The same, where as many types with controlled parts are complete before it.
+abbrev pub record_made : (number : ℕ) → Ident → Composition → TypeForm
+record_made number name made = record_with (finalization_made number made) name made
+
+-- What is known once a record type that is made of this is declared: a new one, or the one that it completes. It is counted where it has controlled
+-- parts.
 abbrev pub with_record_defined : Option TypeNo → Known → Ident → Composition → Known
 with_record_defined completes known name made =
-    declared (record known { types = defined completes (record_of name.text made.parts made.kinds) known.types })
+    declared
+    (with_counted (finalization_made known.controlled made) (with_definition completes (record_made known.controlled name made) known))
     name.text (entity.Record (number_of completes known.types) made.size)
 
 -- What is known once a record type of a name that is made of this is declared.

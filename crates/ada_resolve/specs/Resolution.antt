@@ -5,7 +5,7 @@ use Rattle.ada_text.specs.declared.spot.Spot.{Spot}
 use Rattle.ada_tree.specs.Expressions.{ExpressionTree}
 use Rattle.ada_tree.specs.Names.{Ident, NameTree}
 use Rattle.ada_tree.specs.Declarations.{ChoiceTree, ClauseTree, HeadTree}
-use Rattle.ada_tree.specs.Statements.{DeclarationTree, exception_declaration, constant_declaration, incomplete_type, access_type, record_type, attribute_clause, pool_declaration, instance, object_declaration, borrower_declaration, body_declaration, DeclarationsTree, no_declarations, a_declaration, SchemeTree, endless, while_scheme, for_scheme, StatementTree, if_statement, loop_statement, block, declare_block, StatementsTree, no_statements, a_statement, BranchesTree, no_branches, a_branch, BranchTree, HandlersTree, no_handlers, a_handler, HandlerTree, SequenceTree, a_sequence, begin_of, UnitTree}
+use Rattle.ada_tree.specs.Statements.{DeclarationTree, exception_declaration, constant_declaration, incomplete_type, access_type, record_type, derived_type, attribute_clause, pool_declaration, instance, object_declaration, borrower_declaration, body_declaration, DeclarationsTree, no_declarations, a_declaration, SchemeTree, endless, while_scheme, for_scheme, StatementTree, if_statement, loop_statement, block, declare_block, StatementsTree, no_statements, a_statement, BranchesTree, no_branches, a_branch, BranchTree, HandlersTree, no_handlers, a_handler, HandlerTree, SequenceTree, a_sequence, begin_of, UnitTree}
 use Rattle.ada_program.specs.Form.{ExpressionForm, StmtForm, chooses, counts, encloses, repeats, StmtsForm, no_stmts, a_stmt, BranchesForm, otherwise, HandlersForm}
 use Rattle.ada_program.specs.Form as form
 use Rattle.ada_program.specs.declared.program.Choice.{Choice}
@@ -25,6 +25,7 @@ use Rattle.ada_resolve.specs.Remark.{Remark, fine, wrong, node, ◌also◌, wron
 use Rattle.ada_resolve.specs.Spots.{declaration_spot, end_of}
 use Rattle.ada_resolve.specs.Borrowers.{borrower_known, borrower_remark}
 use Rattle.ada_resolve.specs.Clauses.{clause_known, clause_remark}
+use Rattle.ada_resolve.specs.Derived.{derived_type_known, derived_type_remark}
 use Rattle.ada_resolve.specs.Exceptions.{choices_meant, choices_remark, exception_known, exception_remark}
 use Rattle.ada_resolve.specs.Instances.{instance_known, instance_remark}
 use Rattle.ada_resolve.specs.Objects.{after_types, object_known, object_remark, with_variable}
@@ -108,6 +109,7 @@ known_first withs procedure = record {
   exceptions = [];
   texts = [];
   frozen = [];
+  controlled = 0;
 }
 
 -- Nothing is noted yet.
@@ -129,6 +131,7 @@ abbrev pub declaration_remark : Known → DeclarationTree → Remark
 declaration_remark known (incomplete_type spot name) = incomplete_remark known spot name
 declaration_remark known (access_type spot name designated aspect) = access_remark known spot name designated aspect
 declaration_remark known (record_type spot name definition) = record_type_remark known spot name definition
+declaration_remark known (derived_type spot name parent definition) = derived_type_remark known spot name parent definition
 declaration_remark known (instance spot name generic designated access) = instance_remark known spot name generic designated access
 declaration_remark known (exception_declaration name) = exception_remark known name
 declaration_remark known (constant_declaration name value) = constant_remark known name value
@@ -143,6 +146,7 @@ abbrev pub declaration_known : Known → DeclarationTree → Known
 declaration_known known (incomplete_type spot name) = incomplete_known known name
 declaration_known known (access_type spot name designated aspect) = access_known known name designated aspect
 declaration_known known (record_type spot name definition) = record_type_known known name definition
+declaration_known known (derived_type spot name parent definition) = derived_type_known known name parent definition
 declaration_known known (instance spot name generic designated access) = instance_known known name designated access
 declaration_known known (exception_declaration name) = exception_known known name
 declaration_known known (constant_declaration name value) = constant_known known name value

@@ -4,11 +4,12 @@ use Rattle.std.specs.Prelude.{Bool, false, List, [], ◌∷◌, Option, Some, No
 use Rattle.ada_text.specs.declared.spot.Spot.{Spot}
 use Rattle.ada_program.specs.Form.{ItemForm, item_of_record, RightForm, nothing, value_of, computes}
 use Rattle.ada_tree.specs.Expressions.{RightTree, expression_right, allocator_right, creation_right}
-use Rattle.ada_program.specs.ProgramForm.{VariableForm}
+use Rattle.ada_program.specs.ProgramForm.{TypeForm, VariableForm}
 use Rattle.ada_program.specs.declared.program.TypeNo.{TypeNo}
 use Rattle.ada_resolve.specs.declared.fault.NameRule.TheVariants.{WrongType, NotInProfile}
 use Rattle.ada_resolve.specs.declared.rights.Held.{Held}
 use Rattle.ada_resolve.specs.declared.rights.Held.TheVariants as held
+use Rattle.ada_resolve.specs.Controlled.{copy_wanted}
 use Rattle.ada_resolve.specs.Known.{Known}
 use Rattle.ada_resolve.specs.Remark.{Remark, fine, wrong, ◌also◌, wrong_if}
 use Rattle.ada_resolve.specs.Spots.{expression_spot}
@@ -26,13 +27,13 @@ access_kind (Some (held.Record t)) = None
 access_kind None = None
 
 -- What is assigned is of the type of what it is assigned to, where that is known: to an access object null, or a value of that very type, and to a
--- record a record of that very type.
-abbrev pub assigned_wanted : Option Held → Meant → Spot → Remark
-assigned_wanted (Some held.Integer) value spot = integer_wanted value spot
-assigned_wanted (Some held.Boolean) value spot = boolean_wanted value spot
-assigned_wanted (Some (held.Access t)) value spot = access_wanted t value spot
-assigned_wanted (Some (held.Record t)) value spot = record_value_wanted t value spot
-assigned_wanted None value spot = fine
+-- record a record of that very type, which is not limited.
+abbrev pub assigned_wanted : List TypeForm → Option Held → Meant → Spot → Remark
+assigned_wanted types (Some held.Integer) value spot = integer_wanted value spot
+assigned_wanted types (Some held.Boolean) value spot = boolean_wanted value spot
+assigned_wanted types (Some (held.Access t)) value spot = access_wanted t value spot
+assigned_wanted types (Some (held.Record t)) value spot = record_value_wanted t value spot also copy_wanted types t value spot
+assigned_wanted types None value spot = fine
 
 -- What a borrower holds goes to borrowers only (3.10.2): where it is known what is assigned to, and it is none, no borrower is assigned to it.
 abbrev pub lent_wanted : List VariableForm → Option Held → (borrows : Bool) → Meant → Spot → Remark
@@ -51,7 +52,7 @@ access_object_wanted None spot = fine
 -- (13.11.4).
 abbrev pub right_remark : Known → Option Held → (borrows : Bool) → RightTree → Remark
 right_remark known kind borrows (expression_right e) =
-    expression_remark known e also assigned_wanted kind (expression_meant known e) (expression_spot e) also
+    expression_remark known e also assigned_wanted known.types kind (expression_meant known e) (expression_spot e) also
     lent_wanted known.variables kind borrows (expression_meant known e) (expression_spot e)
 right_remark known kind borrows (allocator_right spot handle type_name items) =
     access_object_wanted kind spot also wrong_if borrows spot WrongType also

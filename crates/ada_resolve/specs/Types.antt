@@ -69,7 +69,7 @@ complete_remark known name = complete_type_wanted (visible known name.text) name
 -- Whether an access type designates the record type (3.10).
 abbrev pub is_access_to : Option TypeForm → ℕ → Bool
 is_access_to (Some (access_to name designated pool)) wanted = designated == wanted
-is_access_to (Some (record_of name parts components)) wanted = false
+is_access_to (Some (record_of name parts components finalization)) wanted = false
 is_access_to (Some (object_of record_type)) wanted = false
 is_access_to None wanted = false
 
@@ -80,7 +80,7 @@ designates types access wanted = is_access_to (slice_get types access) wanted
 -- Whether an access type of these designates the type.
 abbrev pub is_designated : ℕ → List TypeForm → Bool
 is_designated t [] = false
-is_designated t (record_of name parts components ∷ types) = is_designated t types
+is_designated t (record_of name parts components finalization ∷ types) = is_designated t types
 is_designated t (access_to name designated pool ∷ types) = designated == t || is_designated t types
 is_designated t (object_of record_type ∷ types) = is_designated t types
 
@@ -110,7 +110,7 @@ incomplete_remark known spot name = type_begins known spot also new_name_remark 
 -- After it a record type is known whose components are still to come.
 abbrev pub incomplete_known : Known → Ident → Known
 incomplete_known known name =
-    declared (record known { types = known.types ++ record_of name.text [] [] ∷ [] }) name.text
+    declared (record known { types = known.types ++ record_of name.text [] [] None ∷ [] }) name.text
     (entity.Incomplete (record { 0 = length known.types }))
 
 -- An access type may complete an incomplete type that no access type designates, itself included.

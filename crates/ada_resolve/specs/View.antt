@@ -102,6 +102,7 @@ known_of r = record {
   exceptions = map string_bytes r.exceptions.items;
   texts = map string_bytes r.texts.items;
   frozen = r.frozen.keys;
+  controlled = r.controlled;
 }
 
 -- The items of a record.

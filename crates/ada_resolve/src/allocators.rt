@@ -3,6 +3,7 @@
 ghost use Rattle.std.specs.Prelude.{◌≡◌};
 ghost use Rattle.ada_tree.specs.Names.{ident_of, optional_ident_of};
 ghost use Rattle.ada_resolve.specs.Allocators.{allocated_remark, default_found, designated_if_known, is_in_use};
+ghost use Rattle.ada_resolve.specs.Controlled.{aggregate_wanted};
 ghost use Rattle.ada_resolve.specs.Look.{Looks, aggregate_look, new_look};
 ghost use Rattle.ada_resolve.specs.Method.{known, IsNoted};
 ghost use Rattle.ada_resolve.specs.Types.{complete_found};
@@ -69,6 +70,7 @@ impl<'t> Resolver<'t> {
             (aggregate_look self access spot type_name.entry items.now) }
     {
         let found = self.allocated_type(spot, type_name, access, notes);
+        self.aggregate_wanted(found, type_name.spot, notes);
         let filling = self.items(items, found, notes)?;
         filling.all_given(names_component(items), type_name.spot, notes);
         match found {
@@ -77,6 +79,16 @@ impl<'t> Resolver<'t> {
                 items: filling.into_items(self.alloc)?,
             })),
             None => Ok(None),
+        }
+    }
+
+    /// An aggregate is of a record type without controlled parts, where its type is known.
+    pub(crate) fn aggregate_wanted(&self, found: Option<TypeNo>, spot: Spot, notes: &mut Notes)
+        ensures { IsNoted notes (aggregate_wanted (known self).types found spot) }
+    {
+        if let Some(number) = found {
+            let finalization = self.finalization_of(number);
+            notes.note_if(finalization.is_some(), spot, NameRule::WrongType);
         }
     }
 

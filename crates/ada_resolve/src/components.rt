@@ -1,15 +1,20 @@
 //! Types as they are kept while names are looked up: components are found by their names.
 
 ghost use Rattle.std.specs.Prelude.{◌≡◌, ◌+◌, ◌∷◌, [], map, length, slice_get, IfOk, OnOk, IfErr};
+ghost use Rattle.ada_tree.specs.Names.{ident_of};
 ghost use Rattle.ada_program.specs.ProgramForm.{part_form, type_form};
-ghost use Rattle.ada_resolve.specs.Kept.{composition_in, forms_of, known_type_form, with_declared, with_kinds};
+ghost use Rattle.ada_resolve.specs.Kept.{composition_in, forms_of, known_type_form, with_controlled, with_declared, with_kinds};
 ghost use Rattle.ada_resolve.specs.Method.{Finds, Composes, each, kinds_listed};
 ghost use Rattle.ada_resolve.specs.Paths.{component_at, component_named};
-ghost use Rattle.ada_resolve.specs.Records.{is_component, no_components};
+ghost use Rattle.ada_resolve.specs.Derived.{with_parent};
+ghost use Rattle.ada_resolve.specs.Records.{finalization_made, is_component, no_components, record_with};
 
 use crate::fault::NameFault;
-use ada_program::program::{ComponentKind, ComponentNo, Part, PartKind, TypeDefinition};
-use ada_program::{PoolNo, TypeNo};
+use ada_program::program::{
+    ComponentKind, ComponentNo, Finalization, Part, PartKind, TypeDefinition,
+};
+use ada_program::{PartNo, PoolNo, RecordNo, TypeNo};
+use ada_tree::names::Identifier;
 use indexmap::IndexMap;
 use std::alloc::Global;
 
@@ -19,6 +24,8 @@ pub(crate) struct KnownComponent {
     pub(crate) kind: PartKind,
     /// The number of its first elementary component in the record type.
     pub(crate) first: usize,
+    /// The number of its first controlled part there.
+    pub(crate) part: usize,
 }
 
 /// The components of a record type.
@@ -30,6 +37,10 @@ pub(crate) struct Components<'t> {
     kinds: Vec<ComponentKind>,
     /// How many there are at any depth, records among them.
     size: usize,
+    /// How many controlled parts there are at any depth, the parent part among them (7.6).
+    controlled: usize,
+    /// Whether the parent part or a component is limited (7.5).
+    limited: bool,
 }
 
 /// A type that is declared.
@@ -39,6 +50,8 @@ pub(crate) enum KnownType<'t> {
     Record {
         name: &'t str,
         components: Components<'t>,
+        /// How its objects are finalized, where they have controlled parts (7.6).
+        finalization: Option<Finalization>,
     },
     /// An access type and the record type that it designates (3.10).
     Access {
@@ -63,7 +76,46 @@ impl<'t> Components<'t> {
             entries: IndexMap::new(alloc),
             kinds: Vec::new(alloc),
             size: 0,
+            controlled: 0,
+            limited: false,
         }
+    }
+
+    /// The parent part of a controlled type alone, which has no name (3.4, 7.6).
+    #[tactic(auto, unfolding(crate::specs::Kept::composition_in, crate::specs::Kept::forms_of))]
+    pub(crate) fn with_parent(alloc: Global, limited: bool) -> Result<Components<'t>, NameFault>
+        ensures components { Finds composition_in result (with_parent limited) }
+        ensures memory { IfErr result (λ e. e ≡ NameFault.NoMemory) }
+    {
+        let mut entries = IndexMap::new(alloc);
+        let parent = KnownComponent {
+            kind: PartKind::Parent,
+            first: 0,
+            part: 0,
+        };
+        entries.insert("", parent)?;
+        Ok(Components {
+            entries,
+            kinds: Vec::new(alloc),
+            size: 0,
+            controlled: 1,
+            limited,
+        })
+    }
+
+    /// How objects of a record type that is made of these are finalized, where it is the next to be numbered.
+    #[tactic(auto, unfolding(crate::specs::Kept::composition_in))]
+    pub(crate) fn finalization(&self, number: usize) -> Option<Finalization>
+        ensures { result ≡ finalization_made number (composition_in self.now) }
+    {
+        if self.controlled == 0 {
+            return None;
+        }
+        Some(Finalization {
+            number: RecordNo(number),
+            parts: self.controlled,
+            limited: self.limited,
+        })
     }
 
     /// How many there are at any depth, records among them.
@@ -140,7 +192,9 @@ impl<'t> Components<'t> {
         ensures memory { IfErr result (λ e. e ≡ NameFault.NoMemory) }
     {
         let first = self.kinds.len();
-        self.entries.insert(name, KnownComponent { kind, first })?;
+        let part = self.controlled;
+        self.entries
+            .insert(name, KnownComponent { kind, first, part })?;
         self.size = size;
         Ok(())
     }
@@ -165,6 +219,20 @@ impl<'t> Components<'t> {
         Ok(())
     }
 
+    /// As many controlled parts more, of a component that is limited or not.
+    #[tactic(auto, unfolding(crate::specs::Kept::composition_in, crate::specs::Kept::forms_of))]
+    pub(crate) fn add_controlled(&mut self, count: usize, limited: bool) -> Result<(), NameFault>
+        ensures added { OnOk result (Composes self (with_controlled count limited)) }
+        ensures memory { IfErr result (λ e. e ≡ NameFault.NoMemory) }
+    {
+        self.controlled = self
+            .controlled
+            .checked_add(count)
+            .ok_or(NameFault::NoMemory)?;
+        self.limited = self.limited || limited;
+        Ok(())
+    }
+
     /// The components as they are declared, as a program has them.
     #[tactic(auto, unfolding(crate::specs::Kept::forms_of))]
     fn parts(&self, alloc: Global) -> Result<Vec<Part>, NameFault>
@@ -178,6 +246,7 @@ impl<'t> Components<'t> {
                 name,
                 kind: component.kind,
                 first: ComponentNo(component.first),
+                part: PartNo(component.part),
             })?;
         }
         Ok(parts)
@@ -195,16 +264,38 @@ impl<'t> Components<'t> {
 }
 
 impl<'t> KnownType<'t> {
+    /// A record type of this name and of these components, whose objects are finalized so.
+    #[tactic(auto, unfolding(crate::specs::Kept::composition_in))]
+    pub(crate) fn of_record(
+        name: Identifier<'t>,
+        components: Components<'t>,
+        finalization: Option<Finalization>,
+    ) -> KnownType<'t>
+        ensures { known_type_form result
+            ≡ record_with finalization (ident_of name.entry) (composition_in components.entry) }
+    {
+        KnownType::Record {
+            name: name.text,
+            components,
+            finalization,
+        }
+    }
+
     /// The type as a program has it.
     fn definition(&self, alloc: Global) -> Result<TypeDefinition, NameFault>
         ensures definition { Finds type_form result (known_type_form self.now) }
         ensures memory { IfErr result (λ e. e ≡ NameFault.NoMemory) }
     {
         match self {
-            KnownType::Record { name, components } => Ok(TypeDefinition::Record {
+            KnownType::Record {
+                name,
+                components,
+                finalization,
+            } => Ok(TypeDefinition::Record {
                 name: String::from_str(alloc, *name)?,
                 parts: components.parts(alloc)?,
                 components: components.kinds(alloc)?,
+                finalization: *finalization,
             }),
             KnownType::Access {
                 name,

@@ -92,6 +92,12 @@ impl<'t> Resolver<'t> {
                 name,
                 definition,
             } => self.record_type(*spot, *name, definition, notes),
+            Declaration::DerivedType {
+                spot,
+                name,
+                parent,
+                definition,
+            } => self.derived_type(*spot, *name, parent, definition, notes),
             Declaration::Instance {
                 spot,
                 name,
@@ -132,9 +138,10 @@ impl<'t> Resolver<'t> {
                 self.end_of_types()?;
                 self.borrower(*name, *designated, initial, notes)
             }
-            Declaration::DerivedType { .. }
-            | Declaration::Specification(_)
-            | Declaration::Body { .. } => not_in_use(declaration, notes),
+            Declaration::Specification(_) | Declaration::Body { .. } => not_in_use(
+                declaration,
+                notes,
+            ),
         }
     }
 

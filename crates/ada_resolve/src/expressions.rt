@@ -58,7 +58,7 @@ impl<'t> Resolver<'t> {
         }
     }
 
-    /// `T'(..)` (4.7): an aggregate of a complete record type.
+    /// `T'(..)` (4.7): an aggregate of a complete record type without controlled parts.
     #[cycle(expression)]
     #[tactic(auto, unfolding(crate::specs::Expressions::expression_meant, crate::specs::Expressions::expression_remark, crate::specs::Expressions::filling_of))]
     fn qualified(
@@ -71,6 +71,7 @@ impl<'t> Resolver<'t> {
     {
         notes.node(type_name.spot);
         let found = self.complete_name(type_name, notes);
+        self.aggregate_wanted(found, type_name.spot, notes);
         let filling = self.items(items, found, notes)?;
         filling.all_given(names_component(items), type_name.spot, notes);
         match found {

@@ -10,6 +10,7 @@ mod choices;
 mod clauses;
 mod components;
 mod declarations;
+mod derived;
 mod exceptions;
 mod expressions;
 mod fault;

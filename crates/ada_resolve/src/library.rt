@@ -19,8 +19,10 @@ pub(crate) enum LibraryName {
     UncheckedDeallocation,
     /// `Ada.Finalization` (7.6)
     Finalization,
-    /// A name under `Ada.Finalization`, which is not in use.
-    OfFinalization,
+    /// `Ada.Finalization.Controlled` (7.6)
+    Controlled,
+    /// `Ada.Finalization.Limited_Controlled` (7.6)
+    LimitedControlled,
     /// `Profile_Pools`, the profile's own unit.
     Pools,
     /// `Profile_Pools.First_Fit_Pool`, a pool's type (13.11).
@@ -57,13 +59,11 @@ impl Withs {
         match name {
             LibraryName::TextIo | LibraryName::PutLine => self.text_io,
             LibraryName::UncheckedDeallocation => self.deallocation,
-            LibraryName::Finalization => self.finalization,
+            LibraryName::Finalization | LibraryName::Controlled | LibraryName::LimitedControlled =>
+                { self.finalization }
             LibraryName::Pools | LibraryName::FirstFitPool => self.pools,
             LibraryName::RunInput | LibraryName::Get | LibraryName::EndError => self.run_input,
-            LibraryName::OfFinalization
-            | LibraryName::OfPools
-            | LibraryName::OtherUnit
-            | LibraryName::Unknown => false,
+            LibraryName::OfPools | LibraryName::OtherUnit | LibraryName::Unknown => false,
         }
     }
 
@@ -73,7 +73,6 @@ impl Withs {
     {
         match name {
             LibraryName::Unknown => NameRule::NotInProfile,
-            LibraryName::OfFinalization => unused_rule(self.finalization),
             LibraryName::OfPools => unused_rule(self.pools),
             _ => NameRule::UnknownName,
         }
@@ -118,7 +117,7 @@ fn in_ada(rest: &[Identifier<'_>]) -> LibraryName
     }
 }
 
-/// A further name after `Ada`: of Finalization, or of a unit that is not in use.
+/// A further name after `Ada`: Finalization and its types, or a unit that is not in use.
 #[tactic(auto, unfolding(crate::specs::Library::other_in_ada))]
 fn other_in_ada(rest: &[Identifier<'_>]) -> LibraryName
     ensures { result ≡ other_in_ada (map ident_of rest.now) }
@@ -127,10 +126,10 @@ fn other_in_ada(rest: &[Identifier<'_>]) -> LibraryName
         return LibraryName::Finalization;
     }
     if is_two(rest, "FINALIZATION", "CONTROLLED") {
-        return LibraryName::OfFinalization;
+        return LibraryName::Controlled;
     }
     if is_two(rest, "FINALIZATION", "LIMITED_CONTROLLED") {
-        return LibraryName::OfFinalization;
+        return LibraryName::LimitedControlled;
     }
     if is_one(rest, "UNCHECKED_DEALLOCATE_SUBPOOL") {
         return LibraryName::OtherUnit;

@@ -3,6 +3,7 @@
 ghost use Rattle.std.specs.Prelude.{◌≡◌, map, slice_get, option_copied, IfErr};
 ghost use Rattle.ada_tree.specs.Names.{ident_of, selector_of};
 ghost use Rattle.ada_program.specs.Form.{expression_form, path_form};
+ghost use Rattle.ada_program.specs.WellFormed.{finalization_of};
 ghost use Rattle.ada_resolve.specs.Kept.{forms_in, kinds_in, known_type_form};
 ghost use Rattle.ada_resolve.specs.Known.{next_variable, parts_of};
 ghost use Rattle.ada_resolve.specs.Look.{Looks, library_path_look, named_look, outer_look, path_look, variable_look};
@@ -19,8 +20,8 @@ use crate::part::{is_incomplete_in, is_this_incomplete};
 use crate::resolver::Resolver;
 use crate::scope::{Entity, Role};
 use crate::selectors::Reached;
-use ada_program::program::{self, ComponentNo, Expression, RecordPath, VariableKind};
-use ada_program::{Spot, TypeNo, VariableNo};
+use ada_program::program::{self, ComponentNo, Expression, Finalization, RecordPath, VariableKind};
+use ada_program::{PartNo, Spot, TypeNo, VariableNo};
 use ada_tree::names::{Identifier, Path, Selector};
 
 impl<'t> Resolver<'t> {
@@ -147,7 +148,11 @@ impl<'t> Resolver<'t> {
         if let VariableKind::Record(object) = kind
             && let Some(number) = self.record_of_object(object)
         {
-            return Reached::Object { number, first: 0 };
+            return Reached::Object {
+                number,
+                first: 0,
+                part: 0,
+            };
         }
         Reached::Value(kind)
     }
@@ -200,6 +205,23 @@ impl<'t> Resolver<'t> {
             ≡ elementary_of (known self).types number.0 }
     {
         components_of(&self.types, number)
+    }
+
+    /// How objects of the record type of a number are finalized, where they have controlled parts.
+    #[tactic(auto, unfolding(crate::specs::View::known_of), using(crate::proofs::Names::map_get))]
+    pub(crate) fn finalization_of(&self, number: TypeNo) -> Option<Finalization>
+        ensures { result ≡ finalization_of (known self).types number.0 }
+    {
+        match self.types.get(number.0) {
+            Some(
+                KnownType::Record {
+                    name: _,
+                    components: _,
+                    finalization,
+                },
+            ) => *finalization,
+            _ => None,
+        }
     }
 
     /// Whether a type is still incomplete.
@@ -268,9 +290,14 @@ fn reached_meant(reached: Reached, path: program::Path) -> Meant
         Reached::Value(VariableKind::Integer) => Meant::Integer(Expression::Path(path)),
         Reached::Value(VariableKind::Boolean) => Meant::Boolean(Expression::Path(path)),
         Reached::Value(VariableKind::Access(access)) => Meant::Access(path, access),
-        Reached::Object { number, first } => Meant::Record(RecordPath {
+        Reached::Object {
+            number,
+            first,
+            part,
+        } => Meant::Record(RecordPath {
             object: path,
             first: ComponentNo(first),
+            part: PartNo(part),
             record: number,
         }),
         Reached::Value(VariableKind::Record(_)) | Reached::Nothing => Meant::Unknown,
@@ -363,6 +390,7 @@ pub(crate) fn components_of<'k, 't>(
             KnownType::Record {
                 name: _,
                 components,
+                finalization: _,
             },
         ) => Some(components),
         _ => None,

@@ -164,6 +164,7 @@ fn assemble(resolver: Resolver<'_>, body: Sequence) -> Result<Program, NameFault
         exceptions,
         texts,
         frozen: _,
+        controlled: _,
     } = resolver;
     Ok(Program {
         types,

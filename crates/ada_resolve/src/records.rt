@@ -2,10 +2,12 @@
 
 ghost use Rattle.std.specs.Prelude.{◌≡◌, IfErr, IfOk, OnOk};
 ghost use Rattle.ada_tree.specs.Records.{component_of, initial_static_of};
-ghost use Rattle.ada_resolve.specs.Kept.{composition_in, with_kinds};
+ghost use Rattle.ada_program.specs.WellFormed.{parts_within};
+ghost use Rattle.ada_resolve.specs.Controlled.{limited_within};
+ghost use Rattle.ada_resolve.specs.Kept.{composition_in, with_controlled, with_kinds};
 ghost use Rattle.ada_resolve.specs.Look.{Looks, components_look, listed_look};
 ghost use Rattle.ada_resolve.specs.Method.{known, IsNoted, Changes, Remarks, Composes, with_composed, record_tree, Declares, next_component_remark, with_kept};
-ghost use Rattle.ada_resolve.specs.Records.{initial_value, initial_truth, no_value_remark, kind_remark, kind_of_component, kinds_within, size_of_component, first_integer_remark, first_truth_remark};
+ghost use Rattle.ada_resolve.specs.Records.{finalization_made, no_components, with_counted, initial_value, initial_truth, no_value_remark, kind_remark, kind_of_component, kinds_within, size_of_component, first_integer_remark, first_truth_remark};
 
 use crate::components::{Components, KnownType};
 use crate::fault::{NameFault, NameRule};
@@ -13,7 +15,7 @@ use crate::library::is_primitive;
 use crate::notes::Notes;
 use crate::resolver::Resolver;
 use crate::scope::{Entity, is_taken};
-use ada_program::program::{ComponentKind, PartKind};
+use ada_program::program::{ComponentKind, Finalization, PartKind};
 use ada_program::{Spot, TypeNo};
 use ada_tree::names::Identifier;
 use ada_tree::records::{ComponentDefinition, RecordDefinition, StaticValue};
@@ -36,14 +38,13 @@ impl<'t> Resolver<'t> {
         self.type_begins(spot, notes);
         let completes = self.completed_type(name);
         self.new_unless(completes, name, spot, notes);
-        let components = self.components(definition, notes)?;
+        let components = self.own_components(definition, notes)?;
         notes.settle()?;
         self.define_record(completes, name, components)
     }
 
     /// A record type of these components is known: a new one, or the one that it completes.
-    #[tactic(auto, using(std::proofs::lemmas::Grind::common_steps, crate::proofs::ComponentLists::parts_kept, crate::proofs::ComponentLists::kinds_kept))]
-    fn define_record(
+    pub(crate) fn define_record(
         &mut self,
         completes: Option<TypeNo>,
         name: Identifier<'t>,
@@ -53,39 +54,77 @@ impl<'t> Resolver<'t> {
         ensures memory { IfErr result (λ e. e ≡ NameFault.NoMemory) }
     {
         let size = components.size();
-        let definition = KnownType::Record {
-            name: name.text,
-            components,
-        };
+        let finalization = self.finalization_made(&components);
+        let definition = KnownType::of_record(name, components, finalization);
         let number = self.define(completes, definition)?;
+        self.count_controlled(finalization)?;
         self.declare(name.text, Entity::Record { number, size })
     }
 
-    /// The components of a record type.
-    fn components(
+    /// How the objects of a record type of these components are finalized: it is the next to be numbered.
+    #[tactic(auto, unfolding(crate::specs::View::known_of))]
+    fn finalization_made(&self, components: &Components<'t>) -> Option<Finalization>
+        ensures { result
+            ≡ finalization_made (known self).controlled (composition_in components.now) }
+    {
+        components.finalization(self.controlled)
+    }
+
+    /// One more record type is complete: it is counted, where it has controlled parts.
+    #[tactic(auto, unfolding(crate::specs::View::known_of))]
+    fn count_controlled(&mut self, finalization: Option<Finalization>) -> Result<(), NameFault>
+        ensures known { OnOk result (Changes self (with_counted finalization)) }
+        ensures memory { IfErr result (λ e. e ≡ NameFault.NoMemory) }
+    {
+        if finalization.is_some() {
+            self.controlled = self.controlled.checked_add(1).ok_or(NameFault::NoMemory)?;
+        }
+        Ok(())
+    }
+
+    /// The components of a record type that is not derived.
+    fn own_components(
         &self,
         definition: &RecordDefinition<'t>,
         notes: &mut Notes,
     ) -> Result<Components<'t>, NameFault>
-        ensures { Looks composition_in result notes (components_look self definition.now) }
+        ensures { Looks composition_in result notes
+            (components_look self no_components definition.now) }
+    {
+        self.components(Components::new(self.alloc), definition, notes)
+    }
+
+    /// The components of a record type, behind those before them.
+    pub(crate) fn components(
+        &self,
+        before: Components<'t>,
+        definition: &RecordDefinition<'t>,
+        notes: &mut Notes,
+    ) -> Result<Components<'t>, NameFault>
+        ensures { Looks composition_in result notes
+            (components_look self (composition_in before.entry) definition.now) }
     {
         match definition {
-            RecordDefinition::Components { first, rest } => self.component_list(first, rest, notes),
-            _ => Ok(Components::new(self.alloc)),
+            RecordDefinition::Components { first, rest } => {
+                self.component_list(before, first, rest, notes)
+            }
+            _ => Ok(before),
         }
     }
 
     /// The components that are listed.
-    #[tactic(auto, using(std::proofs::lemmas::Grind::common_steps, crate::proofs::ComponentLists::remark_first, crate::proofs::ComponentLists::remark_next))]
+    #[tactic(auto, using(std::proofs::lemmas::Grind::common_steps, crate::proofs::ComponentLists::remark_next))]
     fn component_list(
         &self,
+        before: Components<'t>,
         first: &ComponentDefinition<'t>,
         rest: &[ComponentDefinition<'t>],
         notes: &mut Notes,
     ) -> Result<Components<'t>, NameFault>
-        ensures { Looks composition_in result notes (listed_look self first.now rest.now) }
+        ensures { Looks composition_in result notes
+            (listed_look self (composition_in before.entry) first.now rest.now) }
     {
-        let mut components = Components::new(self.alloc);
+        let mut components = before;
         self.component(first, &mut components, notes)?;
         for definition in rest {
             self.component(definition, &mut components, notes)?;
@@ -119,7 +158,8 @@ impl<'t> Resolver<'t> {
         notes.note_if(size > MOST_COMPONENTS, name.spot, NameRule::Limit);
         let kind = self.component_kind(component, notes);
         components.add(name.text, kind, size)?;
-        self.add_kinds(kind, components)
+        self.add_kinds(kind, components)?;
+        self.add_controlled(kind, components)
     }
 
     /// How many components one is, with those at any depth of a record.
@@ -149,6 +189,27 @@ impl<'t> Resolver<'t> {
                 None => Ok(()),
             },
             PartKind::Parent => Ok(()),
+        }
+    }
+
+    /// The controlled parts of a component come behind those before.
+    fn add_controlled(
+        &self,
+        kind: PartKind,
+        components: &mut Components<'t>,
+    ) -> Result<(), NameFault>
+        ensures added { OnOk result (Composes components
+            (with_controlled (parts_within (known self).types kind)
+            (limited_within (known self).types kind))) }
+        ensures memory { IfErr result (λ e. e ≡ NameFault.NoMemory) }
+    {
+        match kind {
+            PartKind::Elementary(_) => components.add_controlled(0, false),
+            PartKind::Record(number) => match self.finalization_of(number) {
+                Some(inner) => components.add_controlled(inner.parts, inner.limited),
+                None => components.add_controlled(0, false),
+            },
+            PartKind::Parent => components.add_controlled(1, false),
         }
     }
 

@@ -53,6 +53,8 @@ pub(crate) struct Resolver<'t> {
     pub(crate) texts: Vec<String>,
     /// The numbers of the access types that instances of Unchecked_Deallocation have frozen (13.14).
     pub(crate) frozen: IndexSet<usize>,
+    /// How many record types with controlled parts are complete (7.6).
+    pub(crate) controlled: usize,
 }
 
 impl<'t> Resolver<'t> {
@@ -74,6 +76,7 @@ impl<'t> Resolver<'t> {
             exceptions: Vec::new(alloc),
             texts: Vec::new(alloc),
             frozen: IndexSet::new(alloc),
+            controlled: 0,
         }
     }
 

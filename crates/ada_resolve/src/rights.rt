@@ -2,8 +2,9 @@
 
 ghost use Rattle.std.specs.Prelude.{◌≡◌, None, false, IfErr};
 ghost use Rattle.ada_program.specs.Kept.{variables_in};
+ghost use Rattle.ada_resolve.specs.Controlled.{copy_wanted, is_limited};
 ghost use Rattle.ada_resolve.specs.Look.{Looks, right_look};
-ghost use Rattle.ada_resolve.specs.Method.{Finds, IsNoted, Remarks};
+ghost use Rattle.ada_resolve.specs.Method.{known, Finds, IsNoted, Remarks};
 ghost use Rattle.ada_resolve.specs.Rights as rules;
 ghost use Rattle.ada_resolve.specs.View.{assigned_in, meant_of, right_in};
 
@@ -55,7 +56,7 @@ impl<'t> Resolver<'t> {
             expressions::Right::Expression(expression) => {
                 let value = self.expression(expression, notes)?;
                 let spot = expression_spot(expression);
-                assigned_wanted(kind, &value, spot, notes);
+                self.assigned_wanted(kind, &value, spot, notes);
                 lent_wanted(&self.variables, kind, borrows, &value, spot, notes);
                 assigned_by(self.alloc, value)
             }
@@ -83,6 +84,42 @@ impl<'t> Resolver<'t> {
         }
     }
 
+    /// What is assigned is of the object's type, where that is known, and no limited record.
+    fn assigned_wanted(&self, kind: Option<Held>, value: &Meant, spot: Spot, notes: &mut Notes)
+        ensures { IsNoted notes
+            (rules.assigned_wanted (known self).types kind (meant_of value.now) spot) }
+    {
+        match kind {
+            Some(Held::Integer) => value.integer_wanted(spot, notes),
+            Some(Held::Boolean) => value.boolean_wanted(spot, notes),
+            Some(Held::Access(access)) => value.access_wanted(access, spot, notes),
+            Some(Held::Record(number)) => {
+                value.record_wanted(number, spot, notes);
+                self.copy_wanted(number, value, spot, notes);
+            }
+            None => {}
+        }
+    }
+
+    /// A record to which a path leads is copied to one of this type: a limited one is not.
+    fn copy_wanted(&self, number: TypeNo, value: &Meant, spot: Spot, notes: &mut Notes)
+        ensures { IsNoted notes (copy_wanted (known self).types number (meant_of value.now) spot) }
+    {
+        if let Meant::Record(_) = value {
+            notes.note_if(self.is_limited(number), spot, NameRule::WrongType);
+        }
+    }
+
+    /// Whether a record type is limited.
+    fn is_limited(&self, number: TypeNo) -> bool
+        ensures { result ≡ is_limited (known self).types number.0 }
+    {
+        match self.finalization_of(number) {
+            Some(finalization) => finalization.limited,
+            None => false,
+        }
+    }
+
     /// What is wrong with what is assigned, where it is not known to what.
     pub(crate) fn look_at_right(
         &self,
@@ -104,19 +141,6 @@ fn access_kind(kind: Option<Held>) -> Option<TypeNo>
     match kind {
         Some(Held::Access(access)) => Some(access),
         _ => None,
-    }
-}
-
-/// What is assigned is of the object's type, where that is known.
-fn assigned_wanted(kind: Option<Held>, value: &Meant, spot: Spot, notes: &mut Notes)
-    ensures { IsNoted notes (rules.assigned_wanted kind (meant_of value.now) spot) }
-{
-    match kind {
-        Some(Held::Integer) => value.integer_wanted(spot, notes),
-        Some(Held::Boolean) => value.boolean_wanted(spot, notes),
-        Some(Held::Access(access)) => value.access_wanted(access, spot, notes),
-        Some(Held::Record(record)) => value.record_wanted(record, spot, notes),
-        None => {}
     }
 }
 

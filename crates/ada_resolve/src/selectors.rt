@@ -5,7 +5,7 @@ ghost use Rattle.ada_tree.specs.Names.{ident_of, selector_of};
 ghost use Rattle.ada_program.specs.WellFormed as fits;
 ghost use Rattle.ada_resolve.specs.Look.{Looks, selector_look, selectors_look};
 ghost use Rattle.ada_resolve.specs.Method.{known, IsNoted, Selects};
-ghost use Rattle.ada_resolve.specs.Paths.{all_remark, complete_behind, component_behind, component_behind_remark, component_in, component_selected, component_wanted, component_within_remark, components_selected, first_behind, object_behind, object_in, record_type_wanted};
+ghost use Rattle.ada_resolve.specs.Paths.{all_remark, complete_behind, component_behind, component_behind_remark, component_in, component_selected, component_wanted, component_within_remark, components_selected, first_behind, object_behind, part_behind, object_in, record_type_wanted};
 ghost use Rattle.ada_resolve.specs.View.{itself, optional_number};
 
 use crate::components::KnownComponent;
@@ -30,6 +30,8 @@ pub(crate) enum Reached {
         number: TypeNo,
         /// The number of its first elementary component in the one to which the value gives access, or with which the path begins.
         first: usize,
+        /// The number of its first controlled part there.
+        part: usize,
     },
 }
 
@@ -77,7 +79,14 @@ impl<'t> Resolver<'t> {
                             components.push(ComponentNo(first))?;
                             Ok(Reached::Value(held_kind(kind)))
                         }
-                        PartKind::Record(number) => Ok(Reached::Object { number, first }),
+                        PartKind::Record(number) => {
+                            let part = reached.part_with(component.part)?;
+                            Ok(Reached::Object {
+                                number,
+                                first,
+                                part,
+                            })
+                        }
                         PartKind::Parent => Ok(Reached::Nothing),
                     }
                 }
@@ -104,9 +113,7 @@ impl<'t> Resolver<'t> {
             Reached::Value(VariableKind::Access(access)) => {
                 self.component_in(self.designated_type(access), spot, name, notes)
             }
-            Reached::Object { number, first: _ } => {
-                self.component_in(Some(number), spot, name, notes)
-            }
+            Reached::Object { number, .. } => { self.component_in(Some(number), spot, name, notes) }
             Reached::Value(
                 VariableKind::Integer | VariableKind::Boolean | VariableKind::Record(_),
             ) => {
@@ -167,7 +174,11 @@ impl<'t> Resolver<'t> {
         ensures remark { IsNoted notes (complete_behind (known self) spot (optional_number number)) }
     {
         match number {
-            Some(number) if !self.is_incomplete(number) => Reached::Object { number, first: 0 },
+            Some(number) if !self.is_incomplete(number) => Reached::Object {
+                number,
+                first: 0,
+                part: 0,
+            },
             Some(_) | None => {
                 notes.note(spot, NameRule::WrongType);
                 Reached::Nothing
@@ -187,8 +198,24 @@ impl Reached {
             Reached::Object {
                 number: _,
                 first: before,
+                part: _,
             } => before.checked_add(first).ok_or(NameFault::NoMemory),
             Reached::Nothing | Reached::Value(_) => Ok(first),
+        }
+    }
+
+    /// The number of a controlled part, in the object that the last access value gives access to, which has this number in what is reached.
+    fn part_with(self, part: usize) -> Result<usize, NameFault>
+        ensures number { IfOk result (λ n. n ≡ part_behind self + part) }
+        ensures memory { IfErr result (λ e. e ≡ NameFault.NoMemory) }
+    {
+        match self {
+            Reached::Object {
+                number: _,
+                first: _,
+                part: before,
+            } => before.checked_add(part).ok_or(NameFault::NoMemory),
+            Reached::Nothing | Reached::Value(_) => Ok(part),
         }
     }
 

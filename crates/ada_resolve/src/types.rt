@@ -33,6 +33,7 @@ impl<'t> Resolver<'t> {
         let number = self.add_type(KnownType::Record {
             name: name.text,
             components: Components::new(self.alloc),
+            finalization: None,
         })?;
         self.declare(name.text, Entity::Incomplete(number))
     }

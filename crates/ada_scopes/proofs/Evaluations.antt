@@ -5,13 +5,15 @@ use Rattle.std.specs.List.{slice_get}
 use Rattle.ada_program.specs.declared.program.TypeDefinition.{TypeDefinition}
 use Rattle.ada_program.specs.Form.{RecordPathForm, ExpressionForm, integer, boolean, reads, is_null, applied_to, chained, LinksForm, no_more_links, a_link, ItemForm, null_item, item_of_path, item_of_value, item_of_record, RightForm, nothing, value_of, allocates, allocates_default, computes}
 use Rattle.ada_program.specs.ProgramForm.{TypeForm}
+use Rattle.ada_program.specs.Typed.{width_of}
 use Rattle.ada_program.specs.Nested.{Callees}
 use Rattle.ada_values.specs.declared.operator.BinaryOperator.{BinaryOperator}
 use Rattle.ada_values.specs.declared.fault.OperatorFault.{OperatorFault}
 use Rattle.ada_values.specs.declared.fault.OperatorFault.TheVariants.{Overflow, DivisionByZero, WrongType}
 use Rattle.ada_parts.specs.declared.tasks.Direction.TheVariants.{PartsFirst, WholeFirst}
-use Rattle.ada_meaning.specs.declared.event.Birth.TheVariants.{Creation}
-use Rattle.ada_meaning.specs.declared.event.Cause.TheVariants.{Freeing}
+use Rattle.ada_meaning.specs.declared.event.Birth.TheVariants.{Creation, Adjustment}
+use Rattle.ada_meaning.specs.declared.event.Cause.TheVariants.{Freeing, Assigning}
+use Rattle.ada_meaning.specs.declared.state.Place.{Place}
 use Rattle.ada_meaning.specs.declared.state.Value.{Value}
 use Rattle.ada_meaning.specs.declared.state.Value.TheVariants.{Names}
 use Rattle.ada_meaning.specs.declared.state.Mode.TheVariants.{Running}
@@ -23,8 +25,8 @@ use Rattle.ada_meaning.specs.Frame.{Frame, is_master, is_loop, is_return, Landin
 use Rattle.ada_meaning.specs.Frame as frame
 use Rattle.ada_meaning.specs.State.{Destination, home_of, pool_freed_to}
 use Rattle.ada_meaning.specs.Heap.{Cell, Found, on_null, on_gone, on_other, finds}
-use Rattle.ada_meaning.specs.Step.{halts, moves, tells, asks, picks, all_tasks, at, held, newest, reading, component_next, follow_next, path_next, before_last, last_of, selected, named_next, holder_next, first_in, record_holder_next, referred_next, refers_next, open_next, opened_next, opens_next, expression_next, null_test_next, is_decided, link_next, links_next, outcome_next, item_next, items_next, copied_next, copies_next, newest_ones, without_newest, record_in, record_target_next, stored_from, record_stored_next, store_record_next, new_cell, answered, new_next, right_next, free_next, end_next, same_pool, told_back, given_back, back_next, freeing, freed_next, free_component_next, free_in_next}
-use Rattle.ada_meaning.specs.Named.{Object, State, Next, named, whole, inside, look, parted, finished, filled, returned, on_object, reads_boolean}
+use Rattle.ada_meaning.specs.Step.{halts, moves, tells, asks, picks, all_tasks, record_tasks, treating, copy_next, record_assign_next, assigns_next, at, held, newest, reading, component_next, follow_next, path_next, before_last, last_of, selected, named_next, holder_next, place_in, record_holder_next, referred_next, refers_next, open_next, opened_next, opens_next, expression_next, null_test_next, is_decided, link_next, links_next, outcome_next, item_next, items_next, copied_next, copies_next, newest_ones, without_newest, record_in, record_target_next, stored_from, record_stored_next, store_record_next, new_cell, answered, new_next, right_next, free_next, end_next, same_pool, told_back, given_back, back_next, freeing, freed_next, free_component_next, free_in_next}
+use Rattle.ada_meaning.specs.Named.{Object, State, Next, named, whole, base, part_base, inside, look, parted, finished, filled, returned, on_object, reads_boolean}
 use Rattle.ada_meaning.specs.Run.{Event}
 use Rattle.ada_meaning.specs.Law.{items_of}
 use Rattle.ada_scopes.proofs.Counts.{scopes}
@@ -96,11 +98,11 @@ module _ (types : List TypeForm) (callees : Callees) where
       path_good (before_last (inside (held named s x) c) cs) (whole (held named s x))
       (at (frame_of (last_of (inside (held named s x) c) cs) ∷ s.control) s) (h.0, n (last_of (inside (held named s x) c) cs))
 
-  pub record_holder_good : (p : RecordPathForm) (frame_of : ℕ → Frame Value) (s : State) → ((n : ℕ) → Nests types callees (scopes s.masters) (frame_of n ∷ s.control)) → Stands types callees s → Good types callees (record_holder_next named p frame_of s)
+  pub record_holder_good : (p : RecordPathForm) (frame_of : Place → Frame Value) (s : State) → ((place : Place) → Nests types callees (scopes s.masters) (frame_of place ∷ s.control)) → Stands types callees s → Good types callees (record_holder_next named p frame_of s)
   record_holder_good p frame_of s n h =
       path_good (selected named (held named s p.object.root) p.object.selectors) (whole (held named s p.object.root))
-      (at (frame_of (first_in named (held named s p.object.root) p.object.selectors p.first) ∷ s.control) s)
-      (h.0, n (first_in named (held named s p.object.root) p.object.selectors p.first))
+      (at (frame_of (place_in named (held named s p.object.root) p.object.selectors p) ∷ s.control) s)
+      (h.0, n (place_in named (held named s p.object.root) p.object.selectors p))
 
   pub expression_good : (e : ExpressionForm) (s : State) → Stands types callees s → Good types callees (expression_next named e s)
   expression_good (integer i) s h = standing h.0 h.1
@@ -134,7 +136,7 @@ module _ (types : List TypeForm) (callees : Callees) where
   item_good null_item s h = standing h.0 h.1
   item_good (item_of_path path) s h = named_good path.selectors path.root s h
   item_good (item_of_value e) s h = standing h.0 (tt, h.1)
-  item_good (item_of_record p) s h = record_holder_good p (λ first. frame.Copies first p.record_type) s (λ n. (tt, h.1)) h
+  item_good (item_of_record p) s h = record_holder_good p (λ place. frame.Copies place.component p.record_type) s (λ place. (tt, h.1)) h
 
   pub items_good : (items : List ItemForm) (s : State) → Stands types callees s → Good types callees (items_next named items s)
   items_good [] s h = standing h.0 h.1
@@ -171,6 +173,33 @@ module _ (types : List TypeForm) (callees : Callees) where
   store_record_good o first count on_other s h = tt
   store_record_good o first count (finds cell) s h = record_stored_good o first (newest_ones named count s) (record_in cell.values first count) (without_newest named count s) h
 
+  -- Records that have controlled parts are assigned: both are found first, and then the target is finalized, gets the components, and is adjusted.
+  copy_good : (target : RecordPathForm) (items : List ItemForm) (s : State) → Stands types callees s → Good types callees (copy_next named target items s)
+  copy_good target [] s h = tt
+  copy_good target (null_item ∷ items) s h = tt
+  copy_good target (item_of_path path ∷ items) s h = tt
+  copy_good target (item_of_value e ∷ items) s h = tt
+  copy_good target (item_of_record source ∷ []) s h = standing h.0 (tt, (tt, (tt, h.1)))
+  copy_good target (item_of_record source ∷ i ∷ items) s h = tt
+
+  pub record_assign_good : (parts : Bool) (target : RecordPathForm) (items : List ItemForm) (s : State) → Stands types callees s → Good types callees (record_assign_next named parts target items s)
+  record_assign_good true target items s h = copy_good target items s h
+  record_assign_good false target items s h =
+      record_holder_good target (λ place. frame.TargetsRecord place.component target.record_type items) s (λ place. (tt, h.1)) h
+
+  pub assigns_good : (definitions : List TypeDefinition) (t : ℕ) (target source : Value) (alike : Option Bool) (s : State) → Stands types callees s → Good types callees (assigns_next named definitions t target source alike s)
+  assigns_good definitions t target source None s h = tt
+  assigns_good definitions t target source (Some true) s h = standing h.0 h.1
+  assigns_good definitions t target source (Some false) s h =
+      let ss = scopes s.masters in
+      let o = whole target in
+      let beginning = frame.begins (Adjustment s.next) in
+      let adjusts = treating o beginning (record_tasks definitions t PartsFirst (part_base target)) s.control in
+      standing h.0
+      (nests_treating types callees ss o (frame.ends (Assigning s.next)) (record_tasks definitions t WholeFirst (part_base target))
+      (frame.Copies (base source) t ∷ frame.StoresRecord o (base target) (width_of definitions t) ∷ adjusts)
+      (tt, (tt, nests_treating types callees ss o beginning (record_tasks definitions t PartsFirst (part_base target)) s.control h.1)))
+
   answered_good : (definitions : List TypeDefinition) (access count words : ℕ) (home : Destination) (s : State) (granted : Bool) → home_of access s.masters ≡ Some home → Stands types callees s → Nested types callees (answered named definitions access count words home s granted)
   answered_good definitions access count words home s true is h =
       let cell = new_cell named definitions access count home s in
@@ -184,15 +213,15 @@ module _ (types : List TypeForm) (callees : Callees) where
   new_good definitions access count words (Some home) s is h = λ granted. answered_good definitions access count words home s granted is h
 
   -- What is passed by reference, and the components that get something back.
-  referred_good : (o : Value) (first : ℕ) (found : Option (List Value)) (s : State) → Stands types callees s → Good types callees (referred_next named o first found s)
-  referred_good o first None s h = tt
-  referred_good o first (Some vs) s h = standing h.0 h.1
+  referred_good : (o : Value) (place : Place) (found : Option (List Value)) (s : State) → Stands types callees s → Good types callees (referred_next named o place found s)
+  referred_good o place None s h = tt
+  referred_good o place (Some vs) s h = standing h.0 h.1
 
-  pub refers_good : (o : Value) (first count : ℕ) (found : Found (Cell Value)) (s : State) → Stands types callees s → Good types callees (refers_next named o first count found s)
-  refers_good o first count on_null s h = standing h.0 h.1
-  refers_good o first count on_gone s h = tt
-  refers_good o first count on_other s h = tt
-  refers_good o first count (finds cell) s h = referred_good o first (record_in cell.values first count) s h
+  pub refers_good : (o : Value) (place : Place) (count : ℕ) (found : Found (Cell Value)) (s : State) → Stands types callees s → Good types callees (refers_next named o place count found s)
+  refers_good o place count on_null s h = standing h.0 h.1
+  refers_good o place count on_gone s h = tt
+  refers_good o place count on_other s h = tt
+  refers_good o place count (finds cell) s h = referred_good o place (record_in cell.values place.component count) s h
 
   pub open_good : (cs : List ℕ) (x : ℕ) (s : State) → Stands types callees s → Good types callees (open_next named cs x s)
   open_good [] x s h = tt

@@ -55,13 +55,13 @@ no_name = record { bytes = vec [] (omega arith); ok = ∣ ([], (refl, refl)) ∣
 abbrev parts_from : ℕ → List ComponentKind → List Part
 parts_from number [] = []
 parts_from number (held ∷ others) =
-    record { name = no_name; kind = part.Elementary held; first = record { 0 = number } } ∷ parts_from (number + 1) others
+    record { name = no_name; kind = part.Elementary held; first = record { 0 = number }; part = record { 0 = 0 } } ∷ parts_from (number + 1) others
 
 abbrev access_kind : ℕ → ComponentKind
 access_kind access = kind.Access (record { 0 = access })
 
 abbrev cell_of : (components : List ComponentKind) → length (parts_from 0 components) ≤ 8 → length components ≤ 8 → TypeDefinition
-cell_of components few le = definition.Record no_name (vec (parts_from 0 components) few) (vec components le)
+cell_of components few le = definition.Record no_name (vec (parts_from 0 components) few) (vec components le) None
 
 abbrev access_to : ℕ → TypeDefinition
 access_to designated = definition.Access no_name (record { 0 = designated }) None

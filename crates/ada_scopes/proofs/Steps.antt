@@ -11,7 +11,8 @@ use Rattle.ada_program.specs.Handling.{some_takes, handler_of}
 use Rattle.ada_parts.specs.declared.tasks.Direction.TheVariants.{PartsFirst}
 use Rattle.ada_parts.specs.Task.{next as task_next}
 use Rattle.ada_program.specs.Controlled.{shapes_of}
-use Rattle.ada_meaning.specs.declared.event.Birth.TheVariants.{Creation}
+use Rattle.ada_meaning.specs.declared.event.Birth.{Birth}
+use Rattle.ada_meaning.specs.declared.event.Birth.TheVariants.{Creation, Copy}
 use Rattle.ada_program.specs.ProgramForm.{TypeForm, BodyForm}
 use Rattle.ada_program.specs.Typed.{reached_of, words_of, width_of, pool_named}
 use Rattle.ada_program.specs.WellFormed.{is_access, reached_components, is_object}
@@ -25,12 +26,12 @@ use Rattle.ada_meaning.specs.Frame.{Frame, is_master, is_loop, is_return, Landin
 use Rattle.ada_meaning.specs.Frame as frame
 use Rattle.ada_meaning.specs.State.{collection, record_object, storage_pool, Master, height, home_of, pools_in, pool_for}
 use Rattle.ada_meaning.specs.Heap.{Cell, Found, on_null, on_gone, on_other, finds}
-use Rattle.ada_meaning.specs.Step.{moves, all_tasks, at, older, owning, popped, held, newest, newest_ones, without_newest, initial_values, record_cell, made, record_next, operand_count, references_in, storing, assign_next, target_next, stored_next, store_next, frees_next, branches_next, decided_next, turn_next, repeats_next, turned_next, count_turn_next, ranges_next, gets_next, received_next, receive_next, exit_next, exited_next, begun, computing, call_next, stmt_next, stmts_next, line_next, declarations_next, frame_next, resumed, returned, left_by, unwound, landed, pass_next, running_next, jump_next, mode_next}
-use Rattle.ada_meaning.specs.Named.{Object, State, next, named, look, lent, an_integer, filled, reads_boolean, reads_null, reads_integer, unary_given, binary_given}
+use Rattle.ada_meaning.specs.Step.{moves, has_parts, all_tasks, at, older, owning, popped, held, newest, newest_ones, without_newest, initial_values, record_cell, made, record_next, operand_count, references_in, storing, assign_next, target_next, stored_next, store_next, frees_next, branches_next, decided_next, turn_next, repeats_next, turned_next, count_turn_next, ranges_next, gets_next, received_next, receive_next, exit_next, exited_next, begun, computing, call_next, stmt_next, stmts_next, line_next, declarations_next, frame_next, resumed, returned, left_by, unwound, landed, pass_next, running_next, jump_next, mode_next}
+use Rattle.ada_meaning.specs.Named.{Object, State, next, named, same, look, lent, an_integer, filled, reads_boolean, reads_null, reads_integer, unary_given, binary_given}
 use Rattle.ada_scopes.proofs.Counts.{one, times, opened, Scopes, scopes, all_of}
 use Rattle.ada_scopes.proofs.Texts.{StatementNests, StatementsNest, BranchesNest, HandlersNest, BodyNests, BodiesNest}
 use Rattle.ada_scopes.proofs.Control.{Alike, Where, HasOne, RecordHere, FrameNests, behind, Nests, Whole, Growing, Begins, Nested, standing, beginning, parting, whole_declared, nests_declared, whole_recorded, nests_recorded, nests_treating, whole_parts, grows, grown}
-use Rattle.ada_scopes.proofs.Evaluations.{Good, Stands, keeps_filled, whole_on, path_good, holder_good, record_holder_good, refers_good, open_good, opens_good, expression_good, null_test_good, links_good, outcome_good, items_good, copies_good, record_target_good, store_record_good, new_good, right_good, free_good, free_in_good, end_good, back_good}
+use Rattle.ada_scopes.proofs.Evaluations.{Good, Stands, keeps_filled, whole_on, path_good, holder_good, record_holder_good, refers_good, open_good, opens_good, expression_good, null_test_good, links_good, outcome_good, items_good, copies_good, record_target_good, store_record_good, record_assign_good, assigns_good, new_good, right_good, free_good, free_in_good, end_good, back_good}
 use Rattle.ada_scopes.proofs.Treatments.{treats_good}
 use Rattle.ada_scopes.proofs.Leavings.{parts_good}
 
@@ -167,7 +168,7 @@ module _ (types : List TypeForm) (callees : Callees) (bodies : List BodyForm) (n
   stmt_good definitions skips s around runs alike nest h = standing h.0 h.1
   stmt_good definitions (assigns target right) s around runs alike nest h = assign_good target.selectors target.root right s h
   stmt_good definitions (assigns_record target items) s around runs alike nest h =
-      record_holder_good types callees target (λ first. frame.TargetsRecord first target.record_type items) s (λ n. (tt, h.1)) h
+      record_assign_good types callees (has_parts definitions target.record_type) target items s h
   stmt_good definitions (frees access path) s around runs alike nest h = frees_good definitions path.selectors access path.root s h
   stmt_good definitions (gets target) s around runs alike nest h = gets_good target.selectors target.root s.input s h
   stmt_good definitions (writes e) s around runs alike nest h = standing h.0 (tt, (tt, h.1))
@@ -205,15 +206,15 @@ module _ (types : List TypeForm) (callees : Callees) (bodies : List BodyForm) (n
   line_good (Some i) s h = standing h.0 h.1
 
   -- A record object is made, with whatever values: what it needs is open.
-  made_good : (definitions : List TypeDefinition) (x t : ℕ) (values : List Value) (s : State) → RecordHere types (all_of (scopes s.masters)) t → HasOne (scopes s.masters) → Stands types callees s → Nested types callees (made named definitions x t values s)
-  made_good definitions x t values s opens some h =
+  made_good : (definitions : List TypeDefinition) (x t : ℕ) (by : Birth) (values : List Value) (s : State) → RecordHere types (all_of (scopes s.masters)) t → HasOne (scopes s.masters) → Stands types callees s → Nested types callees (made named definitions x t by values s)
+  made_good definitions x t by values s opens some h =
       standing
       (whole_recorded types (height s.masters) t s.masters s.heap (record_cell named definitions t (height s.masters) values) opens.0 some refl refl refl opens.1 opens.2.0 opens.2.1 h.0)
-      (nests_treating types callees (scopes (owning (record { number = height s.masters; owned = record_object t }) s.masters)) (Names (record { 0 = length s.heap })) (frame.begins Creation) (all_tasks definitions t PartsFirst) s.control
+      (nests_treating types callees (scopes (owning (record { number = height s.masters; owned = record_object t }) s.masters)) (Names (record { 0 = length s.heap })) (frame.begins by) (all_tasks definitions t PartsFirst) s.control
       (nests_recorded types callees (height s.masters) t s.masters s.control h.1))
 
   record_good : (definitions : List TypeDefinition) (x t : ℕ) (initial : Option (List ItemForm)) (s : State) → RecordHere types (all_of (scopes s.masters)) t → HasOne (scopes s.masters) → Stands types callees s → Good types callees (record_next named definitions x t initial s)
-  record_good definitions x t None s opens some h = made_good definitions x t (initial_values named (reached_of definitions t)) s opens some h
+  record_good definitions x t None s opens some h = made_good definitions x t Creation (initial_values named (reached_of definitions t)) s opens some h
   record_good definitions x t (Some items) s opens some h = standing h.0 (tt, ((opens, some), h.1))
 
   -- Declarations of a part whose collections have all been created.
@@ -247,9 +248,9 @@ module _ (types : List TypeForm) (callees : Callees) (bodies : List BodyForm) (n
   frame_good definitions (frame.Follows cs) s runs w nest n = path_good types callees cs (newest named s) (popped s) (w, n)
   frame_good definitions (frame.TestsNull equal) s runs w nest n = null_test_good types callees equal (reads_null (newest named s)) (popped s) (w, n)
   frame_good definitions (frame.Refers p) s runs w nest n =
-      record_holder_good types callees p (λ first. frame.RefersIn first p.record_type) s (λ m. (tt, n)) (w, n)
-  frame_good definitions (frame.RefersIn first t) s runs w nest n =
-      refers_good types callees (newest named s) first (width_of definitions t) (look s.heap (newest named s)) (popped s) (w, n)
+      record_holder_good types callees p (λ place. frame.RefersIn place p.record_type) s (λ place. (tt, n)) (w, n)
+  frame_good definitions (frame.RefersIn place t) s runs w nest n =
+      refers_good types callees (newest named s) place (width_of definitions t) (look s.heap (newest named s)) (popped s) (w, n)
   frame_good definitions (frame.Opens path) s runs w nest n = open_good types callees path.selectors path.root s (w, n)
   frame_good definitions (frame.OpensIn c) s runs w nest n = opens_good types callees (newest named s) c (look s.heap (newest named s)) (popped s) (w, n)
   frame_good definitions (frame.Continues links) s runs w nest n = links_good types callees links s (w, n)
@@ -272,8 +273,12 @@ module _ (types : List TypeForm) (callees : Callees) (bodies : List BodyForm) (n
   frame_good definitions (frame.TargetsRecord first t items) s runs w nest n =
       record_target_good types callees (newest named s) first (width_of definitions t) items (look s.heap (newest named s)) (popped s) (w, n)
   frame_good definitions (frame.StoresRecord o first count) s runs w nest n = store_record_good types callees o first count (look s.heap o) s (w, n)
+  frame_good definitions (frame.Assigns t) s runs w nest n =
+      let target = newest named (popped s) in
+      let source = newest named s in
+      assigns_good types callees definitions t target source (same target source) (popped (popped s)) (w, n)
   frame_good definitions (frame.DeclaresRecord x t) s runs w nest n =
-      made_good definitions x t (newest_ones named (words_of definitions t) s) (without_newest named (words_of definitions t) s) nest.0 nest.1 (w, n)
+      made_good definitions x t Copy (newest_ones named (words_of definitions t) s) (without_newest named (words_of definitions t) s) nest.0 nest.1 (w, n)
   frame_good definitions (frame.Receives c) s runs w nest n = receive_good (newest named s) c (look s.heap (newest named s)) (popped s) (w, n)
   frame_good definitions (frame.FreesIn access c) s runs w nest n = free_in_good types callees definitions access (newest named s) c (look s.heap (newest named s)) (popped s) (w, n)
   frame_good definitions (frame.ClearsIn o c) s runs w nest n = store_good o c Null (look s.heap o) s (w, n)

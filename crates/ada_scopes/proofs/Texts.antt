@@ -8,7 +8,7 @@ use Rattle.std.specs.List.{slice_get, list_all}
 use Rattle.ada_program.specs.declared.program.ScalarType.TheVariants.{Integer, Boolean}
 use Rattle.ada_program.specs.Form.{DeclarationForm, creates_pool, collects, declares, declares_record, StmtForm, skips, assigns, assigns_record, frees, gets, writes, writes_text, chooses, repeats, counts, exits, calls, returns, raises, encloses, StmtsForm, no_stmts, a_stmt, BranchesForm, otherwise, a_branch, HandlersForm, no_handlers, a_handler}
 use Rattle.ada_program.specs.ProgramForm.{TypeForm, record_of, access_to, object_of, VariableForm, BodyForm, ProgramForm}
-use Rattle.ada_program.specs.WellFormed.{IsWellFormed, Profile, all_creations, Creation, of_pool, of_collection, of_variable, creation, created_by, created_by_all, created_by_branches, created_by_handlers, is_access, designated_in, collections_first, collection_fits, is_collection, has_collections, has_type, variable_fits, is_record_object, record_initial_fits, initial_fits, declarations_fit, is_type, scalar_of, variable_kind, condition_fits, has_statement, choice_fits, statement_fits, stmts_fit, branches_fit, handlers_fit, reached_components}
+use Rattle.ada_program.specs.WellFormed.{IsWellFormed, Profile, all_creations, Creation, of_pool, of_collection, of_variable, creation, created_by, created_by_all, created_by_branches, created_by_handlers, is_access, designated_in, collections_first, collection_fits, is_collection, has_collections, has_type, variable_fits, is_record_object, object_named, record_initial_fits, initial_fits, declarations_fit, is_type, scalar_of, variable_kind, condition_fits, has_statement, choice_fits, statement_fits, stmts_fit, branches_fit, handlers_fit, reached_components}
 use Rattle.ada_program.specs.Nested.{Callees, call_nests, collected, record_objects, is_one_of, are_open, collection_nests, record_nests, part_nests, statement_nests, statements_nest, branches_nest, handlers_nest}
 use Rattle.ada_typed.proofs.Objects.{record_no_access}
 use Rattle.ada_scopes.proofs.Counts.{and_left, and_right, one, times, times_of, times_none, all_times}
@@ -124,13 +124,13 @@ once_right types bs cs once t is = let h = once t is in let all = makes_append t
 -- A well-formed program creates each collection once.
 this_one : (cs : List Creation) (k i : ℕ) (types : List TypeForm) → has_collections cs k types ≡ true → is_some (designated_in (slice_get types i)) ≡ true → count_by (is_collection (k + i)) cs ≡ 1
 this_one cs k i [] has is = absurd (cc)
-this_one cs k zero (record_of name parts components ∷ types) has is = absurd (cc)
+this_one cs k zero (record_of name parts components finalization ∷ types) has is = absurd (cc)
 this_one cs k zero (object_of record_type ∷ types) has is = absurd (cc)
 this_one cs k zero (access_to name designated pool ∷ types) has is =
     let at_k : count_by (is_collection k) cs ≡ 1 = eqb-true (count_by (is_collection k) cs) 1 (and_left (count_by (is_collection k) cs == 1) (has_collections cs (k + 1) types) has) in
     let same : k + 0 ≡ k = omega arith in
     ap (λ n. count_by (is_collection n) cs) same ∙ at_k
-this_one cs k (suc i) (record_of name parts components ∷ types) has is =
+this_one cs k (suc i) (record_of name parts components finalization ∷ types) has is =
     let same : k + suc i ≡ (k + 1) + i = omega arith in
     ap (λ n. count_by (is_collection n) cs) same ∙ this_one cs (k + 1) i types has is
 this_one cs k (suc i) (object_of record_type ∷ types) has is =
@@ -185,7 +185,7 @@ records_hold types variables there (declares x value ∷ ds) right initials nest
 records_hold types variables there (declares_record x t initial ∷ ds) right initials nest =
     let own = initial_fits types variables (declares_record x t initial) in
     let known = is_record_object t (variable_kind variables x) in
-    let filled = record_initial_fits types variables x (reached_components types t) initial in
+    let filled = record_initial_fits types variables x (object_named types (Some t)) initial in
     let others = list_all (initial_fits types variables) ds in
     let later = list_all (record_nests types there) (record_objects ds) in (
       record_no_access types variables x t right (and_left known filled (and_left own others initials)),

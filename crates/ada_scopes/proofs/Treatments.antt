@@ -5,7 +5,7 @@ use Rattle.std.specs.List.{slice_get}
 use Rattle.ada_parts.specs.declared.tasks.Next.{Next as Follows}
 use Rattle.ada_parts.specs.declared.tasks.Next.TheVariants.{Done, Pick, Perform}
 use Rattle.ada_parts.specs.Shape.{Shape}
-use Rattle.ada_parts.specs.Task.{Task, performed, taken as taken_tasks}
+use Rattle.ada_parts.specs.Task.{Task, performed}
 use Rattle.ada_program.specs.ProgramForm.{TypeForm}
 use Rattle.ada_program.specs.Nested.{Callees}
 use Rattle.ada_meaning.specs.declared.event.Birth.{Birth}
@@ -20,7 +20,7 @@ use Rattle.ada_meaning.specs.Heap.{PartState, Cell, Found, on_null, on_gone, on_
 use Rattle.ada_meaning.specs.Law.{items_of}
 use Rattle.ada_meaning.specs.Named.{Object, State, Next, named, look, on_object, born_part, finalized_part, treated}
 use Rattle.ada_meaning.specs.State.{Item, Master, counted}
-use Rattle.ada_meaning.specs.Step.{halts, moves, tells, asks, picks, direction_of, treating, treated_on, born_next, finalized_next, performed_next, treats_next}
+use Rattle.ada_meaning.specs.Step.{picked_task, halts, moves, tells, asks, picks, direction_of, treating, treated_on, born_next, finalized_next, performed_next, treats_next}
 use Rattle.ada_typed.proofs.Kept.{Each}
 use Rattle.ada_scopes.proofs.Counts.{scopes}
 use Rattle.ada_scopes.proofs.Homes.{KeepsHome, Housed, housed_on}
@@ -66,9 +66,9 @@ performed_treats v treatment tasks of part on_other s = tt
 performed_treats v (frame.begins by) tasks of part (finds cell) s = born_treats v (frame.begins by) tasks of part by (slice_get cell.parts part) s
 performed_treats v (frame.ends cause) tasks of part (finds cell) s = finalized_treats v (frame.ends cause) tasks of part cause (slice_get cell.parts part) s
 
-picked_treats : (none : Bool) (shapes : List Shape) (v : Value) (treatment : Treatment) (tasks : List Task) (count : ℕ) (s : State) → Each (Treats s) (if none then halts Stuck else picks count (λ i. treated_on named v treatment (taken_tasks shapes (direction_of treatment) tasks i) s))
+picked_treats : (none : Bool) (shapes : List Shape) (v : Value) (treatment : Treatment) (tasks : List Task) (count : ℕ) (s : State) → Each (Treats s) (if none then halts Stuck else picks count (λ i. treated_on named v treatment (picked_task shapes (direction_of treatment) tasks i) s))
 picked_treats true shapes v treatment tasks count s = tt
-picked_treats false shapes v treatment tasks count s = λ i lt. only_left v treatment (taken_tasks shapes (direction_of treatment) tasks i) s
+picked_treats false shapes v treatment tasks count s = λ i lt. only_left v treatment (picked_task shapes (direction_of treatment) tasks i) s
 
 all_treats : (shapes : List Shape) (v : Value) (treatment : Treatment) (tasks : List Task) (next : Follows) (s : State) → Each (Treats s) (treats_next named shapes v treatment tasks next s)
 all_treats shapes v treatment tasks Done s = only_left v treatment [] s

@@ -7,7 +7,7 @@ use Rattle.ada_text.specs.declared.fault.TextFault.TheVariants as text
 use Rattle.ada_program.specs.declared.program.Program.{Program}
 use Rattle.ada_meaning.specs.declared.event.Halt.{Halt}
 use Rattle.ada_meaning.specs.declared.event.Halt.TheVariants as halt
-use Rattle.ada_meaning.specs.Law.{Safe}
+use Rattle.ada_meaning.specs.Safe.{Safe}
 use Rattle.ada_meaning.specs.Named.{State}
 use Rattle.ada_meaning.specs.Run.{Event, Run, here, run_more, first_state, Halts}
 use Rattle.ada_meaning.specs.Chosen.{begun, goes_on}

@@ -5,7 +5,7 @@ use Rattle.std.specs.Io.KnownBytes.{Appends}
 use Rattle.ada_input.specs.declared.fault.InputFault.{InputFault}
 use Rattle.ada_input.specs.declared.fault.InputFault.TheVariants as input
 use Rattle.ada_program.specs.declared.program.Program.{Program}
-use Rattle.ada_meaning.specs.Law.{Safe}
+use Rattle.ada_meaning.specs.Safe.{Safe}
 use Rattle.ada_pools.specs.Sizes.{all_for_pools}
 use Rattle.ada_verdict.specs.declared.fault.Verdict.{Verdict}
 use Rattle.ada_verdict.specs.First.{IsAccepted, IsFirst}

@@ -10,6 +10,7 @@ use Rattle.ada_program.specs.declared.program.Program.{Program}
 use Rattle.ada_program.specs.declared.program.TypeDefinition.{TypeDefinition}
 use Rattle.ada_program.specs.declared.program.TypeDefinition.TheVariants.{Record, Access, Object}
 use Rattle.ada_program.specs.Names.{exception_name}
+use Rattle.ada_program.specs.Controlled.{type_numbered}
 use Rattle.ada_meaning.specs.declared.event.Line.{Line}
 use Rattle.ada_meaning.specs.declared.event.Line.TheVariants.{Image, Literal}
 use Rattle.ada_verdict.specs.Refusal.{Told}
@@ -43,7 +44,7 @@ line_text texts (Literal text) = text_at texts text.0 ++ line_feed
 -- The name of a type (3.2.1), in upper case: what only one record object is known by has none, nor has a type that is not there.
 abbrev pub name_of : Option TypeDefinition → List ℕ
 name_of None = []
-name_of (Some (Record name parts components)) = string_bytes name
+name_of (Some (Record name parts components finalization)) = string_bytes name
 name_of (Some (Access name designated pool)) = string_bytes name
 name_of (Some (Object record_type)) = []
 
@@ -51,17 +52,21 @@ name_of (Some (Object record_type)) = []
 abbrev pub name_of_type : Program → (type : ℕ) → List ℕ
 name_of_type program type = name_of (slice_get program.types.items type)
 
+-- The name of the record type of this number among those that have controlled parts (7.6).
+abbrev pub name_of_controlled : Program → (record_type : ℕ) → List ℕ
+name_of_controlled program record_type = name_of (type_numbered program.types.items record_type)
+
 -- A line of a trace: what happens, the name of a type, and the trace number of a value or an object of it.
 abbrev pub trace_text : (moment name : List ℕ) → (number : ℕ) → List ℕ
 trace_text moment name number = moment ++ name ++ codes " " ++ decimal number ++ line_feed
 
 -- A controlled value of a type has come to exist (7.6).
-abbrev pub born_text : Program → (type number : ℕ) → List ℕ
-born_text program type number = trace_text (codes "# born ") (name_of_type program type) number
+abbrev pub born_text : Program → (record_type number : ℕ) → List ℕ
+born_text program record_type number = trace_text (codes "# born ") (name_of_controlled program record_type) number
 
 -- Finalize of a controlled value of a type begins (7.6.1).
-abbrev pub finalized_text : Program → (type number : ℕ) → List ℕ
-finalized_text program type number = trace_text (codes "# finalized ") (name_of_type program type) number
+abbrev pub finalized_text : Program → (record_type number : ℕ) → List ℕ
+finalized_text program record_type number = trace_text (codes "# finalized ") (name_of_controlled program record_type) number
 
 -- The storage of an object of an access type goes back (13.11.2).
 abbrev pub back_text : Program → (access number : ℕ) → List ℕ

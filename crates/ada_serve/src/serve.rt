@@ -4,7 +4,7 @@ ghost use Rattle.std.specs.Prelude.{◌≡◌, ◌≢◌, ◌++◌, ◌-◌, tak
 ghost use Rattle.ada_interpreter.specs.Machine.{state_in, program_of, choices_of, halt_of};
 ghost use Rattle.ada_meaning.specs.declared.event.Halt.TheVariants.{Memory};
 ghost use Rattle.ada_meaning.specs.Event.{event_of};
-ghost use Rattle.ada_meaning.specs.Law.{Safe};
+ghost use Rattle.ada_meaning.specs.Safe.{Safe};
 ghost use Rattle.ada_meaning.specs.Run.{first_state};
 ghost use Rattle.ada_pools.specs.View.{runner_of};
 ghost use Rattle.ada_serve.specs.Answer.{IsRefusal, IsProgramAnswer, GivesNumbers};
@@ -321,7 +321,7 @@ fn take_turn<W: ByteWriter>(
     page.clear();
     match machine.step() {
         Ok(event) => {
-            write_event(page, program, trace, out, event)?;
+            write_event(page, program, machine, trace, out, event)?;
             Ok(None)
         }
         Err(halt) => Ok(Some(finish(page, program, out, halt)?)),
@@ -344,15 +344,17 @@ fn stop<W: ByteWriter>(page: &mut Vec<u8>, out: &mut W, limit: u32) -> Result<St
 fn write_event<W: ByteWriter>(
     page: &mut Vec<u8>,
     program: &Program,
+    machine: &Machine<'_, PoolChoices>,
     trace: bool,
     out: &mut W,
     event: Event,
 ) -> Result<(), ServeFault>
-    requires { page.old.items ≡ [] }
+    requires empty { page.old.items ≡ [] }
+    requires same { program_of machine.now ≡ program.now }
     ensures text { Writes (W.contents out.old) (W.contents out.new) (event_text program.now trace (event_of event)) result }
     ensures writer { OnlyWrites W.writes out.old out.new result }
 {
-    put_event(page, program, trace, event)?;
+    put_event(page, program, machine, trace, event)?;
     write_all(out, page)
 }
 

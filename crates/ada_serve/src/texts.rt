@@ -1,15 +1,18 @@
 //! The lines of an answer. Each is appended to a page, which is then written as a whole.
 
 ghost use Rattle.std.specs.Prelude.{◌≡◌, ◌++◌, map, OnOk, decimal};
+ghost use Rattle.std.specs.Option.{option_copied};
 ghost use Rattle.std.specs.String.{string_bytes};
 ghost use Rattle.ada_meaning.specs.Event.{event_of};
 ghost use Rattle.ada_serve.specs.Runner.{event_text};
-ghost use Rattle.ada_serve.specs.Texts.{image, line_text, name_of_type, text_at};
-ghost use Rattle.ada_serve.specs.Texts.{back_text, born_text, finalized_text, trace_text};
+ghost use Rattle.ada_interpreter.specs.Machine.{program_of};
+ghost use Rattle.ada_serve.specs.Texts.{back_text, image, line_text, name_of, text_at, trace_text};
 ghost use Rattle.ada_serve.specs.Texts.{exceptions_of, refusal_text, stopped_text, unhandled_text};
 ghost use Rattle.ada_verdict.specs.Shown.{shown};
 
+use ada_interpreter::Machine;
 use ada_meaning::{Event, Line};
+use ada_pools::PoolChoices;
 use ada_program::program::{Exception, TextNo, TypeDefinition};
 use ada_program::{Program, TypeNo};
 use ada_verdict::Refusal;
@@ -20,16 +23,28 @@ use std::alloc::AllocError;
 pub fn put_event(
     page: &mut Vec<u8>,
     program: &Program,
+    machine: &Machine<'_, PoolChoices>,
     trace: bool,
     event: Event,
 ) -> Result<(), AllocError>
+    requires { program_of machine.now ≡ program.now }
     ensures { OnOk result (page.new.items ≡ page.old.items ++ event_text program.now trace (event_of event)) }
 {
     match event {
-        Event::Born { record, number, .. } if trace => put_born(page, program, record, number),
-        Event::Finalized { record, number, .. } if trace => {
-            put_finalized(page, program, record, number)
+        Event::Born { record, number, .. } if trace => {
+            put_trace(
+                page,
+                "# born ",
+                name_of(machine.controlled_type(record)),
+                number,
+            )
         }
+        Event::Finalized { record, number, .. } if trace => put_trace(
+            page,
+            "# finalized ",
+            name_of(machine.controlled_type(record)),
+            number,
+        ),
         Event::Back {
             access,
             number,
@@ -41,30 +56,6 @@ pub fn put_event(
     }
 }
 
-/// Appends that a controlled value of a type has come to exist.
-fn put_born(
-    page: &mut Vec<u8>,
-    program: &Program,
-    controlled: TypeNo,
-    number: u64,
-) -> Result<(), AllocError>
-    ensures { OnOk result (page.new.items ≡ page.old.items ++ born_text program.now controlled.0 number) }
-{
-    put_trace(page, "# born ", name_of(program, controlled), number)
-}
-
-/// Appends that Finalize of a controlled value of a type begins.
-fn put_finalized(
-    page: &mut Vec<u8>,
-    program: &Program,
-    controlled: TypeNo,
-    number: u64,
-) -> Result<(), AllocError>
-    ensures { OnOk result (page.new.items ≡ page.old.items ++ finalized_text program.now controlled.0 number) }
-{
-    put_trace(page, "# finalized ", name_of(program, controlled), number)
-}
-
 /// Appends that the storage of an object of an access type goes back.
 fn put_back(
     page: &mut Vec<u8>,
@@ -74,7 +65,12 @@ fn put_back(
 ) -> Result<(), AllocError>
     ensures { OnOk result (page.new.items ≡ page.old.items ++ back_text program.now access.0 number) }
 {
-    put_trace(page, "# back ", name_of(program, access), number)
+    put_trace(
+        page,
+        "# back ",
+        name_of(program.types.get(access.0)),
+        number,
+    )
 }
 
 /// Appends a line of a trace.
@@ -88,11 +84,11 @@ fn put_trace(page: &mut Vec<u8>, moment: &str, name: &str, number: u64) -> Resul
     page.extend_from_slice(b"\n")
 }
 
-/// The name of the type of this number in upper case: the empty text, if only one record object is known by it.
-fn name_of<'a>(program: &'a Program, number: TypeNo) -> &'a str
-    ensures { result.now ≡ name_of_type program.now number.0 }
+/// The name of a type in upper case: the empty text, if only one record object is known by it, or there is none.
+fn name_of<'a>(definition: Option<&'a TypeDefinition>) -> &'a str
+    ensures { result.now ≡ name_of (option_copied definition.entry) }
 {
-    match program.types.get(number.0) {
+    match definition {
         Some(TypeDefinition::Record { name, .. } | TypeDefinition::Access { name, .. }) => name,
         Some(TypeDefinition::Object { .. }) | None => "",
     }

@@ -25,7 +25,7 @@ use Rattle.ada_meaning.specs.Frame.{Computes, Fills, Copies, Creates, Stores, De
 use Rattle.ada_meaning.specs.Event.{Quiet}
 use Rattle.ada_meaning.specs.Heap.{Cell}
 use Rattle.ada_meaning.specs.State.{Destination, Activation, home_of}
-use Rattle.ada_meaning.specs.Step.{all_tasks, path_next, items_next, new_next, new_cell, answered, selected, first_in, record_holder_next}
+use Rattle.ada_meaning.specs.Step.{all_tasks, path_next, items_next, new_next, new_cell, answered, selected, place_in, record_holder_next}
 use Rattle.ada_meaning.specs.Named.{Object, State, object_at, new_object, create, created, store, named, inside}
 use Rattle.ada_typed.specs.Holding.{HaveKinds, cells_of}
 use Rattle.ada_typed.proofs.Values.{OperandKind, AreComputed}
@@ -113,12 +113,12 @@ module _ (known : Known) (k : Control) (a : Activation Value) (rest : List (Acti
       (rw e at (next_raises known s.heap a.places (item_of_path path) items k a.operands w.rooms w.holds w.rest)))
 
   -- The object in which a record lies is found, and then its components are copied.
-  record_item : (p : RecordPathForm) (items : List ItemForm) → RecordThere known.program.types known.program.variables p → (w : Working known s.heap a.places s.masters (FillsTo known s.heap a.places (item_of_record p ∷ items) k a.operands)) → (is_owning_record known.program.types p.record_type ≡ false) × (lost_by (hold_at w.holds p.object.root) p.object.spot ≡ None) → Fine known s.heap s.masters (record_holder_next named p (λ first. Copies first p.record_type) (running (Fills items ∷ k) a rest s))
+  record_item : (p : RecordPathForm) (items : List ItemForm) → RecordThere known.program.types known.program.variables p → (w : Working known s.heap a.places s.masters (FillsTo known s.heap a.places (item_of_record p ∷ items) k a.operands)) → (is_owning_record known.program.types p.record_type ≡ false) × (lost_by (hold_at w.holds p.object.root) p.object.spot ≡ None) → Fine known s.heap s.masters (record_holder_next named p (λ place. Copies place.component p.record_type) (running (Fills items ∷ k) a rest s))
   record_item p items there w kept =
       let path = p.object in
       let v = begun a.places path in
-      let first = first_in named (place_at a.places path.root) path.selectors p.first in
-      finds_fine known a rest s a.operands (Copies first p.record_type ∷ Fills items ∷ k) (along a.places path) v
+      let place = place_in named (place_at a.places path.root) path.selectors p in
+      finds_fine known a rest s a.operands (Copies place.component p.record_type ∷ Fills items ∷ k) (along a.places path) v
       (at_work w (
         selected_raises known (place_at a.places path.root) v path.selectors (Fills items ∷ k) w.rooms w.holds
             (record_raises known v (Fills items ∷ k) w.rooms w.holds path.of_record path.selectors

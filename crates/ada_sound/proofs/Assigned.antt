@@ -8,7 +8,7 @@ use Rattle.ada_program.specs.declared.program.VariableKind.{VariableKind}
 use Rattle.ada_program.specs.declared.program.VariableKind.TheVariants as variable
 use Rattle.ada_program.specs.Form.{PathForm, ItemForm, value_of, allocates, computes}
 use Rattle.ada_program.specs.ProgramForm.{TypeForm, VariableForm}
-use Rattle.ada_program.specs.WellFormed.{is_access, designated_type, same_record, is_freed_by, access_of, value_access, root_kind, variable_kind, selectors_kind, path_kind, is_this, reached_components, kind_among, selected_kind, path_access, items_fit, is_filled, kind_takes}
+use Rattle.ada_program.specs.WellFormed.{is_access, designated_type, same_record, is_freed_by, access_of, value_access, root_kind, variable_kind, selectors_kind, path_kind, is_this, reached_components, object_named, parts_named, kind_among, selected_kind, path_access, items_fit, is_filled, kind_takes}
 use Rattle.ada_meaning.specs.declared.state.Id.{Id}
 use Rattle.ada_meaning.specs.declared.state.Value.{Value}
 use Rattle.ada_meaning.specs.declared.state.Value.TheVariants.{Names}
@@ -137,7 +137,8 @@ allocated_goes types variables variable.Integer access items takes = absurd (cc 
 allocated_goes types variables variable.Boolean access items takes = absurd (cc takes)
 allocated_goes types variables (variable.Record t) access items takes = absurd (cc takes)
 allocated_goes types variables (variable.Access t) access items takes =
-    let h = both (access == t.0) (is_filled types variables (reached_components types t.0) items) takes in
+    let all = both ((access == t.0) && is_filled types variables (reached_components types t.0) items) (parts_named types (object_named types (Some t.0)) == 0) takes in
+    let h = both (access == t.0) (is_filled types variables (reached_components types t.0) items) all.0 in
     let same : access ≡ t.0 = eqb-true access t.0 h.0 in
     let f = filled_by types variables (reached_components types t.0) items h.1 in
     record { goes = ap Some (sym same); components = f.0; reached = ap (λ u. reached_components types u) same ∙ f.1; fit = f.2 }

@@ -14,11 +14,12 @@ use Rattle.ada_program.specs.WellFormed.{access_of, held_kind, kind_among, kind_
 use Rattle.ada_flow.specs.declared.rule.Hold.TheVariants as hold
 use Rattle.ada_flow.specs.Flow.{Holds, hold_at, lost_by, is_freed, passes_freed, component_passes}
 use Rattle.ada_meaning.specs.declared.state.Id.{Id}
+use Rattle.ada_meaning.specs.declared.state.Place.{Place}
 use Rattle.ada_meaning.specs.declared.state.Value.{Value}
 use Rattle.ada_meaning.specs.declared.state.Value.TheVariants.{Null, Names, Scalar, Part}
 use Rattle.ada_meaning.specs.Heap.{finds}
-use Rattle.ada_meaning.specs.Named.{Object, object_at, whole, inside}
-use Rattle.ada_meaning.specs.Step.{before_last, last_of}
+use Rattle.ada_meaning.specs.Named.{Object, object_at, whole, inside, named}
+use Rattle.ada_meaning.specs.Step.{before_last, last_of, place_in}
 use Rattle.ada_owners.specs.Places.{variable, access_at}
 use Rattle.ada_owners.specs.Reliance.{IsOf}
 use Rattle.ada_owners.specs.Reliance as reliance
@@ -49,7 +50,7 @@ begins_kind [] (k ∷ ks) c kind begins is = absurd (cc begins)
 begins_kind (d ∷ cs) (k ∷ ks) zero kind begins is = ap Some (alike_kind d k (and_parts (is_alike d k) (begins_with cs ks) begins).0) ∙ is
 begins_kind (d ∷ cs) (k ∷ ks) (suc c) kind begins is = begins_kind cs ks c kind (and_parts (is_alike d k) (begins_with cs ks) begins).1 is
 
-drop_kind : (cs : List ComponentKind) (first c : ℕ) → kind_among (Some (drop first cs)) c ≡ kind_among (Some cs) (first + c)
+pub drop_kind : (cs : List ComponentKind) (first c : ℕ) → kind_among (Some (drop first cs)) c ≡ kind_among (Some cs) (first + c)
 drop_kind cs zero c = ap (λ n. kind_among (Some cs) n) (omega arith)
 drop_kind [] (suc first) c = refl
 drop_kind (k ∷ cs) (suc first) c =
@@ -78,13 +79,13 @@ IsAlone kind from v = (whole v ≡ v) × ((c : ℕ) → inside v c ≡ c) × (fr
 
 pub record IsPart (types : List TypeForm) (referenced : List Reference) (kind from : Option VariableKind) (v : Value) : Type 0 where
   pub o : Id
-  pub first : ℕ
+  pub place : Place
   pub t : ℕ
-  pub is : v ≡ Part o first
+  pub is : v ≡ Part o place
   pub object : names_object kind ≡ true
   pub refers : IsReferred referenced o t
   pub from_is : access_of from ≡ Some t
-  pub within : IsWithin types kind t first
+  pub within : IsWithin types kind t place.component
 
 pub record Root (types : List TypeForm) (referenced : List Reference) (heap : List Object) (kind : Option VariableKind) (v : Value) : Type 0 where
   pub from : Option VariableKind
@@ -104,11 +105,11 @@ root_by : (types : List TypeForm) (outer : Outsiders) (heap : List Object) (kind
 root_by types outer heap kind Null are place names = record { from = kind; names = names; leads = λ c cs to e. e; is = inl (refl, (λ c. refl), refl) }
 root_by types outer heap kind (Names o) are place names = record { from = kind; names = names; leads = λ c cs to e. e; is = inl (refl, (λ c. refl), refl) }
 root_by types outer heap kind (Scalar n) are place names = record { from = kind; names = names; leads = λ c cs to e. e; is = inl (refl, (λ c. refl), refl) }
-root_by types outer heap kind (Part o first) are (object, t, refers, within) names = record {
+root_by types outer heap kind (Part o place) are (object, t, refers, within) names = record {
   from = Some (kinds.Access (record { 0 = t }));
   names = λ p e. let same : o ≡ p = cc e in rw (← same) (are o t refers);
-  leads = λ c cs to e. part_leads types kind t first c cs to within e;
-  is = inr (record { o = o; first = first; t = t; is = refl; object = object; refers = refers; from_is = refl; within = within });
+  leads = λ c cs to e. part_leads types kind t place.component c cs to within e;
+  is = inr (record { o = o; place = place; t = t; is = refl; object = object; refers = refers; from_is = refl; within = within });
 }
 
 listed_by : (heap : List Object) (kind : Option ℕ) (o : Id) (object : Object) → IsOf (access_at heap) kind o → object_at heap o ≡ Some object → kind ≡ Some object.cell.access
@@ -135,7 +136,7 @@ module _ {types : List TypeForm} {variables : List VariableForm} {outer : Outsid
       go r Null is = tt
       go r (Names o) is = there_by heap (access_of r.from) o (r.names o is)
       go r (Scalar n) is = tt
-      go r (Part o first) is = tt
+      go r (Part o place) is = tt
 
 -- And it is of the kind that is said.
 pub root_access : {types : List TypeForm} {referenced : List Reference} {heap : List Object} {kind : Option VariableKind} {v : Value} (r : Root types referenced heap kind v) (o : Id) (object : Object) → whole v ≡ Names o → object_at heap o ≡ Some object → access_of r.from ≡ Some object.cell.access
@@ -251,7 +252,7 @@ pub record Opened (types : List TypeForm) (variables : List VariableForm) (refer
   pub o : Id
   pub c : ℕ
   pub t : ℕ
-  pub is : r ≡ Part o c
+  pub is : r ≡ Part o (record { component = c; part = 0 })
   pub there : access_at heap o ≡ Some t
   pub kind : kind_among (reached_components types t) c ≡ Some to
   pub spared : IsSpared (λ may. component_passes types variables may path ≡ false) referenced o t
@@ -259,11 +260,11 @@ pub record Opened (types : List TypeForm) (variables : List VariableForm) (refer
 -- The object in which a record lies that is given, and where the record begins there.
 pub record Referred (types : List TypeForm) (variables : List VariableForm) (referenced : List Reference) (heap : List Object) (p : RecordPathForm) (v : Value) : Type 0 where
   pub o : Id
-  pub first : ℕ
+  pub place : Place
   pub t : ℕ
-  pub is : v ≡ Part o first
+  pub is : v ≡ Part o place
   pub there : access_at heap o ≡ Some t
-  pub within : (c : ℕ) (k : VariableKind) → kind_among (record_components types p.record_type) c ≡ Some k → kind_among (reached_components types t) (first + c) ≡ Some k
+  pub within : (c : ℕ) (k : VariableKind) → kind_among (record_components types p.record_type) c ≡ Some k → kind_among (reached_components types t) (place.component + c) ≡ Some k
   pub spared : (access_of (path_kind types variables p.object) ≡ Some t) ⊎ IsReferred referenced o t
 
 module _ {types : List TypeForm} {variables : List VariableForm} {outer : Outsiders} {heap : List Object} {places : List Value} {holds : Holds} (exist : walks.ListedExist heap) (f : Fit types variables outer none_spared heap places holds) where
@@ -303,7 +304,7 @@ module _ {types : List TypeForm} {variables : List VariableForm} {outer : Outsid
           by (inl a) = inl (λ may none. freed_is may (access_of (variable_kind variables path.root)) t (ap access_of (sym a.2) ∙ at) (passed_last types may (variable_kind variables path.root) d [] (rw some at none)))
           by (inr a) =
               let names : finds (whole (place_at places path.root)) ≡ finds (Names o) = there d [] some in
-              let here : whole (Part a.o a.first) ≡ whole (place_at places path.root) = ap whole (sym a.is) in
+              let here : whole (Part a.o a.place) ≡ whole (place_at places path.root) = ap whole (sym a.is) in
               let same : a.o ≡ o = cc (here, names) in
               let one : a.t ≡ t = let g = a.from_is in cc (g, at) in
               inr (rw (same, one) at a.refers)
@@ -340,10 +341,10 @@ module _ {types : List TypeForm} {variables : List VariableForm} {outer : Outsid
       from_kind = from_root types p.object.of_record (variable_kind variables p.object.root) p.object.selectors to leads
 
       -- The record lies in an object of the access type of what the path names.
-      in_this : (first t : ℕ) → access_at heap o ≡ Some t → access_of (Some to) ≡ Some t → v ≡ Part o first → first ≡ p.first → Referred types variables outer.referenced heap p v
-      in_this first t there at is' same = record {
+      in_this : (place : Place) (t : ℕ) → access_at heap o ≡ Some t → access_of (Some to) ≡ Some t → v ≡ Part o place → place.component ≡ p.first → Referred types variables outer.referenced heap p v
+      in_this place t there at is' same = record {
         o = o;
-        first = first;
+        place = place;
         t = t;
         is = is';
         there = there;
@@ -354,19 +355,19 @@ module _ {types : List TypeForm} {variables : List VariableForm} {outer : Outsid
       in_part : p.object.selectors ≡ [] → IsPart types outer.referenced (variable_kind variables p.object.root) b.from (place_at places p.object.root) → Referred types variables outer.referenced heap p v
       in_part none a =
           let names : finds (whole (place_at places p.object.root)) ≡ finds (Names o) = rw none at found in
-          let here : whole (Part a.o a.first) ≡ whole (place_at places p.object.root) = ap whole (sym a.is) in
+          let here : whole (Part a.o a.place) ≡ whole (place_at places p.object.root) = ap whole (sym a.is) in
           let same : a.o ≡ o = cc (here, names) in
           let kind : variable_kind variables p.object.root ≡ Some to = rw none at from_kind in
           record {
             o = o;
-            first = a.first + p.first;
+            place = record { component = a.place.component + p.first; part = a.place.part + p.part };
             t = a.t;
-            is = is ∙ ap (λ (n : ℕ). Part o n) (rw (none, a.is) refl);
+            is = is ∙ ap (λ (place : Place). Part o place) (rw (none, a.is) refl);
             there = rw same at (f.referred a.o a.t a.refers);
             within = λ c k e. (
                 let deep : kind_among (object_components types (access_of (Some to))) (p.first + c) ≡ Some k = record_kind (object_components types (access_of (Some to))) (record_components types p.record_type) p.first c k lies_in e in
                 let selects : selected_kind types (variable_kind variables p.object.root) (p.first + c) ≡ Some k = rw kind (behind_components types (access_of (Some to)) (p.first + c) ∙ deep) in
-                let sum : a.first + (p.first + c) ≡ (a.first + p.first) + c = omega arith in
+                let sum : a.place.component + (p.first + c) ≡ (a.place.component + p.first) + c = omega arith in
                 rw sum at (a.within (p.first + c) k selects)
                 );
             spared = inr (rw same at a.refers);
@@ -378,7 +379,7 @@ module _ {types : List TypeForm} {variables : List VariableForm} {outer : Outsid
           let one : whole (place_at places p.object.root) ≡ Names o = cc names in
           let h = of_kind (access_of b.from) o (b.names o one) in
           let kind : variable_kind variables p.object.root ≡ Some to = rw none at from_kind in
-          in_this (inside (place_at places p.object.root) p.first) h.0 h.2 (ap access_of (sym kind ∙ sym a.2) ∙ h.1) (rw none at is) (a.1 p.first)
+          in_this (place_in named (place_at places p.object.root) [] p) h.0 h.2 (ap access_of (sym kind ∙ sym a.2) ∙ h.1) (rw none at is) (a.1 p.first)
 
       go : (cs : List ℕ) → p.object.selectors ≡ cs → Referred types variables outer.referenced heap p v
       go [] none = elim b.is [ inl a ↦ in_alone none a | inr a ↦ in_part none a ]
@@ -386,7 +387,7 @@ module _ {types : List TypeForm} {variables : List VariableForm} {outer : Outsid
           let goes : selectors_kind types b.from (inside (place_at places p.object.root) d ∷ ds) ≡ Some to = b.leads d ds to (rw some at from_kind) in
           let of = walk_names exist f p.object.root b (inside (place_at places p.object.root) d ∷ ds) (Names o) o (rw some at found) refl in
           let h = of_kind (access_of (selectors_kind types b.from (inside (place_at places p.object.root) d ∷ ds))) o of in
-          in_this p.first h.0 h.2 (ap access_of (sym goes) ∙ h.1) (rw some at is) refl
+          in_this (record { component = p.first; part = p.part }) h.0 h.2 (ap access_of (sym goes) ∙ h.1) (rw some at is) refl
 
   leads_by : (p : RecordPathForm) (found : Option VariableKind) → has_record_at (object_components types (access_of found)) p.first (record_components types p.record_type) ≡ true → (to : VariableKind) × (found ≡ Some to)
   leads_by p None has = absurd (cc has)
@@ -394,6 +395,7 @@ module _ {types : List TypeForm} {variables : List VariableForm} {outer : Outsid
 
   pub record_referred : (p : RecordPathForm) (v : Value) → is_record_path types variables p ≡ true → lost_by (hold_at holds p.object.root) p.object.spot ≡ None → ReferredBy heap places p v → Referred types variables outer.referenced heap p v
   record_referred p v lies kept by =
-      let leads = leads_by p (path_kind types variables p.object) lies in
-      let there : has_record_at (object_components types (access_of (Some leads.0))) p.first (record_components types p.record_type) ≡ true = rw leads.1 at lies in
+      let first_lies = (and_parts (has_record_at (object_components types (access_of (path_kind types variables p.object))) p.first (record_components types p.record_type)) _ lies).0 in
+      let leads = leads_by p (path_kind types variables p.object) first_lies in
+      let there : has_record_at (object_components types (access_of (Some leads.0))) p.first (record_components types p.record_type) ≡ true = rw leads.1 at first_lies in
       referred_to p v leads.0 leads.1 there kept by

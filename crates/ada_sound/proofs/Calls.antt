@@ -222,7 +222,7 @@ module _ (program : Program) (number : ℕ) (b : BodyForm) (given : List ActualF
           (walk_plain s.heap heap_plain (along a.places l.path) (begun a.places l.path) (place_at begins i) (whole_plain (place_at a.places l.path.root)) l.found)
       object_by i ne (inr (inl (none, e, inr p))) =
           let h = record_referred exist w.fit p.p (place_at begins i) p.lies p.kept p.by in
-          let among = formal_referred caller.program.types caller.program.variables s.heap a.places (drop (length values) (blanks named b.variables)) b.formals b.variables given values suits.0 suits.1 order i p.object ne h.o h.first h.t h.is h.there in
+          let among = formal_referred caller.program.types caller.program.variables s.heap a.places (drop (length values) (blanks named b.variables)) b.formals b.variables given values suits.0 suits.1 order i p.object ne h.o h.place h.t h.is h.there in
           rw h.is (
             p.object,
             h.t,

@@ -202,7 +202,9 @@ pub record RecordThere (types : List TypeForm) (variables : List VariableForm) (
   pub components : record_components types p.record_type ≡ Some kinds
 
 pub record_there : (types : List TypeForm) (variables : List VariableForm) (p : RecordPathForm) → is_record_path types variables p ≡ true → RecordThere types variables p
-record_there types variables p e = by (path_kind types variables p.object) (record_components types p.record_type) refl refl e
+record_there types variables p e =
+    by (path_kind types variables p.object) (record_components types p.record_type) refl refl
+    (both (has_record_at (object_components types (access_of (path_kind types variables p.object))) p.first (record_components types p.record_type)) _ e).0
   where
     some_first : (components : Option (List ComponentKind)) → has_record_at components p.first None ≡ true → ⊥
     some_first None e' = cc e'

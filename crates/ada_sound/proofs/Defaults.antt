@@ -99,7 +99,7 @@ Reaches known types =
 
 components_shown : (o : Option TypeDefinition) → components_in (option_map type_form o) ≡ components_by o
 components_shown None = refl
-components_shown (Some (definition.Record name parts components)) = refl
+components_shown (Some (definition.Record name parts components finalization)) = refl
 components_shown (Some (definition.Access name designated pool)) = refl
 components_shown (Some (definition.Object record_type)) = refl
 

@@ -57,7 +57,7 @@ spot = record { line = 1; column = 1 }
 
 -- type Cell is record Value : Integer; end record; type Link is access Cell;
 abbrev pub types : List TypeDefinition
-types = definition.Record no_name (vec [] (omega arith)) (vec (component.Integer (pos 0) ∷ []) (omega arith)) ∷ definition.Access no_name (record { 0 = 0 }) None ∷ []
+types = definition.Record no_name (vec [] (omega arith)) (vec (component.Integer (pos 0) ∷ []) (omega arith)) None ∷ definition.Access no_name (record { 0 = 0 }) None ∷ []
 
 -- X, Y : Link;
 abbrev pub link : Variable

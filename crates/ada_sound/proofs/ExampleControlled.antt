@@ -16,9 +16,11 @@ pub accepted : IsChecked controlled.program
 unfolding expression_form stmt_form uses_in
 accepted = accepted_by controlled.program controlled_stmts no_handlers controlled.form refl _ _ refl refl refl
 
--- The component of each object is picked where it is initialized and where it is finalized; the record object is picked at the leaving.
+-- The component of each object is picked where it is initialized, adjusted and finalized; the record objects are picked at the leaving.
 abbrev choices : List Choice
-choices = steps 4 ++ takes 0 ∷ steps 8 ++ grants true ∷ takes 0 ∷ steps 5 ++ takes 0 ∷ steps 8 ++ takes 0 ∷ steps 1 ++ takes 0 ∷ steps 10
+choices =
+    steps 4 ++ takes 0 ∷ steps 7 ++ takes 0 ∷ steps 8 ++ grants true ∷ takes 0 ∷ steps 10 ++ takes 0 ∷ steps 3 ++ takes 0 ∷ steps 4 ++ takes 0 ∷ steps 8
+    ++ takes 0 ∷ steps 1 ++ takes 0 ∷ steps 4 ++ takes 0 ∷ steps 1 ++ takes 0 ∷ steps 10
 
 pub finalizes : FinishesAfter controlled_events controlled.program
 unfolding next expression_form stmt_form

@@ -33,7 +33,7 @@ use Rattle.ada_sound.proofs.Example.{steps, vec, no_name, spot, link, declaratio
 
 -- A record type, of whose declared components nothing here speaks, and an access type.
 abbrev pub record_of : (components : List ComponentKind) → length components ≤ 8 → TypeDefinition
-record_of components le = definition.Record no_name (vec [] (omega arith)) (vec components le)
+record_of components le = definition.Record no_name (vec [] (omega arith)) (vec components le) None
 
 abbrev pub access_to : ℕ → TypeDefinition
 access_to designated = definition.Access no_name (record { 0 = designated }) None

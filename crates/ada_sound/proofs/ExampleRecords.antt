@@ -40,7 +40,7 @@ abbrev pub of_object : ℕ → ℕ → Path
 of_object x c = record (part x c) { of_record = true }
 
 abbrev pub record_at : Path → RecordPath
-record_at p = record { object = p; first = record { 0 = 0 }; «record» = record { 0 = 0 } }
+record_at p = record { object = p; first = record { 0 = 0 }; part = record { 0 = 0 }; «record» = record { 0 = 0 } }
 
 -- R := T'(..);
 abbrev assigns_items : Path → (items : List Item) → length items ≤ 8 → Stmt

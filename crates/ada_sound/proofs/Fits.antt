@@ -175,7 +175,7 @@ abbrev pub IsPlace : List TypeForm → List Reference → Option VariableKind �
 IsPlace types referenced kind Null = names_object kind ≡ false
 IsPlace types referenced kind (Names o) = Unit {0}
 IsPlace types referenced kind (Scalar v) = Unit {0}
-IsPlace types referenced kind (Part o first) = (names_object kind ≡ true) × (t : ℕ) × IsReferred referenced o t × IsWithin types kind t first
+IsPlace types referenced kind (Part o place) = (names_object kind ≡ true) × (t : ℕ) × IsReferred referenced o t × IsWithin types kind t place.component
 
 -- A value refers to no record.
 abbrev pub IsPlain : Value → Type 0

@@ -203,7 +203,7 @@ module _ (types : List TypeForm) (own : List VariableForm) (may : ℕ → Bool) 
     where
       go : (found : Option TypeForm) → slice_get types object ≡ found → kind_among (record_components types record_type) c ≡ Some k
       go None e = let none = rw e at is in absurd (cc none)
-      go (Some (record_of name parts components)) e = let none = rw e at is in absurd (cc none)
+      go (Some (record_of name parts components finalization)) e = let none = rw e at is in absurd (cc none)
       go (Some (access_to name designated pool)) e = let none = rw e at is in absurd (cc none)
       go (Some (object_of other)) e =
           let one : Some other ≡ Some record_type = rw e at is in

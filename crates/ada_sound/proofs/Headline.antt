@@ -11,7 +11,8 @@ use Rattle.ada_meaning.specs.declared.event.Why.{Why}
 use Rattle.ada_meaning.specs.declared.event.Why.TheVariants.{FinalizesTwice}
 use Rattle.ada_meaning.specs.Named.{State}
 use Rattle.ada_meaning.specs.Run.{Event, Run, first_state}
-use Rattle.ada_meaning.specs.Law.{BackTwoObjects, FinalizedTwoValues, FollowedBeforeBack, InReverseOrder, IsBackHome, items_of, Falls, MastersFall, Safe}
+use Rattle.ada_meaning.specs.Law.{BackTwoObjects, FinalizedTwoValues, FollowedBeforeBack, InReverseOrder, IsBackHome, items_of, Falls, MastersFall}
+use Rattle.ada_meaning.specs.Safe.{Safe}
 use Rattle.ada_sound.specs.Agreement.{Turning, Comes, here, behind, in_branches, in_body, in_count, in_enclosed, ComesBy, in_others, in_this, in_next, ComesTo, to_this, to_next, ComesInside, in_statements, in_handlers, Place, OneFlow}
 use Rattle.ada_sound.specs.Always.{IsChecked, InEveryRun, NeverErroneous, AgreesWithFlow, BacksAreTold, OutsAreHoused, OutsHavePools, PoolNumbersDiffer, EndsClean}
 use Rattle.ada_sound.proofs.Items as items
@@ -96,6 +97,8 @@ module _ (program : Program) (accepted : IsChecked program) where
       pooled = pooled input events last run;
       pools_differ = pools_differ input events last run;
     };
+    finalizes = λ input events last run. finalization.finalizes program input events last run;
+    stands = λ input events last run. finalization.stands program input events last run;
     ends = ends_clean;
     inner_first = order.inner_first program;
   }

@@ -19,6 +19,7 @@ use Rattle.ada_flow.specs.declared.rule.Hold.TheVariants as hold
 use Rattle.ada_flow.specs.declared.rule.Region.TheVariants.{Whole}
 use Rattle.ada_flow.specs.Flow.{Holds, hold_at, variable_access, lost_by, Outcome, faults, goes, Use, uses_in, uses_in_links, uses_in_item, named_by_item, is_owning, is_owning_record, owns_at_first, broken_among, without_values, moved_by_items, passes_type, behind_end, gives, gives_component, clears, compares_it, uses_in_actuals, Keeping, keeping_of, kept_at, is_kept, handed_back, left_unkept, owed_from, gives_back, all_give_back, are_as_good, have_exit, branches_have_exit, handlers_have_exit, is_left, condition_flow, stmts_flow, branches_flow, handlers_flow, declaration_flow, Gone as GoneWith, collected, is_among, left, left_by_call, nothing_gone, Around}
 use Rattle.ada_meaning.specs.declared.state.Id.{Id}
+use Rattle.ada_meaning.specs.declared.state.Place.{Place}
 use Rattle.ada_meaning.specs.declared.state.Value.{Value}
 use Rattle.ada_meaning.specs.declared.state.Value.TheVariants.{Null, Names, Scalar, Part}
 use Rattle.ada_meaning.specs.declared.state.Stage.TheVariants.{Existing, Gone}
@@ -30,11 +31,11 @@ use Rattle.ada_meaning.specs.declared.event.Halt.{Halt}
 use Rattle.ada_meaning.specs.declared.event.Halt.TheVariants.{Finished, Unhandled, Erroneous, Stuck, Memory}
 use Rattle.ada_meaning.specs.declared.event.Why.{Why}
 use Rattle.ada_meaning.specs.declared.event.Why.TheVariants.{FollowsGone, EndsTwice, GivesElsewhere, FinalizesTwice}
-use Rattle.ada_meaning.specs.Frame.{Frame, Elaborates, Does, Decides, Repeats, Turns, Ranges, Counts, Exits, Handles, Closes, Leaves, Calls, Returns, Evaluates, Computes, Follows, TestsNull, Refers, RefersIn, Opens, OpensIn, Continues, Applies, AppliesAlone, Fills, Copies, Creates, Stores, Targets, StoresIn, TargetsRecord, StoresRecord, Receives, FreesIn, Declares, DeclaresRecord, Treats, Writes, Ends, GivesBack, Clears, ClearsIn, Treatment, begins, ends}
+use Rattle.ada_meaning.specs.Frame.{Frame, Elaborates, Does, Decides, Repeats, Turns, Ranges, Counts, Exits, Handles, Closes, Leaves, Calls, Returns, Evaluates, Computes, Follows, TestsNull, Refers, RefersIn, Opens, OpensIn, Continues, Applies, AppliesAlone, Fills, Copies, Creates, Stores, Targets, StoresIn, TargetsRecord, StoresRecord, Assigns, Receives, FreesIn, Declares, DeclaresRecord, Treats, Writes, Ends, GivesBack, Clears, ClearsIn, Treatment, begins, ends}
 use Rattle.ada_meaning.specs.Event.{Born, Finalized, Back, Followed, Left, Line, Quiet}
 use Rattle.ada_meaning.specs.State.{Activation, Owned, declared, collection, record_object, storage_pool, Item, Master, height}
 use Rattle.ada_meaning.specs.Heap.{Home, finds}
-use Rattle.ada_meaning.specs.Step.{halts, moves, tells, asks, picks, first_or, older, in_front, before_last, last_of, selected, first_in, places, operands}
+use Rattle.ada_meaning.specs.Step.{halts, moves, tells, asks, picks, first_or, older, in_front, before_last, last_of, selected, place_in, places, operands}
 use Rattle.ada_meaning.specs.Named.{Object, State, Next, object_at, named, store, whole, inside}
 use Rattle.ada_meaning.specs.Run.{Event}
 use Rattle.ada_meaning.specs.Law.{leaving_by, LeavesHome}
@@ -581,13 +582,20 @@ pub record Giving (known : Known) (todo : List ItemForm) (k : Control) (rooms : 
   pub keeps : ItemsKeep known.program.types spot None holds earlier todo
   pub raises : MayRaise known (items_raise todo) ConstraintError k rooms holds
 
+-- What is left goes on, perhaps behind the adjustment of a record that was assigned to (7.6).
+abbrev pub RunsBehind : Known → Control → Rooms → Holds → Type 0
+RunsBehind known [] rooms holds = RunsOn known [] rooms holds
+RunsBehind known (Treats v (begins by) tasks ∷ k) rooms holds = RunsOn known k rooms holds
+RunsBehind known (Treats v (ends cause) tasks ∷ k) rooms holds = ⊥
+RunsBehind known (f ∷ k) rooms holds = RunsOn known (f ∷ k) rooms holds
+
 -- An object is there, and so many of its components, from one on, are Integers and Booleans.
 abbrev pub IsPlainIn : Known → List Object → Value → (first count : ℕ) → Type 0
 IsPlainIn known heap Null first count = ⊥
 IsPlainIn known heap (Names o) first count =
     (object : Object) × (object_at heap o ≡ Some object) × (object.listed ≡ true)
-    × (components : List ComponentKind) × (reached_components known.program.types object.cell.access ≡ Some components)
-    × (list_any is_owning (take count (drop first components)) ≡ false)
+    × ((components : List ComponentKind) → reached_components known.program.types object.cell.access ≡ Some components
+    → list_any is_owning (take count (drop first components)) ≡ false)
 IsPlainIn known heap (Scalar v) first count = ⊥
 IsPlainIn known heap (Part o base) first count = ⊥
 
@@ -606,7 +614,7 @@ abbrev pub FillsTo : Known → List Object → List Value → List ItemForm → 
 FillsTo known heap places todo [] operands rooms holds = ⊥
 FillsTo known heap places todo (Creates access count ∷ k) operands rooms holds = Filling known heap places access count todo k operands rooms holds
 FillsTo known heap places todo (StoresRecord o first count ∷ k) operands rooms holds =
-    Giving known todo k rooms holds × (IsPlainIn known heap o first count × RunsOn known k rooms holds)
+    Giving known todo k rooms holds × (IsPlainIn known heap o first count × RunsBehind known k rooms holds)
 FillsTo known heap places todo (DeclaresRecord x t ∷ k) operands rooms holds = Giving known todo k rooms holds × Recording known x t k rooms holds
 FillsTo known heap places todo (f ∷ k) operands rooms holds = ⊥
 
@@ -615,12 +623,14 @@ abbrev pub RaisesAt : Known → Value → List ℕ → Control → Rooms → Hol
 RaisesAt known v [] k rooms holds = v ≡ Null → To ((ways known k rooms).raised ConstraintError) holds
 RaisesAt known v (c ∷ cs) k rooms holds = To ((ways known k rooms).raised ConstraintError) holds
 
--- The components of a record of this type are copied onto these operands, and then more items come.
+-- The components of a record of this type are copied onto these operands, and then more items come; or those of an object get them, which are Integers and
+-- Booleans.
 abbrev pub CopiesTo : Known → List Object → List Value → (record_type : ℕ) → (below : List Value) → Control → Rooms → Holds → Type 0
 CopiesTo known heap places t below [] rooms holds = ⊥
 CopiesTo known heap places t below (Fills items ∷ k) rooms holds =
     (kinds : List ComponentKind) × (record_components known.program.types t ≡ Some kinds)
     × ((vs : List Value) → length vs ≡ length kinds → FillsTo known heap places items k (in_front vs below) rooms holds)
+CopiesTo known heap places t below (StoresRecord o first count ∷ k) rooms holds = IsPlainIn known heap o first count × RunsBehind known k rooms holds
 CopiesTo known heap places t below (f ∷ k) rooms holds = ⊥
 
 -- A record of this type, of Integers and Booleans, is a target.
@@ -716,13 +726,13 @@ CallsOn known procedure b actuals k rooms holds =
 -- What a record parameter gets (6.2): it refers to the object to which a path leads.
 abbrev pub ReferredBy : List Object → List Value → RecordPathForm → Value → Type 0
 ReferredBy heap places p v =
-    (o : Id) × (v ≡ Part o (first_in named (place_at places p.object.root) p.object.selectors p.first))
+    (o : Id) × (v ≡ Part o (place_in named (place_at places p.object.root) p.object.selectors p))
     × (walk heap (begun places p.object) (along places p.object) ≡ finds (Names o))
 
 -- What refers to the component to which a path leads (6.4.1).
 abbrev pub OpenedBy : List Object → List Value → PathForm → Value → Type 0
 OpenedBy heap places path r =
-    (o : Id) × (c : ℕ) × (r ≡ Part o c) × (walk heap (begun places path) (front (along places path)) ≡ finds (Names o)) × (final (along places path) ≡ Some c)
+    (o : Id) × (c : ℕ) × (r ≡ Part o (record { component = c; part = 0 })) × (walk heap (begun places path) (front (along places path)) ≡ finds (Names o)) × (final (along places path) ≡ Some c)
 
 -- The value of an actual parameter of an access type: null, or what the path leads to; or what refers to a record. Nothing is known of an Integer or a
 -- Boolean.
@@ -759,7 +769,21 @@ RightIs heap places (allocates access items) v = ⊥
 RightIs heap places (allocates_default access) v = ⊥
 RightIs heap places (computes e) v = ⊥
 
--- Actual parameters are evaluated next, with these operands, and then comes the call.
+-- A value refers to a record in an object that is there, of which so many components from the record's first one on are Integers and Booleans.
+abbrev pub IsTarget : Known → List Object → (count : ℕ) → Value → Type 0
+IsTarget known heap count v = (o : Id) × (place : Place) × (v ≡ Part o place) × IsPlainIn known heap (Names o) place.component count
+
+-- A value refers to a record in an object that is there.
+abbrev pub IsSource : List Object → Value → Type 0
+IsSource heap v = (o : Id) × (place : Place) × (v ≡ Part o place) × IsThere heap o
+
+-- The two newest operands refer to records of a type, without access values, of which the newest one is assigned to the other (5.2, 7.6).
+abbrev pub AreAssigned : Known → List Object → (record_type : ℕ) → (operands : List Value) → Type 0
+AreAssigned known heap t operands =
+    (kinds : List ComponentKind) × (record_components known.program.types t ≡ Some kinds)
+    × IsTarget known heap (length kinds) (first_or Null (older operands)) × IsSource heap (first_or Null operands)
+
+-- Actual parameters are evaluated next, with these operands, and then comes the call; or records are found, of which one is assigned to the other.
 abbrev pub PassesTo : Known → List Object → List Value → (operands : List Value) → Control → Rooms → Holds → Type 0
 PassesTo known heap places operands [] rooms holds = ⊥
 PassesTo known heap places operands (Computes e ∷ k) rooms holds =
@@ -775,6 +799,7 @@ PassesTo known heap places operands (Opens path ∷ k) rooms holds =
     × ((v r : Value) → OpenedBy heap places path r → PassesTo known heap places (v ∷ r ∷ operands) k rooms holds)
 PassesTo known heap places operands (Calls procedure b actuals ∷ k) rooms holds =
     CallsOn known procedure b actuals k rooms holds × ArePassed heap places (reverse actuals) operands
+PassesTo known heap places operands (Assigns t ∷ k) rooms holds = AreAssigned known heap t operands × RunsOn known k rooms holds
 PassesTo known heap places operands (f ∷ k) rooms holds = ⊥
 
 -- What is left of an expression, or of an allocator's items, breaks no rule; and nothing relies on an expression's value. These are the operands
@@ -970,11 +995,11 @@ FindsFor known heap places w below cs (Copies first t ∷ k) rooms holds =
 FindsFor known heap places w below cs (Receives c ∷ k) rooms holds =
     RaisesAt known w cs k rooms holds × MayRaise known true EndError k rooms holds × RunsOn known k rooms holds
 FindsFor known heap places w below cs (FreesIn access c ∷ k) rooms holds = Releasing known heap w cs access c k rooms holds
-FindsFor known heap places w below cs (RefersIn first t ∷ k) rooms holds =
-    RaisesAt known w cs k rooms holds × ((o : Id) → walk heap w cs ≡ finds (Names o) → PassesTo known heap places (Part o first ∷ below) k rooms holds)
+FindsFor known heap places w below cs (RefersIn place t ∷ k) rooms holds =
+    RaisesAt known w cs k rooms holds × ((o : Id) → walk heap w cs ≡ finds (Names o) → PassesTo known heap places (Part o place ∷ below) k rooms holds)
 FindsFor known heap places w below cs (OpensIn c ∷ k) rooms holds =
     RaisesAt known w cs k rooms holds
-    × ((o : Id) (v : Value) → walk heap w cs ≡ finds (Names o) → PassesTo known heap places (v ∷ Part o c ∷ below) k rooms holds)
+    × ((o : Id) (v : Value) → walk heap w cs ≡ finds (Names o) → PassesTo known heap places (v ∷ Part o (record { component = c; part = 0 }) ∷ below) k rooms holds)
 FindsFor known heap places w below cs (f ∷ k) rooms holds = ⊥
 
 abbrev pub MovesOn : Known → List Object → List Value → Value → List ℕ → Control → Rooms → Holds → Type 0
@@ -1026,10 +1051,22 @@ EndsTo known v [] heap places masters = ⊥
 EndsTo known v (Ends w ∷ k) heap places masters = (w ≡ v) × EndingBy known w k heap places masters
 EndsTo known v (f ∷ k) heap places masters = ⊥
 
+-- Behind that of a record that is assigned to, its components get those of another one, which is found (5.2): they are Integers and Booleans.
+abbrev pub StoresBehind : Known → List Object → Control → Rooms → Holds → Type 0
+StoresBehind known heap [] rooms holds = ⊥
+StoresBehind known heap (StoresRecord o first count ∷ k) rooms holds = IsPlainIn known heap o first count × RunsBehind known k rooms holds
+StoresBehind known heap (f ∷ k) rooms holds = ⊥
+
+abbrev pub CopiesBehind : Known → Control → List Object → (places operands : List Value) → List Master → Type 0
+CopiesBehind known [] heap places operands masters = ⊥
+CopiesBehind known (Copies first t ∷ k) heap places operands masters =
+    Working known heap places masters (λ rooms holds. IsHolder heap (first_or Null operands) × StoresBehind known heap k rooms holds)
+CopiesBehind known (f ∷ k) heap places operands masters = ⊥
+
 -- An object is treated (7.6, 7.6.1): whatever is left of that, what is behind is ready.
 abbrev pub TreatsBy : Known → Value → Treatment → Control → List Object → (places operands : List Value) → List Master → Type 0
 TreatsBy known v (begins by) k heap places operands masters = BegunTo known k heap places operands masters
-TreatsBy known v (ends cause) k heap places operands masters = EndsTo known v k heap places masters
+TreatsBy known v (ends cause) k heap places operands masters = EndsTo known v k heap places masters ⊎ CopiesBehind known k heap places operands masters
 
 -- What holds where a frame is next. What is awaited counts as stored already.
 abbrev pub ReadyBy : Known → Frame Value → Control → List Object → (places operands : List Value) → List Master → Type 0
@@ -1055,8 +1092,8 @@ ReadyBy known (Follows cs) k heap places operands masters =
     ⊎ HalfFollows known (first_or Null operands) cs k heap places masters
 ReadyBy known (TestsNull equal) k heap places operands masters = Working known heap places masters (Awaits known heap places (older operands) k)
 ReadyBy known (Refers p) k heap places operands masters = Working known heap places masters (PassesTo known heap places operands (Refers p ∷ k))
-ReadyBy known (RefersIn first t) k heap places operands masters = Working known heap places masters (λ rooms holds.
-    MayFollow heap (first_or Null operands) × FindsFor known heap places (first_or Null operands) (older operands) [] (RefersIn first t ∷ k) rooms holds)
+ReadyBy known (RefersIn place t) k heap places operands masters = Working known heap places masters (λ rooms holds.
+    MayFollow heap (first_or Null operands) × FindsFor known heap places (first_or Null operands) (older operands) [] (RefersIn place t ∷ k) rooms holds)
 ReadyBy known (Opens path) k heap places operands masters = Working known heap places masters (PassesTo known heap places operands (Opens path ∷ k))
 ReadyBy known (OpensIn c) k heap places operands masters = Working known heap places masters (λ rooms holds.
     MayFollow heap (first_or Null operands) × FindsFor known heap places (first_or Null operands) (older operands) [] (OpensIn c ∷ k) rooms holds)
@@ -1075,7 +1112,8 @@ ReadyBy known (StoresIn o c) k heap places operands masters = StoringIn known o 
 ReadyBy known (TargetsRecord first t items) k heap places operands masters = Working known heap places masters (λ rooms holds.
     MayFollow heap (first_or Null operands) × RaisesAt known (first_or Null operands) [] k rooms holds × RecordIn known t items k rooms holds)
 ReadyBy known (StoresRecord o first count) k heap places operands masters =
-    Working known heap places masters (λ rooms holds. IsPlainIn known heap o first count × RunsOn known k rooms holds)
+    Working known heap places masters (λ rooms holds. IsPlainIn known heap o first count × RunsBehind known k rooms holds)
+ReadyBy known (Assigns t) k heap places operands masters = Working known heap places masters (PassesTo known heap places operands (Assigns t ∷ k))
 ReadyBy known (Receives c) k heap places operands masters = Working known heap places masters (Receiving known heap (first_or Null operands) k)
 ReadyBy known (FreesIn access c) k heap places operands masters =
     Working known heap places masters (λ rooms holds. MayFollow heap (first_or Null operands) × Releasing known heap (first_or Null operands) [] access c k rooms holds)
@@ -1139,7 +1177,8 @@ pub record Hands (body own : ProgramForm) (actuals : List ActualForm) (holds : H
 abbrev pub AreOpened : List TypeForm → List Reference → (references : List Value) → Type 0
 AreOpened types referenced [] = Unit {0}
 AreOpened types referenced (r ∷ rs) =
-    ((o : Id) × (c t : ℕ) × (r ≡ Part o c) × IsReferred referenced o t × (access_of (kind_among (reached_components types t) c) ≡ None))
+    ((o : Id) × (place : Place) × (t : ℕ) × (r ≡ Part o place) × IsReferred referenced o t
+    × (access_of (kind_among (reached_components types t) place.component) ≡ None))
     × AreOpened types referenced rs
 
 -- A caller waits for a body: it goes on with what is known of its variables, behind the call and where the body raises an exception; its masters have their

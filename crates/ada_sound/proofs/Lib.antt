@@ -86,6 +86,8 @@ pub mod Releases
 pub mod Records
 -- records are copied and assigned to as wholes
 pub mod Wholes
+-- records with controlled parts that are assigned to
+pub mod RecordAssignments
 -- what variables get back from a call
 pub mod GivenBack
 -- calls begin

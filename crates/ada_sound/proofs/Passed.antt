@@ -1,5 +1,6 @@
 -- An actual parameter of an access type is evaluated (6.4.1): what its path leads to is found.
 
+use Rattle.std.proofs.lemmas.Bool.{and_parts}
 use Rattle.std.proofs.Common.{◌≡◌, ℕ, true, List, [], ◌∷◌, refl}
 use Rattle.std.specs.Prelude.{Option, Some, None}
 use Rattle.ada_program.specs.declared.program.TypeDefinition.{TypeDefinition}
@@ -11,6 +12,7 @@ use Rattle.ada_program.specs.declared.program.ComponentKind.{ComponentKind}
 use Rattle.ada_program.specs.ProgramForm.{TypeForm}
 use Rattle.ada_effects.specs.Effects.{follows_value}
 use Rattle.ada_flow.specs.Flow.{Holds, hold_at, lost_by, compares_it}
+use Rattle.ada_meaning.specs.declared.state.Place.{Place}
 use Rattle.ada_meaning.specs.declared.state.Value.{Value}
 use Rattle.ada_meaning.specs.declared.state.Value.TheVariants.{Null, Part, Names, Scalar}
 use Rattle.ada_meaning.specs.Frame.{Evaluates, Refers, RefersIn, Opens, OpensIn}
@@ -22,7 +24,7 @@ use Rattle.std.specs.List.{slice_get}
 use Rattle.ada_owners.specs.Keeping.{IsThere}
 use Rattle.ada_sound.proofs.Targets.{followed}
 use Rattle.ada_meaning.specs.State.{Activation}
-use Rattle.ada_meaning.specs.Step.{before_last, last_of, selected, first_in, right_next, record_holder_next, open_next, record_in, referred_next, refers_next, opened_next, opens_next}
+use Rattle.ada_meaning.specs.Step.{before_last, last_of, selected, place_in, right_next, record_holder_next, open_next, record_in, referred_next, refers_next, opened_next, opens_next}
 use Rattle.ada_meaning.specs.Named.{State, named, inside, look}
 use Rattle.ada_sound.proofs.Fits.{place_at, MayFollow}
 use Rattle.ada_sound.proofs.Begins.{root_follows}
@@ -63,17 +65,17 @@ module _ (known : Known) (k : Control) (a : Activation Value) (rest : List (Acti
 
 module _ (known : Known) (k : Control) (a : Activation Value) (rest : List (Activation Value)) (s : State) where
   -- The next step of a record that is passed: its object is found first.
-  pub refers_fine : (p : RecordPathForm) → is_record_path known.program.types known.program.variables p ≡ true → Working known s.heap a.places s.masters (PassesTo known s.heap a.places a.operands (Refers p ∷ k)) → Fine known s.heap s.masters (record_holder_next named p (λ first. RefersIn first p.record_type) (running k a rest s))
+  pub refers_fine : (p : RecordPathForm) → is_record_path known.program.types known.program.variables p ≡ true → Working known s.heap a.places s.masters (PassesTo known s.heap a.places a.operands (Refers p ∷ k)) → Fine known s.heap s.masters (record_holder_next named p (λ place. RefersIn place p.record_type) (running k a rest s))
   refers_fine p lies w =
       let path = p.object in
-      let first = first_in named (place_at a.places path.root) path.selectors p.first in
-      let leads = record_leads known.program.types (path_kind known.program.types known.program.variables path) p.first (record_components known.program.types p.record_type) lies in
-      finds_fine known a rest s a.operands (RefersIn first p.record_type ∷ k) (along a.places path) (begun a.places path)
+      let place = place_in named (place_at a.places path.root) path.selectors p in
+      let leads = record_leads known.program.types (path_kind known.program.types known.program.variables path) p.first (record_components known.program.types p.record_type) (and_parts (has_record_at (object_components known.program.types (access_of (path_kind known.program.types known.program.variables path))) p.first (record_components known.program.types p.record_type)) _ lies).0 in
+      finds_fine known a rest s a.operands (RefersIn place p.record_type ∷ k) (along a.places path) (begun a.places path)
       (at_work w (
         selected_raises known (place_at a.places path.root) (begun a.places path) path.selectors k w.rooms w.holds
             (record_raises known (begun a.places path) k w.rooms w.holds path.of_record path.selectors
             (λ whole. object_there path.root path.spot w.rest.0 (root_object known.program.types known.program.variables path leads.0 leads.1 whole) w.fit) w.rest.1),
-        (λ o found. w.rest.2 (Part o first) (o, refl, found)),
+        (λ o found. w.rest.2 (Part o place) (o, refl, found)),
       )) (root_follows path.root path.spot w.rest.0 w.fit)
 
   -- That of a component that is given: so is its object.
@@ -85,34 +87,34 @@ module _ (known : Known) (k : Control) (a : Activation Value) (rest : List (Acti
       (at_work w (
         front_raises known (begun a.places path) k w.rooms w.holds path.of_record c (inside v c) cs
             (λ whole. object_there path.root path.spot w.rest.0 (root_object known.program.types known.program.variables path to leads whole) w.fit) (rw is at w.rest.1),
-        (λ o u found. w.rest.2 u (Part o (last_of (inside v c) cs)) (o, last_of (inside v c) cs, refl, rw is found, rw is refl)),
+        (λ o u found. w.rest.2 u (Part o (record { component = last_of (inside v c) cs; part = 0 })) (o, last_of (inside v c) cs, refl, rw is found, rw is refl)),
       )) (root_follows path.root path.spot w.rest.0 w.fit)
 
   pub opens_fine : (path : PathForm) (to : VariableKind) → path_kind known.program.types known.program.variables path ≡ Some to → Working known s.heap a.places s.masters (PassesTo known s.heap a.places a.operands (Opens path ∷ k)) → Fine known s.heap s.masters (open_next named path.selectors path.root (running k a rest s))
   opens_fine path to leads w = opens_by path path.selectors refl to leads w
 
   -- The object is found, and what refers to the record in it is there; null in its place raises Constraint_Error.
-  referred_on : (o : Id) (there : IsThere s.heap o) (first : ℕ) (below : List Value) (found : Option (List Value)) → Working known s.heap a.places s.masters (PassesTo known s.heap a.places (Part o first ∷ below) k) → Fine known s.heap s.masters (referred_next named (Names o) first found (running k (record a { operands = below }) rest s))
-  referred_on o there first below None w = tt
-  referred_on o there first below (Some vs) w =
-      stays known (Followed (Names o)) (running k (record a { operands = Part o first ∷ below }) rest s)
-      (tt, passes_ready known k s.heap a.places (Part o first ∷ below) s.masters w) (followed o there w.stored)
+  referred_on : (o : Id) (there : IsThere s.heap o) (place : Place) (below : List Value) (found : Option (List Value)) → Working known s.heap a.places s.masters (PassesTo known s.heap a.places (Part o place ∷ below) k) → Fine known s.heap s.masters (referred_next named (Names o) place found (running k (record a { operands = below }) rest s))
+  referred_on o there place below None w = tt
+  referred_on o there place below (Some vs) w =
+      stays known (Followed (Names o)) (running k (record a { operands = Part o place ∷ below }) rest s)
+      (tt, passes_ready known k s.heap a.places (Part o place ∷ below) s.masters w) (followed o there w.stored)
 
-  pub referred_fine : (first t count : ℕ) (v : Value) (below : List Value) → Working known s.heap a.places s.masters (λ rooms holds. MayFollow s.heap v × FindsFor known s.heap a.places v below [] (RefersIn first t ∷ k) rooms holds) → Fine known s.heap s.masters (refers_next named v first count (look s.heap v) (running k (record a { operands = below }) rest s))
-  referred_fine first t count Null below w = jumps_less known k (record a { operands = below }) rest s (Raising ConstraintError) (at_work w (w.rest.1.0 refl))
-  referred_fine first t count (Names o) below w =
+  pub referred_fine : (place : Place) (t count : ℕ) (v : Value) (below : List Value) → Working known s.heap a.places s.masters (λ rooms holds. MayFollow s.heap v × FindsFor known s.heap a.places v below [] (RefersIn place t ∷ k) rooms holds) → Fine known s.heap s.masters (refers_next named v place count (look s.heap v) (running k (record a { operands = below }) rest s))
+  referred_fine place t count Null below w = jumps_less known k (record a { operands = below }) rest s (Raising ConstraintError) (at_work w (w.rest.1.0 refl))
+  referred_fine place t count (Names o) below w =
       let there : IsThere s.heap o = w.rest.0 in
       let looks : look s.heap (Names o) ≡ finds there.0.cell = rw (there.1, (w.stored.sane o there.0 there.1).listed_exists there.2) refl in
-      rw looks (referred_on o there first below (record_in there.0.cell.values first count) (at_work w (w.rest.1.1 o refl)))
-  referred_fine first t count (Scalar n) below w = tt
-  referred_fine first t count (Part object_id base) below w = tt
+      rw looks (referred_on o there place below (record_in there.0.cell.values place.component count) (at_work w (w.rest.1.1 o refl)))
+  referred_fine place t count (Scalar n) below w = tt
+  referred_fine place t count (Part object_id base) below w = tt
 
   -- So is the component in it, and what refers to that.
-  opened_on : (o : Id) (there : IsThere s.heap o) (c : ℕ) (below : List Value) (found : Option Value) → ((v : Value) → Working known s.heap a.places s.masters (PassesTo known s.heap a.places (v ∷ Part o c ∷ below) k)) → Fine known s.heap s.masters (opened_next named (Names o) c found (running k (record a { operands = below }) rest s))
+  opened_on : (o : Id) (there : IsThere s.heap o) (c : ℕ) (below : List Value) (found : Option Value) → ((v : Value) → Working known s.heap a.places s.masters (PassesTo known s.heap a.places (v ∷ Part o (record { component = c; part = 0 }) ∷ below) k)) → Fine known s.heap s.masters (opened_next named (Names o) c found (running k (record a { operands = below }) rest s))
   opened_on o there c below None w = tt
   opened_on o there c below (Some v) w =
-      stays known (Followed (Names o)) (running k (record a { operands = v ∷ Part o c ∷ below }) rest s)
-      (tt, passes_ready known k s.heap a.places (v ∷ Part o c ∷ below) s.masters (w v)) (followed o there (w v).stored)
+      stays known (Followed (Names o)) (running k (record a { operands = v ∷ Part o (record { component = c; part = 0 }) ∷ below }) rest s)
+      (tt, passes_ready known k s.heap a.places (v ∷ Part o (record { component = c; part = 0 }) ∷ below) s.masters (w v)) (followed o there (w v).stored)
 
   pub opened_fine : (c : ℕ) (v : Value) (below : List Value) → Working known s.heap a.places s.masters (λ rooms holds. MayFollow s.heap v × FindsFor known s.heap a.places v below [] (OpensIn c ∷ k) rooms holds) → Fine known s.heap s.masters (opens_next named v c (look s.heap v) (running k (record a { operands = below }) rest s))
   opened_fine c Null below w = jumps_less known k (record a { operands = below }) rest s (Raising ConstraintError) (at_work w (w.rest.1.0 refl))

@@ -6,20 +6,21 @@ use Rattle.ada_flow.specs.declared.rule.Hold.TheVariants as hold
 use Rattle.ada_flow.specs.Flow.{Holds}
 use Rattle.ada_parts.specs.Task.{Task}
 use Rattle.ada_meaning.specs.declared.state.Value.{Value}
-use Rattle.ada_meaning.specs.declared.state.Value.TheVariants.{Null}
+use Rattle.ada_meaning.specs.declared.event.Birth.{Birth}
+use Rattle.ada_meaning.specs.declared.state.Value.TheVariants.{Null, Names, Scalar, Part}
 use Rattle.ada_meaning.specs.declared.state.Mode.{Mode}
 use Rattle.ada_meaning.specs.declared.state.Mode.TheVariants.{Running, Raising, Exiting, Returning}
-use Rattle.ada_meaning.specs.Frame.{Elaborates, Does, Decides, Repeats, Turns, Ranges, Counts, Exits, Handles, Closes, Leaves, Calls, Returns, Evaluates, Computes, TestsNull, Refers, Opens, Continues, Applies, AppliesAlone, Fills, Stores, StoresIn, Declares, Writes, Ends, Treatment, begins, ends}
+use Rattle.ada_meaning.specs.Frame.{Elaborates, Does, Decides, Repeats, Turns, Ranges, Counts, Exits, Handles, Closes, Leaves, Calls, Returns, Evaluates, Computes, TestsNull, Refers, Opens, Continues, Applies, AppliesAlone, Fills, Copies, Stores, StoresIn, StoresRecord, Assigns, Declares, Treats, Writes, Ends, Treatment, begins, ends}
 use Rattle.ada_meaning.specs.Event.{Quiet}
 use Rattle.ada_meaning.specs.State.{Activation, Master}
-use Rattle.ada_meaning.specs.Step.{jumping, treating}
+use Rattle.ada_meaning.specs.Step.{first_or, older, jumping, treating}
 use Rattle.ada_meaning.specs.Named.{Object, State}
 use Rattle.ada_meaning.specs.Run.{Event}
 use Rattle.ada_sound.proofs.Items.{NoMaster}
-use Rattle.ada_sound.proofs.Fits.{weaker_fit, spare_fit, put_lost, going}
+use Rattle.ada_sound.proofs.Fits.{MayFollow, weaker_fit, spare_fit, put_lost, going}
 use Rattle.ada_sound.proofs.Orderings.{AsGood}
 use Rattle.ada_sound.proofs.Alters.{alters_same}
-use Rattle.ada_sound.proofs.Invariant.{StoresOn, Caller, below_callers, below, at_end, nowhere, Known, Control, Rooms, Roomed, To, RunsOn, GoesOn, PassesTo, Awaits, Working, Parting, HalfBy, Resumes, NamesTo, BegunTo, EndsTo, TreatsBy, ReadyIn, Ready, Says, Stepped, By, innermost, ways}
+use Rattle.ada_sound.proofs.Invariant.{StoresOn, Caller, below_callers, below, at_end, nowhere, Known, Control, Rooms, Roomed, To, RunsOn, RunsBehind, GoesOn, RaisesAt, CopiesTo, PassesTo, Awaits, IsHolder, Working, Parting, HalfBy, Resumes, NamesTo, BegunTo, EndsTo, StoresBehind, CopiesBehind, TreatsBy, ReadyIn, Ready, Says, Stepped, By, innermost, ways}
 
 -- The state at work on something, with a running activation; and in another mode.
 abbrev pub running : Control → Activation Value → List (Activation Value) → State → State
@@ -75,6 +76,23 @@ module _ (known : Known) where
   runs_ready (Returns actuals references ∷ k) heap places operands ms w = w
   runs_ready (f ∷ k) heap places operands ms w = absurd (w.rest)
 
+  -- What is left goes on also where no record is adjusted.
+  pub runs_behind : (k : Control) (rooms : Rooms) (holds : Holds) → RunsOn known k rooms holds → RunsBehind known k rooms holds
+  runs_behind [] rooms holds r = r
+  runs_behind (Treats v treatment tasks ∷ k) rooms holds r = absurd r
+  runs_behind (f ∷ k) rooms holds r = r
+
+  pub behind_ready : (k : Control) (heap : List Object) (places operands : List Value) (ms : List Master) → Working known heap places ms (RunsBehind known k) → ReadyIn known Running k heap places operands ms
+  behind_ready [] heap places operands ms w = runs_ready [] heap places operands ms w
+  behind_ready (Treats v (begins by) tasks ∷ k) heap places operands ms w = inl w
+  behind_ready (Treats v (ends cause) tasks ∷ k) heap places operands ms w = absurd (w.rest)
+  behind_ready (f ∷ k) heap places operands ms w = runs_ready (f ∷ k) heap places operands ms w
+
+  -- It does so behind the adjustment of a record, or at once, where nothing is to be adjusted.
+  pub treating_behind : (v : Value) (by : Birth) (tasks : List Task) (k : Control) (rooms : Rooms) (holds : Holds) → RunsOn known k rooms holds → RunsBehind known (treating v (begins by) tasks k) rooms holds
+  treating_behind v by [] k rooms holds r = runs_behind k rooms holds r
+  treating_behind v by (task ∷ tasks) k rooms holds r = r
+
   -- What is left goes on in a mode.
   pub goes_ready : (mode : Mode) (k : Control) (heap : List Object) (places operands : List Value) (ms : List Master) → Working known heap places ms (GoesOn known mode k) → ReadyIn known mode k heap places operands ms
   goes_ready Running k heap places operands ms w = runs_ready k heap places operands ms w
@@ -112,10 +130,40 @@ module _ (known : Known) where
   ends_ready v (Ends w ∷ k) heap places operands ms r = r.1
   ends_ready v (f ∷ k) heap places operands ms r = absurd r
 
+  -- So does a record that is assigned to, and whose components get what those of another one hold.
+  holder_follows : (heap : List Object) (v : Value) → IsHolder heap v → MayFollow heap v
+  holder_follows heap Null there = tt
+  holder_follows heap (Names o) there = there
+  holder_follows heap (Scalar n) there = tt
+  holder_follows heap (Part o place) there = tt
+
+  holder_raises : (heap : List Object) (v : Value) (k : Control) (rooms : Rooms) (holds : Holds) → IsHolder heap v → RaisesAt known v [] k rooms holds
+  holder_raises heap Null k rooms holds there = absurd there
+  holder_raises heap (Names o) k rooms holds there = λ is. cc is
+  holder_raises heap (Scalar n) k rooms holds there = absurd there
+  holder_raises heap (Part o place) k rooms holds there = absurd there
+
+  stores_copied : (heap : List Object) (places : List Value) (t : ℕ) (below : List Value) (k : Control) (rooms : Rooms) (holds : Holds) → StoresBehind known heap k rooms holds → CopiesTo known heap places t below k rooms holds
+  stores_copied heap places t below [] rooms holds r = absurd r
+  stores_copied heap places t below (StoresRecord o first count ∷ k) rooms holds r = r
+  stores_copied heap places t below (f ∷ k) rooms holds r = absurd r
+
+  pub copies_ready : (k : Control) (heap : List Object) (places operands : List Value) (ms : List Master) → CopiesBehind known k heap places operands ms → ReadyIn known Running k heap places operands ms
+  copies_ready [] heap places operands ms r = absurd r
+  copies_ready (Copies first t ∷ k) heap places operands ms w =
+      let v = first_or Null operands in
+      at_work w (
+        holder_follows heap v w.rest.0,
+        holder_raises heap v k w.rooms w.holds w.rest.0,
+        stores_copied heap places t (older operands) k w.rooms w.holds w.rest.1,
+      )
+  copies_ready (f ∷ k) heap places operands ms r = absurd r
+
   -- An object is treated first, if anything is to be done.
   pub treats_ready : (v : Value) (treatment : Treatment) (tasks : List Task) (k : Control) (heap : List Object) (places operands : List Value) (ms : List Master) → TreatsBy known v treatment k heap places operands ms → ReadyIn known Running (treating v treatment tasks k) heap places operands ms
   treats_ready v (begins by) [] k heap places operands ms r = begun_ready k heap places operands ms r
-  treats_ready v (ends cause) [] k heap places operands ms r = ends_ready v k heap places operands ms r
+  treats_ready v (ends cause) [] k heap places operands ms (inl r) = ends_ready v k heap places operands ms r
+  treats_ready v (ends cause) [] k heap places operands ms (inr r) = copies_ready k heap places operands ms r
   treats_ready v treatment (task ∷ tasks) k heap places operands ms r = r
 
   -- Any value is stored where nothing relies on it.
@@ -173,6 +221,7 @@ module _ (known : Known) where
   awaits_passes heap places (Refers p ∷ k) below rooms holds f = f
   awaits_passes heap places (Opens path ∷ k) below rooms holds f = f
   awaits_passes heap places (Calls procedure b actuals ∷ k) below rooms holds f = f
+  awaits_passes heap places (Assigns t ∷ k) below rooms holds f = let source = (f Null).0.3 in let is = source.2 in absurd (cc is)
   awaits_passes heap places (f' ∷ k) below rooms holds f = absurd (f Null)
 
   pub passes_ready : (k : Control) (heap : List Object) (places operands : List Value) (ms : List Master) → Working known heap places ms (PassesTo known heap places operands k) → ReadyIn known Running k heap places operands ms
@@ -182,6 +231,7 @@ module _ (known : Known) where
   passes_ready (Refers p ∷ k) heap places operands ms w = w
   passes_ready (Opens path ∷ k) heap places operands ms w = w
   passes_ready (Calls procedure b actuals ∷ k) heap places operands ms w = w
+  passes_ready (Assigns t ∷ k) heap places operands ms w = w
   passes_ready (f ∷ k) heap places operands ms w = absurd (w.rest)
 
   module _ (k : Control) (a : Activation Value) (rest : List (Activation Value)) (s : State) where

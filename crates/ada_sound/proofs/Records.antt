@@ -25,7 +25,8 @@ use Rattle.ada_meaning.specs.declared.state.Id.{Id}
 use Rattle.ada_meaning.specs.declared.state.Value.{Value}
 use Rattle.ada_meaning.specs.declared.state.Value.TheVariants.{Null, Names}
 use Rattle.ada_meaning.specs.Event.{Quiet}
-use Rattle.ada_meaning.specs.declared.event.Birth.TheVariants.{Creation}
+use Rattle.ada_meaning.specs.declared.event.Birth.{Birth}
+use Rattle.ada_meaning.specs.declared.event.Birth.TheVariants.{Creation, Copy}
 use Rattle.ada_meaning.specs.Frame.{Elaborates, Handles, Closes, Fills, DeclaresRecord, begins}
 use Rattle.ada_meaning.specs.State.{Activation, record_object, Master, height}
 use Rattle.ada_meaning.specs.Step.{all_tasks, owning, made, record_next, record_cell, initial_value, initial_values}
@@ -124,8 +125,8 @@ module _ (known : Known) (rest : List (Activation Value)) (s : State) (types : L
   roomed_more item under (m ∷ ms) (gone ∷ rooms) r e = ((e, r.0), r.1)
 
   -- An object comes to be whose components name nothing, and its variable owns it.
-  pub made_fine : (a : Activation Value) (k : Control) (values : List Value) (u : Value) → is_record_object t (variable_kind known.program.variables x) ≡ true → slice_get a.places x ≡ Some u → ((holding : Place → Hold) (kind : ℕ → Option ℕ) → AreInHand s.heap (stacked a.places (outers known)) holding kind 0 values) → Working known s.heap a.places s.masters (λ rooms holds. MayOwn rooms t × RunsOn known k rooms (slice_set holds x (hold.Own Whole))) → Stepped known s.heap Quiet (made named types x t values (running k a rest s))
-  made_fine a k values u is there in_hand w =
+  pub made_fine : (by : Birth) (a : Activation Value) (k : Control) (values : List Value) (u : Value) → is_record_object t (variable_kind known.program.variables x) ≡ true → slice_get a.places x ≡ Some u → ((holding : Place → Hold) (kind : ℕ → Option ℕ) → AreInHand s.heap (stacked a.places (outers known)) holding kind 0 values) → Working known s.heap a.places s.masters (λ rooms holds. MayOwn rooms t × RunsOn known k rooms (slice_set holds x (hold.Own Whole))) → Stepped known s.heap Quiet (made named types x t by values (running k a rest s))
+  made_fine by a k values u is there in_hand w =
       let cell = record_cell named types t (height s.masters) values in
       let words = words_of types t in
       let kinds = λ (c : ℕ). access_of (kind_among (reached_components known.program.types t) c) in
@@ -141,7 +142,7 @@ module _ (known : Known) (rest : List (Activation Value)) (s : State) (types : L
         rest = w.rest.1;
       } in
       record {
-        ready = (tt, treats_ready known (created s.heap words) (begins Creation) (all_tasks types t PartsFirst) k (create s.heap words cell) (slice_set a.places x (created s.heap words)) a.operands (owning (record { number = height s.masters; owned = record_object t }) s.masters) (inl after));
+        ready = (tt, treats_ready known (created s.heap words) (begins by) (all_tasks types t PartsFirst) k (create s.heap words cell) (slice_set a.places x (created s.heap words)) a.operands (owning (record { number = height s.masters; owned = record_object t }) s.masters) (inl after));
         alters = alters_new s.heap Quiet (new_object cell) refl;
         says = tt;
       }
@@ -177,18 +178,18 @@ module _ (known : Known) (a : Activation Value) (rest : List (Activation Value))
 
   pub record_fine : (initial : Option (List ItemForm)) (u : Value) → slice_get a.places x ≡ Some u → is_record_object t (variable_kind known.program.variables x) ≡ true → Working known s.heap a.places s.masters (RunsOn known (Elaborates (declares_record x t initial ∷ ds) fs hs ∷ k)) → Fine known s.heap s.masters (record_next named types x t initial (running (Elaborates ds fs hs ∷ k) a rest s))
   record_fine None u there is w =
-      made_fine known rest s types x t a (Elaborates ds fs hs ∷ k) (initial_values named (reached_of types t)) u is there
+      made_fine known rest s types x t Creation a (Elaborates ds fs hs ∷ k) (initial_values named (reached_of types t)) u is there
       (λ holding kind. initials_in_hand (outers known) s.heap a.places holding kind (reached_of types t)) (at_work w (by_default w.holds w.rooms w.rest))
   record_fine (Some items) u there is w =
       ready_on known (Fills items ∷ DeclaresRecord x t ∷ Elaborates ds fs hs ∷ k) a rest s a.operands (at_work w (by_items items w.holds w.rooms is w.rest))
 
 -- A record object comes to be with the items of its initial value.
-pub recorded_fine : (known : Known) (k : Control) (a : Activation Value) (rest : List (Activation Value)) (s : State) (types : List TypeDefinition) → Reaches known types → (x t : ℕ) (kinds : List OperandKind) → typed.Fits known.program (cells_of s.heap) kinds (DeclaresRecord x t ∷ k) → AreComputed known.program.types (cells_of s.heap) kinds a.operands → AreHeld known.program.types (cells_of s.heap) known.program.variables a.places → Working known s.heap a.places s.masters (Recording known x t k) → Stepped known s.heap Quiet (made named types x t (reverse (take (words_of types t) a.operands)) (running k (record a { operands = drop (words_of types t) a.operands }) rest s))
+pub recorded_fine : (known : Known) (k : Control) (a : Activation Value) (rest : List (Activation Value)) (s : State) (types : List TypeDefinition) → Reaches known types → (x t : ℕ) (kinds : List OperandKind) → typed.Fits known.program (cells_of s.heap) kinds (DeclaresRecord x t ∷ k) → AreComputed known.program.types (cells_of s.heap) kinds a.operands → AreHeld known.program.types (cells_of s.heap) known.program.variables a.places → Working known s.heap a.places s.masters (Recording known x t k) → Stepped known s.heap Quiet (made named types x t Copy (reverse (take (words_of types t) a.operands)) (running k (record a { operands = drop (words_of types t) a.operands }) rest s))
 recorded_fine known k a rest s types reaches x t kinds (ks, object, cs, is, of, one, reached, other, more) computed held w =
     let counted : words_of types t ≡ length cs = ap count_of (reaches.0 t ∙ reached) in
     let have = (typed.split known.program.types (cells_of s.heap) cs ks a.operands (rw is at computed)).0 in
     let plain : list_any is_owning cs ≡ false = rw reached at w.rest.0 in
     let none = plain_names_nothing known.program.types (cells_of s.heap) cs (reverse (take (length cs) a.operands)) plain have in
     let place = has_place known.program.types (cells_of s.heap) known.program.variables a.places x t held w.rest.1 in
-    made_fine known rest s types x t (record a { operands = drop (words_of types t) a.operands }) k (reverse (take (words_of types t) a.operands)) place.0 w.rest.1 place.1
+    made_fine known rest s types x t Copy (record a { operands = drop (words_of types t) a.operands }) k (reverse (take (words_of types t) a.operands)) place.0 w.rest.1 place.1
     (λ holding kind. nothing_in_hand (outers known) s.heap a.places holding kind 0 (reverse (take (words_of types t) a.operands)) (rw counted none)) (at_work w (w.rest.2, w.rest.3))

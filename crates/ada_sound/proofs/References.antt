@@ -20,6 +20,7 @@ use Rattle.ada_flow.specs.declared.rule.Hold.{Hold}
 use Rattle.ada_flow.specs.declared.rule.Hold.TheVariants as hold
 use Rattle.ada_flow.specs.Flow.{Holds, hold_at, lost_by, is_freed, names_value, component_passes, record_passes, is_given, is_begun_with, opens_it, passes_it, opened_by_call, uses_in_actual, uses_in_actuals, first_holds}
 use Rattle.ada_meaning.specs.declared.state.Id.{Id}
+use Rattle.ada_meaning.specs.declared.state.Place.{Place}
 use Rattle.ada_meaning.specs.declared.state.Value.{Value}
 use Rattle.ada_meaning.specs.declared.state.Value.TheVariants.{Null, Names, Scalar, Part}
 use Rattle.ada_meaning.specs.Step.{operand_count, given_values, references_in}
@@ -220,8 +221,8 @@ from_there heap [] o t is = absurd is
 from_there heap (r ∷ rs) o t is = either_there heap r (referred_from heap rs) o t (from_there heap rs o t) is
 
 -- What refers to an object that is there is among them.
-of_here : (heap : List Object) (v : Value) (o : Id) (first t : ℕ) → v ≡ Part o first → access_at heap o ≡ Some t → IsReferred (referred_of heap v) o t
-of_here heap v o first t is at = rw (is, at) (inl (refl, refl))
+of_here : (heap : List Object) (v : Value) (o : Id) (place : Place) (t : ℕ) → v ≡ Part o place → access_at heap o ≡ Some t → IsReferred (referred_of heap v) o t
+of_here heap v o place t is at = rw (is, at) (inl (refl, refl))
 
 -- A scalar has no access type.
 scalar_leads : (t : ScalarType) (found : Option VariableKind) → is_type t (scalar_of found) ≡ true → (to : VariableKind) × (found ≡ Some to) × (access_of (Some to) ≡ None)
@@ -293,7 +294,7 @@ module _ (types : List TypeForm) (own : List VariableForm) (may : ℕ → Bool) 
   -- So all that refers to components leads to Integers and Booleans in objects that are there.
   more_opened : (rs ss : List Reference) (references : List Value) → ((o : Id) (t : ℕ) → IsReferred rs o t → IsReferred ss o t) → AreOpened types rs references → AreOpened types ss references
   more_opened rs ss [] more opened = tt
-  more_opened rs ss (r ∷ rest) more ((o, c, t, is, refers, none), later) = ((o, c, t, is, more o t refers, none), more_opened rs ss rest more later)
+  more_opened rs ss (r ∷ rest) more ((o, place, t, is, refers, none), later) = ((o, place, t, is, more o t refers, none), more_opened rs ss rest more later)
 
   opened_all : (ks : List VariableKind) (actuals : List ActualForm) (references : List Value) (earlier : List ActualForm) → actuals_fit types own ks actuals ≡ true → ReferTo heap places actuals references → NoneBroken holds (uses_in_actuals types own may earlier actuals) → AreOpened types (referred_from heap references) references
   opened_all ks [] [] earlier suits refer kept = tt
@@ -313,14 +314,14 @@ module _ (types : List TypeForm) (own : List VariableForm) (may : ℕ → Bool) 
       let s = given_scalar k path earlier both.0 two.0 in
       let h = opens_it_by path r s refer.0 in
       let later = opened_all ks rest rs (earlier ++ in_out_component path ∷ []) both.1 refer.1 two.1 in (
-        (h.o, h.c, h.t, h.is, referred_first (referred_of heap r) (referred_from heap rs) h.o h.t (of_here heap r h.o h.c h.t h.is h.there), ap access_of h.kind ∙ s.scalar),
+        (h.o, record { component = h.c; part = 0 }, h.t, h.is, referred_first (referred_of heap r) (referred_from heap rs) h.o h.t (of_here heap r h.o (record { component = h.c; part = 0 }) h.t h.is h.there), ap access_of h.kind ∙ s.scalar),
         more_opened (referred_from heap rs) (referred_of heap r ++ referred_from heap rs) rs (λ o t is. referred_behind (referred_of heap r) (referred_from heap rs) o t is) later,
       )
 
   -- None of it is of an access type of which the call may free objects.
   module _ (records : (x : ℕ) (t : TypeNo) → variable_kind own x ≡ Some (kinds.Record t) → is_access types t.0 ≡ false) (t : ℕ) (frees : may t ≡ true) (of_access : is_access types t ≡ true) (spares : (o : Id) → IsReferred outer.referenced o t → ⊥) where
-    part_same : (v : Value) (p o : Id) (first u : ℕ) → v ≡ Part p first → access_at heap p ≡ Some u → IsReferred (referred_of heap v) o t → (p ≡ o) × (u ≡ t)
-    part_same v p o first u is at refers = go (rw (is, at) at refers)
+    part_same : (v : Value) (p o : Id) (place : Place) (u : ℕ) → v ≡ Part p place → access_at heap p ≡ Some u → IsReferred (referred_of heap v) o t → (p ≡ o) × (u ≡ t)
+    part_same v p o place u is at refers = go (rw (is, at) at refers)
       where
         go : IsReferred (record { object = p; access = u } ∷ []) o t → (p ≡ o) × (u ≡ t)
         go (inl same) = same
@@ -329,7 +330,7 @@ module _ (types : List TypeForm) (own : List VariableForm) (may : ℕ → Bool) 
     opened_spared : (path : PathForm) (r : Value) (o : Id) → GivenScalar path → OpenedBy heap places path r → IsReferred (referred_of heap r) o t → ⊥
     opened_spared path r o s by refers =
         let h = opens_it_by path r s by in
-        let same = part_same r h.o o h.c h.t h.is h.there refers in
+        let same = part_same r h.o o (record { component = h.c; part = 0 }) h.t h.is h.there refers in
         go h.o h.t h.spared same
       where
         go : (p : Id) (u : ℕ) → IsSpared (λ may'. component_passes types own may' path ≡ false) outer.referenced p u → (p ≡ o) × (u ≡ t) → ⊥
@@ -358,7 +359,7 @@ module _ (types : List TypeForm) (own : List VariableForm) (may : ℕ → Bool) 
     record_spared : (p : RecordPathForm) (v : Value) (o : Id) → is_record_path types own p ≡ true → ReferredBy heap places p v → lost_by (hold_at holds p.object.root) p.object.spot ≡ None → record_passes types own may p ≡ false → IsReferred (referred_of heap v) o t → ⊥
     record_spared p v o lies by kept safe refers =
         let h = record_referred exist f p v lies kept by in
-        let same = part_same v h.o o h.first h.t h.is h.there refers in
+        let same = part_same v h.o o h.place h.t h.is h.there refers in
         go h.o h.t h.spared same
       where
         go : (q : Id) (u : ℕ) → (access_of (path_kind types own p.object) ≡ Some u) ⊎ IsReferred outer.referenced q u → (q ≡ o) × (u ≡ t) → ⊥
@@ -447,20 +448,20 @@ module _ (types : List TypeForm) (own : List VariableForm) (heap : List Object) 
   later_referred (in_record p) rest v vs o t is = referred_behind (referred_of heap v) (referred_by heap rest vs) o t is
   later_referred (in_out_record p) rest v vs o t is = referred_behind (referred_of heap v) (referred_by heap rest vs) o t is
 
-  here_referred : (kind : VariableKind) (a : ActualForm) (rest : List ActualForm) (v : Value) (vs : List Value) (o : Id) (first t : ℕ) → actual_fits types own kind a ≡ true → names_object (Some kind) ≡ true → v ≡ Part o first → access_at heap o ≡ Some t → IsReferred (referred_by heap (a ∷ rest) (v ∷ vs)) o t
-  here_referred kinds.Integer a rest v vs o first t suits is at there = absurd (cc is)
-  here_referred kinds.Boolean a rest v vs o first t suits is at there = absurd (cc is)
-  here_referred (kinds.Access access) a rest v vs o first t suits is at there = absurd (cc is)
-  here_referred (kinds.Record object) (in_record p) rest v vs o first t suits is at there = referred_first (referred_of heap v) (referred_by heap rest vs) o t (of_here heap v o first t at there)
-  here_referred (kinds.Record object) (in_out_record p) rest v vs o first t suits is at there = referred_first (referred_of heap v) (referred_by heap rest vs) o t (of_here heap v o first t at there)
-  here_referred (kinds.Record object) a rest v vs o first t suits is at there = absurd (cc suits)
+  here_referred : (kind : VariableKind) (a : ActualForm) (rest : List ActualForm) (v : Value) (vs : List Value) (o : Id) (place : Place) (t : ℕ) → actual_fits types own kind a ≡ true → names_object (Some kind) ≡ true → v ≡ Part o place → access_at heap o ≡ Some t → IsReferred (referred_by heap (a ∷ rest) (v ∷ vs)) o t
+  here_referred kinds.Integer a rest v vs o place t suits is at there = absurd (cc is)
+  here_referred kinds.Boolean a rest v vs o place t suits is at there = absurd (cc is)
+  here_referred (kinds.Access access) a rest v vs o place t suits is at there = absurd (cc is)
+  here_referred (kinds.Record object) (in_record p) rest v vs o place t suits is at there = referred_first (referred_of heap v) (referred_by heap rest vs) o t (of_here heap v o place t at there)
+  here_referred (kinds.Record object) (in_out_record p) rest v vs o place t suits is at there = referred_first (referred_of heap v) (referred_by heap rest vs) o t (of_here heap v o place t at there)
+  here_referred (kinds.Record object) a rest v vs o place t suits is at there = absurd (cc suits)
 
-  pub formal_referred : (ms : List FormalMode) (vs : List VariableForm) (actuals : List ActualForm) (values : List Value) → actuals_fit types own (map kind_held (take (length ms) vs)) actuals ≡ true → modes_fit ms actuals ≡ true → AreGiven heap places actuals values → (i : ℕ) → is_object vs i ≡ true → hold_at (first_holds ms vs) i ≢ hold.Lost → (o : Id) (first t : ℕ) → place_at (values ++ more) i ≡ Part o first → access_at heap o ≡ Some t → IsReferred (referred_by heap actuals values) o t
-  formal_referred [] vs actuals values suits modes given i object ne o first t at there = absurd (ne (no_formal vs i))
-  formal_referred (m ∷ ms) vs [] values suits modes given i object ne o first t at there = absurd (cc modes)
-  formal_referred (m ∷ ms) [] (a ∷ rest) values suits modes given i object ne o first t at there = absurd (cc suits)
-  formal_referred (m ∷ ms) (v ∷ vs) (a ∷ rest) [] suits modes given i object ne o first t at there = absurd given
-  formal_referred (m ∷ ms) (v ∷ vs) (a ∷ rest) (u ∷ us) suits modes given zero object ne o first t at there =
-      here_referred v.kind a rest u us o first t (and_parts (actual_fits types own v.kind a) (actuals_fit types own (map kind_held (take (length ms) vs)) rest) suits).0 object at there
-  formal_referred (m ∷ ms) (v ∷ vs) (a ∷ rest) (u ∷ us) suits modes given (suc i) object ne o first t at there =
-      later_referred a rest u us o t (formal_referred ms vs rest us (and_parts (actual_fits types own v.kind a) (actuals_fit types own (map kind_held (take (length ms) vs)) rest) suits).1 (and_parts (same_mode m (mode_of a)) (modes_fit ms rest) modes).1 given.1 i object ne o first t at there)
+  pub formal_referred : (ms : List FormalMode) (vs : List VariableForm) (actuals : List ActualForm) (values : List Value) → actuals_fit types own (map kind_held (take (length ms) vs)) actuals ≡ true → modes_fit ms actuals ≡ true → AreGiven heap places actuals values → (i : ℕ) → is_object vs i ≡ true → hold_at (first_holds ms vs) i ≢ hold.Lost → (o : Id) (place : Place) (t : ℕ) → place_at (values ++ more) i ≡ Part o place → access_at heap o ≡ Some t → IsReferred (referred_by heap actuals values) o t
+  formal_referred [] vs actuals values suits modes given i object ne o place t at there = absurd (ne (no_formal vs i))
+  formal_referred (m ∷ ms) vs [] values suits modes given i object ne o place t at there = absurd (cc modes)
+  formal_referred (m ∷ ms) [] (a ∷ rest) values suits modes given i object ne o place t at there = absurd (cc suits)
+  formal_referred (m ∷ ms) (v ∷ vs) (a ∷ rest) [] suits modes given i object ne o place t at there = absurd given
+  formal_referred (m ∷ ms) (v ∷ vs) (a ∷ rest) (u ∷ us) suits modes given zero object ne o place t at there =
+      here_referred v.kind a rest u us o place t (and_parts (actual_fits types own v.kind a) (actuals_fit types own (map kind_held (take (length ms) vs)) rest) suits).0 object at there
+  formal_referred (m ∷ ms) (v ∷ vs) (a ∷ rest) (u ∷ us) suits modes given (suc i) object ne o place t at there =
+      later_referred a rest u us o t (formal_referred ms vs rest us (and_parts (actual_fits types own v.kind a) (actuals_fit types own (map kind_held (take (length ms) vs)) rest) suits).1 (and_parts (same_mode m (mode_of a)) (modes_fit ms rest) modes).1 given.1 i object ne o place t at there)

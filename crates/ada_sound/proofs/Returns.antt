@@ -101,9 +101,9 @@ module _ (program : Program) (procedure : Option ℕ) (g : Suspension) (gs : Lis
     -- The components that get something back are there, behind a normal end.
     stores_behind : (rooms : Rooms) (holds : Holds) (k : Control) (references : List Value) → AreOpened caller.program.types g.referenced references → ((o : Id) (t : ℕ) → IsReferred g.referenced o t → access_at heap o ≡ Some t) → RunsOn caller k rooms holds → StoresOn caller heap (storing named references k) rooms holds
     stores_behind rooms holds k [] opened there runs = runs_stores caller k heap rooms holds runs
-    stores_behind rooms holds k (r ∷ rs) ((o, c, t, is, refers, none), later) there runs =
+    stores_behind rooms holds k (r ∷ rs) ((o, place, t, is, refers, none), later) there runs =
         let h = listed_at heap o t (there o t refers) in
-        let plain : component_access caller.program.types h.object c ≡ None = ap (λ (u : ℕ). access_of (kind_among (reached_components caller.program.types u) c)) h.access ∙ none in
+        let plain : component_access caller.program.types h.object place.component ≡ None = ap (λ (u : ℕ). access_of (kind_among (reached_components caller.program.types u) place.component)) h.access ∙ none in
         rw is ((h.object, h.found, h.listed, plain), stores_behind rooms holds k rs later there runs)
 
     module _ (actuals : List ActualForm) (references : List Value) (k : Control) (waits : WaitsForIt) where

@@ -5,7 +5,7 @@ use Rattle.std.specs.Prelude.{ℤ, pos, ◌+ℤ◌, int_le, ◌==◌, if◌then�
 use Rattle.std.specs.List.{slice_set, list_all}
 use Rattle.std.proofs.lemmas.Bool.{eq-eqb, and_parts}
 use Rattle.ada_program.specs.declared.program.TypeDefinition.{TypeDefinition}
-use Rattle.ada_program.specs.WellFormed.{callable_in, is_this, access_of, selectors_kind, variable_kind, path_kind, path_access, reached_components, right_fits, lends_to, names_borrower, is_freed_by, is_record_object, record_initial_fits, initial_fits, statement_fits, stmts_fit}
+use Rattle.ada_program.specs.WellFormed.{callable_in, is_this, access_of, selectors_kind, variable_kind, path_kind, path_access, object_named, is_record_path, record_fits, right_fits, lends_to, names_borrower, is_freed_by, is_record_object, record_initial_fits, initial_fits, statement_fits, stmts_fit}
 use Rattle.ada_program.specs.declared.program.Exception.{Exception}
 use Rattle.ada_program.specs.declared.program.Exception.TheVariants.{ConstraintError, EndError}
 use Rattle.ada_program.specs.Form.{PathForm, ExpressionForm, RightForm, nothing, value_of, allocates, allocates_default, computes, StmtForm, skips, assigns, assigns_record, frees, gets, writes, writes_text, chooses, repeats, counts, exits, calls, returns, raises, encloses, StmtsForm, no_stmts, a_stmt, BranchesForm, otherwise, a_branch, HandlersForm, DeclarationForm, creates_pool, collects, declares, declares_record}
@@ -20,7 +20,7 @@ use Rattle.ada_meaning.specs.declared.state.Mode.TheVariants.{Raising, Exiting, 
 use Rattle.ada_meaning.specs.Frame.{Elaborates, Does, Decides, Repeats, Turns, Ranges, Counts, Exits, Handles, Closes, Evaluates, Computes, Stores, Declares, Writes}
 use Rattle.ada_meaning.specs.Event.{Line, Quiet}
 use Rattle.ada_meaning.specs.State.{collection, storage_pool, Activation, Master, pools_in, pool_for}
-use Rattle.ada_meaning.specs.Step.{moves, owning, assign_next, frees_next, gets_next, branches_next, decided_next, turn_next, repeats_next, turned_next, count_turn_next, counts_next, ranges_next, exit_next, exited_next, stmt_next, stmts_next, declaration_next, declarations_next}
+use Rattle.ada_meaning.specs.Step.{moves, owning, assign_next, frees_next, gets_next, branches_next, decided_next, turn_next, repeats_next, turned_next, count_turn_next, counts_next, ranges_next, exit_next, exited_next, has_parts, record_assign_next, stmt_next, stmts_next, declaration_next, declarations_next}
 use Rattle.ada_meaning.specs.Named.{Object, State, named}
 use Rattle.ada_sound.proofs.Stored.{stored_owning, stored_entered}
 use Rattle.ada_typed.specs.Holding.{cells_of}
@@ -33,6 +33,7 @@ use Rattle.ada_sound.proofs.Roots.{root_object, value_root, right_leads, integer
 use Rattle.ada_sound.proofs.Copied.{record_there}
 use Rattle.ada_sound.proofs.Records.{has_place, record_fine}
 use Rattle.ada_sound.proofs.Wholes.{record_begins}
+use Rattle.ada_sound.proofs.RecordAssignments.{copy_begins}
 use Rattle.ada_sound.proofs.Invariant.{Spares, owed_in, Known, Where, below, Control, Rooms, Roomed, Goes, Raised, Doing, Choosing, TurnsTo, condition_among, component_among, Counting, Elaborating, Handled, Outside, RunsOn, Deciding, TurningOn, ExitingTo, Computing, IsOne, Pairs, Takes, Working, Resumes, EvaluatesTo, Fine, ways}
 use Rattle.ada_sound.proofs.Ready.{running, at_work, with_less, at_less, stays, lost_stored, ready_on, runs_on, jumps, jumps_less}
 use Rattle.ada_sound.proofs.Nestings.{Starting, starts, others_do, branch_does, chooses_from, repeats_from, turn_runs, counts_from, count_runs, exit_parts, encloses_from}
@@ -168,7 +169,7 @@ module _ (known : Known) where
             },
           ) tt
       declaration_fine types (declares_record x t initial) ds held fits w =
-          let is = (and_parts (is_record_object t (variable_kind known.program.variables x)) (record_initial_fits known.program.types known.program.variables x (reached_components known.program.types t) initial) fits).0 in
+          let is = (and_parts (is_record_object t (variable_kind known.program.variables x)) (record_initial_fits known.program.types known.program.variables x (object_named known.program.types (Some t)) initial) fits).0 in
           let place = has_place known.program.types (cells_of s.heap) known.program.variables a.places x t held is in
           record_fine known a rest s types x t ds fs hs k initial place.0 place.1 is w
       declaration_fine types (declares x right) ds held fits w =
@@ -308,8 +309,14 @@ module _ (known : Known) where
         let leads = right_leads types variables (path_kind types variables target) right (and_parts (right_fits types variables (path_kind types variables target) right) (lends_to variables (names_borrower variables target) right) fits).0 in
         assign_fine target.selectors target right fs k refl (root_object types variables target leads.0 leads.1) (at_work w w.rest.1)
     stmt_fine defined bodies calling inside here (assigns_record target items) fs k homes fits own w =
-        let there = record_there known.program.types known.program.variables target (and_parts _ _ fits).0 in
-        record_begins known a rest s target items fs k there (at_work w w.rest.1)
+        assigned_fine (has_parts defined target.record_type)
+      where
+        two : (is_record_path known.program.types known.program.variables target ≡ true) × (record_fits known.program.types known.program.variables target.record_type items ≡ true)
+        two = and_parts (is_record_path known.program.types known.program.variables target) (record_fits known.program.types known.program.variables target.record_type items) fits
+
+        assigned_fine : (parts : Bool) → Fine known s.heap s.masters (record_assign_next named parts target items (running (Does fs ∷ k) a rest s))
+        assigned_fine true = copy_begins known a rest s target items fs k two.0 two.1 (at_work w w.rest.1)
+        assigned_fine false = record_begins known a rest s target items fs k (record_there known.program.types known.program.variables target two.0) (at_work w w.rest.1)
     stmt_fine defined bodies calling inside here (frees access path) fs k homes fits own w = frees_fine defined path.selectors access path fs k homes (and_parts _ _ fits).0 own w.rest.4 refl (at_work w w.rest.1)
     stmt_fine defined bodies calling inside here (gets target) fs k homes fits own w = (
         let types = known.program.types in

@@ -12,7 +12,7 @@ use Rattle.ada_meaning.specs.declared.state.Value.{Value}
 use Rattle.ada_meaning.specs.declared.state.Value.TheVariants.{Null, Names, Scalar, Part}
 use Rattle.ada_meaning.specs.declared.state.Mode.{Mode}
 use Rattle.ada_meaning.specs.declared.state.Mode.TheVariants.{Running, Raising, Exiting, Returning}
-use Rattle.ada_meaning.specs.Frame.{Frame, Elaborates, Does, Decides, Repeats, Turns, Ranges, Counts, Exits, Handles, Closes, Leaves, Calls, Returns, is_return, Evaluates, Computes, Follows, TestsNull, Refers, RefersIn, Opens, OpensIn, Continues, Applies, AppliesAlone, Fills, Copies, Creates, Stores, Targets, StoresIn, TargetsRecord, StoresRecord, Receives, FreesIn, Declares, DeclaresRecord, Treats, Writes, Ends, GivesBack, Clears, ClearsIn}
+use Rattle.ada_meaning.specs.Frame.{Frame, Elaborates, Does, Decides, Repeats, Turns, Ranges, Counts, Exits, Handles, Closes, Leaves, Calls, Returns, is_return, Evaluates, Computes, Follows, TestsNull, Refers, RefersIn, Opens, OpensIn, Continues, Applies, AppliesAlone, Fills, Copies, Creates, Stores, Targets, StoresIn, TargetsRecord, StoresRecord, Assigns, Receives, FreesIn, Declares, DeclaresRecord, Treats, Writes, Ends, GivesBack, Clears, ClearsIn}
 use Rattle.ada_meaning.specs.Event.{Quiet}
 use Rattle.ada_meaning.specs.State.{Activation, Master}
 use Rattle.ada_meaning.specs.Law.{items_of}
@@ -25,12 +25,11 @@ use Rattle.ada_typed.specs.Holding.{Cells, cells_of, HasKind, HaveKinds}
 use Rattle.ada_typed.proofs.Values.{OperandKind, of_kind, AreComputed, AreHeld, AreFilled, filled_at, kind_of}
 use Rattle.ada_sound.proofs.Fits.{IsPlain, ArePlain}
 use Rattle.ada_sound.proofs.Passed.{refers_fine, referred_fine, opens_fine, opened_fine}
-use Rattle.std.proofs.lemmas.Bool.{and_parts}
 use Rattle.std.specs.List.{AllPairs, slice_get}
 use Rattle.std.specs.Prelude.{Some}
 use Rattle.ada_program.specs.declared.program.ComponentKind.{ComponentKind}
 use Rattle.ada_program.specs.declared.program.ComponentKind.TheVariants as component
-use Rattle.ada_program.specs.WellFormed.{held_kind, is_record_path, is_this, object_in}
+use Rattle.ada_program.specs.WellFormed.{held_kind}
 use Rattle.ada_program.specs.Typed.{width_of}
 use Rattle.ada_typed.proofs.Evaluations.{cell_at}
 use Rattle.ada_typed.proofs.Values as typing
@@ -48,6 +47,7 @@ use Rattle.ada_sound.proofs.Defaults.{Reaches}
 use Rattle.ada_sound.proofs.Evaluations.{evaluates_fine, follows_fine, stores_fine, declares_fine, writes_fine}
 use Rattle.ada_sound.proofs.Records.{recorded_fine}
 use Rattle.ada_sound.proofs.Wholes.{copies_fine, record_target_fine, store_record_fine}
+use Rattle.ada_sound.proofs.RecordAssignments.{assigns_fine}
 use Rattle.ada_sound.proofs.Releases.{free_in_fine}
 use Rattle.ada_sound.proofs.Targets.{target_fine, store_fine, receive_fine, clear_fine}
 use Rattle.ada_sound.proofs.Leavings.{HeldIn, NamedBelow}
@@ -162,8 +162,8 @@ module _ (known : Known) where
     frame_fine (Computes e) inner t kept held low r = expression_fine known k a rest s e t.1.0 t.1.1 r
     frame_fine (Follows cs) inner t kept held low r = path_fine kept.1 cs a.operands t r
     frame_fine (TestsNull equal) inner t kept held low r = null_test_fine known k a rest s (older a.operands) r equal (named.reads_null (first_or Null a.operands))
-    frame_fine (Refers p) inner t kept held low r = refers_fine known k a rest s p (and_parts (is_record_path known.program.types known.program.variables p) (is_this p.record_type (object_in (slice_get known.program.types t.1.0.0))) t.1.1).0 r
-    frame_fine (RefersIn first u) inner t kept held low r = referred_fine known k a rest s first u (width_of types u) (first_or Null a.operands) (older a.operands) r
+    frame_fine (Refers p) inner t kept held low r = refers_fine known k a rest s p t.1.1 r
+    frame_fine (RefersIn place u) inner t kept held low r = referred_fine known k a rest s place u (width_of types u) (first_or Null a.operands) (older a.operands) r
     frame_fine (Opens path) inner t kept held low r = opens_fine known k a rest s path t.1.0 t.1.1 r
     frame_fine (OpensIn c) inner t kept held low r = opened_fine known k a rest s c (first_or Null a.operands) (older a.operands) r
     frame_fine (Continues links) inner t kept held low r = chain_fine links a.operands t r
@@ -182,6 +182,7 @@ module _ (known : Known) where
     frame_fine (StoresIn o c) inner t kept held low r = put_fine o c a.operands t r
     frame_fine (TargetsRecord first u items) inner t kept held low r = record_found first u items a.operands t r
     frame_fine (StoresRecord o first count) inner t kept held low r = store_record_fine known types reaches k a rest s o first count t.0 t.1 t.2 r
+    frame_fine (Assigns u) inner t kept held low r = assigns_fine known a rest s types reaches k u a.operands r
     frame_fine (Receives c) inner t kept held low r = receive_fine known k a rest s (first_or Null a.operands) (older a.operands) c r
     frame_fine (FreesIn access c) inner t kept held low r = free_in_fine known a rest s types access c k (older a.operands) kept.0 (first_or Null a.operands) r
     frame_fine (Declares x) inner t kept held low r = declares_fine known k a rest s kept.1 x (first_or Null a.operands) (older a.operands) r

@@ -10,13 +10,13 @@ use Rattle.ada_meaning.specs.declared.state.Value.{Value}
 use Rattle.ada_meaning.specs.declared.state.Value.TheVariants.{Null, Names, Scalar, Part}
 use Rattle.ada_meaning.specs.declared.state.Mode.{Mode}
 use Rattle.ada_meaning.specs.declared.state.Mode.TheVariants.{Running, Raising, Exiting, Returning}
-use Rattle.ada_meaning.specs.Frame.{Frame, Elaborates, Does, Decides, Repeats, Turns, Ranges, Counts, Exits, Handles, Closes, Leaves, Calls, Returns, Evaluates, Computes, Follows, TestsNull, Refers, RefersIn, Opens, OpensIn, Continues, Applies, AppliesAlone, Fills, Copies, Creates, Stores, Targets, StoresIn, TargetsRecord, StoresRecord, Receives, FreesIn, Declares, DeclaresRecord, Treats, Writes, Ends, GivesBack, Clears, ClearsIn, Treatment, begins, ends}
+use Rattle.ada_meaning.specs.Frame.{Frame, Elaborates, Does, Decides, Repeats, Turns, Ranges, Counts, Exits, Handles, Closes, Leaves, Calls, Returns, Evaluates, Computes, Follows, TestsNull, Refers, RefersIn, Opens, OpensIn, Continues, Applies, AppliesAlone, Fills, Copies, Creates, Stores, Targets, StoresIn, TargetsRecord, StoresRecord, Assigns, Receives, FreesIn, Declares, DeclaresRecord, Treats, Writes, Ends, GivesBack, Clears, ClearsIn, Treatment, begins, ends}
 use Rattle.ada_meaning.specs.State.{Master}
 use Rattle.ada_meaning.specs.Step.{first_or}
 use Rattle.ada_meaning.specs.Named.{Object, State, store}
 use Rattle.ada_sound.proofs.Stored.{Stored}
 use Rattle.ada_sound.proofs.Back.{stored_before}
-use Rattle.ada_sound.proofs.Invariant.{Known, Control, Rooms, Working, HalfBy, Resumes, Clearing, EvaluatesTo, TargetsTo, StoringIn, HalfFollows, NamesTo, BegunTo, EndsTo, TreatsBy, EndingBy, BackingBy, ReadyBy, ReadyIn, Ready}
+use Rattle.ada_sound.proofs.Invariant.{Known, Control, Rooms, Working, HalfBy, Resumes, Clearing, EvaluatesTo, TargetsTo, StoringIn, HalfFollows, NamesTo, BegunTo, EndsTo, CopiesBehind, TreatsBy, EndingBy, BackingBy, ReadyBy, ReadyIn, Ready}
 
 -- Objects are stored, where one at most is under way.
 abbrev pub IsStored : List Object → List Master → Type 0
@@ -103,9 +103,15 @@ module _ (known : Known) where
   ends_stored v (Ends w ∷ k) heap places ms r = value_stored w k heap places ms r.1
   ends_stored v (f ∷ k) heap places ms r = absurd r
 
+  copies_stored : (k : Control) (heap : List Object) (places operands : List Value) (ms : List Master) → CopiesBehind known k heap places operands ms → IsStored heap ms
+  copies_stored [] heap places operands ms r = absurd r
+  copies_stored (Copies first t ∷ k) heap places operands ms r = (None, r.stored)
+  copies_stored (f ∷ k) heap places operands ms r = absurd r
+
   treats_stored : (v : Value) (treatment : Treatment) (k : Control) (heap : List Object) (places operands : List Value) (ms : List Master) → TreatsBy known v treatment k heap places operands ms → IsStored heap ms
   treats_stored v (begins by) k heap places operands ms r = begun_stored k heap places operands ms r
-  treats_stored v (ends cause) k heap places operands ms r = ends_stored v k heap places ms r
+  treats_stored v (ends cause) k heap places operands ms (inl r) = ends_stored v k heap places ms r
+  treats_stored v (ends cause) k heap places operands ms (inr r) = copies_stored k heap places operands ms r
 
   -- By what is next.
   frame_stored : (f : Frame Value) (k : Control) (heap : List Object) (places operands : List Value) (ms : List Master) → ReadyBy known f k heap places operands ms → IsStored heap ms
@@ -127,7 +133,7 @@ module _ (known : Known) where
   frame_stored (Follows cs) k heap places operands ms r = path_stored (first_or Null operands) cs k heap places ms r
   frame_stored (TestsNull equal) k heap places operands ms r = (None, r.stored)
   frame_stored (Refers p) k heap places operands ms r = (None, r.stored)
-  frame_stored (RefersIn first t) k heap places operands ms r = (None, r.stored)
+  frame_stored (RefersIn place t) k heap places operands ms r = (None, r.stored)
   frame_stored (Opens path) k heap places operands ms r = (None, r.stored)
   frame_stored (OpensIn c) k heap places operands ms r = (None, r.stored)
   frame_stored (Continues links) k heap places operands ms r = (None, r.stored)
@@ -141,6 +147,7 @@ module _ (known : Known) where
   frame_stored (StoresIn o c) k heap places operands ms r = put_stored o c (first_or Null operands) k heap places ms r
   frame_stored (TargetsRecord first t items) k heap places operands ms r = (None, r.stored)
   frame_stored (StoresRecord o first count) k heap places operands ms r = (None, r.stored)
+  frame_stored (Assigns t) k heap places operands ms r = (None, r.stored)
   frame_stored (Receives c) k heap places operands ms r = (None, r.stored)
   frame_stored (FreesIn access c) k heap places operands ms r = (None, r.stored)
   frame_stored (Declares x) k heap places operands ms r = (None, r.stored)

@@ -6,7 +6,7 @@ use Rattle.std.specs.List.{slice_get, slice_set}
 use Rattle.ada_parts.specs.declared.tasks.Next.{Next as Follows}
 use Rattle.ada_parts.specs.declared.tasks.Next.TheVariants.{Done, Pick, Perform}
 use Rattle.ada_parts.specs.Shape.{Shape}
-use Rattle.ada_parts.specs.Task.{Task, performed, taken as taken_task}
+use Rattle.ada_parts.specs.Task.{Task, performed}
 use Rattle.ada_flow.specs.Flow.{Holds}
 use Rattle.ada_meaning.specs.declared.event.Birth.{Birth}
 use Rattle.ada_meaning.specs.declared.event.Cause.{Cause}
@@ -16,10 +16,10 @@ use Rattle.ada_meaning.specs.declared.state.Value.TheVariants.{Null, Names, Scal
 use Rattle.ada_meaning.specs.declared.event.Halt.TheVariants.{Erroneous, Stuck}
 use Rattle.ada_meaning.specs.declared.event.Why.TheVariants.{FinalizesTwice}
 use Rattle.ada_meaning.specs.Event.{Finalized, Quiet}
-use Rattle.ada_meaning.specs.Frame.{Stores, StoresIn, Declares, Ends, GivesBack, Treatment, begins, ends}
+use Rattle.ada_meaning.specs.Frame.{Copies, Stores, StoresIn, StoresRecord, Declares, Ends, GivesBack, Treatment, begins, ends}
 use Rattle.ada_meaning.specs.Heap.{PartState, Cell, Found, on_null, on_gone, on_other, finds}
 use Rattle.ada_meaning.specs.State.{Activation, Master, counted}
-use Rattle.ada_meaning.specs.Step.{halts, moves, picks, direction_of, treated_on, born_next, finalized_next, performed_next, treats_next}
+use Rattle.ada_meaning.specs.Step.{picked_task, first_or, halts, moves, picks, direction_of, treated_on, born_next, finalized_next, performed_next, treats_next}
 use Rattle.ada_meaning.specs.Named.{Object, State, object_at, look, named, changed, on_object, store, filled, treated, born_part, finalized_part}
 use Rattle.ada_meaning.specs.Run.{Event}
 use Rattle.ada_owners.specs.Keeping.{IsThere}
@@ -30,8 +30,8 @@ use Rattle.ada_sound.proofs.Objects.{set_here}
 use Rattle.ada_sound.proofs.Stored.{stored_treated}
 use Rattle.ada_sound.proofs.Fits.{treated_fit}
 use Rattle.ada_sound.proofs.Alters.{Alters, alters_same, alters_set}
-use Rattle.ada_sound.proofs.Invariant.{Known, Control, Rooms, RunsOn, Working, IsHolder, NamesTo, BegunTo, EndsTo, TreatsBy, ThenBack, Ending, Stepped, Fine}
-use Rattle.ada_sound.proofs.Ready.{running, stays, treats_ready}
+use Rattle.ada_sound.proofs.Invariant.{Known, Control, Rooms, RunsOn, Working, IsHolder, IsPlainIn, NamesTo, BegunTo, EndsTo, StoresBehind, CopiesBehind, TreatsBy, ThenBack, Ending, Stepped, Fine}
+use Rattle.ada_sound.proofs.Ready.{running, at_work, stays, treats_ready}
 use Rattle.ada_sound.proofs.Endings.{swapped, behind_set}
 
 -- What is written twice in one place is what was written last.
@@ -158,9 +158,40 @@ module _ (change : PartState → PartState) (part : ℕ) where
     begun_set places operands k (inl w) = inl (works_set heap o x found known ms w)
     begun_set places operands k (inr r) = inr (names_set places operands k r)
 
+    -- So does what is copied to a record that is assigned to.
+    holder_set : (v : Value) → IsHolder heap v → IsHolder (slice_set heap o.0 (treated change part x)) v
+    holder_set Null h = absurd h
+    holder_set (Scalar n) h = absurd h
+    holder_set (Part p place) h = absurd h
+    holder_set (Names p) h = there_set heap o x found p h
+
+    plain_set : (v : Value) (first count : ℕ) → IsPlainIn known heap v first count → IsPlainIn known (slice_set heap o.0 (treated change part x)) v first count
+    plain_set Null first count p = absurd p
+    plain_set (Scalar n) first count p = absurd p
+    plain_set (Part q place) first count p = absurd p
+    plain_set (Names q) first count p = by (same_id q o)
+      where
+        by : (q ≡ o) ⊎ (q ≢ o) → IsPlainIn known (slice_set heap o.0 (treated change part x)) (Names q) first count
+        by (inr ne) = (p.0, at_other heap o q (treated change part x) ne ∙ p.1, p.2, p.3)
+        by (inl same) =
+            let one : p.0 ≡ x = let at_q = p.1 in cc (rw same at at_q, found) in
+            (treated change part x, rw same (set_here heap o.0 x (treated change part x) found), rw one at p.2, rw one at p.3)
+
+    stores_set : (k : Control) (rooms : Rooms) (holds : Holds) → StoresBehind known heap k rooms holds → StoresBehind known (slice_set heap o.0 (treated change part x)) k rooms holds
+    stores_set [] rooms holds r = absurd r
+    stores_set (StoresRecord p first count ∷ k) rooms holds r = (plain_set p first count r.0, r.1)
+    stores_set (f ∷ k) rooms holds r = absurd r
+
+    copies_set : (places operands : List Value) (k : Control) → CopiesBehind known k heap places operands ms → CopiesBehind known k (slice_set heap o.0 (treated change part x)) places operands ms
+    copies_set places operands [] r = absurd r
+    copies_set places operands (Copies first t ∷ k) w =
+        works_set heap o x found known ms (at_work w (holder_set (first_or Null operands) w.rest.0, stores_set k w.rooms w.holds w.rest.1))
+    copies_set places operands (f ∷ k) r = absurd r
+
     treats_set : (v : Value) (treatment : Treatment) (places operands : List Value) (k : Control) → v ≡ Names o → TreatsBy known v treatment k heap places operands ms → TreatsBy known v treatment k (slice_set heap o.0 (treated change part x)) places operands ms
     treats_set v (begins by) places operands k is r = begun_set places operands k r
-    treats_set v (ends cause) places operands k is r = ends_set heap o x found known ms v places k is r
+    treats_set v (ends cause) places operands k is (inl r) = inl (ends_set heap o x found known ms v places k is r)
+    treats_set v (ends cause) places operands k is (inr r) = inr (copies_set places operands k r)
 
   pub treats_changed : (known : Known) (ms : List Master) (heap : List Object) (v : Value) (treatment : Treatment) (places operands : List Value) (k : Control) → TreatsBy known v treatment k heap places operands ms → TreatsBy known v treatment k (on_object (treated change part) heap v) places operands ms
   treats_changed known ms heap v treatment places operands k r =
@@ -220,6 +251,6 @@ module _ (known : Known) (a : Activation Value) (rest : List (Activation Value))
   treats_fine (Perform of part) treatment tasks r = performed_fine treatment of part (performed tasks) (look s.heap v) r
   treats_fine (Pick count) treatment tasks r = by (count == 0)
     where
-      by : (b : Bool) → Fine known s.heap s.masters (if b then halts Stuck else picks count (λ i. treated_on named v treatment (taken_task shapes (direction_of treatment) tasks i) (running k a rest s)))
+      by : (b : Bool) → Fine known s.heap s.masters (if b then halts Stuck else picks count (λ i. treated_on named v treatment (picked_task shapes (direction_of treatment) tasks i) (running k a rest s)))
       by true = tt
-      by false = λ i lt. goes_on treatment (taken_task shapes (direction_of treatment) tasks i) r
+      by false = λ i lt. goes_on treatment (picked_task shapes (direction_of treatment) tasks i) r

@@ -173,7 +173,7 @@ module _ (known : Known) (heap : List Object) (places : List Value) where
       (raises_next known v w c cs k rooms holds f.0, (g.0, g.1, g.2, g.3, (g.4.0 ∙ walk_behind heap v c cs w on, g.4.1)))
   finds_next (TargetsRecord first t items ∷ k) v below c cs o object w rooms holds is found listed exists at fit f = (raises_next known v w c cs k rooms holds f.0, f.1)
   finds_next (Copies first t ∷ k) v below c cs o object w rooms holds is found listed exists at fit f = (raises_next known v w c cs k rooms holds f.0, f.1)
-  finds_next (RefersIn first t ∷ k) v below c cs o object w rooms holds is found listed exists at fit f =
+  finds_next (RefersIn place t ∷ k) v below c cs o object w rooms holds is found listed exists at fit f =
       let on : behind heap v c ≡ finds w = rw is (behind_is heap o object c w found exists at) in
       (raises_next known v w c cs k rooms holds f.0, (λ p there. f.1 p (walk_behind heap v c cs w on ∙ there)))
   finds_next (OpensIn d ∷ k) v below c cs o object w rooms holds is found listed exists at fit f =
@@ -205,7 +205,7 @@ module _ (known : Known) (heap : List Object) (places : List Value) where
   finds_raises (TargetsRecord first t items ∷ k) v below cs rooms holds null f = raises_null known v k rooms holds cs f.0 null
   finds_raises (Copies first t ∷ k) v below cs rooms holds null f = raises_null known v k rooms holds cs f.0 null
   finds_raises (Receives d ∷ k) v below cs rooms holds null f = raises_null known v k rooms holds cs f.0 null
-  finds_raises (RefersIn first t ∷ k) v below cs rooms holds null f = raises_null known v k rooms holds cs f.0 null
+  finds_raises (RefersIn place t ∷ k) v below cs rooms holds null f = raises_null known v k rooms holds cs f.0 null
   finds_raises (OpensIn d ∷ k) v below cs rooms holds null f = raises_null known v k rooms holds cs f.0 null
   finds_raises (FreesIn access d ∷ k) v below cs rooms holds null f =
       raises_less known k rooms holds f.access (raises_null known v k rooms (behind_end known.program.variables f.access holds) cs f.raises null)
@@ -218,7 +218,7 @@ module _ (known : Known) (heap : List Object) (places : List Value) where
   finds_ready (TargetsRecord first t items ∷ k) v below ms w follows = at_work w (follows, w.rest.0, w.rest.1)
   finds_ready (Copies first t ∷ k) v below ms w follows = at_work w (follows, w.rest.0, w.rest.1)
   finds_ready (Receives c ∷ k) v below ms w follows = at_work w (follows, w.rest.0, w.rest.1, w.rest.2)
-  finds_ready (RefersIn first t ∷ k) v below ms w follows = at_work w (follows, w.rest)
+  finds_ready (RefersIn place t ∷ k) v below ms w follows = at_work w (follows, w.rest)
   finds_ready (OpensIn c ∷ k) v below ms w follows = at_work w (follows, w.rest)
   finds_ready (FreesIn access c ∷ k) v below ms w follows = at_work w (follows, w.rest)
   finds_ready (f ∷ k) v below ms w follows = absurd (w.rest)

@@ -23,7 +23,7 @@ use Rattle.ada_meaning.specs.Event.{Followed}
 use Rattle.ada_meaning.specs.Frame.{Does, Fills, TargetsRecord, StoresRecord}
 use Rattle.ada_meaning.specs.Heap.{finds}
 use Rattle.ada_meaning.specs.State.{Activation, Master}
-use Rattle.ada_meaning.specs.Step.{in_front, if_whole, record_in, copied_next, copies_next, record_target_next, stored_from, record_stored_next, store_record_next, first_in, record_holder_next}
+use Rattle.ada_meaning.specs.Step.{in_front, if_whole, record_in, copied_next, copies_next, record_target_next, stored_from, record_stored_next, store_record_next, place_in, record_holder_next}
 use Rattle.ada_meaning.specs.Named.{Object, State, object_at, filled, store, look, named}
 use Rattle.ada_owners.specs.Keeping.{IsThere}
 use Rattle.ada_owners.proofs.Changes.{store_is}
@@ -35,8 +35,8 @@ use Rattle.ada_sound.proofs.Stored.{Stored, stored_filled}
 use Rattle.ada_sound.proofs.Fits.{Fit, MayFollow, none_spared, place_at, store_blank}
 use Rattle.ada_sound.proofs.Alters.{Alters, alters_same, alters_set, alters_then}
 use Rattle.ada_sound.proofs.Begins.{root_follows}
-use Rattle.ada_sound.proofs.Invariant.{outers, Known, Control, Goes, Raised, RunsOn, RaisesAt, IsPlainIn, CopiesTo, RecordIn, Working, Fine, ways, begun, along}
-use Rattle.ada_sound.proofs.Ready.{running, at_work, stays, runs_ready, jumps_less}
+use Rattle.ada_sound.proofs.Invariant.{outers, Known, Control, Goes, Raised, RunsOn, RunsBehind, RaisesAt, IsPlainIn, CopiesTo, RecordIn, Working, Fine, ways, begun, along}
+use Rattle.ada_sound.proofs.Ready.{running, at_work, stays, runs_behind, behind_ready, jumps_less}
 use Rattle.ada_sound.proofs.Outcomes.{using_goes, ends_goes}
 use Rattle.ada_sound.proofs.Followings.{first_kept}
 use Rattle.ada_sound.proofs.Raising.{or_left, or_right}
@@ -116,7 +116,7 @@ store_all known heap places ms holds o object c (v ∷ vs) found none stored fit
 
 module _ (known : Known) (types : List TypeDefinition) (reaches : Reaches known types) (k : Control) (a : Activation Value) (rest : List (Activation Value)) (s : State) where
   -- As many components as a record type has.
-  width_is : (t : ℕ) (kinds : List ComponentKind) → record_components known.program.types t ≡ Some kinds → width_of types t ≡ length kinds
+  pub width_is : (t : ℕ) (kinds : List ComponentKind) → record_components known.program.types t ≡ Some kinds → width_of types t ≡ length kinds
   width_is t kinds is = ap count_of (reaches.1 t ∙ is)
 
   -- A record is copied: null raises Constraint_Error.
@@ -126,6 +126,9 @@ module _ (known : Known) (types : List TypeDefinition) (reaches : Reaches known 
   copied_on (Fills items ∷ k') o there t below (Some vs) many w =
       stays known (Followed (Names o)) (running (Fills items ∷ k') (record a { operands = in_front vs below }) rest s)
       (tt, at_work w (w.rest.2 vs (many vs refl ∙ width_is t w.rest.0 w.rest.1))) (followed o there w.stored)
+  copied_on (StoresRecord p first count ∷ k') o there t below (Some vs) many w =
+      stays known (Followed (Names o)) (running (StoresRecord p first count ∷ k') (record a { operands = in_front vs below }) rest s)
+      (tt, w) (followed o there w.stored)
   copied_on (f ∷ k') o there t below (Some vs) many w = absurd w.rest
 
   pub copies_fine : (first t : ℕ) (v : Value) (below : List Value) → Working known s.heap a.places s.masters (λ rooms holds. MayFollow s.heap v × RaisesAt known v [] k rooms holds × CopiesTo known s.heap a.places t below k rooms holds) → Fine known s.heap s.masters (copies_next named v first (width_of types t) (look s.heap v) (running k (record a { operands = below }) rest s))
@@ -144,8 +147,15 @@ module _ (known : Known) (types : List TypeDefinition) (reaches : Reaches known 
       let of : Some access.0 ≡ Some object.cell.access = kind_names known.program.types s.heap (variable.Access access) o object newest.0 found in
       let same : access.0 ≡ object.cell.access = cc of in
       let b = begins_some (reached_components known.program.types object.cell.access) first rs (rw same at lies) in
-      let none : list_any is_owning rs ≡ false = rw components at plain in
-      (object, found, listed, b.0, b.1, rw (width_is t rs components) (to_object (drop first b.0) rs b.2 none))
+      let none : list_any is_owning rs ≡ false = rw components at plain in (
+        object,
+        found,
+        listed,
+        λ reached at'. (
+            let one : b.0 ≡ reached = let here = b.1 in cc (here, at') in
+            rw (width_is t rs components) (to_object (drop first reached) rs (rw one at b.2) none)
+            ),
+      )
 
   pub record_target_fine : (first t : ℕ) (items : List ItemForm) (v : Value) (below : List Value) (kinds : List OperandKind) → typed.Fits known.program (cells_of s.heap) kinds (TargetsRecord first t items ∷ k) → AreComputed known.program.types (cells_of s.heap) kinds (v ∷ below) → Working known s.heap a.places s.masters (λ rooms holds. MayFollow s.heap v × RaisesAt known v [] k rooms holds × RecordIn known t items k rooms holds) → Fine known s.heap s.masters (record_target_next named v first (width_of types t) items (look s.heap v) (running k (record a { operands = below }) rest s))
   record_target_fine first t items Null below kinds fits computed w = jumps_less known k (record a { operands = below }) rest s (Raising ConstraintError) (at_work w (w.rest.1 refl))
@@ -155,34 +165,32 @@ module _ (known : Known) (types : List TypeDefinition) (reaches : Reaches known 
       let plain = plain_there first t o there.0 below kinds there.1 there.2 in_record.0 items fits computed in
       rw (there.1, (w.stored.sane o there.0 there.1).listed_exists there.2)
       (stays known (Followed (Names o)) (running (Fills items ∷ StoresRecord (Names o) first (width_of types t) ∷ k) (record a { operands = below }) rest s)
-      (tt, at_work w (in_record.1, (plain, in_record.2))) (followed o there w.stored))
+      (tt, at_work w (in_record.1, (plain, runs_behind known k w.rooms w.holds in_record.2))) (followed o there w.stored))
   record_target_fine first t items (Scalar n) below kinds fits computed w = tt
   record_target_fine first t items (Part object_id base) below kinds fits computed w = tt
 
   -- The values of its items go into its components.
   named_nothing : (o : Id) (first count : ℕ) (kinds : List OperandKind) → typed.Fits known.program (cells_of s.heap) kinds (StoresRecord (Names o) first count ∷ k) → AreComputed known.program.types (cells_of s.heap) kinds a.operands → IsPlainIn known s.heap (Names o) first count → NameNothing (reverse (take count a.operands))
-  named_nothing o first count kinds (ks, access, rs, is, counted, name, designates, lies, more) computed (object, found, listed, components, reached, plain) =
+  named_nothing o first count kinds (ks, access, rs, is, counted, name, designates, lies, more) computed (object, found, listed, plain) =
       let have = (typed.split known.program.types (cells_of s.heap) rs ks a.operands (rw is at computed)).0 in
       let of : Some access.0 ≡ Some object.cell.access = kind_names known.program.types s.heap (variable.Access access) o object designates found in
       let same : access.0 ≡ object.cell.access = cc of in
       let b = begins_some (reached_components known.program.types object.cell.access) first rs (rw same at lies) in
-      let one : b.0 ≡ components = let at = b.1 in cc (at, reached) in
-      let begins : begins_with (drop first components) rs ≡ true = rw one at b.2 in
-      rw counted (plain_names_nothing known.program.types (cells_of s.heap) rs (reverse (take (length rs) a.operands)) (from_object (drop first components) rs begins (rw counted at plain)) have)
+      rw counted (plain_names_nothing known.program.types (cells_of s.heap) rs (reverse (take (length rs) a.operands)) (from_object (drop first b.0) rs b.2 (rw counted at (plain b.0 b.1))) have)
 
-  stored_whole : (o : Id) (object : Object) (first count : ℕ) (found : Option (List Value)) → object_at s.heap o ≡ Some object → object.listed ≡ true → NameNothing (reverse (take count a.operands)) → Working known s.heap a.places s.masters (RunsOn known k) → Fine known s.heap s.masters (record_stored_next named (Names o) first (reverse (take count a.operands)) found (running k (record a { operands = drop count a.operands }) rest s))
+  stored_whole : (o : Id) (object : Object) (first count : ℕ) (found : Option (List Value)) → object_at s.heap o ≡ Some object → object.listed ≡ true → NameNothing (reverse (take count a.operands)) → Working known s.heap a.places s.masters (RunsBehind known k) → Fine known s.heap s.masters (record_stored_next named (Names o) first (reverse (take count a.operands)) found (running k (record a { operands = drop count a.operands }) rest s))
   stored_whole o object first count None found listed none w = tt
   stored_whole o object first count (Some before) found listed none w =
       let vs = reverse (take count a.operands) in
       let after = stored_from named s.heap (Names o) first vs in
       let all = store_all known s.heap a.places s.masters w.holds o object first vs found none w.stored w.fit in
       record {
-        ready = (tt, runs_ready known k after a.places (drop count a.operands) s.masters (record { rooms = w.rooms; holds = w.holds; stored = all.stored; roomed = w.roomed; fit = all.fit; rest = w.rest }));
+        ready = (tt, behind_ready known k after a.places (drop count a.operands) s.masters (record { rooms = w.rooms; holds = w.holds; stored = all.stored; roomed = w.roomed; fit = all.fit; rest = w.rest }));
         alters = all.alters;
         says = followed o (object, found, listed) w.stored;
       }
 
-  pub store_record_fine : (o : Value) (first count : ℕ) (kinds : List OperandKind) → typed.Fits known.program (cells_of s.heap) kinds (StoresRecord o first count ∷ k) → AreComputed known.program.types (cells_of s.heap) kinds a.operands → Working known s.heap a.places s.masters (λ rooms holds. IsPlainIn known s.heap o first count × RunsOn known k rooms holds) → Fine known s.heap s.masters (store_record_next named o first count (look s.heap o) (running k a rest s))
+  pub store_record_fine : (o : Value) (first count : ℕ) (kinds : List OperandKind) → typed.Fits known.program (cells_of s.heap) kinds (StoresRecord o first count ∷ k) → AreComputed known.program.types (cells_of s.heap) kinds a.operands → Working known s.heap a.places s.masters (λ rooms holds. IsPlainIn known s.heap o first count × RunsBehind known k rooms holds) → Fine known s.heap s.masters (store_record_next named o first count (look s.heap o) (running k a rest s))
   store_record_fine Null first count kinds fits computed w = absurd w.rest.0
   store_record_fine (Names o) first count kinds fits computed w =
       let p = w.rest.0 in
@@ -193,12 +201,12 @@ module _ (known : Known) (types : List TypeDefinition) (reaches : Reaches known 
   store_record_fine (Part object_id base) first count kinds fits computed w = absurd w.rest.0
 
 -- A record is assigned to: its object is found first.
-pub record_begins : (known : Known) (a : Activation Value) (rest : List (Activation Value)) (s : State) (target : RecordPathForm) (items : List ItemForm) (fs : StmtsForm) (k : Control) → RecordThere known.program.types known.program.variables target → Working known s.heap a.places s.masters (λ rooms holds. Goes (gives_record known.program.types target items holds) (RunsOn known (Does fs ∷ k) rooms) (Raised (λ e. stmt_raises (effects_of known.program) (is_same e) (assigns_record target items)) (ways known k rooms))) → Fine known s.heap s.masters (record_holder_next named target (λ first. TargetsRecord first target.record_type items) (running (Does fs ∷ k) a rest s))
+pub record_begins : (known : Known) (a : Activation Value) (rest : List (Activation Value)) (s : State) (target : RecordPathForm) (items : List ItemForm) (fs : StmtsForm) (k : Control) → RecordThere known.program.types known.program.variables target → Working known s.heap a.places s.masters (λ rooms holds. Goes (gives_record known.program.types target items holds) (RunsOn known (Does fs ∷ k) rooms) (Raised (λ e. stmt_raises (effects_of known.program) (is_same e) (assigns_record target items)) (ways known k rooms))) → Fine known s.heap s.masters (record_holder_next named target (λ place. TargetsRecord place.component target.record_type items) (running (Does fs ∷ k) a rest s))
 record_begins known a rest s target items fs k there w =
     let program = known.program in
     let path = target.object in
     let v = begun a.places path in
-    let first = first_in named (place_at a.places path.root) path.selectors target.first in
+    let place = place_in named (place_at a.places path.root) path.selectors target in
     let owning = is_owning_record program.types target.record_type in
     let used = uses_in_items program.types path.spot None [] items in
     let may = record_path_raises target || items_raise items in
@@ -207,7 +215,7 @@ record_begins known a rest s target items fs k there w =
     let n = ends_goes may w.holds w.holds (RunsOn known (Does fs ∷ k) w.rooms) raised' u.1 in
     let reached = first_kept w.holds (reaches_it path) (uses_in_record program.types path.spot target.record_type items) u.0 in
     let copied = first_kept w.holds (copies_to owning path.spot) used reached.1 in
-    finds_fine known a rest s a.operands (TargetsRecord first target.record_type items ∷ Does fs ∷ k) (along a.places path) v
+    finds_fine known a rest s a.operands (TargetsRecord place.component target.record_type items ∷ Does fs ∷ k) (along a.places path) v
     (at_work w (
       selected_raises known (place_at a.places path.root) v path.selectors (Does fs ∷ k) w.rooms w.holds
           (record_raises known v (Does fs ∷ k) w.rooms w.holds path.of_record path.selectors

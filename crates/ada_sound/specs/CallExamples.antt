@@ -410,7 +410,7 @@ trimming_bodies = showing_node_body ∷ trimming_body ∷ []
 
 -- The record R.Second, and its component Next.
 abbrev pub second_record : RecordPathForm
-second_record = record { object = object_path 0 []; first = 2; record_type = 0 }
+second_record = record { object = object_path 0 []; first = 2; part = 0; record_type = 0 }
 
 -- That component.
 abbrev pub second_next : PathForm
@@ -421,7 +421,7 @@ second_next = object_path 0 (3 ∷ [])
 abbrev pub trimming_stmts : StmtsForm
 trimming_stmts =
     a_stmt (assigns second_next (allocates 1 (item_of_value (integer (pos 7)) ∷ null_item ∷ [])))
-    (a_stmt (calls 0 (in_record (record { object = second_next; first = 0; record_type = 0 }) ∷ []))
+    (a_stmt (calls 0 (in_record (record { object = second_next; first = 0; part = 0; record_type = 0 }) ∷ []))
     (a_stmt (calls 1 (in_out_record second_record ∷ []))
     (a_stmt (writes (reads (object_path 0 (2 ∷ []))))
     (a_stmt (chooses (a_branch (is_null true second_next) (a_stmt (writes (integer (pos 0))) no_stmts) (otherwise no_stmts))) no_stmts))))

@@ -16,11 +16,11 @@ object_path x cs = record (example_path x cs) { of_record = true }
 
 -- The record of type 0 that a record object is (4.1).
 abbrev pub object_record : ℕ → RecordPathForm
-object_record x = record { object = object_path x []; first = 0; record_type = 0 }
+object_record x = record { object = object_path x []; first = 0; part = 0; record_type = 0 }
 
 -- The record of type 0 to which a variable gives access (4.1).
 abbrev pub record_behind : ℕ → RecordPathForm
-record_behind x = record { object = example_path x []; first = 0; record_type = 0 }
+record_behind x = record { object = example_path x []; first = 0; part = 0; record_type = 0 }
 
 -- type Point is record X : Integer := 5; Y : Integer := 6; end record; type Link is access Point; R : Point; S : Point := R; P : Link;
 abbrev pub copying_declarations : List DeclarationForm

@@ -56,8 +56,10 @@ ghost use Rattle.ada_sound.specs.PoolExamples as pool_examples;
 /// component of the object that was named before the call. And one with two declared pools and an access type for each:
 /// an object is allocated in each pool; one is freed, and goes back to the older pool, and the other one goes with its
 /// collection to the newer pool, which goes after that. And one whose record types are controlled, one with a component
-/// of the other: a record object and a new object are initialized, their components first; that one is finalized by a
-/// Free and the other one at the leaving of its block, each before its component, and then their words go back.
+/// of the other: a record object and a new object are initialized, and a copy of the record object is adjusted, their
+/// components first. The copy is assigned to the record object, which is finalized, itself first, and adjusted, its
+/// component first. The new object is finalized by a Free and the other two at the leaving of their block, each before its
+/// component, and then their words go back.
 pub fn premises_are_met()
     ensures begins { (program : Program) × IsChecked program × ReachesStatement program }
     ensures finishes { (program : Program) × IsChecked program × FinishesAfter examples.example_events program }

@@ -3,7 +3,8 @@
 ghost use Rattle.ada_program.specs.declared.program.Program.{Program};
 ghost use Rattle.ada_meaning.specs.declared.event.Why.{Why};
 ghost use Rattle.ada_meaning.specs.declared.event.Why.TheVariants.{FollowsGone, EndsTwice, GivesElsewhere};
-ghost use Rattle.ada_meaning.specs.Law.{BackTwoObjects, FinalizedTwoValues, FollowedBeforeBack, InReverseOrder, Safe};
+ghost use Rattle.ada_meaning.specs.Law.{BackTwoObjects, FinalizedTwoValues, FollowedBeforeBack, InReverseOrder};
+ghost use Rattle.ada_meaning.specs.Safe.{Safe};
 ghost use Rattle.ada_sound.specs.Agreement.{OneFlow};
 ghost use Rattle.ada_sound.specs.Always as always;
 ghost use Rattle.ada_sound.specs.Always.{IsChecked, NeverErroneous, AgreesWithFlow, EndsClean};
@@ -104,7 +105,7 @@ pub fn ends_clean()
 {}
 
 /// A program that is accepted is safe: in every run, whatever its input and whatever is granted and picked, no action
-/// is erroneous, the laws of storage are kept, and where it ends everything is left and back.
+/// is erroneous, the laws of storage and of finalization are kept, and where it ends everything is left and back.
 pub fn rules_imply_safety()
     ensures { (program : Program) → IsChecked program → Safe program }
 {}

@@ -62,6 +62,55 @@ null;
 end;
 end Main;";
 
+/// Two objects of a controlled type: one is assigned to itself, and gets the value of the other.
+const BOXES: &str = "with Ada.Finalization;
+procedure Main is
+type Box is new Ada.Finalization.Controlled with record Value : Integer := 0; end record;
+A : Box; B : Box;
+begin A := A; A := B; end Main;";
+
+/// A return leaves two blocks, each with an object of a controlled type.
+const LEFT: &str = "with Ada.Finalization;
+procedure Main is
+type Box is new Ada.Finalization.Controlled with record Value : Integer := 0; end record;
+begin
+declare A : Box; begin declare B : Box; begin return; end; end;
+end Main;";
+
+/// An object is declared as a copy.
+const COPIED: &str = "with Ada.Finalization;
+procedure Main is
+type Box is new Ada.Finalization.Controlled with record Value : Integer := 0; end record;
+type Good is new Ada.Finalization.Controlled with null record;
+A : Box; B : Box := A; G : Good;
+begin null; end Main;";
+
+/// Controlled components of a controlled record: one is assigned to, and one is copied.
+const PARTS: &str = "with Ada.Finalization;
+procedure Main is
+type Box is new Ada.Finalization.Controlled with record V : Integer := 0; end record;
+type Pair is new Ada.Finalization.Controlled with record Left : Box; Right : Box; end record;
+P : Pair; B : Box;
+begin P.Left := B; B := P.Right; end Main;";
+
+/// Records without components begin at one word: they are two records all the same.
+const EMPTY: &str = "with Ada.Finalization;
+procedure Main is
+type Mark is new Ada.Finalization.Controlled with null record;
+type Pair is record Left : Mark; Right : Mark; end record;
+P : Pair;
+begin P.Left := P.Right; P.Left := P.Left; end Main;";
+
+/// One object of a limited type is freed, and another one goes with its collection.
+const NODES_OF_ONE: &str = "with Ada.Finalization; with Ada.Unchecked_Deallocation;
+procedure Main is
+type Node; type Link is access Node;
+type Inner is new Ada.Finalization.Limited_Controlled with null record;
+type Node is record Value : Inner; end record;
+procedure Free is new Ada.Unchecked_Deallocation (Node, Link);
+A : Link := new Node; B : Link := new Node;
+begin Free (A); end Main;";
+
 /// What is written for these words, and the exit status; for a fault, what is told of it.
 fn asked_for(alloc: Global, source: &str, line: &str, input: &[u8]) -> Result<(String, u8), Fail> {
     let mut words = Vec::new(alloc);
@@ -179,6 +228,41 @@ fn traced_runs_tell_what_goes_back(rt: HostRuntime) -> Result<(), Fail> {
             found.as_str() == wanted && code == status,
             "at {line}: {found}"
         );
+    }
+    Ok(())
+}
+
+#[test]
+fn traced_runs_tell_of_controlled_values(rt: HostRuntime) -> Result<(), Fail> {
+    let rows = [
+        (
+            BOXES,
+            "# born BOX 1\n# born BOX 2\n# finalized BOX 1\n# born BOX 3\n# finalized BOX 2\n# finalized BOX 3\nfinished\n",
+        ),
+        (
+            LEFT,
+            "# born BOX 1\n# born BOX 2\n# finalized BOX 2\n# finalized BOX 1\nfinished\n",
+        ),
+        (
+            COPIED,
+            "# born BOX 1\n# born BOX 2\n# born GOOD 3\n# finalized GOOD 3\n# finalized BOX 2\n# finalized BOX 1\nfinished\n",
+        ),
+        (
+            PARTS,
+            "# born BOX 1\n# born BOX 2\n# born PAIR 3\n# born BOX 4\n# finalized BOX 1\n# born BOX 5\n# finalized BOX 4\n# born BOX 6\n# finalized BOX 6\n# finalized PAIR 3\n# finalized BOX 2\n# finalized BOX 5\nfinished\n",
+        ),
+        (
+            EMPTY,
+            "# born MARK 1\n# born MARK 2\n# finalized MARK 1\n# born MARK 3\n# finalized MARK 2\n# finalized MARK 3\nfinished\n",
+        ),
+        (
+            NODES_OF_ONE,
+            "# born INNER 1\n# born INNER 2\n# finalized INNER 1\n# back LINK 1\n# finalized INNER 2\n# back LINK 2\nfinished\n",
+        ),
+    ];
+    for (source, wanted) in rows {
+        let (found, code) = asked_for(rt.alloc(), source, "run --trace", b"")?;
+        assert!(rt; found.as_str() == wanted && code == 0, "{found}");
     }
     Ok(())
 }

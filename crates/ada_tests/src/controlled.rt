@@ -1,39 +1,31 @@
-//! Programs with controlled record types, made by hand: no source has them yet. Their parts are initialized and finalized (7.6,
-//! 7.6.1).
+//! The order of controlled parts, where other components are picked than the runner picks (7.6, 7.6.1).
 
 use ada_interpreter::{Listed, Machine};
 use ada_meaning::Event;
 use ada_parser::parse;
-use ada_program::Program;
-use ada_program::program::{ComponentNo, Part, PartKind, TypeDefinition};
 use ada_resolve::resolve;
 use ada_text::tokens;
 use std::alloc::Global;
 use std::collections::VecDeque;
 use std::test::Fail;
 
-/// A record type with two components of another one; an object is declared, and one is allocated and freed.
-const SOURCE: &str = "with Ada.Unchecked_Deallocation;
+/// What a type is derived from that is controlled.
+const PARENT: &str = "new Ada.Finalization.Limited_Controlled with";
+
+/// A record type with two components of another one, each controlled or not; an object is declared, and one is allocated and
+/// freed.
+fn source(alloc: Global, inner: bool, outer: bool) -> Result<String, Fail> {
+    let inner = if inner { PARENT } else { "" };
+    let outer = if outer { PARENT } else { "" };
+    Ok(format!(in alloc;
+        "with Ada.Unchecked_Deallocation; with Ada.Finalization;
 procedure Main is
-type Inner is record Value : Integer := 0; end record;
-type Outer is record Left : Inner; Right : Inner; end record; type Link is access Outer;
+type Inner is {inner} record Value : Integer := 0; end record;
+type Outer is {outer} record Left : Inner; Right : Inner; end record; type Link is access Outer;
 procedure Free is new Ada.Unchecked_Deallocation (Outer, Link);
 X : Outer; P : Link := new Outer;
-begin Free (P); end Main;";
-
-/// A record type gets a parent part: it is controlled from now on.
-fn control(alloc: Global, program: &mut Program, number: usize) -> Result<(), Fail> {
-    match program.types.get_mut(number) {
-        Some(TypeDefinition::Record { parts, .. }) => {
-            parts.push(Part {
-                name: String::new(alloc),
-                kind: PartKind::Parent,
-                first: ComponentNo(0),
-            })?;
-            Ok(())
-        }
-        _ => Err("no record type".into()),
-    }
+begin Free (P); end Main;"
+    )?)
 }
 
 /// The parts that come to have values, and those that are finalized, in order, where these types are controlled and these
@@ -44,15 +36,10 @@ fn treated(
     outer: bool,
     picks: VecDeque<usize>,
 ) -> Result<String, Fail> {
-    let found = tokens(alloc, SOURCE.as_bytes())?;
+    let text = source(alloc, inner, outer)?;
+    let found = tokens(alloc, text.as_bytes())?;
     let parsed = parse(alloc, &found)?;
-    let mut program = resolve(alloc, &parsed.unit).ok().ok_or("refused")?;
-    if inner {
-        control(alloc, &mut program, 0)?;
-    }
-    if outer {
-        control(alloc, &mut program, 1)?;
-    }
+    let program = resolve(alloc, &parsed.unit).ok().ok_or("refused")?;
     let answers = Listed::new(VecDeque::new(alloc), picks);
     let mut machine = Machine::new(alloc, &program, Vec::new(alloc), answers)?;
     let mut text = String::new(alloc);
@@ -80,9 +67,9 @@ fn parts_come_in_order(rt: HostRuntime) -> Result<(), Fail> {
     let alloc = rt.alloc();
     let rows = [
         (false, false, ""),
-        (true, false, "+0+1+0+1-0-1-0-1"),
+        (true, false, "+0+1+0+1-1-0-1-0"),
         (false, true, "+0+0-0-0"),
-        (true, true, "+1+2+0+1+2+0-0-1-2-0-1-2"),
+        (true, true, "+1+2+0+1+2+0-0-2-1-0-2-1"),
     ];
     for (inner, outer, wanted) in rows {
         let found = treated(alloc, inner, outer, VecDeque::new(alloc))?;
@@ -92,7 +79,7 @@ fn parts_come_in_order(rt: HostRuntime) -> Result<(), Fail> {
     let found = treated(alloc, true, true, picks)?;
     assert_eq!(rt;
         found.as_str(),
-        "+2+1+0+1+2+0-0-1-2-0-1-2",
+        "+2+1+0+1+2+0-0-2-1-0-2-1",
         "where the last component is picked first"
     );
     Ok(())

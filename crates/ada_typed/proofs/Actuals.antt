@@ -12,7 +12,7 @@ use Rattle.ada_program.specs.declared.program.VariableKind.{VariableKind}
 use Rattle.ada_program.specs.declared.program.VariableKind.TheVariants as variable
 use Rattle.ada_program.specs.Form.{ActualForm, in_value, in_null, in_access, in_record, in_out_path, in_out_access, in_out_component, in_out_record, reads}
 use Rattle.ada_program.specs.ProgramForm.{TypeForm, VariableForm, BodyForm, ProgramForm, seen_at, seen_in}
-use Rattle.ada_program.specs.WellFormed.{variable_kind, scalar_of, value_access, path_kind, path_access, is_this, root_kind, selectors_kind, type_of, has_type, names_borrower, names_access, stands_alone, is_scalar_given, is_access_given, is_record_given, actual_fits, actuals_fit, modes_fit, suits_profile, kind_held, formal_kinds, profile_of}
+use Rattle.ada_program.specs.WellFormed.{variable_kind, scalar_of, value_access, path_kind, path_access, is_record_path, object_in, is_this, root_kind, selectors_kind, type_of, has_type, names_borrower, names_access, stands_alone, is_scalar_given, is_access_given, is_record_given, actual_fits, actuals_fit, modes_fit, suits_profile, kind_held, formal_kinds, profile_of}
 use Rattle.ada_meaning.specs.declared.state.Value.{Value}
 use Rattle.ada_meaning.specs.declared.state.Value.TheVariants.{Null, Names, Scalar, Part}
 use Rattle.ada_meaning.specs.Frame.{Frame, evaluating}
@@ -94,11 +94,17 @@ record_given_fits : (p : ProgramForm) (cells : Cells) (object : TypeNo) (ks : Li
 record_given_fits p cells object ks (in_value e) k h fits = absurd (cc)
 record_given_fits p cells object ks in_null k h fits = absurd (cc)
 record_given_fits p cells object ks (in_access path) k h fits = absurd (cc)
-record_given_fits p cells object ks (in_record q) k h fits = (object, h, fits)
+record_given_fits p cells object ks (in_record q) k h fits =
+    let leads = is_record_path p.types p.variables q in
+    let this = is_this q.record_type (object_in (slice_get p.types object.0)) in
+    (of_kind (variable.Record object), and_left leads this h, and_right leads this h, fits)
 record_given_fits p cells object ks (in_out_path path) k h fits = absurd (cc)
 record_given_fits p cells object ks (in_out_access path) k h fits = absurd (cc)
 record_given_fits p cells object ks (in_out_component path) k h fits = absurd (cc)
-record_given_fits p cells object ks (in_out_record q) k h fits = (object, h, fits)
+record_given_fits p cells object ks (in_out_record q) k h fits =
+    let leads = is_record_path p.types p.variables q in
+    let this = is_this q.record_type (object_in (slice_get p.types object.0)) in
+    (of_kind (variable.Record object), and_left leads this h, and_right leads this h, fits)
 
 evaluating_fits : (p : ProgramForm) (cells : Cells) (kind : VariableKind) (ks : List OperandKind) (a : ActualForm) (k : List (Frame Value)) → actual_fits p.types p.variables kind a ≡ true → Fits p cells (in_front (kinds_given kind a []) ks) k → Fits p cells ks (evaluating a ∷ k)
 evaluating_fits p cells variable.Integer ks a k h fits = scalar_given_fits p cells Integer ks a k h fits
@@ -265,7 +271,7 @@ store_fits : (p : ProgramForm) (cells : Cells) (kind : VariableKind) (ks : List 
 store_fits p cells kind ks Null k h fits = absurd h
 store_fits p cells kind ks (Names o) k h fits = absurd h
 store_fits p cells kind ks (Scalar v) k h fits = absurd h
-store_fits p cells kind ks (Part o c) k h fits = (ks, record { 0 = h.0.access }, kind, refl, tt, (h.0, h.1, refl), h.2, fits)
+store_fits p cells kind ks (Part o place) k h fits = (ks, record { 0 = h.0.access }, kind, refl, tt, (h.0, h.1, refl), h.2, fits)
 
 pub storing_fits : (p : ProgramForm) (cells : Cells) (kinds : List VariableKind) (rs : List Value) (k : List (Frame Value)) → AreReferences p.types cells kinds rs → Fits p cells [] k → Fits p cells (map of_kind kinds) (storing named rs k)
 storing_fits p cells [] [] k h fits = fits
@@ -441,11 +447,11 @@ pub is_scalar : (types : List TypeForm) (cells : Cells) (t : ScalarType) (v : Va
 is_scalar types cells Integer Null h = absurd h
 is_scalar types cells Integer (Names o) h = absurd h
 is_scalar types cells Integer (Scalar held) h = (held, refl)
-is_scalar types cells Integer (Part o first) h = absurd h
+is_scalar types cells Integer (Part o place) h = absurd h
 is_scalar types cells Boolean Null h = absurd h
 is_scalar types cells Boolean (Names o) h = absurd h
 is_scalar types cells Boolean (Scalar held) h = (held, refl)
-is_scalar types cells Boolean (Part o first) h = absurd h
+is_scalar types cells Boolean (Part o place) h = absurd h
 
 -- What one formal parameter gives back, by its place.
 pub given_back_at : (types : List TypeForm) (cells : Cells) (variables : List VariableForm) (front behind : List ActualForm) (a : ActualForm) (vs : List Value) (v : Value) → GiveBack types cells variables (front ++ a ∷ behind) vs → slice_get vs (length front) ≡ Some v → GivesOne types cells variables a v

@@ -1,6 +1,6 @@
 -- What is left to do fits what is there: each frame finds operands of the kinds that it waits for, and leaves one of the kind that is waited for.
 
-use Rattle.ada_typed.specs.Holding.{Cells, Designates, IsAccess, HaveKinds, cells_of, seen_now}
+use Rattle.ada_typed.specs.Holding.{Cells, Designates, IsAccess, HaveKinds, cells_of, seen_now, parts_reached}
 use Rattle.std.proofs.Common.{◌≡◌, ℕ, zero, suc, ◌+◌, ◌≤◌, Bool, true, false, List, [], ◌∷◌, ◌++◌, length, take, drop, reverse, Option, Some, None, arith, refl, sym, ap, ◌∙◌, subst}
 use Rattle.std.proofs.lemmas.List.{reverse-append}
 use Rattle.std.specs.List.{list_all, slice_get}
@@ -12,7 +12,7 @@ use Rattle.ada_program.specs.declared.program.VariableKind.TheVariants as variab
 use Rattle.ada_program.specs.Form.{ActualForm, in_value, in_null, in_access, in_record, in_out_path, in_out_access, in_out_component, in_out_record, StmtForm, StmtsForm, BranchesForm, HandlersForm}
 use Rattle.ada_program.specs.ProgramForm.{TypeForm, BodyForm, ProgramForm, seen_in}
 use Rattle.ada_program.specs.Freed.{statement_frees_own, statements_free_own, branches_free_own, handlers_free_own}
-use Rattle.ada_program.specs.WellFormed.{is_access, reached_components, record_components, held_kind, variable_kind, selected_kind, selectors_kind, path_kind, names_record, stands_alone, unary_type, binary_type, type_of, chain_type, has_record_at, items_fit, kind_takes, initial_fits, condition_fits, has_statement, statement_fits, stmts_fit, branches_fit, handlers_fit, actuals_fit, formal_kinds, callable_in}
+use Rattle.ada_program.specs.WellFormed.{is_access, reached_components, record_components, held_kind, variable_kind, selected_kind, selectors_kind, path_kind, is_this, object_in, is_record_path, part_count, stands_alone, unary_type, binary_type, type_of, chain_type, has_record_at, has_parts_from, items_fit, kind_takes, initial_fits, condition_fits, has_statement, statement_fits, stmts_fit, branches_fit, handlers_fit, actuals_fit, formal_kinds, callable_in}
 use Rattle.ada_parts.specs.Task.{Task}
 use Rattle.ada_meaning.specs.declared.state.Value.{Value}
 use Rattle.ada_meaning.specs.declared.state.Value.TheVariants.{Null, Names, Scalar, Part}
@@ -24,7 +24,7 @@ use Rattle.ada_meaning.specs.Named.{State}
 use Rattle.ada_meaning.specs.State.{Activation}
 use Rattle.ada_meaning.specs.Step.{procedure_of, in_front, older}
 use Rattle.ada_typed.proofs.Parts.{shown_shapes, parts_known, Within}
-use Rattle.ada_typed.proofs.Values.{OperandKind, of_kind, refers_to, is_record_kind, RefersTo, AreFilled, AreHeld, AreComputed, IsActive, kind_of}
+use Rattle.ada_typed.proofs.Values.{OperandKind, of_kind, refers_to, lies_in, is_record_kind, RefersTo, AreFilled, AreHeld, AreComputed, IsActive, kind_of}
 
 -- The kinds of operands, newest first, once values for these components have been computed in order.
 abbrev pub onto : List ComponentKind → List OperandKind → List OperandKind
@@ -35,14 +35,14 @@ abbrev pub IsName : Value → Type 0
 IsName Null = ⊥
 IsName (Names o) = Unit {0}
 IsName (Scalar v) = ⊥
-IsName (Part o first) = ⊥
+IsName (Part o place) = ⊥
 
 -- What is left of a treatment is that of the object that a value names, and of parts that it has (7.6, 7.6.1).
 abbrev pub IsTreated : List TypeForm → Cells → Value → List Task → Type 0
 IsTreated types cells Null tasks = ⊥
 IsTreated types cells (Names o) tasks = (access : ℕ) × Designates cells access o × Within (shown_shapes types) (parts_known types access) tasks
 IsTreated types cells (Scalar v) tasks = ⊥
-IsTreated types cells (Part o first) tasks = ⊥
+IsTreated types cells (Part o place) tasks = ⊥
 
 -- The kinds of the operands that are computed for an actual parameter whose formal one is of a kind, in order, and of those for others behind it.
 abbrev pub kinds_given : VariableKind → ActualForm → (others : List OperandKind) → List OperandKind
@@ -84,6 +84,15 @@ AreReferences types cells [] [] = Unit {0}
 AreReferences types cells [] (r ∷ rs) = ⊥
 AreReferences types cells (kind ∷ kinds) [] = ⊥
 AreReferences types cells (kind ∷ kinds) (r ∷ rs) = RefersTo types cells kind r × AreReferences types cells kinds rs
+
+-- What refers to a record of a type is an operand of a kind: what a record parameter of that type holds (6.2), or what an assignment takes (5.2).
+abbrev pub IsReference : List TypeForm → OperandKind → (record_type : ℕ) → Type 0
+IsReference types (of_kind variable.Integer) t = ⊥
+IsReference types (of_kind variable.Boolean) t = ⊥
+IsReference types (of_kind (variable.Access access)) t = ⊥
+IsReference types (of_kind (variable.Record object)) t = (is_this t (object_in (slice_get types object.0)) ≡ true)
+IsReference types (refers_to kind) t = ⊥
+IsReference types (lies_in u) t = (u ≡ t)
 
 -- What holds at the end of the body of a call (6.5), and at each other frame.
 abbrev pub AtReturn : (return : Bool) → (ends further : Type 0) → Type 0
@@ -162,8 +171,8 @@ abbrev mutual
   Fits p cells kinds (frame.Computes e ∷ k) = (t : ScalarType) × (type_of p.types p.variables e ≡ Some t) × Fits p cells (of_kind (kind_of t) ∷ kinds) k
   Fits p cells kinds (frame.Follows cs ∷ k) = (ks : List OperandKind) × (from : VariableKind) × (to : VariableKind) × (kinds ≡ of_kind from ∷ ks) × (selectors_kind p.types (Some from) cs ≡ Some to) × (is_record_kind from ≡ false) × Fits p cells (of_kind to ∷ ks) k
   Fits p cells kinds (frame.TestsNull equal ∷ k) = (ks : List OperandKind) × (access : TypeNo) × (kinds ≡ of_kind (variable.Access access) ∷ ks) × Fits p cells (of_kind variable.Boolean ∷ ks) k
-  Fits p cells kinds (frame.Refers q ∷ k) = (object : TypeNo) × (names_record p.types p.variables object.0 q ≡ true) × Fits p cells (of_kind (variable.Record object) ∷ kinds) k
-  Fits p cells kinds (frame.RefersIn first t ∷ k) = (ks : List OperandKind) × (access : TypeNo) × (object : TypeNo) × (rs : List ComponentKind) × (kinds ≡ of_kind (variable.Access access) ∷ ks) × (record_components p.types t ≡ Some rs) × (has_record_at (reached_components p.types access.0) first (Some rs) ≡ true) × (reached_components p.types object.0 ≡ Some rs) × Fits p cells (of_kind (variable.Record object) ∷ ks) k
+  Fits p cells kinds (frame.Refers q ∷ k) = (kind : OperandKind) × (is_record_path p.types p.variables q ≡ true) × IsReference p.types kind q.record_type × Fits p cells (kind ∷ kinds) k
+  Fits p cells kinds (frame.RefersIn place t ∷ k) = (ks : List OperandKind) × (access : TypeNo) × (kind : OperandKind) × (rs : List ComponentKind) × (kinds ≡ of_kind (variable.Access access) ∷ ks) × (record_components p.types t ≡ Some rs) × (has_record_at (reached_components p.types access.0) place.component (Some rs) ≡ true) × (has_parts_from (part_count p.types t) place.part (parts_reached p.types access.0) ≡ true) × IsReference p.types kind t × Fits p cells (kind ∷ ks) k
   Fits p cells kinds (frame.Opens path ∷ k) = (kind : VariableKind) × (path_kind p.types p.variables path ≡ Some kind) × (stands_alone path.selectors ≡ false) × Fits p cells (of_kind kind ∷ refers_to kind ∷ kinds) k
   Fits p cells kinds (frame.OpensIn c ∷ k) = (ks : List OperandKind) × (access : TypeNo) × (kind : VariableKind) × (kinds ≡ of_kind (variable.Access access) ∷ ks) × (selected_kind p.types (Some (variable.Access access)) c ≡ Some kind) × Fits p cells (of_kind kind ∷ refers_to kind ∷ ks) k
   Fits p cells kinds (frame.Continues links ∷ k) = (ks : List OperandKind) × (l : ScalarType) × (t : ScalarType) × (kinds ≡ of_kind (kind_of l) ∷ ks) × (chain_type p.types p.variables (Some l) links ≡ Some t) × Fits p cells (of_kind (kind_of t) ∷ ks) k
@@ -177,6 +186,7 @@ abbrev mutual
   Fits p cells kinds (frame.StoresIn object c ∷ k) = (ks : List OperandKind) × (access : TypeNo) × (kind : VariableKind) × (kinds ≡ of_kind kind ∷ ks) × IsName object × IsAccess cells access.0 object × (selected_kind p.types (Some (variable.Access access)) c ≡ Some kind) × Fits p cells ks k
   Fits p cells kinds (frame.TargetsRecord first t items ∷ k) = (ks : List OperandKind) × (access : TypeNo) × (rs : List ComponentKind) × (kinds ≡ of_kind (variable.Access access) ∷ ks) × (record_components p.types t ≡ Some rs) × (has_record_at (reached_components p.types access.0) first (Some rs) ≡ true) × (items_fit p.types p.variables rs items ≡ true) × Fits p cells ks k
   Fits p cells kinds (frame.StoresRecord object first count ∷ k) = (ks : List OperandKind) × (access : TypeNo) × (rs : List ComponentKind) × (kinds ≡ onto rs ks) × (count ≡ length rs) × IsName object × IsAccess cells access.0 object × (has_record_at (reached_components p.types access.0) first (Some rs) ≡ true) × Fits p cells ks k
+  Fits p cells kinds (frame.Assigns t ∷ k) = (ks : List OperandKind) × (rs : List ComponentKind) × (kinds ≡ lies_in t ∷ lies_in t ∷ ks) × (record_components p.types t ≡ Some rs) × Fits p cells ks k
   Fits p cells kinds (frame.Receives c ∷ k) = (ks : List OperandKind) × (access : TypeNo) × (kinds ≡ of_kind (variable.Access access) ∷ ks) × (selected_kind p.types (Some (variable.Access access)) c ≡ Some variable.Integer) × Fits p cells ks k
   Fits p cells kinds (frame.FreesIn access c ∷ k) = (ks : List OperandKind) × (holder : TypeNo) × (own : TypeNo) × (kinds ≡ of_kind (variable.Access holder) ∷ ks) × (selected_kind p.types (Some (variable.Access holder)) c ≡ Some (variable.Access own)) × (OwnBody p → own.0 ≡ access) × Fits p cells ks k
   Fits p cells kinds (frame.Declares x ∷ k) = (ks : List OperandKind) × (kind : VariableKind) × (kinds ≡ of_kind kind ∷ ks) × (variable_kind p.variables x ≡ Some kind) × Fits p cells ks k
@@ -219,7 +229,7 @@ depth (frame.Computes e ∷ k) = depth k
 depth (frame.Follows cs ∷ k) = depth k
 depth (frame.TestsNull equal ∷ k) = depth k
 depth (frame.Refers q ∷ k) = depth k
-depth (frame.RefersIn first t ∷ k) = depth k
+depth (frame.RefersIn place t ∷ k) = depth k
 depth (frame.Opens path ∷ k) = depth k
 depth (frame.OpensIn c ∷ k) = depth k
 depth (frame.Continues links ∷ k) = depth k
@@ -233,6 +243,7 @@ depth (frame.Targets c right ∷ k) = depth k
 depth (frame.StoresIn object c ∷ k) = depth k
 depth (frame.TargetsRecord first t items ∷ k) = depth k
 depth (frame.StoresRecord object first count ∷ k) = depth k
+depth (frame.Assigns t ∷ k) = depth k
 depth (frame.Receives c ∷ k) = depth k
 depth (frame.FreesIn access c ∷ k) = depth k
 depth (frame.Declares x ∷ k) = depth k
@@ -263,7 +274,7 @@ depth_behind (frame.Computes e) k = omega arith
 depth_behind (frame.Follows cs) k = omega arith
 depth_behind (frame.TestsNull equal) k = omega arith
 depth_behind (frame.Refers q) k = omega arith
-depth_behind (frame.RefersIn first t) k = omega arith
+depth_behind (frame.RefersIn place t) k = omega arith
 depth_behind (frame.Opens path) k = omega arith
 depth_behind (frame.OpensIn c) k = omega arith
 depth_behind (frame.Continues links) k = omega arith
@@ -277,6 +288,7 @@ depth_behind (frame.Targets c right) k = omega arith
 depth_behind (frame.StoresIn object c) k = omega arith
 depth_behind (frame.TargetsRecord first t items) k = omega arith
 depth_behind (frame.StoresRecord object first count) k = omega arith
+depth_behind (frame.Assigns t) k = omega arith
 depth_behind (frame.Receives c) k = omega arith
 depth_behind (frame.FreesIn access c) k = omega arith
 depth_behind (frame.Declares x) k = omega arith
@@ -385,8 +397,8 @@ module _ (p : ProgramForm) where
   catches cells (frame.Computes e ∷ k) kinds fits = catches cells k (of_kind (kind_of fits.0) ∷ kinds) fits.2
   catches cells (frame.Follows cs ∷ k) kinds fits = catches cells k (of_kind fits.2 ∷ fits.0) fits.6
   catches cells (frame.TestsNull equal ∷ k) kinds fits = catches cells k (of_kind variable.Boolean ∷ fits.0) fits.3
-  catches cells (frame.Refers q ∷ k) kinds fits = catches cells k (of_kind (variable.Record fits.0) ∷ kinds) fits.2
-  catches cells (frame.RefersIn first t ∷ k) kinds fits = catches cells k (of_kind (variable.Record fits.2) ∷ fits.0) fits.8
+  catches cells (frame.Refers q ∷ k) kinds fits = catches cells k (fits.0 ∷ kinds) fits.3
+  catches cells (frame.RefersIn place t ∷ k) kinds fits = catches cells k (fits.2 ∷ fits.0) fits.9
   catches cells (frame.Opens path ∷ k) kinds fits = catches cells k (of_kind fits.0 ∷ refers_to fits.0 ∷ kinds) fits.3
   catches cells (frame.OpensIn c ∷ k) kinds fits = catches cells k (of_kind fits.2 ∷ refers_to fits.2 ∷ fits.0) fits.5
   catches cells (frame.Continues links ∷ k) kinds fits = catches cells k (of_kind (kind_of fits.2) ∷ fits.0) fits.5
@@ -400,6 +412,7 @@ module _ (p : ProgramForm) where
   catches cells (frame.StoresIn object c ∷ k) kinds fits = catches cells k fits.0 fits.7
   catches cells (frame.TargetsRecord first t items ∷ k) kinds fits = catches cells k fits.0 fits.7
   catches cells (frame.StoresRecord object first count ∷ k) kinds fits = catches cells k fits.0 fits.8
+  catches cells (frame.Assigns t ∷ k) kinds fits = catches cells k fits.0 fits.4
   catches cells (frame.Receives c ∷ k) kinds fits = catches cells k fits.0 fits.4
   catches cells (frame.FreesIn access c ∷ k) kinds fits = catches cells k fits.0 fits.6
   catches cells (frame.Declares x ∷ k) kinds fits = catches cells k fits.0 fits.4

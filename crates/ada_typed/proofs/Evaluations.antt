@@ -1,8 +1,8 @@
 -- How typed states change, and that what is evaluated has the type that is waited for.
 
 use Rattle.ada_typed.specs.Stuck.{EndsByTheLanguage}
-use Rattle.ada_typed.specs.Holding.{Cells, Designates, HasKind, HaveKinds, IsPooled, cells_of}
-use Rattle.std.proofs.Common.{◌≡◌, ℕ, zero, suc, ◌<◌, ◌≤◌, ◌==◌, if◌then◌else◌, Bool, true, false, List, [], ◌∷◌, ◌++◌, length, map, take, drop, reverse, Option, Some, None, Result, Ok, Err, arith, refl, sym, ap, ◌∙◌, subst}
+use Rattle.ada_typed.specs.Holding.{Cells, Designates, HasKind, HaveKinds, IsPooled, cells_of, parts_reached}
+use Rattle.std.proofs.Common.{◌≡◌, ℕ, zero, suc, ◌<◌, ◌≤◌, ◌==◌, ◌&&◌, if◌then◌else◌, Bool, true, false, List, [], ◌∷◌, ◌++◌, length, map, take, drop, reverse, Option, Some, None, Result, Ok, Err, arith, refl, sym, ap, ◌∙◌, subst}
 use Rattle.std.specs.Prelude.{is_some}
 use Rattle.std.proofs.lemmas.Bool.{eqb-true}
 use Rattle.std.specs.List.{slice_get, slice_set}
@@ -17,12 +17,13 @@ use Rattle.ada_program.specs.declared.program.VariableKind.TheVariants as variab
 use Rattle.ada_program.specs.Form.{RecordPathForm, ExpressionForm, integer, boolean, reads, is_null, applied_to, chained, LinksForm, no_more_links, a_link, ItemForm, null_item, item_of_path, item_of_value, item_of_record, RightForm, nothing, value_of, allocates, allocates_default, computes}
 use Rattle.ada_program.specs.ProgramForm.{TypeForm, VariableForm, ProgramForm, type_form}
 use Rattle.ada_program.specs.Typed.{reached_of, count_of, words_of, width_of}
-use Rattle.ada_program.specs.WellFormed.{is_access, reached_components, record_components, held_kind, component_kind, kind_among, kind_behind, access_of, has_record_at, object_components, selected_kind, selectors_kind, variable_kind, root_kind, path_kind, value_access, scalar_of, is_this, type_of, chain_type, unary_type, binary_type, begins_with, begins_with_record, is_record_path, component_item_fits, first_fits, item_fits, item_width, width_in, items_fit, is_filled, kind_takes}
+use Rattle.ada_program.specs.WellFormed.{is_access, reached_components, record_components, held_kind, component_kind, kind_among, kind_behind, access_of, has_record_at, has_parts_from, part_count, parts_named, object_named, object_components, selected_kind, selectors_kind, variable_kind, root_kind, path_kind, value_access, scalar_of, is_this, type_of, chain_type, unary_type, binary_type, begins_with, begins_with_record, is_record_path, component_item_fits, first_fits, item_fits, item_width, width_in, items_fit, is_filled, kind_takes}
 use Rattle.ada_values.specs.declared.value.Value.TheVariants as scalar
 use Rattle.ada_values.specs.declared.operator.BinaryOperator.{BinaryOperator}
 use Rattle.ada_values.specs.declared.fault.OperatorFault.{OperatorFault}
 use Rattle.ada_values.specs.declared.fault.OperatorFault.TheVariants.{Overflow, DivisionByZero, WrongType}
 use Rattle.ada_meaning.specs.declared.state.Id.{Id}
+use Rattle.ada_meaning.specs.declared.state.Place.{Place}
 use Rattle.ada_meaning.specs.declared.state.Value.{Value}
 use Rattle.ada_meaning.specs.declared.state.Value.TheVariants.{Null, Names, Scalar, Part}
 use Rattle.ada_meaning.specs.declared.state.Stage.{Stage}
@@ -33,15 +34,16 @@ use Rattle.ada_program.specs.declared.program.Exception.{Exception}
 use Rattle.ada_program.specs.declared.program.Exception.TheVariants.{ConstraintError, StorageError}
 use Rattle.ada_parts.specs.declared.tasks.Direction.TheVariants.{PartsFirst}
 use Rattle.ada_parts.specs.Task.{Task}
+use Rattle.ada_meaning.specs.declared.event.Birth.{Birth}
 use Rattle.ada_meaning.specs.declared.event.Birth.TheVariants.{Creation}
 use Rattle.ada_meaning.specs.Frame.{Frame, Treatment, is_master}
 use Rattle.ada_meaning.specs.Frame as frame
 use Rattle.ada_meaning.specs.State.{Activation, Owned, record_object, Item, Master, Destination, height}
 use Rattle.ada_meaning.specs.Heap.{Cell}
-use Rattle.ada_meaning.specs.Step.{halts, moves, tells, asks, picks, at, owning, owned, all_tasks, treating, treated_on, shorter, computed, popped, jumping, raised, put, held, newest, operands, operands_of, with_operands, reading, component_next, follow_next, path_next, selected, named_next, holder_next, record_holder_next, first_in, before_last, last_of, expression_next, null_test_next, is_decided, link_next, links_next, outcome_next, item_next, items_next, answered, new_next, new_cell, initial_value, initial_values, initialized, right_next, record_cell, made}
+use Rattle.ada_meaning.specs.Step.{halts, moves, tells, asks, picks, at, owning, owned, all_tasks, treating, treated_on, shorter, computed, popped, jumping, raised, put, held, newest, operands, operands_of, with_operands, reading, component_next, follow_next, path_next, selected, named_next, holder_next, record_holder_next, place_in, before_last, last_of, expression_next, null_test_next, is_decided, link_next, links_next, outcome_next, item_next, items_next, answered, new_next, new_cell, initial_value, initial_values, initialized, right_next, record_cell, made}
 use Rattle.ada_meaning.specs.Named.{Object, State, Next, named, look, seen, existing, changed, on_object, new_object, reads_boolean, reads_null, whole, inside}
 use Rattle.ada_typed.proofs.Treating.{new_held, all_within, treating_fits, treating_deep}
-use Rattle.ada_typed.proofs.Values.{OperandKind, of_kind, refers_to, RefersTo, is_record_kind, HasParts, AreFilled, IsActive, kind_of, root_same, filled_new, active_later, designated_more, newest_name, active_held, active_set, active_push, active_pop, active_newest, active_cleared, component_held, filled_at}
+use Rattle.ada_typed.proofs.Values.{OperandKind, of_kind, refers_to, RefersTo, IsOperand, is_record_kind, HasParts, AreFilled, IsActive, kind_of, root_same, filled_new, active_later, designated_more, newest_name, active_held, active_set, active_push, active_pop, active_newest, active_cleared, component_held, filled_at}
 use Rattle.ada_typed.proofs.Records.{onto_record, active_front, record_there, Begins, begins, stands_itself}
 use Rattle.ada_typed.proofs.Shown.{same_record, same_components}
 use Rattle.ada_typed.proofs.Later.{fits_later}
@@ -74,7 +76,7 @@ pub cells_on : (change : Object → Object) (xs : List Object) (v : Value) → (
 cells_on change xs Null keeps = refl
 cells_on change xs (Names o) keeps = cells_changed change (slice_get xs o.0) xs o keeps refl
 cells_on change xs (Scalar v) keeps = refl
-cells_on change xs (Part o first) keeps = refl
+cells_on change xs (Part o place) keeps = refl
 
 pub cells_more : (xs : List Object) (x : Object) → cells_of (xs ++ x ∷ []) ≡ cells_of xs ++ x.cell ∷ []
 cells_more [] x = refl
@@ -233,6 +235,25 @@ module _ (p : ProgramForm) where
     deep = ready.deep;
   }
 
+  pub ready_operand : (kinds : List OperandKind) (s : State) (kind : OperandKind) (v : Value) → Ready p kinds s → IsOperand p.types (cells_of s.heap) kind v → Ready p (kind ∷ kinds) (computed v s)
+  ready_operand kinds s kind v ready is = record {
+    filled = ready.filled;
+    active = active_push p.types (cells_of s.heap) p.variables kinds s.activations kind v ready.active is;
+    runs = ready.runs;
+    deep = ready.deep;
+  }
+
+  pub ready_older : (kind : OperandKind) (kinds : List OperandKind) (s : State) → Ready p (kind ∷ kinds) s → Ready p kinds (popped s)
+  ready_older kind kinds s ready = record {
+    filled = ready.filled;
+    active = active_pop p.types (cells_of s.heap) p.variables kind kinds s.activations ready.active;
+    runs = ready.runs;
+    deep = ready.deep;
+  }
+
+  pub newest_operand : (kind : OperandKind) (kinds : List OperandKind) (s : State) → Ready p (kind ∷ kinds) s → IsOperand p.types (cells_of s.heap) kind (newest named s)
+  newest_operand kind kinds s ready = active_newest p.types (cells_of s.heap) p.variables kind kinds s.activations ready.active
+
   pub ready_pop : (kind : VariableKind) (kinds : List OperandKind) (s : State) → Ready p (of_kind kind ∷ kinds) s → Ready p kinds (popped s)
   ready_pop kind kinds s ready = record {
     filled = ready.filled;
@@ -304,13 +325,13 @@ module _ (p : ProgramForm) where
       ready_at kinds s (treating v treatment tasks s.control) ready (omega (arith, ready.deep, same))
 
   -- A record object is declared (3.3.1): its components hold these values, and its variable holds its name.
-  pub ready_made : (types : List TypeDefinition) → map type_form types ≡ p.types → (x t : ℕ) (object : TypeNo) (cs : List ComponentKind) (values : List Value) (kinds : List OperandKind) (s : State) → HaveKinds p.types (cells_of s.heap) cs values → Ready p kinds s → variable_kind p.variables x ≡ Some (variable.Record object) → t ≡ object.0 → reached_components p.types t ≡ Some cs → is_access p.types t ≡ false → Ready p kinds (made named types x t values s)
-  ready_made types shown x t object cs values kinds s have ready is own reached never =
+  pub ready_made : (types : List TypeDefinition) → map type_form types ≡ p.types → (x t : ℕ) (by : Birth) (object : TypeNo) (cs : List ComponentKind) (values : List Value) (kinds : List OperandKind) (s : State) → HaveKinds p.types (cells_of s.heap) cs values → Ready p kinds s → variable_kind p.variables x ≡ Some (variable.Record object) → t ≡ object.0 → reached_components p.types t ≡ Some cs → is_access p.types t ≡ false → Ready p kinds (made named types x t by values s)
+  ready_made types shown x t by object cs values kinds s have ready is own reached never =
       let cell = record_cell named types t (height s.masters) values in
       let more = ready_more kinds s cell cs ready reached have (λ access. absurd (cc)) (new_held types p.types t shown) in
       let holding = record s { heap = s.heap ++ new_object cell ∷ [] } in
       let name = Names (record { 0 = length s.heap }) in
-      ready_treated kinds (owned (record_object t) (put x name holding)) name (frame.begins Creation) (all_tasks types t PartsFirst)
+      ready_treated kinds (owned (record_object t) (put x name holding)) name (frame.begins by) (all_tasks types t PartsFirst)
       (ready_owning kinds (put x name holding) (record_object t) (put_in kinds holding x (variable.Record object) name more is (cell, named_newest s.heap cell, own)))
 
   -- A jump begins: operands are dropped.
@@ -361,7 +382,7 @@ module _ (p : ProgramForm) where
   access_fine Null c cs access to s kinds ready has leads fits = raises kinds (of_kind to ∷ kinds) ConstraintError s ready fits
   access_fine (Names o) c cs access to s kinds ready has leads fits = seen_fine (slice_get s.heap o.0) o c cs access to s kinds ready has refl leads fits
   access_fine (Scalar v) c cs access to s kinds ready has leads fits = absurd has
-  access_fine (Part o first) c cs access to s kinds ready has leads fits = absurd has
+  access_fine (Part o place) c cs access to s kinds ready has leads fits = absurd has
 
   follow_fine : (from : VariableKind) (v : Value) (c : ℕ) (cs : List ℕ) (to : VariableKind) (s : State) (kinds : List OperandKind) → Ready p kinds s → HasKind p.types (cells_of s.heap) from v → is_record_kind from ≡ false → selectors_kind p.types (selected_kind p.types (Some from) c) cs ≡ Some to → Fits p (cells_of s.heap) (of_kind to ∷ kinds) s.control → Fine p (follow_next named v c cs (look s.heap v) s)
   follow_fine variable.Integer v c cs to s kinds ready has plain leads fits = let never : None ≡ Some to = sym (selectors_none p.types cs) ∙ leads in absurd (cc)
@@ -423,31 +444,48 @@ module _ (p : ProgramForm) where
       held_fine c cs (held named s x) own.0 to frame_of s kinds ready own.1 own.2 deep fits
 
   -- The object in which a record lies to which a path leads.
-  abbrev FitsRecord : (rs : Option (List ComponentKind)) (frame_of : ℕ → Frame Value) (s : State) (kinds : List OperandKind) → Type 0
-  FitsRecord rs frame_of s kinds =
-      (access : TypeNo) (first : ℕ) → has_record_at (reached_components p.types access.0) first rs ≡ true → Fits p (cells_of s.heap) (of_kind (variable.Access access) ∷ kinds) (frame_of first ∷ s.control)
+  abbrev FitsRecord : (rs : Option (List ComponentKind)) (count : ℕ) (frame_of : Place → Frame Value) (s : State) (kinds : List OperandKind) → Type 0
+  FitsRecord rs count frame_of s kinds =
+      (access : TypeNo) (place : Place) → has_record_at (reached_components p.types access.0) place.component rs ≡ true → has_parts_from count place.part (parts_reached p.types access.0) ≡ true
+      → Fits p (cells_of s.heap) (of_kind (variable.Access access) ∷ kinds) (frame_of place ∷ s.control)
 
-  record_from : (cs : List ℕ) (first : ℕ) (v : Value) (from to : VariableKind) (rs : Option (List ComponentKind)) (frame_of : ℕ → Frame Value) (s : State) (kinds : List OperandKind) → Ready p kinds s → HasKind p.types (cells_of s.heap) from v → selectors_kind p.types (Some from) cs ≡ Some to → has_record_at (object_components p.types (access_of (Some to))) first rs ≡ true → ((i : ℕ) → depth (frame_of i ∷ s.control) ≤ length s.masters) → FitsRecord rs frame_of s kinds → Fine p (path_next named (selected named v cs) (whole v) (at (frame_of (first_in named v cs first) ∷ s.control) s))
-  record_from [] first v from to rs frame_of s kinds ready has leads lies deep fits =
+  -- How many controlled parts the object has that a value of a kind names.
+  abbrev parts_of_kind : VariableKind → ℕ
+  parts_of_kind kind = parts_named p.types (object_named p.types (access_of (Some kind)))
+
+  record_from : (cs : List ℕ) (q : RecordPathForm) (v : Value) (from to : VariableKind) (rs : Option (List ComponentKind)) (count : ℕ) (frame_of : Place → Frame Value) (s : State) (kinds : List OperandKind) → Ready p kinds s → HasKind p.types (cells_of s.heap) from v → selectors_kind p.types (Some from) cs ≡ Some to → has_record_at (object_components p.types (access_of (Some to))) q.first rs ≡ true → has_parts_from count q.part (parts_of_kind to) ≡ true → ((place : Place) → depth (frame_of place ∷ s.control) ≤ length s.masters) → FitsRecord rs count frame_of s kinds → Fine p (path_next named (selected named v cs) (whole v) (at (frame_of (place_in named v cs q) ∷ s.control) s))
+  record_from [] q v from to rs count frame_of s kinds ready has leads lies parts deep fits =
       let b = begins p.types (cells_of s.heap) from v has in
       let same : to ≡ from = cc in
-      let there = b.records first rs (subst (λ (kind : VariableKind). has_record_at (object_components p.types (access_of (Some kind))) first rs ≡ true) same lies) in
-      let behind = frame_of (inside v first) ∷ s.control in
-      path_fine [] (whole v) b.root (variable.Access there.0) (at behind s) kinds (ready_at kinds s behind ready (deep (inside v first))) b.has b.plain (ap Some there.1) (fits there.0 (inside v first) there.2)
-  record_from (c ∷ cs) first v from to rs frame_of s kinds ready has leads lies deep fits =
+      let there =
+      b.records q.first q.part count rs (subst (λ (kind : VariableKind). has_record_at (object_components p.types (access_of (Some kind))) q.first rs ≡ true) same lies)
+      (subst (λ (kind : VariableKind). has_parts_from count q.part (parts_of_kind kind) ≡ true) same parts) in
+      let place = place_in named v [] q in
+      let behind = frame_of place ∷ s.control in
+      path_fine [] (whole v) b.root (variable.Access there.0) (at behind s) kinds (ready_at kinds s behind ready (deep place)) b.has b.plain (ap Some there.1) (fits there.0 place there.2 there.3)
+  record_from (c ∷ cs) q v from to rs count frame_of s kinds ready has leads lies parts deep fits =
       let b = begins p.types (cells_of s.heap) from v has in
-      let behind = frame_of first ∷ s.control in
+      let place = place_in named v (c ∷ cs) q in
+      let behind = frame_of place ∷ s.control in
       let own = begun_selects from to v (cells_of s.heap) c cs b leads in
-      let there = record_access p.types to first rs (plain_path p.types b.root (inside v c ∷ cs) to b.plain own) lies in
-      path_fine (inside v c ∷ cs) (whole v) b.root (variable.Access there.0) (at behind s) kinds (ready_at kinds s behind ready (deep first)) b.has b.plain (own ∙ ap Some there.1) (fits there.0 first there.2)
+      let there = record_access p.types to q.first rs (plain_path p.types b.root (inside v c ∷ cs) to b.plain own) lies in
+      let own_parts = subst (λ (kind : VariableKind). has_parts_from count q.part (parts_of_kind kind) ≡ true) there.1 parts in
+      path_fine (inside v c ∷ cs) (whole v) b.root (variable.Access there.0) (at behind s) kinds (ready_at kinds s behind ready (deep place)) b.has b.plain (own ∙ ap Some there.1) (fits there.0 place there.2 own_parts)
 
   -- The record is of the type of the path.
-  pub record_holder_fine : (q : RecordPathForm) (frame_of : ℕ → Frame Value) (s : State) (kinds : List OperandKind) → Ready p kinds s → is_record_path p.types p.variables q ≡ true → ((i : ℕ) → depth (frame_of i ∷ s.control) ≤ length s.masters) → ((access : TypeNo) (first : ℕ) (rs : List ComponentKind) → record_components p.types q.record_type ≡ Some rs → has_record_at (reached_components p.types access.0) first (Some rs) ≡ true → Fits p (cells_of s.heap) (of_kind (variable.Access access) ∷ kinds) (frame_of first ∷ s.control)) → Fine p (record_holder_next named q frame_of s)
+  pub record_holder_fine : (q : RecordPathForm) (frame_of : Place → Frame Value) (s : State) (kinds : List OperandKind) → Ready p kinds s → is_record_path p.types p.variables q ≡ true → ((place : Place) → depth (frame_of place ∷ s.control) ≤ length s.masters) → ((access : TypeNo) (place : Place) (rs : List ComponentKind) → record_components p.types q.record_type ≡ Some rs → has_record_at (reached_components p.types access.0) place.component (Some rs) ≡ true → has_parts_from (part_count p.types q.record_type) place.part (parts_reached p.types access.0) ≡ true → Fits p (cells_of s.heap) (of_kind (variable.Access access) ∷ kinds) (frame_of place ∷ s.control)) → Fine p (record_holder_next named q frame_of s)
   record_holder_fine q frame_of s kinds ready is deep fits =
-      let leads = record_leads p.types (path_kind p.types p.variables q.object) q.first (record_components p.types q.record_type) is in
+      let reached = path_kind p.types p.variables q.object in
+      let rs = record_components p.types q.record_type in
+      let count = part_count p.types q.record_type in
+      let components = has_record_at (object_components p.types (access_of reached)) q.first rs in
+      let counted = has_parts_from count q.part (parts_named p.types (object_named p.types (access_of reached))) in
+      let leads = record_leads p.types reached q.first rs (and_left components counted is) in
+      let parts : has_parts_from count q.part (parts_of_kind leads.0) ≡ true =
+      subst (λ (kind : Option VariableKind). has_parts_from count q.part (parts_named p.types (object_named p.types (access_of kind))) ≡ true) leads.1 (and_right components counted is) in
       let own = root_held q.object.of_record q.object.selectors q.object.root leads.0 s kinds ready leads.1 in
-      record_from q.object.selectors q.first (held named s q.object.root) own.0 leads.0 (record_components p.types q.record_type) frame_of s kinds ready own.1 own.2 leads.2 deep
-      (λ access first lies. let there = record_there (reached_components p.types access.0) (record_components p.types q.record_type) first lies in fits access first there.0 there.1 there.2)
+      record_from q.object.selectors q (held named s q.object.root) own.0 leads.0 rs count frame_of s kinds ready own.1 own.2 leads.2 parts deep
+      (λ access place lies within. let there = record_there (reached_components p.types access.0) rs place.component lies in fits access place there.0 there.1 there.2 within)
 
   -- Expressions.
   -- What is compared with null is an access value.
@@ -464,7 +502,7 @@ module _ (p : ProgramForm) where
   null_test_fine true access (Names o) s kinds cells has ready fits = running (of_kind variable.Boolean ∷ kinds) (ready_push kinds s variable.Boolean (Scalar (scalar.Boolean false)) ready tt) fits
   null_test_fine false access (Names o) s kinds cells has ready fits = running (of_kind variable.Boolean ∷ kinds) (ready_push kinds s variable.Boolean (Scalar (scalar.Boolean true)) ready tt) fits
   null_test_fine equal access (Scalar v) s kinds cells has ready fits = absurd has
-  null_test_fine equal access (Part o first) s kinds cells has ready fits = absurd has
+  null_test_fine equal access (Part o place) s kinds cells has ready fits = absurd has
 
   pub expression_fine : (e : ExpressionForm) (t : ScalarType) (s : State) (kinds : List OperandKind) → Ready p kinds s → type_of p.types p.variables e ≡ Some t → Fits p (cells_of s.heap) (of_kind (kind_of t) ∷ kinds) s.control → Fine p (expression_next named e s)
   expression_fine (integer i) Integer s kinds ready is fits = running (of_kind variable.Integer ∷ kinds) (ready_push kinds s variable.Integer (Scalar (scalar.Integer i)) ready tt) fits
@@ -545,8 +583,8 @@ module _ (p : ProgramForm) where
 
   copy_fine : (q : RecordPathForm) (items : List ItemForm) (cs : List ComponentKind) (s : State) (kinds : List OperandKind) → Ready p kinds s → is_record_path p.types p.variables q ≡ true → begins_with_record cs (record_components p.types q.record_type) ≡ true → items_fit p.types p.variables (drop (width_in (record_components p.types q.record_type)) cs) items ≡ true → Fits p (cells_of s.heap) (onto cs kinds) s.control → Fine p (item_next named (item_of_record q) (at (frame.Fills items ∷ s.control) s))
   copy_fine q items cs s kinds ready is begins later fits =
-      record_holder_fine q (λ first. frame.Copies first q.record_type) (at (frame.Fills items ∷ s.control) s) kinds (ready_at kinds s (frame.Fills items ∷ s.control) ready ready.deep) is (λ i. ready.deep)
-      (λ access first rs recorded lies.
+      record_holder_fine q (λ place. frame.Copies place.component q.record_type) (at (frame.Fills items ∷ s.control) s) kinds (ready_at kinds s (frame.Fills items ∷ s.control) ready ready.deep) is (λ place. ready.deep)
+      (λ access place rs recorded lies parts.
       let left : items_fit p.types p.variables (drop (length rs) cs) items ≡ true = ap (λ (o : Option (List ComponentKind)). items_fit p.types p.variables (drop (width_in o) cs) items) (sym recorded) ∙ later in
       let same : onto (drop (length rs) cs) (onto rs kinds) ≡ onto cs kinds = onto_record cs rs kinds (begun (record_components p.types q.record_type) rs cs recorded begins) in
       (kinds, access, rs, refl, recorded, lies, (drop (length rs) cs, left, subst (λ (ks : List OperandKind). Fits p (cells_of s.heap) ks s.control) (sym same) fits)))
@@ -636,8 +674,10 @@ module _ (p : ProgramForm) where
       root_fine path.of_record path.selectors path.root (variable.Access access) s kinds ready refl
       (access_kind (path_kind p.types p.variables path) access is) fits
   right_fine types shown (allocates t items) (variable.Access access) s kinds ready is fits =
-      let same : t ≡ access.0 = eqb-true t access.0 (and_left (t == access.0) (is_filled p.types p.variables (reached_components p.types access.0) items) is) in
-      let filled = filled_items (reached_components p.types access.0) p.variables items (and_right (t == access.0) (is_filled p.types p.variables (reached_components p.types access.0) items) is) in
+      let own = is_filled p.types p.variables (reached_components p.types access.0) items in
+      let former = and_left ((t == access.0) && own) (parts_named p.types (object_named p.types (Some access.0)) == 0) is in
+      let same : t ≡ access.0 = eqb-true t access.0 (and_left (t == access.0) own former) in
+      let filled = filled_items (reached_components p.types access.0) p.variables items (and_right (t == access.0) own former) in
       let reached : reached_components p.types t ≡ Some filled.0 = ap (reached_components p.types) same ∙ filled.1 in
       running kinds (ready_at kinds s (frame.Fills items ∷ frame.Creates t (words_of types t) ∷ s.control) ready ready.deep)
       (filled.0, filled.2, (kinds, filled.0, refl, reached, words_shown types t filled.0 shown reached, subst (λ (i : ℕ). Fits p (cells_of s.heap) (of_kind (variable.Access (record { 0 = i })) ∷ kinds) s.control) (sym same) fits))

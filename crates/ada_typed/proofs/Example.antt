@@ -70,17 +70,17 @@ i_path = record { root = record { 0 = 3 }; selectors = vec [] (omega arith); of_
 
 -- X.all; R
 abbrev x_all : RecordPath
-x_all = record { object = x_path; first = record { 0 = 0 }; «record» = record { 0 = 0 } }
+x_all = record { object = x_path; first = record { 0 = 0 }; part = record { 0 = 0 }; «record» = record { 0 = 0 } }
 
 abbrev r_all : RecordPath
-r_all = record { object = r_path; first = record { 0 = 0 }; «record» = record { 0 = 0 } }
+r_all = record { object = r_path; first = record { 0 = 0 }; part = record { 0 = 0 }; «record» = record { 0 = 0 } }
 
 -- type Cell is record Value : Integer; end record; type Link is access Cell; for Link'Storage_Pool use P;
 abbrev pub parts : List Part
-parts = record { name = no_name; kind = part.Elementary (kind.Integer (pos 0)); first = record { 0 = 0 } } ∷ []
+parts = record { name = no_name; kind = part.Elementary (kind.Integer (pos 0)); first = record { 0 = 0 }; part = record { 0 = 0 } } ∷ []
 
 abbrev types : List TypeDefinition
-types = definition.Record no_name (vec parts (omega arith)) (vec (kind.Integer (pos 0) ∷ []) (omega arith)) ∷ definition.Access no_name (record { 0 = 0 }) (Some (record { 0 = 0 })) ∷ definition.Object (record { 0 = 0 })
+types = definition.Record no_name (vec parts (omega arith)) (vec (kind.Integer (pos 0) ∷ []) (omega arith)) None ∷ definition.Access no_name (record { 0 = 0 }) (Some (record { 0 = 0 })) ∷ definition.Object (record { 0 = 0 })
     ∷ definition.Object (record { 0 = 0 }) ∷ []
 
 -- P : First_Fit_Pool (8);

@@ -25,7 +25,7 @@ use Rattle.ada_typed.proofs.Example.{vec, no_name, spot, x_path, parts}
 -- type Cell is record Value : Integer; end record; type Link is access Cell; type Other is access Cell;
 abbrev types : List TypeDefinition
 types =
-    definition.Record no_name (vec parts (omega arith)) (vec (kind.Integer (pos 0) ∷ []) (omega arith))
+    definition.Record no_name (vec parts (omega arith)) (vec (kind.Integer (pos 0) ∷ []) (omega arith)) None
     ∷ definition.Access no_name (record { 0 = 0 }) None
     ∷ definition.Access no_name (record { 0 = 0 }) None
     ∷ []

@@ -58,7 +58,7 @@ module _ (p : ProgramForm) (types : List TypeDefinition) (shown : map type_form 
   free_fine Null access x type s kinds ready has is fits = running kinds ready fits
   free_fine (Names o) access x type s kinds ready has is fits = free_seen (slice_get s.heap o.0) access x o type s kinds refl ready is fits
   free_fine (Scalar v) access x type s kinds ready has is fits = absurd has
-  free_fine (Part o first) access x type s kinds ready has is fits = absurd has
+  free_fine (Part o place) access x type s kinds ready has is fits = absurd has
 
   -- Free (P.C): what the component of an object holds is freed, and the component is to become null.
   freed_found : (stage : Stage) (o q : Id) (access : ℕ) (holder own : TypeNo) (c : ℕ) (object : Object) (s : State) (kinds : List OperandKind) → slice_get s.heap q.0 ≡ Some object → Ready p kinds s → Designates (cells_of s.heap) holder.0 o → selected_kind p.types (Some (variable.Access holder)) c ≡ Some (variable.Access own) → Fits p (cells_of s.heap) kinds s.control → Fine p (freed_next named types access (Names o) c (Names q) (existing object stage) s)
@@ -76,7 +76,7 @@ module _ (p : ProgramForm) (types : List TypeDefinition) (shown : map type_form 
   freed_fine Null o access holder own c s kinds ready has leads holds fits = running kinds ready fits
   freed_fine (Names q) o access holder own c s kinds ready has leads holds fits = freed_seen (slice_get s.heap q.0) o q access holder own c s kinds refl ready has leads fits
   freed_fine (Scalar v) o access holder own c s kinds ready has leads holds fits = absurd holds
-  freed_fine (Part q d) o access holder own c s kinds ready has leads holds fits = absurd holds
+  freed_fine (Part q place) o access holder own c s kinds ready has leads holds fits = absurd holds
 
   free_component_fine : (o : Id) (access : ℕ) (holder own : TypeNo) (c : ℕ) (object : Object) (s : State) (kinds : List OperandKind) → Ready p kinds s → Designates (cells_of s.heap) holder.0 o → slice_get s.heap o.0 ≡ Some object → selected_kind p.types (Some (variable.Access holder)) c ≡ Some (variable.Access own) → Fits p (cells_of s.heap) kinds s.control → Fine p (free_component_next named types access (Names o) c (slice_get object.cell.values c) s)
   free_component_fine o access holder own c object s kinds ready has is leads fits =
@@ -96,4 +96,4 @@ module _ (p : ProgramForm) (types : List TypeDefinition) (shown : map type_form 
   free_in_fine Null access holder own c s kinds ready has leads fits = raises p kinds kinds ConstraintError s ready fits
   free_in_fine (Names o) access holder own c s kinds ready has leads fits = free_in_seen (slice_get s.heap o.0) o access holder own c s kinds ready has refl leads fits
   free_in_fine (Scalar v) access holder own c s kinds ready has leads fits = absurd has
-  free_in_fine (Part o first) access holder own c s kinds ready has leads fits = absurd has
+  free_in_fine (Part o place) access holder own c s kinds ready has leads fits = absurd has

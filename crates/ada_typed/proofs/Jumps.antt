@@ -42,7 +42,7 @@ module _ (p : ProgramForm) where
   master_deep (frame.Follows cs) k is = absurd (cc)
   master_deep (frame.TestsNull equal) k is = absurd (cc)
   master_deep (frame.Refers q) k is = absurd (cc)
-  master_deep (frame.RefersIn first t) k is = absurd (cc)
+  master_deep (frame.RefersIn place t) k is = absurd (cc)
   master_deep (frame.Opens path) k is = absurd (cc)
   master_deep (frame.OpensIn c) k is = absurd (cc)
   master_deep (frame.Continues links) k is = absurd (cc)
@@ -56,6 +56,7 @@ module _ (p : ProgramForm) where
   master_deep (frame.StoresIn object c) k is = absurd (cc)
   master_deep (frame.TargetsRecord first t items) k is = absurd (cc)
   master_deep (frame.StoresRecord object first count) k is = absurd (cc)
+  master_deep (frame.Assigns t) k is = absurd (cc)
   master_deep (frame.Receives c) k is = absurd (cc)
   master_deep (frame.FreesIn access c) k is = absurd (cc)
   master_deep (frame.Declares x) k is = absurd (cc)
@@ -91,7 +92,7 @@ module _ (p : ProgramForm) where
   landing_comes e (frame.Follows cs) = refl
   landing_comes e (frame.TestsNull equal) = refl
   landing_comes e (frame.Refers q) = refl
-  landing_comes e (frame.RefersIn first t) = refl
+  landing_comes e (frame.RefersIn place t) = refl
   landing_comes e (frame.Opens path) = refl
   landing_comes e (frame.OpensIn c) = refl
   landing_comes e (frame.Continues links) = refl
@@ -105,6 +106,7 @@ module _ (p : ProgramForm) where
   landing_comes e (frame.StoresIn object c) = refl
   landing_comes e (frame.TargetsRecord first t items) = refl
   landing_comes e (frame.StoresRecord object first count) = refl
+  landing_comes e (frame.Assigns t) = refl
   landing_comes e (frame.Receives c) = refl
   landing_comes e (frame.FreesIn access c) = refl
   landing_comes e (frame.Declares x) = refl

@@ -82,7 +82,7 @@ pub stay_on : (change : Object → Object) (xs : List Object) (v : Value) → ((
 stay_on change xs Null keeps = λ access i h. h
 stay_on change xs (Names o) keeps = stay_changed change (slice_get xs o.0) xs o keeps refl
 stay_on change xs (Scalar v) keeps = λ access i h. h
-stay_on change xs (Part o first) keeps = λ access i h. h
+stay_on change xs (Part o place) keeps = λ access i h. h
 
 pub stay_stored : (xs : List Object) (o : Value) (c : ℕ) (v : Value) → StayDesignated (cells_of xs) (cells_of (store xs o c v))
 stay_stored xs o c v = stay_on (filled c v) xs o (λ x. refl)

@@ -18,15 +18,17 @@ use Rattle.ada_meaning.specs.declared.state.Value.TheVariants.{Null, Names}
 use Rattle.ada_meaning.specs.declared.state.Mode.{Mode}
 use Rattle.ada_meaning.specs.declared.state.Mode.TheVariants.{Raising, Exiting, Returning}
 use Rattle.ada_meaning.specs.declared.event.Cause.{Cause}
-use Rattle.ada_meaning.specs.declared.event.Cause.TheVariants.{Leaving, Freeing}
-use Rattle.ada_meaning.specs.declared.event.Birth.TheVariants.{Creation}
+use Rattle.ada_meaning.specs.declared.event.Cause.TheVariants.{Leaving, Freeing, Assigning}
+use Rattle.ada_meaning.specs.declared.event.Birth.{Birth}
+use Rattle.ada_meaning.specs.declared.event.Birth.TheVariants.{Creation, Copy, Adjustment}
+use Rattle.ada_meaning.specs.declared.state.Place.{Place}
 use Rattle.ada_meaning.specs.Event.{Event, Quiet}
 use Rattle.ada_meaning.specs.Frame.{Frame, Treatment, is_return, Landing, passes_on, goes_behind, goes_in}
 use Rattle.ada_meaning.specs.Frame as frame
 use Rattle.ada_meaning.specs.State.{Owned, declared, collection, record_object, storage_pool, Item, Master, Destination, height, home_of, pool_freed_to}
 use Rattle.ada_meaning.specs.Heap.{Cell, Found, on_null, on_gone, on_other, finds}
-use Rattle.ada_meaning.specs.Step.{moves, at, operands, places, popped, owned, put, before_last, last_of, in_front, record_in, held, newest, reading, component_next, follow_next, path_next, selected, named_next, holder_next, record_holder_next, first_in, computed, referred_next, refers_next, open_next, opened_next, opens_next, expression_next, null_test_next, is_decided, link_next, links_next, outcome_next, item_next, items_next, copied_next, copies_next, newest_ones, without_newest, new_cell, answered, new_next, initial_values, right_next, freeing, free_next, end_next, same_pool, told_back, given_back, back_next, assign_next, target_next, stored_next, store_next, record_target_next, record_stored_next, store_record_next, all_tasks, taken_out, frees_next, freed_next, free_component_next, free_in_next, branches_next, decided_next, turn_next, repeats_next, turned_next, count_turn_next, ranges_next, gets_next, received_next, receive_next, exit_next, exited_next, computing, call_next, stmt_next, stmts_next, line_next, record_cell, made, record_next, declaration_next, declarations_next, members_next, item_leave_next, master_leave_next, leave_next, frame_next, landed, pass_next}
-use Rattle.ada_meaning.specs.Named.{State, Next, named, refer, whole, inside, look, lent, on_object, parted, finished, returned, new_object, members, reads_integer, reads_boolean, reads_null, unary_given, binary_given}
+use Rattle.ada_meaning.specs.Step.{moves, at, operands, places, popped, owned, put, before_last, last_of, in_front, record_in, held, newest, reading, component_next, follow_next, path_next, selected, named_next, holder_next, record_holder_next, place_in, computed, referred_next, refers_next, open_next, opened_next, opens_next, expression_next, null_test_next, is_decided, link_next, links_next, outcome_next, item_next, items_next, copied_next, copies_next, newest_ones, without_newest, new_cell, answered, new_next, initial_values, right_next, freeing, free_next, end_next, same_pool, told_back, given_back, back_next, assign_next, target_next, has_parts, record_tasks, treating, copy_next, record_assign_next, assigns_next, stored_next, store_next, record_target_next, record_stored_next, store_record_next, all_tasks, taken_out, frees_next, freed_next, free_component_next, free_in_next, branches_next, decided_next, turn_next, repeats_next, turned_next, count_turn_next, ranges_next, gets_next, received_next, receive_next, exit_next, exited_next, computing, call_next, stmt_next, stmts_next, line_next, record_cell, made, record_next, declaration_next, declarations_next, members_next, item_leave_next, master_leave_next, leave_next, frame_next, landed, pass_next}
+use Rattle.ada_meaning.specs.Named.{State, Next, named, refer, whole, base, part_base, same, inside, look, lent, on_object, parted, finished, returned, new_object, members, reads_integer, reads_boolean, reads_null, unary_given, binary_given}
 use Rattle.ada_typed.proofs.Control.{actuals_at, references_at}
 use Rattle.ada_typed.proofs.KeptTreatments.{treats_keeps}
 use Rattle.ada_typed.proofs.Kept.{behind_call, behind_treating, crosses, Keeps, Each, altered, each_after, jumping_keeps, keeps_all, older_operands, older_places, operated, placed, popped_keeps, procedure_operands, procedure_places, put_keeps, stay_more, stay_on, stay_stored, stay_stored_from, still}
@@ -64,11 +66,11 @@ holder_keeps c cs x frame_of s none =
     let v = held named s x in
     path_for (frame_of (last_of (inside v c) cs)) (before_last (inside v c) cs) (whole v) s (none (last_of (inside v c) cs))
 
-record_holder_keeps : (q : RecordPathForm) (frame_of : ℕ → Frame Value) (s : State) → ((first : ℕ) → is_return (frame_of first) ≡ false) → Each (Keeps s) (record_holder_next named q frame_of s)
+record_holder_keeps : (q : RecordPathForm) (frame_of : Place → Frame Value) (s : State) → ((place : Place) → is_return (frame_of place) ≡ false) → Each (Keeps s) (record_holder_next named q frame_of s)
 record_holder_keeps q frame_of s none =
     let v = held named s q.object.root in
-    let first = first_in named v q.object.selectors q.first in
-    path_for (frame_of first) (selected named v q.object.selectors) (whole v) s (none first)
+    let place = place_in named v q.object.selectors q in
+    path_for (frame_of place) (selected named v q.object.selectors) (whole v) s (none place)
 
 expression_keeps : (e : ExpressionForm) (s : State) → Each (Keeps s) (expression_next named e s)
 expression_keeps (integer i) s = operated (named.integer i ∷ operands s) refl refl refl
@@ -102,22 +104,22 @@ item_keeps : (item : ItemForm) (s : State) → Each (Keeps s) (item_next named i
 item_keeps null_item s = operated (Null ∷ operands s) refl refl refl
 item_keeps (item_of_path path) s = named_keeps path.selectors path.root s
 item_keeps (item_of_value e) s = still refl refl refl
-item_keeps (item_of_record p) s = record_holder_keeps p (λ first. frame.Copies first p.record_type) s (λ first. refl)
+item_keeps (item_of_record p) s = record_holder_keeps p (λ place. frame.Copies place.component p.record_type) s (λ place. refl)
 
 items_keeps : (items : List ItemForm) (s : State) → Each (Keeps s) (items_next named items s)
 items_keeps [] s = still refl refl refl
 items_keeps (i ∷ items) s =
     each_after s (at (frame.Fills items ∷ s.control) s) (item_next named i (at (frame.Fills items ∷ s.control) s)) (still refl refl refl) (item_keeps i (at (frame.Fills items ∷ s.control) s))
 
-referred_keeps : (o : Value) (first : ℕ) (found : Option (List Value)) (s : State) → Each (Keeps s) (referred_next named o first found s)
-referred_keeps o first None s = tt
-referred_keeps o first (Some vs) s = operated (refer o first ∷ operands s) refl refl refl
+referred_keeps : (o : Value) (place : Place) (found : Option (List Value)) (s : State) → Each (Keeps s) (referred_next named o place found s)
+referred_keeps o place None s = tt
+referred_keeps o place (Some vs) s = operated (refer o place ∷ operands s) refl refl refl
 
-refers_keeps : (o : Value) (first count : ℕ) (found : Found (Cell Value)) (s : State) → Each (Keeps s) (refers_next named o first count found s)
-refers_keeps o first count on_null s = jumping_keeps (Raising ConstraintError) s
-refers_keeps o first count on_gone s = tt
-refers_keeps o first count on_other s = tt
-refers_keeps o first count (finds cell) s = referred_keeps o first (record_in cell.values first count) s
+refers_keeps : (o : Value) (place : Place) (count : ℕ) (found : Found (Cell Value)) (s : State) → Each (Keeps s) (refers_next named o place count found s)
+refers_keeps o place count on_null s = jumping_keeps (Raising ConstraintError) s
+refers_keeps o place count on_gone s = tt
+refers_keeps o place count on_other s = tt
+refers_keeps o place count (finds cell) s = referred_keeps o place (record_in cell.values place.component count) s
 
 open_keeps : (cs : List ℕ) (x : ℕ) (s : State) → Each (Keeps s) (open_next named cs x s)
 open_keeps [] x s = tt
@@ -125,7 +127,9 @@ open_keeps (c ∷ cs) x s = holder_keeps c cs x (λ last. frame.OpensIn last) s 
 
 opened_keeps : (o : Value) (c : ℕ) (found : Option Value) (s : State) → Each (Keeps s) (opened_next named o c found s)
 opened_keeps o c None s = tt
-opened_keeps o c (Some v) s = keeps_all s (computed (refer o c) s) (computed v (computed (refer o c) s)) (operated (refer o c ∷ operands s) refl refl refl) (operated (v ∷ operands (computed (refer o c) s)) refl refl refl)
+opened_keeps o c (Some v) s =
+    let there = refer o (record { component = c; part = 0 }) in
+    keeps_all s (computed there s) (computed v (computed there s)) (operated (there ∷ operands s) refl refl refl) (operated (v ∷ operands (computed there s)) refl refl refl)
 
 opens_keeps : (o : Value) (c : ℕ) (found : Found (Cell Value)) (s : State) → Each (Keeps s) (opens_next named o c found s)
 opens_keeps o c on_null s = jumping_keeps (Raising ConstraintError) s
@@ -257,6 +261,28 @@ store_record_keeps o first count (finds cell) s =
     each_after s without (record_stored_next named o first (newest_ones named count s) (record_in cell.values first count) without)
     (operated (drop count (operands s)) refl refl refl) (record_stored_keeps o first (newest_ones named count s) (record_in cell.values first count) without)
 
+copy_keeps : (target : RecordPathForm) (items : List ItemForm) (s : State) → Each (Keeps s) (copy_next named target items s)
+copy_keeps target [] s = tt
+copy_keeps target (null_item ∷ items) s = tt
+copy_keeps target (item_of_path path ∷ items) s = tt
+copy_keeps target (item_of_value e ∷ items) s = tt
+copy_keeps target (item_of_record source ∷ []) s = still refl refl refl
+copy_keeps target (item_of_record source ∷ i ∷ items) s = tt
+
+record_assign_keeps : (parts : Bool) (target : RecordPathForm) (items : List ItemForm) (s : State) → Each (Keeps s) (record_assign_next named parts target items s)
+record_assign_keeps true target items s = copy_keeps target items s
+record_assign_keeps false target items s =
+    record_holder_keeps target (λ place. frame.TargetsRecord place.component target.record_type items) s (λ place. refl)
+
+assigns_keeps : (types : List TypeDefinition) (t : ℕ) (target source : Value) (alike : Option Bool) (s : State) → Each (Keeps s) (assigns_next named types t target source alike s)
+assigns_keeps types t target source None s = tt
+assigns_keeps types t target source (Some true) s = still refl refl refl
+assigns_keeps types t target source (Some false) s =
+    let adjusting = treating (whole target) (frame.begins (Adjustment s.next)) (record_tasks types t PartsFirst (part_base target)) s.control in
+    operated (whole source ∷ operands s) refl refl
+    (behind_treating (whole target) (frame.ends (Assigning s.next)) (record_tasks types t WholeFirst (part_base target)) (frame.Copies (base source) t ∷ frame.StoresRecord (whole target) (base target) (width_of types t) ∷ adjusting)
+    ∙ behind_treating (whole target) (frame.begins (Adjustment s.next)) (record_tasks types t PartsFirst (part_base target)) s.control)
+
 -- Statements.
 branches_keeps : (branches : BranchesForm) (s : State) → Each (Keeps s) (branches_next named branches s)
 branches_keeps (otherwise fs) s = still refl refl refl
@@ -337,7 +363,7 @@ stmt_keeps : (types : List TypeDefinition) (bodies : List BodyForm) (f : StmtFor
 stmt_keeps types bodies skips s = still refl refl refl
 stmt_keeps types bodies (assigns target right) s = assign_keeps target.selectors target.root right s
 stmt_keeps types bodies (assigns_record target items) s =
-    record_holder_keeps target (λ first. frame.TargetsRecord first target.record_type items) s (λ first. refl)
+    record_assign_keeps (has_parts types target.record_type) target items s
 stmt_keeps types bodies (frees access path) s = frees_keeps types path.selectors access path.root s
 stmt_keeps types bodies (gets target) s = gets_keeps target.selectors target.root s.input s
 stmt_keeps types bodies (writes e) s = still refl refl refl
@@ -361,18 +387,18 @@ line_keeps None s = tt
 line_keeps (Some i) s = still refl refl refl
 
 -- Declarations.
-made_keeps : (types : List TypeDefinition) (x t : ℕ) (values : List Value) (s : State) → Keeps s (made named types x t values s)
-made_keeps types x t values s =
+made_keeps : (types : List TypeDefinition) (x t : ℕ) (by : Birth) (values : List Value) (s : State) → Keeps s (made named types x t by values s)
+made_keeps types x t by values s =
     let name = Names (record { 0 = length s.heap }) in
     record {
       stay = stay_more s.heap (new_object (record_cell named types t (height s.masters) values));
       procedure = procedure_places (slice_set (places s) x name) s.activations;
       suspended = older_places (slice_set (places s) x name) s.activations;
-      behind = behind_treating name (frame.begins Creation) (all_tasks types t PartsFirst) s.control;
+      behind = behind_treating name (frame.begins by) (all_tasks types t PartsFirst) s.control;
     }
 
 record_keeps : (types : List TypeDefinition) (x t : ℕ) (initial : Option (List ItemForm)) (s : State) → Each (Keeps s) (record_next named types x t initial s)
-record_keeps types x t None s = made_keeps types x t (initial_values named (reached_of types t)) s
+record_keeps types x t None s = made_keeps types x t Creation (initial_values named (reached_of types t)) s
 record_keeps types x t (Some items) s = still refl refl refl
 
 declaration_keeps : (types : List TypeDefinition) (d : DeclarationForm) (s : State) → Each (Keeps s) (declaration_next named types d s)
@@ -451,10 +477,10 @@ frame_keeps types bodies (frame.Computes e) s stays = expression_keeps e s
 frame_keeps types bodies (frame.Follows cs) s stays = without_one s (path_next named cs (newest named s) (popped s)) (path_keeps cs (newest named s) (popped s))
 frame_keeps types bodies (frame.TestsNull equal) s stays =
     without_one s (null_test_next named equal (reads_null (newest named s)) (popped s)) (null_test_keeps equal (reads_null (newest named s)) (popped s))
-frame_keeps types bodies (frame.Refers p) s stays = record_holder_keeps p (λ first. frame.RefersIn first p.record_type) s (λ first. refl)
-frame_keeps types bodies (frame.RefersIn first t) s stays =
+frame_keeps types bodies (frame.Refers p) s stays = record_holder_keeps p (λ place. frame.RefersIn place p.record_type) s (λ place. refl)
+frame_keeps types bodies (frame.RefersIn place t) s stays =
     let found = look s.heap (newest named s) in
-    without_one s (refers_next named (newest named s) first (width_of types t) found (popped s)) (refers_keeps (newest named s) first (width_of types t) found (popped s))
+    without_one s (refers_next named (newest named s) place (width_of types t) found (popped s)) (refers_keeps (newest named s) place (width_of types t) found (popped s))
 frame_keeps types bodies (frame.Opens path) s stays = open_keeps path.selectors path.root s
 frame_keeps types bodies (frame.OpensIn c) s stays =
     let found = look s.heap (newest named s) in
@@ -481,6 +507,10 @@ frame_keeps types bodies (frame.TargetsRecord first t items) s stays =
     let found = look s.heap (newest named s) in
     without_one s (record_target_next named (newest named s) first (width_of types t) items found (popped s)) (record_target_keeps (newest named s) first (width_of types t) items found (popped s))
 frame_keeps types bodies (frame.StoresRecord o first count) s stays = store_record_keeps o first count (look s.heap o) s
+frame_keeps types bodies (frame.Assigns t) s stays =
+    let target = newest named (popped s) in
+    let source = newest named s in
+    without_two s (assigns_next named types t target source (same target source) (popped (popped s))) (assigns_keeps types t target source (same target source) (popped (popped s)))
 frame_keeps types bodies (frame.Receives c) s stays =
     let found = look s.heap (newest named s) in
     without_one s (receive_next named (newest named s) c found (popped s)) (receive_keeps (newest named s) c found (popped s))
@@ -491,8 +521,8 @@ frame_keeps types bodies (frame.Declares x) s stays =
     keeps_all s (popped s) (owned (declared x) (put x (newest named s) (popped s))) (popped_keeps s) (placed (slice_set (places (popped s)) x (newest named s)) refl refl refl)
 frame_keeps types bodies (frame.DeclaresRecord x t) s stays =
     let without = without_newest named (words_of types t) s in
-    keeps_all s without (made named types x t (newest_ones named (words_of types t) s) without) (operated (drop (words_of types t) (operands s)) refl refl refl)
-    (made_keeps types x t (newest_ones named (words_of types t) s) without)
+    keeps_all s without (made named types x t Copy (newest_ones named (words_of types t) s) without) (operated (drop (words_of types t) (operands s)) refl refl refl)
+    (made_keeps types x t Copy (newest_ones named (words_of types t) s) without)
 frame_keeps types bodies (frame.Treats v treatment tasks) s stays = treats_keeps (shapes_of types) v treatment tasks (task_next tasks) s
 frame_keeps types bodies frame.Writes s stays = without_one s (line_next named (reads_integer (newest named s)) (popped s)) (line_keeps (reads_integer (newest named s)) (popped s))
 frame_keeps types bodies (frame.Ends v) s stays = end_keeps v (look s.heap v) s

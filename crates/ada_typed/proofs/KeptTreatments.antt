@@ -5,7 +5,7 @@ use Rattle.std.specs.List.{slice_get}
 use Rattle.ada_parts.specs.declared.tasks.Next.{Next as Follows}
 use Rattle.ada_parts.specs.declared.tasks.Next.TheVariants.{Done, Pick, Perform}
 use Rattle.ada_parts.specs.Shape.{Shape}
-use Rattle.ada_parts.specs.Task.{Task, performed, taken as taken_tasks}
+use Rattle.ada_parts.specs.Task.{Task, performed}
 use Rattle.ada_meaning.specs.declared.state.Value.{Value}
 use Rattle.ada_meaning.specs.declared.event.Cause.{Cause}
 use Rattle.ada_meaning.specs.declared.event.Birth.{Birth}
@@ -16,7 +16,7 @@ use Rattle.ada_meaning.specs.Frame.{Frame, Treatment, is_return, Landing, passes
 use Rattle.ada_meaning.specs.Frame as frame
 use Rattle.ada_meaning.specs.State.{counted}
 use Rattle.ada_meaning.specs.Heap.{PartState, Cell, Found, on_null, on_gone, on_other, finds}
-use Rattle.ada_meaning.specs.Step.{halts, moves, picks, direction_of, treated_on, born_next, finalized_next, performed_next, treats_next}
+use Rattle.ada_meaning.specs.Step.{picked_task, halts, moves, picks, direction_of, treated_on, born_next, finalized_next, performed_next, treats_next}
 use Rattle.ada_meaning.specs.Named.{State, named, treated, born_part, finalized_part, look, on_object}
 use Rattle.ada_typed.proofs.Kept.{behind_treating, Keeps, Each, altered, each_after, stay_on, still}
 
@@ -39,9 +39,9 @@ performed_keeps v treatment of part on_other s = tt
 performed_keeps v (frame.begins by) of part (finds cell) s = born_keeps v of part by (slice_get cell.parts part) s
 performed_keeps v (frame.ends cause) of part (finds cell) s = finalized_keeps v of part cause (slice_get cell.parts part) s
 
-picked_keeps : (none : Bool) (shapes : List Shape) (v : Value) (treatment : Treatment) (tasks : List Task) (count : ℕ) (s : State) → Each (Keeps s) (if none then halts Stuck else picks count (λ i. treated_on named v treatment (taken_tasks shapes (direction_of treatment) tasks i) s))
+picked_keeps : (none : Bool) (shapes : List Shape) (v : Value) (treatment : Treatment) (tasks : List Task) (count : ℕ) (s : State) → Each (Keeps s) (if none then halts Stuck else picks count (λ i. treated_on named v treatment (picked_task shapes (direction_of treatment) tasks i) s))
 picked_keeps true shapes v treatment tasks count s = tt
-picked_keeps false shapes v treatment tasks count s = λ i lt. still refl refl (behind_treating v treatment (taken_tasks shapes (direction_of treatment) tasks i) s.control)
+picked_keeps false shapes v treatment tasks count s = λ i lt. still refl refl (behind_treating v treatment (picked_task shapes (direction_of treatment) tasks i) s.control)
 
 pub treats_keeps : (shapes : List Shape) (v : Value) (treatment : Treatment) (tasks : List Task) (next : Follows) (s : State) → Each (Keeps s) (treats_next named shapes v treatment tasks next s)
 treats_keeps shapes v treatment tasks Done s = still refl refl refl

@@ -37,7 +37,7 @@ treated_later : (types : List TypeForm) (cells after : Cells) → StayDesignated
 treated_later types cells after stay Null tasks h = h
 treated_later types cells after stay (Names o) tasks h = (h.0, stay h.0 o h.1, h.2)
 treated_later types cells after stay (Scalar v) tasks h = h
-treated_later types cells after stay (Part o first) tasks h = h
+treated_later types cells after stay (Part o place) tasks h = h
 
 module _ (p : ProgramForm) (cells after : Cells) (stay : StayDesignated cells after) where
   mutual
@@ -63,8 +63,8 @@ module _ (p : ProgramForm) (cells after : Cells) (stay : StayDesignated cells af
     fits_later (frame.Computes e ∷ k) kinds h = (h.0, h.1, fits_later k (of_kind (kind_of h.0) ∷ kinds) h.2)
     fits_later (frame.Follows cs ∷ k) kinds h = (h.0, h.1, h.2, h.3, h.4, h.5, fits_later k (of_kind h.2 ∷ h.0) h.6)
     fits_later (frame.TestsNull equal ∷ k) kinds h = (h.0, h.1, h.2, fits_later k (of_kind variable.Boolean ∷ h.0) h.3)
-    fits_later (frame.Refers q ∷ k) kinds h = (h.0, h.1, fits_later k (of_kind (variable.Record h.0) ∷ kinds) h.2)
-    fits_later (frame.RefersIn first t ∷ k) kinds h = (h.0, h.1, h.2, h.3, h.4, h.5, h.6, h.7, fits_later k (of_kind (variable.Record h.2) ∷ h.0) h.8)
+    fits_later (frame.Refers q ∷ k) kinds h = (h.0, h.1, h.2, fits_later k (h.0 ∷ kinds) h.3)
+    fits_later (frame.RefersIn place t ∷ k) kinds h = (h.0, h.1, h.2, h.3, h.4, h.5, h.6, h.7, h.8, fits_later k (h.2 ∷ h.0) h.9)
     fits_later (frame.Opens path ∷ k) kinds h = (h.0, h.1, h.2, fits_later k (of_kind h.0 ∷ refers_to h.0 ∷ kinds) h.3)
     fits_later (frame.OpensIn c ∷ k) kinds h = (h.0, h.1, h.2, h.3, h.4, fits_later k (of_kind h.2 ∷ refers_to h.2 ∷ h.0) h.5)
     fits_later (frame.Continues links ∷ k) kinds h = (h.0, h.1, h.2, h.3, h.4, fits_later k (of_kind (kind_of h.2) ∷ h.0) h.5)
@@ -78,6 +78,7 @@ module _ (p : ProgramForm) (cells after : Cells) (stay : StayDesignated cells af
     fits_later (frame.StoresIn object c ∷ k) kinds h = (h.0, h.1, h.2, h.3, h.4, access_later cells after stay h.1.0 object h.5, h.6, fits_later k h.0 h.7)
     fits_later (frame.TargetsRecord first t items ∷ k) kinds h = (h.0, h.1, h.2, h.3, h.4, h.5, h.6, fits_later k h.0 h.7)
     fits_later (frame.StoresRecord object first count ∷ k) kinds h = (h.0, h.1, h.2, h.3, h.4, h.5, access_later cells after stay h.1.0 object h.6, h.7, fits_later k h.0 h.8)
+    fits_later (frame.Assigns t ∷ k) kinds h = (h.0, h.1, h.2, h.3, fits_later k h.0 h.4)
     fits_later (frame.Receives c ∷ k) kinds h = (h.0, h.1, h.2, h.3, fits_later k h.0 h.4)
     fits_later (frame.FreesIn access c ∷ k) kinds h = (h.0, h.1, h.2, h.3, h.4, h.5, fits_later k h.0 h.6)
     fits_later (frame.Declares x ∷ k) kinds h = (h.0, h.1, h.2, h.3, fits_later k h.0 h.4)

@@ -59,7 +59,7 @@ module _ (p : ProgramForm) where
   end_fine Null s kinds is ready fits = absurd is
   end_fine (Names o) s kinds is ready fits = end_seen (slice_get s.heap o.0) o s kinds ready fits
   end_fine (Scalar v) s kinds is ready fits = absurd is
-  end_fine (Part o first) s kinds is ready fits = absurd is
+  end_fine (Part o place) s kinds is ready fits = absurd is
 
   told_fine : (pool : Option ℕ) (o : Id) (cause : Cause) (cell : Cell Value) (s : State) (kinds : List OperandKind) → Ready p kinds s → Fits p (cells_of s.heap) kinds s.control → Fine p (told_back named pool (Names o) (Back (Names o) cell.access cell.number cell.home.pool cell.home.subpool cause) (record s { heap = on_object returned s.heap (Names o) }))
   told_fine None o cause cell s kinds ready fits =
@@ -87,7 +87,7 @@ module _ (p : ProgramForm) where
   back_fine Null cause pool s kinds is ready fits = absurd is
   back_fine (Names o) cause pool s kinds is ready fits = lent_fine (slice_get s.heap o.0) o cause pool s kinds ready fits
   back_fine (Scalar v) cause pool s kinds is ready fits = absurd is
-  back_fine (Part o first) cause pool s kinds is ready fits = absurd is
+  back_fine (Part o place) cause pool s kinds is ready fits = absurd is
 
 module _ (p : ProgramForm) (types : List TypeDefinition) (shown : map type_form types ≡ p.types) where
   -- The leaving of a master (7.6.1).
@@ -129,7 +129,7 @@ module _ (p : ProgramForm) (types : List TypeDefinition) (shown : map type_form 
   taken_fine cause pool Null s kinds name ready fits = absurd name
   taken_fine cause pool (Names o) s kinds name ready fits = taken_seen (slice_get s.heap o.0) cause pool o s kinds refl ready fits
   taken_fine cause pool (Scalar v) s kinds name ready fits = absurd name
-  taken_fine cause pool (Part o first) s kinds name ready fits = absurd name
+  taken_fine cause pool (Part o place) s kinds name ready fits = absurd name
 
   members_fine : (cause : Cause) (pool : Option ℕ) (ids : List Id) (vs : List Value) (s : State) (kinds : List OperandKind) → map Names ids ≡ vs → Ready p kinds s → Fits p (cells_of s.heap) kinds s.control → Fine p (members_next named types cause pool vs s)
   members_fine cause pool ids [] s kinds are ready fits = running kinds (ready_shorter kinds s ready) fits

@@ -26,6 +26,8 @@ pub mod Targets
 pub mod Treatments
 -- records that are copied or assigned to as wholes
 pub mod Wholes
+-- records with controlled parts that are assigned
+pub mod Assigning
 -- variables and components that are freed
 pub mod Frees
 -- objects that end, and masters that are left
@@ -52,3 +54,5 @@ pub mod Freeing
 pub mod Example
 -- a program that frees an object, by either instance
 pub mod ExampleFreeing
+-- a program that assigns records with controlled parts
+pub mod ExampleParts

@@ -24,18 +24,18 @@ kind_there types (y ∷ xs) (suc x) kind fit is = kind_there types xs x kind (an
 -- A type by which a record object is known is no access type, and its components are those of a record type.
 pub object_designates : (o : Option TypeForm) → is_some (object_in o) ≡ true → designated_in o ≡ None
 object_designates None h = refl
-object_designates (Some (record_of name parts components)) h = refl
+object_designates (Some (record_of name parts components finalization)) h = refl
 object_designates (Some (access_to name designated pool)) h = absurd (cc)
 object_designates (Some (object_of record_type)) h = refl
 
-type_there : (types ts : List TypeForm) (t : ℕ) (type : TypeForm) → list_all (type_fits types) ts ≡ true → slice_get ts t ≡ Some type → type_fits types type ≡ true
+pub type_there : (types ts : List TypeForm) (t : ℕ) (type : TypeForm) → list_all (type_fits types) ts ≡ true → slice_get ts t ≡ Some type → type_fits types type ≡ true
 type_there types [] t type fit is = absurd (cc)
 type_there types (u ∷ ts) zero type fit is = let one : u ≡ type = cc in ap (type_fits types) (sym one) ∙ and_left (type_fits types u) (list_all (type_fits types) ts) fit
 type_there types (u ∷ ts) (suc t) type fit is = type_there types ts t type (and_right (type_fits types u) (list_all (type_fits types) ts) fit) is
 
 reached_at : (types : List TypeForm) (o : Option TypeForm) → ((type : TypeForm) → o ≡ Some type → type_fits types type ≡ true) → is_some (object_in o) ≡ true → (cs : List ComponentKind) × (components_reached types (named_in o) ≡ Some cs)
 reached_at types None fit h = absurd (cc)
-reached_at types (Some (record_of name parts components)) fit h = absurd (cc)
+reached_at types (Some (record_of name parts components finalization)) fit h = absurd (cc)
 reached_at types (Some (access_to name designated pool)) fit h = absurd (cc)
 reached_at types (Some (object_of record_type)) fit h = there_is (record_components types record_type) (fit (object_of record_type) refl)
 

@@ -1,7 +1,7 @@
 -- Operators: on operands of the types that they take they give a value of their type, or raise an exception.
 
 use Rattle.ada_typed.specs.Holding.{Cells, HasKind}
-use Rattle.std.proofs.Common.{◌≡◌, ℕ, ℤ, neg_ℤ, ◌+ℤ◌, ◌-ℤ◌, ◌*ℤ◌, int_div, int_rem, not, cond, ◌&&◌, Bool, true, false, Option, Some, None, Result, Ok, Err, refl, sym, ap, ◌∙◌, subst, List}
+use Rattle.std.proofs.Common.{◌≡◌, ℤ, neg_ℤ, ◌+ℤ◌, ◌-ℤ◌, ◌*ℤ◌, int_div, int_rem, not, cond, ◌&&◌, Bool, true, false, Option, Some, None, Result, Ok, Err, refl, sym, ap, ◌∙◌, subst, List}
 use Rattle.ada_values.specs.declared.operator.UnaryOperator.{UnaryOperator}
 use Rattle.ada_values.specs.declared.operator.UnaryOperator.TheVariants as unary
 use Rattle.ada_values.specs.declared.operator.BinaryOperator.{BinaryOperator}
@@ -17,6 +17,7 @@ use Rattle.ada_program.specs.Form.{LinksForm, no_more_links, a_link}
 use Rattle.ada_program.specs.ProgramForm.{TypeForm, VariableForm}
 use Rattle.ada_program.specs.WellFormed.{is_type, given_two, given_alike, unary_type, binary_type, type_of, chain_type}
 use Rattle.ada_meaning.specs.declared.state.Id.{Id}
+use Rattle.ada_meaning.specs.declared.state.Place.{Place}
 use Rattle.ada_meaning.specs.declared.state.Value.{Value}
 use Rattle.ada_meaning.specs.declared.state.Value.TheVariants.{Null, Names, Scalar, Part}
 use Rattle.ada_meaning.specs.Step.{is_decided}
@@ -288,21 +289,21 @@ no_name : (types : List TypeForm) (cells : Cells) (t : ScalarType) (o : Id) → 
 no_name types cells Integer o h = h
 no_name types cells Boolean o h = h
 
-no_part : (types : List TypeForm) (cells : Cells) (t : ScalarType) (o : Id) (c : ℕ) → HasKind types cells (kind_of t) (Part o c) → ⊥
-no_part types cells Integer o c h = h
-no_part types cells Boolean o c h = h
+no_part : (types : List TypeForm) (cells : Cells) (t : ScalarType) (o : Id) (place : Place) → HasKind types cells (kind_of t) (Part o place) → ⊥
+no_part types cells Integer o place h = h
+no_part types cells Boolean o place h = h
 
 pub unary_gives : (types : List TypeForm) (cells : Cells) (operator : UnaryOperator) (t0 t : ScalarType) (v : Value) → unary_type operator (Some t0) ≡ Some t → HasKind types cells (kind_of t0) v → GivesKind types cells t (unary_given operator v)
 unary_gives types cells operator t0 t Null h k = absurd (no_null types cells t0 k)
 unary_gives types cells operator t0 t (Names o) h k = absurd (no_name types cells t0 o k)
-unary_gives types cells operator t0 t (Part o c) h k = absurd (no_part types cells t0 o c k)
+unary_gives types cells operator t0 t (Part o place) h k = absurd (no_part types cells t0 o place k)
 unary_gives types cells operator t0 t (Scalar a) h k = gives types cells t (unary_outcome_of operator a) (unary_comes operator t0 t a h (is_of types cells t0 a k))
 
 pub binary_gives : (types : List TypeForm) (cells : Cells) (operator : BinaryOperator) (l r t : ScalarType) (u v : Value) → binary_type operator (Some l) (Some r) ≡ Some t → HasKind types cells (kind_of l) u → HasKind types cells (kind_of r) v → GivesKind types cells t (binary_given operator u v)
 binary_gives types cells operator l r t Null v h f g = absurd (no_null types cells l f)
 binary_gives types cells operator l r t (Names o) v h f g = absurd (no_name types cells l o f)
-binary_gives types cells operator l r t (Part o c) v h f g = absurd (no_part types cells l o c f)
+binary_gives types cells operator l r t (Part o place) v h f g = absurd (no_part types cells l o place f)
 binary_gives types cells operator l r t (Scalar a) Null h f g = absurd (no_null types cells r g)
 binary_gives types cells operator l r t (Scalar a) (Names o) h f g = absurd (no_name types cells r o g)
-binary_gives types cells operator l r t (Scalar a) (Part o c) h f g = absurd (no_part types cells r o c g)
+binary_gives types cells operator l r t (Scalar a) (Part o place) h f g = absurd (no_part types cells r o place g)
 binary_gives types cells operator l r t (Scalar a) (Scalar b) h f g = gives types cells t (outcome_of operator a b) (binary_comes operator l r t a b h (is_of types cells l a f) (is_of types cells r b g))

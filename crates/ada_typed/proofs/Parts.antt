@@ -1,8 +1,10 @@
 -- How many controlled parts the objects have that values name (7.6), by what is shown of the types of a program; and that a treatment stays within them.
 
 use Rattle.std.proofs.Common.{◌≡◌, ℕ, zero, suc, ◌+◌, ◌<◌, ◌≤◌, Bool, true, false, List, [], ◌∷◌, ◌++◌, length, map, Option, Some, None, inl, inr, arith, refl, sym, ap, ◌∙◌, subst}
-use Rattle.std.specs.Prelude.{◌||◌, if◌then◌else◌}
-use Rattle.std.specs.List.{remove, slice_get, sum_by}
+use Rattle.std.specs.Prelude.{◌||◌, if◌then◌else◌, count_by, find}
+use Rattle.std.specs.List.{list_all, remove, slice_get, sum_by}
+use Rattle.std.proofs.lemmas.Grind.{common_steps}
+use Rattle.ada_typed.specs.Holding.{parts_reached}
 use Rattle.std.proofs.lemmas.Bool.Decides.{leb_tells}
 use Rattle.std.proofs.lemmas.List.Sums.{sum_by-cons}
 use Rattle.ada_parts.specs.declared.tasks.Component.{Component}
@@ -12,73 +14,163 @@ use Rattle.ada_parts.specs.Shape.{Shape, own_parts, parts_of, shape_of, IsTable}
 use Rattle.ada_parts.specs.Part.{in_order, components_of}
 use Rattle.ada_parts.specs.Task.{Task, performs, treats, treatment_of, operation_of, opened, opened_if, taken}
 use Rattle.ada_parts.proofs.Tables.{shape_older, parts_step}
+use Rattle.ada_program.specs.declared.program.Finalization.{Finalization}
 use Rattle.ada_program.specs.declared.program.Part.{Part}
+use Rattle.ada_program.specs.declared.program.PartKind.{PartKind}
+use Rattle.ada_program.specs.declared.program.PartKind.TheVariants as part
 use Rattle.ada_program.specs.declared.program.TypeDefinition.{TypeDefinition}
 use Rattle.ada_program.specs.declared.program.TypeDefinition.TheVariants as definition
-use Rattle.ada_program.specs.Controlled.{is_parent, has_parent, with_parts, components_with_parts, shape_by, shapes_behind, shapes_of}
+use Rattle.ada_program.specs.Controlled.{number_in, number_by, number_of, is_number, type_numbered, parts_by, is_parent, has_parent, if_parts, with_parts, components_with_parts, shape_by, shapes_up_to, has_parts, shapes_of}
 use Rattle.ada_program.specs.ProgramForm.{PartForm, TypeForm, record_of, access_to, object_of, part_form, type_form}
-use Rattle.ada_program.specs.WellFormed.{named_in}
-use Rattle.ada_meaning.specs.Step.{tasks_for, parts_for, parts_held}
+use Rattle.ada_program.specs.Typed.{designated_of}
+use Rattle.ada_program.specs.WellFormed.{finalization_in, finalization_of, has_number, named_in, numbered_types, part_count, parts_named, type_fits}
+use Rattle.ada_program.proofs.Shapes.{same_number, same_types, parts_said, parts_for as known_parts}
+use Rattle.ada_meaning.specs.Step.{tasks_for, tasks_in, parts_for, parts_held}
 use Rattle.ada_typed.proofs.Shown.{same_named}
 
--- A type as finalization sees it, by what is shown of it.
+-- A declared component is a parent part, by what is shown of some.
 abbrev pub shows_parent : List PartForm → Bool
 shows_parent [] = false
 shows_parent (p ∷ ps) = is_parent p.kind || shows_parent ps
 
-abbrev pub shown_components : (older : List Shape) → List PartForm → List ℕ
-shown_components older [] = []
-shown_components older (p ∷ ps) = with_parts older p.kind ++ shown_components older ps
+-- The number of a record type among those that have controlled parts.
+abbrev pub shown_number : List TypeForm → (record_type : Option ℕ) → Option ℕ
+shown_number types None = None
+shown_number types (Some t) = number_in (finalization_of types t)
+
+-- The type of a declared component, by its number, where it has controlled parts.
+abbrev pub shown_with : List TypeForm → (older : List Shape) → PartKind → List ℕ
+shown_with types older (part.Elementary kind) = []
+shown_with types older (part.Record t) = if_parts older (shown_number types (Some t.0))
+shown_with types older part.Parent = []
+
+-- The components that have controlled parts, by their types.
+abbrev pub shown_components : List TypeForm → (older : List Shape) → List PartForm → List ℕ
+shown_components types older [] = []
+shown_components types older (p ∷ ps) = shown_with types older p.kind ++ shown_components types older ps
 
 abbrev pub shape : (controlled : Bool) → (components : List ℕ) → Shape
 shape controlled components = record { controlled = controlled; components = components }
 
-abbrev pub shown_shape : (older : List Shape) → TypeForm → Shape
-shown_shape older (record_of name parts components) = shape (shows_parent parts) (shown_components older parts)
-shown_shape older (access_to name designated pool) = shape false []
-shown_shape older (object_of record_type) = shape false []
+-- A record type of these components as finalization sees it.
+abbrev pub shown_shape : List TypeForm → (older : List Shape) → List PartForm → Shape
+shown_shape types older ps = shape (shows_parent ps) (shown_components types older ps)
 
-abbrev pub shown_behind : (older : List Shape) → List TypeForm → List Shape
-shown_behind older [] = older
-shown_behind older (t ∷ ts) = shown_behind (shown_shape older t ∷ older) ts
+-- The components of a record type, as they are declared.
+abbrev pub shown_parts : Option TypeForm → List PartForm
+shown_parts None = []
+shown_parts (Some (record_of name parts components finalization)) = parts
+shown_parts (Some (access_to name designated pool)) = []
+shown_parts (Some (object_of record_type)) = []
+
+-- The type that has this number among those that have controlled parts.
+abbrev pub shown_numbered : List TypeForm → ℕ → Option TypeForm
+shown_numbered types n = find (λ u. has_number n (finalization_in (Some u))) types
+
+-- The first of them, the newest first.
+abbrev pub shown_up_to : List TypeForm → (count : ℕ) → List Shape
+shown_up_to types zero = []
+shown_up_to types (suc n) = shown_shape types (shown_up_to types n) (shown_parts (shown_numbered types n)) ∷ shown_up_to types n
 
 -- The types of a program as finalization sees them, by what is shown of them.
 abbrev pub shown_shapes : List TypeForm → List Shape
-shown_shapes types = shown_behind [] types
+shown_shapes types = shown_up_to types (numbered_types types)
 
 -- How many controlled parts the objects have that the values of a type name.
 abbrev pub parts_known : List TypeForm → (access : ℕ) → ℕ
-parts_known types access = parts_for (shown_shapes types) (named_in (slice_get types access))
+parts_known types access = parts_for (shown_shapes types) (shown_number types (named_in (slice_get types access)))
 
 parent_shown : (ps : List Part) → shows_parent (map part_form ps) ≡ has_parent ps
 parent_shown [] = refl
 parent_shown (p ∷ ps) = ap (λ (b : Bool). is_parent p.kind || b) (parent_shown ps)
 
-components_shown : (older : List Shape) (ps : List Part) → shown_components older (map part_form ps) ≡ components_with_parts older ps
-components_shown older [] = refl
-components_shown older (p ∷ ps) = ap (λ (ts : List ℕ). with_parts older p.kind ++ ts) (components_shown older ps)
+with_shown : (types : List TypeDefinition) (older : List Shape) (kind : PartKind) → shown_with (map type_form types) older kind ≡ with_parts types older kind
+with_shown types older (part.Elementary kind) = refl
+with_shown types older (part.Record t) = ap (if_parts older) (sym (same_number types t.0))
+with_shown types older part.Parent = refl
 
-shape_shown : (older : List Shape) (t : TypeDefinition) → shown_shape older (type_form t) ≡ shape_by older t
-shape_shown older (definition.Record name parts components) =
-    ap (λ (b : Bool). shape b (shown_components older (map part_form parts.items))) (parent_shown parts.items)
-    ∙ ap (shape (has_parent parts.items)) (components_shown older parts.items)
-shape_shown older (definition.Access name designated pool) = refl
-shape_shown older (definition.Object record_type) = refl
+components_shown : (types : List TypeDefinition) (older : List Shape) (ps : List Part) → shown_components (map type_form types) older (map part_form ps) ≡ components_with_parts types older ps
+components_shown types older [] = refl
+components_shown types older (p ∷ ps) =
+    ap (λ (ts : List ℕ). ts ++ shown_components (map type_form types) older (map part_form ps)) (with_shown types older p.kind)
+    ∙ ap (λ (ts : List ℕ). with_parts types older p.kind ++ ts) (components_shown types older ps)
 
-behind_shown : (older : List Shape) (ts : List TypeDefinition) → shown_behind older (map type_form ts) ≡ shapes_behind older ts
-behind_shown older [] = refl
-behind_shown older (t ∷ ts) =
-    ap (λ (s : Shape). shown_behind (s ∷ older) (map type_form ts)) (shape_shown older t) ∙ behind_shown (shape_by older t ∷ older) ts
+shape_shown : (types : List TypeDefinition) (older : List Shape) (ps : List Part) → shown_shape (map type_form types) older (map part_form ps) ≡ shape_by types older ps
+shape_shown types older ps =
+    ap (λ (b : Bool). shape b (shown_components (map type_form types) older (map part_form ps))) (parent_shown ps)
+    ∙ ap (shape (has_parent ps)) (components_shown types older ps)
 
--- It is the same table, and objects have as many parts.
+-- A type has its number where what is shown of it has it.
+has_it : (n : ℕ) (finalization : Option Finalization) → has_number n finalization ≡ is_number n (number_in finalization)
+has_it n None = refl
+has_it n (Some f) = refl
+
+numbered_alike : (n : ℕ) (d : TypeDefinition) → has_number n (finalization_in (Some (type_form d))) ≡ is_number n (number_by (Some d))
+numbered_alike n (definition.Record name parts components finalization) = has_it n finalization
+numbered_alike n (definition.Access name designated pool) = refl
+numbered_alike n (definition.Object record_type) = refl
+
+own_parts_shown : (d : TypeDefinition) → shown_parts (Some (type_form d)) ≡ map part_form (parts_by (Some d))
+own_parts_shown (definition.Record name parts components finalization) = refl
+own_parts_shown (definition.Access name designated pool) = refl
+own_parts_shown (definition.Object record_type) = refl
+
+found_shown : (n : ℕ) (types : List TypeDefinition) → shown_parts (shown_numbered (map type_form types) n) ≡ map part_form (parts_by (type_numbered types n))
+found_shown n [] = refl
+found_shown n (d ∷ ds) =
+    let alike = numbered_alike n d in
+    let here = own_parts_shown d in
+    let more = found_shown n ds in
+    grind (arith, common_steps, alike, here, more)
+
+up_to_shown : (types : List TypeDefinition) (n : ℕ) → shown_up_to (map type_form types) n ≡ shapes_up_to types n
+up_to_shown types zero = refl
+up_to_shown types (suc n) =
+    let forms = map type_form types in
+    ap (λ (older : List Shape). shown_shape forms older (shown_parts (shown_numbered forms n)) ∷ older) (up_to_shown types n)
+    ∙ ap (λ (ps : List PartForm). shown_shape forms (shapes_up_to types n) ps ∷ shapes_up_to types n) (found_shown n types)
+    ∙ ap (λ (s : Shape). s ∷ shapes_up_to types n) (shape_shown types (shapes_up_to types n) (parts_by (type_numbered types n)))
+
+all_shown : (types : List TypeDefinition) → shown_shapes (map type_form types) ≡ shapes_of types
+all_shown types = ap (shown_up_to (map type_form types)) (same_types types) ∙ up_to_shown types (count_by has_parts types)
+
+number_shown : (types : List TypeDefinition) (o : Option ℕ) → shown_number (map type_form types) o ≡ number_of types o
+number_shown types None = refl
+number_shown types (Some t) = sym (same_number types t)
+
+-- It is the same table, types have the same numbers, and objects have as many parts.
 pub shapes_shown : (types : List TypeDefinition) (forms : List TypeForm) → map type_form types ≡ forms → shown_shapes forms ≡ shapes_of types
-shapes_shown types forms shown = ap shown_shapes (sym shown) ∙ behind_shown [] types
+shapes_shown types forms shown = ap shown_shapes (sym shown) ∙ all_shown types
 
 pub parts_shown : (types : List TypeDefinition) (forms : List TypeForm) (access : ℕ) → map type_form types ≡ forms → parts_known forms access ≡ parts_held types access
 parts_shown types forms access shown =
     ap (λ (ts : List TypeForm). parts_known ts access) (sym shown)
-    ∙ ap (λ (shapes : List Shape). parts_for shapes (named_in (slice_get (map type_form types) access))) (behind_shown [] types)
-    ∙ ap (parts_for (shapes_of types)) (same_named types access)
+    ∙ ap (λ (shapes : List Shape). parts_for shapes (shown_number (map type_form types) (named_in (slice_get (map type_form types) access)))) (all_shown types)
+    ∙ ap (λ (o : Option ℕ). parts_for (shapes_of types) (shown_number (map type_form types) o)) (same_named types access)
+    ∙ ap (parts_for (shapes_of types)) (number_shown types (designated_of types access))
+
+-- Where the types fit, records have as many controlled parts as their types say.
+same_parts : (shapes : List Shape) (o : Option ℕ) → known_parts shapes o ≡ parts_for shapes o
+same_parts shapes None = refl
+same_parts shapes (Some n) = refl
+
+pub record_counted : (types : List TypeDefinition) (forms : List TypeForm) (t : ℕ) → map type_form types ≡ forms → list_all (type_fits forms) forms ≡ true → part_count forms t ≡ parts_for (shapes_of types) (number_of types (Some t))
+record_counted types forms t shown fit =
+    ap (λ (ts : List TypeForm). part_count ts t) (sym shown)
+    ∙ parts_said types t (ap (λ (ts : List TypeForm). list_all (type_fits ts) ts) shown ∙ fit)
+    ∙ same_parts (shapes_of types) (number_of types (Some t))
+
+named_counted : (types : List TypeDefinition) (forms : List TypeForm) (o : Option ℕ) → map type_form types ≡ forms → list_all (type_fits forms) forms ≡ true → parts_named forms o ≡ parts_for (shapes_of types) (number_of types o)
+named_counted types forms None shown fit = refl
+named_counted types forms (Some t) shown fit = record_counted types forms t shown fit
+
+-- So do the objects that the values of a type name.
+pub parts_counted : (types : List TypeDefinition) (forms : List TypeForm) (access : ℕ) → map type_form types ≡ forms → list_all (type_fits forms) forms ≡ true → parts_reached forms access ≡ parts_known forms access
+parts_counted types forms access shown fit =
+    let named_alike : named_in (slice_get forms access) ≡ designated_of types access = ap (λ (ts : List TypeForm). named_in (slice_get ts access)) (sym shown) ∙ same_named types access in
+    named_counted types forms (named_in (slice_get forms access)) shown fit
+    ∙ ap (λ (o : Option ℕ). parts_for (shapes_of types) (number_of types o)) named_alike
+    ∙ sym (parts_shown types forms access shown)
 
 -- The parts of these components are among so many first ones.
 abbrev pub AreWithin : List Shape → (count : ℕ) → List Component → Type 0
@@ -171,3 +263,8 @@ module _ (shapes : List Shape) (table : IsTable shapes) (count : ℕ) where
   pub within_all : (direction : Direction) (o : Option ℕ) → parts_for shapes o ≤ count → Within shapes count (tasks_for shapes direction o)
   within_all direction None h = tt
   within_all direction (Some t) h = within_opened direction t 0 (omega (arith, h))
+
+  -- All that is to be done for a record that lies in an object.
+  pub within_record : (direction : Direction) (o : Option ℕ) (first : ℕ) → first + parts_for shapes o ≤ count → Within shapes count (tasks_in shapes direction o first)
+  within_record direction None first h = tt
+  within_record direction (Some t) first h = within_opened direction t first h

@@ -1,8 +1,9 @@
 -- Records that lie in objects: where components are alike, what they hold is of the same kinds.
 
-use Rattle.ada_typed.specs.Holding.{Cells, HasKind, HaveKinds}
-use Rattle.std.proofs.Common.{◌≡◌, ℕ, zero, suc, ◌+◌, ◌&&◌, if◌then◌else◌, Bool, true, false, List, [], ◌∷◌, length, take, drop, Option, Some, None, arith, refl, sym, ap, ◌∙◌, subst}
+use Rattle.ada_typed.specs.Holding.{Cells, HasKind, HaveKinds, parts_reached}
+use Rattle.std.proofs.Common.{◌≡◌, ◌⊎◌, ℕ, zero, suc, ◌+◌, ◌<◌, ◌≤◌, ◌&&◌, if◌then◌else◌, Bool, true, false, List, [], ◌∷◌, length, take, drop, Option, Some, None, arith, refl, sym, ap, ◌∙◌, subst}
 use Rattle.std.proofs.lemmas.Bool.{eqb-true, eq-eqb}
+use Rattle.std.proofs.lemmas.Grind.{common_steps}
 use Rattle.std.specs.List.{slice_get}
 use Rattle.ada_program.specs.declared.program.ComponentKind.{ComponentKind}
 use Rattle.ada_program.specs.declared.program.ComponentKind.TheVariants as component
@@ -10,10 +11,10 @@ use Rattle.ada_program.specs.declared.program.TypeNo.{TypeNo}
 use Rattle.ada_program.specs.declared.program.VariableKind.{VariableKind}
 use Rattle.ada_program.specs.declared.program.VariableKind.TheVariants as variable
 use Rattle.ada_program.specs.ProgramForm.{TypeForm, VariableForm}
-use Rattle.ada_program.specs.WellFormed.{reached_components, held_kind, component_kind, kind_among, selected_kind, access_of, is_alike, begins_with, has_record_at, object_components}
+use Rattle.ada_program.specs.WellFormed.{reached_components, held_kind, component_kind, kind_among, selected_kind, access_of, is_alike, begins_with, has_record_at, has_parts_from, object_components, object_named, parts_named}
 use Rattle.ada_meaning.specs.declared.state.Value.{Value}
 use Rattle.ada_meaning.specs.declared.state.Value.TheVariants.{Null, Names, Scalar, Part}
-use Rattle.ada_meaning.specs.Named.{whole, inside}
+use Rattle.ada_meaning.specs.Named.{whole, inside, part_inside}
 use Rattle.ada_meaning.specs.State.{Activation}
 use Rattle.ada_meaning.specs.Step.{operands_of, with_operands, in_front, record_in}
 use Rattle.ada_typed.proofs.Values.{OperandKind, of_kind, is_record_kind, AreComputed, IsActive}
@@ -162,6 +163,20 @@ inside_record (Some cs) (Some ks) None first i h g = absurd (cc)
 inside_record (Some cs) (Some ks) (Some rs) first i h g =
     subst (λ (xs : List ComponentKind). begins_with xs rs ≡ true) (dropped_twice first i cs) (begun_dropped i (drop first cs) ks rs h g)
 
+-- Parts of parts of an object are parts of it (7.6).
+parts_from : (count part within : ℕ) → has_parts_from count part within ≡ true → (count ≡ 0) ⊎ (part + count ≤ within)
+parts_from count part within is = grind (arith, common_steps, is)
+
+inside_parts : (count middle all i j : ℕ) → has_parts_from middle i all ≡ true → has_parts_from count j middle ≡ true → has_parts_from count (i + j) all ≡ true
+inside_parts count middle all i j outer inner =
+    let out = parts_from middle i all outer in
+    let within = parts_from count j middle inner in
+    grind (arith, common_steps, out, within)
+
+-- So they are among the object's, where there are some.
+pub parts_behind : (count part within : ℕ) → 0 < count → has_parts_from count part within ≡ true → part + count ≤ within
+parts_behind count part within some is = let have = parts_from count part within is in grind (arith, common_steps, some, have)
+
 -- What is found where a path begins whose variable holds a value of this kind: what it is followed from, which is no reference, and what is selected behind
 -- it, and the records that lie there, as the variable's own kind says.
 pub record Begins (types : List TypeForm) (cells : Cells) (from : VariableKind) (v : Value) : Type 0 where
@@ -169,38 +184,47 @@ pub record Begins (types : List TypeForm) (cells : Cells) (from : VariableKind) 
   pub plain : is_record_kind root ≡ false
   pub has : HasKind types cells root (whole v)
   pub selects : (c : ℕ) (kind : VariableKind) → selected_kind types (Some from) c ≡ Some kind → selected_kind types (Some root) (inside v c) ≡ Some kind
-  pub records : (i : ℕ) (rs : Option (List ComponentKind)) → has_record_at (object_components types (access_of (Some from))) i rs ≡ true → (access : TypeNo) × (root ≡ variable.Access access) × (has_record_at (reached_components types access.0) (inside v i) rs ≡ true)
+  pub records :
+      (i j count : ℕ) (rs : Option (List ComponentKind)) → has_record_at (object_components types (access_of (Some from))) i rs ≡ true
+      → has_parts_from count j (parts_named types (object_named types (access_of (Some from)))) ≡ true
+      → (access : TypeNo) × (root ≡ variable.Access access) × (has_record_at (reached_components types access.0) (inside v i) rs ≡ true)
+      × (has_parts_from count (part_inside v j) (parts_reached types access.0) ≡ true)
 
 begins_integer : (types : List TypeForm) (cells : Cells) (v : Value) → HasKind types cells variable.Integer v → Begins types cells variable.Integer v
 begins_integer types cells Null h = absurd h
 begins_integer types cells (Names o) h = absurd h
-begins_integer types cells (Scalar held) h = record { root = variable.Integer; plain = refl; has = h; selects = λ c kind is. is; records = λ i rs is. absurd (cc) }
-begins_integer types cells (Part o first) h = absurd h
+begins_integer types cells (Scalar held) h = record { root = variable.Integer; plain = refl; has = h; selects = λ c kind is. is; records = λ i j count rs is parts. absurd (cc) }
+begins_integer types cells (Part o place) h = absurd h
 
 begins_boolean : (types : List TypeForm) (cells : Cells) (v : Value) → HasKind types cells variable.Boolean v → Begins types cells variable.Boolean v
 begins_boolean types cells Null h = absurd h
 begins_boolean types cells (Names o) h = absurd h
-begins_boolean types cells (Scalar held) h = record { root = variable.Boolean; plain = refl; has = h; selects = λ c kind is. is; records = λ i rs is. absurd (cc) }
-begins_boolean types cells (Part o first) h = absurd h
+begins_boolean types cells (Scalar held) h = record { root = variable.Boolean; plain = refl; has = h; selects = λ c kind is. is; records = λ i j count rs is parts. absurd (cc) }
+begins_boolean types cells (Part o place) h = absurd h
 
 begins_access : (types : List TypeForm) (cells : Cells) (access : TypeNo) (v : Value) → HasKind types cells (variable.Access access) v → Begins types cells (variable.Access access) v
-begins_access types cells access Null h = record { root = variable.Access access; plain = refl; has = h; selects = λ c kind is. is; records = λ i rs is. (access, refl, is) }
-begins_access types cells access (Names o) h = record { root = variable.Access access; plain = refl; has = h; selects = λ c kind is. is; records = λ i rs is. (access, refl, is) }
+begins_access types cells access Null h = record { root = variable.Access access; plain = refl; has = h; selects = λ c kind is. is; records = λ i j count rs is parts. (access, refl, is, parts) }
+begins_access types cells access (Names o) h = record { root = variable.Access access; plain = refl; has = h; selects = λ c kind is. is; records = λ i j count rs is parts. (access, refl, is, parts) }
 begins_access types cells access (Scalar held) h = absurd h
-begins_access types cells access (Part o first) h = absurd h
+begins_access types cells access (Part o place) h = absurd h
 
 begins_object : (types : List TypeForm) (cells : Cells) (object : TypeNo) (v : Value) → HasKind types cells (variable.Record object) v → Begins types cells (variable.Record object) v
-begins_object types cells object Null h = record { root = variable.Access object; plain = refl; has = h; selects = λ c kind is. is; records = λ i rs is. (object, refl, is) }
-begins_object types cells object (Names o) h = record { root = variable.Access object; plain = refl; has = h; selects = λ c kind is. is; records = λ i rs is. (object, refl, is) }
+begins_object types cells object Null h = record { root = variable.Access object; plain = refl; has = h; selects = λ c kind is. is; records = λ i j count rs is parts. (object, refl, is, parts) }
+begins_object types cells object (Names o) h = record { root = variable.Access object; plain = refl; has = h; selects = λ c kind is. is; records = λ i j count rs is parts. (object, refl, is, parts) }
 begins_object types cells object (Scalar held) h = absurd h
-begins_object types cells object (Part o first) h =
+begins_object types cells object (Part o place) h =
     let access : TypeNo = record { 0 = h.0.access } in
     record {
       root = variable.Access access;
       plain = refl;
       has = (h.0, h.1, refl);
-      selects = λ c kind is. inside_kind (reached_components types h.0.access) (reached_components types object.0) first c kind h.2 is;
-      records = λ i rs is. (access, refl, inside_record (reached_components types h.0.access) (reached_components types object.0) rs first i h.2 is);
+      selects = λ c kind is. inside_kind (reached_components types h.0.access) (reached_components types object.0) place.component c kind h.2 is;
+      records = λ i j count rs is parts. (
+        access,
+        refl,
+        inside_record (reached_components types h.0.access) (reached_components types object.0) rs place.component i h.2 is,
+        inside_parts count (parts_reached types object.0) (parts_reached types h.0.access) place.part j h.3 parts,
+      );
     }
 
 pub begins : (types : List TypeForm) (cells : Cells) (from : VariableKind) (v : Value) → HasKind types cells from v → Begins types cells from v
@@ -214,7 +238,7 @@ pub stands_itself : (types : List TypeForm) (cells : Cells) (from : VariableKind
 stands_itself types cells from Null other h = refl
 stands_itself types cells from (Names o) other h = refl
 stands_itself types cells from (Scalar held) other h = refl
-stands_itself types cells variable.Integer (Part o first) other h = absurd h
-stands_itself types cells variable.Boolean (Part o first) other h = absurd h
-stands_itself types cells (variable.Access access) (Part o first) other h = absurd h
-stands_itself types cells (variable.Record object) (Part o first) other h = absurd (cc)
+stands_itself types cells variable.Integer (Part o place) other h = absurd h
+stands_itself types cells variable.Boolean (Part o place) other h = absurd h
+stands_itself types cells (variable.Access access) (Part o place) other h = absurd h
+stands_itself types cells (variable.Record object) (Part o place) other h = absurd (cc)

@@ -1,7 +1,7 @@
 -- So no run of a well-formed program is stuck.
 
-use Rattle.ada_typed.specs.Holding.{cells_of, seen_now, HoldsKind, ObjectsHaveTheirKinds, VariablesHaveTheirKinds}
-use Rattle.std.proofs.Common.{◌≡◌, ℕ, ℤ, false, List, [], ◌∷◌, map, Some, refl, subst, arith}
+use Rattle.ada_typed.specs.Holding.{cells_of, seen_now, HoldsKind, ObjectsHaveTheirKinds, ObjectsHaveTheirParts, VariablesHaveTheirKinds}
+use Rattle.std.proofs.Common.{◌≡◌, ℕ, ℤ, false, List, [], ◌∷◌, map, Some, refl, sym, ◌∙◌, subst, arith}
 use Rattle.ada_program.specs.declared.program.Program.{Program}
 use Rattle.ada_program.specs.ProgramForm.{TypeForm, ProgramForm, program_form, type_form, variable_form, body_forms}
 use Rattle.ada_program.specs.declared.program.VariableKind.{VariableKind}
@@ -11,7 +11,8 @@ use Rattle.ada_meaning.specs.Step.{procedure_of, halts, moves, tells, asks, pick
 use Rattle.ada_meaning.specs.Named.{State, Next, next}
 use Rattle.ada_meaning.specs.Run.{Event, Choice, settled, grants, takes, Leads, Step, Run, here, there, first_state}
 use Rattle.ada_typed.specs.Stuck.{WellFormedProgramsAreNeverStuck, WellFormedProgramsEndByTheLanguage}
-use Rattle.ada_typed.proofs.Values.{OperandKind, AreFilled, IsActive, active_placed, active_held, held_blank, filled_at}
+use Rattle.ada_typed.proofs.Parts.{parts_counted}
+use Rattle.ada_typed.proofs.Values.{OperandKind, AreFilled, IsActive, active_placed, active_held, held_blank, filled_at, parts_at}
 use Rattle.ada_typed.proofs.Control.{Typed, TypedIn, running, on_jump}
 use Rattle.ada_typed.proofs.Evaluations.{Comes, cell_at}
 use Rattle.ada_typed.proofs.Bodies.{types_seen}
@@ -79,6 +80,13 @@ objects_have_their_kinds program well input events last o object run is =
     let p = program_form program in
     let typed = last_typed program well input events last run in
     filled_at p.types (cells_of last.heap) (cells_of last.heap) o.0 object.cell (typed_filled p last typed) (cell_at last.heap o.0 object is)
+
+pub objects_have_their_parts : ObjectsHaveTheirParts
+objects_have_their_parts program well input events last o object run is =
+    let p = program_form program in
+    let typed = last_typed program well input events last run in
+    parts_at p.types (cells_of last.heap) (cells_of last.heap) o.0 object.cell (typed_filled p last typed) (cell_at last.heap o.0 object is)
+    ∙ sym (parts_counted program.types.items p.types object.cell.access refl well.types_fit)
 
 active_holds : (own : ProgramForm) (s : State) (kinds : List OperandKind) (x : ℕ) (kind : VariableKind) → IsActive own.types (cells_of s.heap) own.variables kinds s.activations → variable_kind own.variables x ≡ Some kind → HoldsKind own.types s x kind
 active_holds own s kinds x kind active is =

@@ -12,13 +12,13 @@ use Rattle.ada_program.specs.WellFormed.{named_in, components_in, record_compone
 
 named_shown : (o : Option TypeDefinition) → named_in (option_map type_form o) ≡ designated_by o
 named_shown None = refl
-named_shown (Some (definition.Record name parts components)) = refl
+named_shown (Some (definition.Record name parts components finalization)) = refl
 named_shown (Some (definition.Access name designated pool)) = refl
 named_shown (Some (definition.Object record_type)) = refl
 
 components_shown : (o : Option TypeDefinition) → components_in (option_map type_form o) ≡ components_by o
 components_shown None = refl
-components_shown (Some (definition.Record name parts components)) = refl
+components_shown (Some (definition.Record name parts components finalization)) = refl
 components_shown (Some (definition.Access name designated pool)) = refl
 components_shown (Some (definition.Object record_type)) = refl
 

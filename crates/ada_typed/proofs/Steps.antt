@@ -3,7 +3,7 @@
 use Rattle.ada_typed.specs.Holding.{Cells, HasKind, HaveKinds, cells_of}
 use Rattle.std.proofs.Common.{◌≡◌, ℕ, ◌+◌, ◌≤◌, ◌&&◌, not, if◌then◌else◌, Bool, true, false, ℤ, ◌+ℤ◌, pos, int_le, List, [], ◌∷◌, ◌++◌, length, map, Option, Some, None, arith, refl, sym, ap, ◌∙◌, subst}
 use Rattle.std.proofs.lemmas.Bool.{eqb-true}
-use Rattle.std.specs.List.{slice_get, list_all}
+use Rattle.std.specs.List.{list_all}
 use Rattle.ada_program.specs.declared.program.ComponentKind.{ComponentKind}
 use Rattle.ada_program.specs.declared.program.ScalarType.TheVariants.{Integer, Boolean}
 use Rattle.ada_program.specs.declared.program.TypeDefinition.{TypeDefinition}
@@ -11,13 +11,14 @@ use Rattle.ada_program.specs.declared.program.TypeNo.{TypeNo}
 use Rattle.ada_program.specs.declared.program.VariableKind.{VariableKind}
 use Rattle.ada_program.specs.declared.program.VariableKind.TheVariants as variable
 use Rattle.ada_program.specs.Form.{ExpressionForm, ItemForm, RightForm, StmtForm, skips, assigns, assigns_record, frees, gets, writes, writes_text, chooses, repeats, counts, exits, calls, returns, raises as raises_it, encloses, StmtsForm, no_stmts, a_stmt, BranchesForm, otherwise, a_branch, HandlersForm, DeclarationForm, creates_pool, collects, declares, declares_record}
-use Rattle.ada_program.specs.ProgramForm.{TypeForm, record_of, access_to, object_of, VariableForm, BodyForm, ProgramForm, type_form}
+use Rattle.ada_program.specs.ProgramForm.{VariableForm, BodyForm, ProgramForm, type_form}
 use Rattle.ada_program.specs.Typed.{reached_of, words_of, pool_named}
 use Rattle.ada_program.specs.Freed.{statement_frees_own, statements_free_own, branches_free_own, handlers_free_own}
-use Rattle.ada_program.specs.WellFormed.{named_in, object_in, components_reached, is_this, stands_alone, reached_components, record_components, is_access, is_object_type, value_access, root_kind, selectors_kind, variable_kind, path_access, scalar_of, is_type, type_of, kind_takes, right_fits, names_borrower, lends_to, is_borrower, item_owns, item_before, is_filled, is_record_path, is_record_object, record_fits, record_initial_fits, path_kind, is_freed_by, collections_first, collection_fits, initial_fits, declarations_fit, has_type, condition_fits, has_statement, statement_fits, stmts_fit, branches_fit, handlers_fit, names_before, formal_kinds, callable_in}
+use Rattle.ada_program.specs.WellFormed.{is_this, stands_alone, reached_components, is_access, is_object_type, value_access, root_kind, selectors_kind, variable_kind, path_access, scalar_of, is_type, type_of, kind_takes, right_fits, names_borrower, lends_to, is_borrower, item_before, is_record_path, is_record_object, record_fits, object_fits, object_named, record_initial_fits, path_kind, is_freed_by, collections_first, collection_fits, initial_fits, declarations_fit, has_type, condition_fits, has_statement, statement_fits, stmts_fit, branches_fit, handlers_fit, names_before, formal_kinds, callable_in}
 use Rattle.ada_values.specs.declared.value.Value.TheVariants as scalar
 use Rattle.ada_parts.specs.declared.tasks.Direction.TheVariants.{PartsFirst}
-use Rattle.ada_meaning.specs.declared.event.Birth.TheVariants.{Creation}
+use Rattle.ada_meaning.specs.declared.event.Birth.{Birth}
+use Rattle.ada_meaning.specs.declared.event.Birth.TheVariants.{Creation, Copy}
 use Rattle.ada_meaning.specs.declared.state.Value.{Value}
 use Rattle.ada_meaning.specs.declared.state.Value.TheVariants.{Null, Names, Scalar, Part}
 use Rattle.ada_meaning.specs.declared.state.Mode.TheVariants.{Running, Exiting, Returning}
@@ -26,15 +27,16 @@ use Rattle.ada_meaning.specs.Event.{Quiet}
 use Rattle.ada_meaning.specs.Frame.{Frame, is_master, is_loop, is_return, Landing, passes_on, goes_behind, handler_landing, exception_landing, landing}
 use Rattle.ada_meaning.specs.Frame as frame
 use Rattle.ada_meaning.specs.State.{declared, collection, storage_pool, height, home_of, pools_in, pool_for}
-use Rattle.ada_meaning.specs.Step.{moves, all_tasks, at, popped, jumping, put, held, newest, new_next, initial_values, copies_next, refers_next, open_next, newest_ones, without_newest, record_target_next, store_record_next, record_cell, made, record_next, assign_next, frees_next, branches_next, decided_next, turn_next, repeats_next, turned_next, count_turn_next, ranges_next, gets_next, exit_next, exited_next, computing, call_next, stmt_next, stmts_next, line_next, declarations_next, frame_next}
+use Rattle.ada_meaning.specs.Step.{moves, has_parts, all_tasks, at, popped, jumping, put, held, newest, new_next, initial_values, copies_next, refers_next, open_next, newest_ones, without_newest, record_target_next, store_record_next, record_cell, made, record_next, assign_next, frees_next, branches_next, decided_next, turn_next, repeats_next, turned_next, count_turn_next, ranges_next, gets_next, exit_next, exited_next, computing, call_next, stmt_next, stmts_next, line_next, declarations_next, frame_next}
 use Rattle.ada_meaning.specs.Named.{an_integer, State, named, new_object, look, reads_integer, reads_boolean, unary_given, binary_given}
-use Rattle.ada_typed.proofs.Evaluations.{Fine, named_newest, initials_have, reached_shown, words_shown, width_shown, filled_items, ready_kinds, ready_at, ready_pop, newest_of, held_of, put_in, ready_owning, jumped, raises, ready_made, fits_more, holder_fine, record_holder_fine, path_fine, null_test_fine, expression_fine, links_fine, outcome_fine, items_fine, new_fine, right_fine}
-use Rattle.ada_typed.proofs.Values.{OperandKind, of_kind, refers_to, kind_of, root_same}
+use Rattle.ada_typed.proofs.Evaluations.{Fine, named_newest, newest_operand, initials_have, reached_shown, words_shown, width_shown, ready_kinds, ready_at, ready_pop, ready_older, newest_of, held_of, put_in, ready_owning, jumped, raises, ready_made, fits_more, holder_fine, record_holder_fine, path_fine, null_test_fine, expression_fine, links_fine, outcome_fine, items_fine, new_fine, right_fine}
+use Rattle.ada_typed.proofs.Values.{OperandKind, of_kind, refers_to, lies_in, kind_of, root_same}
 use Rattle.ada_typed.proofs.Objects.{kind_there, object_reached, own_object, record_no_access}
 use Rattle.ada_typed.proofs.Operators.{and_left, and_right, typed, unary_gives, binary_gives}
 use Rattle.ada_typed.proofs.Targets.{target_fine, store_fine, receive_fine, opens_fine}
 use Rattle.ada_typed.proofs.Treating.{all_within, treating_fits}
 use Rattle.ada_typed.proofs.Treatments.{treats_fine}
+use Rattle.ada_typed.proofs.Assigning.{object_filled, record_assign_fine, assigns_fine}
 use Rattle.ada_typed.proofs.Wholes.{newest_have, ready_without, copies_fine, refers_fine, record_target_fine, store_record_fine}
 use Rattle.ada_typed.proofs.Leavings.{end_fine, back_fine, leave_fine}
 use Rattle.ada_typed.proofs.Frees.{free_fine, free_in_fine}
@@ -84,13 +86,6 @@ module _ (p : ProgramForm) (fit : SeenFits p) (bodies : List BodyForm) (sees : S
   open_fine of_record (c ∷ cs) x kind s kinds ready leads alone fits =
       holder_fine p of_record c cs x kind (λ last. frame.OpensIn last) s kinds ready leads (λ last. ready.deep) (λ access last own. (kinds, access, kind, refl, own, fits))
 
-  -- The type of a formal parameter that is a record names that record's.
-  object_named : (o : Option TypeForm) (t : ℕ) → is_this t (object_in o) ≡ true → named_in o ≡ Some t
-  object_named None t is = absurd (cc)
-  object_named (Some (record_of name parts components)) t is = absurd (cc)
-  object_named (Some (access_to name designated pool)) t is = absurd (cc)
-  object_named (Some (object_of record_type)) t is = ap Some (eqb-true record_type t is)
-
   -- Branches (5.3).
   branches_fine : (branches : BranchesForm) (inside : Bool) (s : State) → Ready p [] s → FitBranches p inside branches → WhereInside inside (Lands p (cells_of s.heap) s.control) → Fits p (cells_of s.heap) [] s.control → Fine p (branches_next named branches s)
   branches_fine (otherwise fs) inside s ready is lands fits = running [] (ready_at p [] s (frame.Does fs ∷ s.control) ready ready.deep) (refl, inside, is, lands, fits)
@@ -117,7 +112,7 @@ module _ (p : ProgramForm) (fit : SeenFits p) (bodies : List BodyForm) (sees : S
   decided_fine : (fs : StmtsForm) (branches : BranchesForm) (v : Value) (inside : Bool) (s : State) (cells : Cells) → HasKind p.types cells variable.Boolean v → Ready p [] s → FitStmts p inside fs → FitBranches p inside branches → WhereInside inside (Lands p (cells_of s.heap) s.control) → Fits p (cells_of s.heap) [] s.control → Fine p (decided_next named fs branches (reads_boolean v) s)
   decided_fine fs branches Null inside s cells has ready is others lands fits = absurd has
   decided_fine fs branches (Names o) inside s cells has ready is others lands fits = absurd has
-  decided_fine fs branches (Part o first) inside s cells has ready is others lands fits = absurd has
+  decided_fine fs branches (Part o place) inside s cells has ready is others lands fits = absurd has
   decided_fine fs branches (Scalar (scalar.Integer i)) inside s cells has ready is others lands fits = absurd has
   decided_fine fs branches (Scalar (scalar.Boolean true)) inside s cells has ready is others lands fits = running [] (ready_at p [] s (frame.Does fs ∷ s.control) ready ready.deep) (refl, inside, is, lands, fits)
   decided_fine fs branches (Scalar (scalar.Boolean false)) inside s cells has ready is others lands fits = branches_fine branches inside s ready others lands fits
@@ -136,7 +131,7 @@ module _ (p : ProgramForm) (fit : SeenFits p) (bodies : List BodyForm) (sees : S
   turned_fine : (e : ExpressionForm) (fs : StmtsForm) (v : Value) (s : State) (cells : Cells) → HasKind p.types cells variable.Boolean v → Ready p [] s → condition_fits p.types p.variables (Some e) ≡ true → has_statement fs ≡ true → FitStmts p true fs → Fits p (cells_of s.heap) [] s.control → Fine p (turned_next named e fs (reads_boolean v) s)
   turned_fine e fs Null s cells has ready is some own fits = absurd has
   turned_fine e fs (Names o) s cells has ready is some own fits = absurd has
-  turned_fine e fs (Part o first) s cells has ready is some own fits = absurd has
+  turned_fine e fs (Part o place) s cells has ready is some own fits = absurd has
   turned_fine e fs (Scalar (scalar.Integer i)) s cells has ready is some own fits = absurd has
   turned_fine e fs (Scalar (scalar.Boolean true)) s cells has ready is some own fits = turn_fine (Some e) fs s ready is some own fits
   turned_fine e fs (Scalar (scalar.Boolean false)) s cells has ready is some own fits = running [] ready fits
@@ -154,7 +149,7 @@ module _ (p : ProgramForm) (fit : SeenFits p) (bodies : List BodyForm) (sees : S
   exited_fine : (v : Value) (s : State) (cells : Cells) → HasKind p.types cells variable.Boolean v → Ready p [] s → Lands p (cells_of s.heap) s.control → Fits p (cells_of s.heap) [] s.control → Fine p (exited_next named (reads_boolean v) s)
   exited_fine Null s cells has ready lands fits = absurd has
   exited_fine (Names o) s cells has ready lands fits = absurd has
-  exited_fine (Part o first) s cells has ready lands fits = absurd has
+  exited_fine (Part o place) s cells has ready lands fits = absurd has
   exited_fine (Scalar (scalar.Integer i)) s cells has ready lands fits = absurd has
   exited_fine (Scalar (scalar.Boolean true)) s cells has ready lands fits = exit_jump s ready lands fits
   exited_fine (Scalar (scalar.Boolean false)) s cells has ready lands fits = running [] ready fits
@@ -180,14 +175,14 @@ module _ (p : ProgramForm) (fit : SeenFits p) (bodies : List BodyForm) (sees : S
   high_fine : (x : ℕ) (fs : StmtsForm) (low : ℤ) (high : Value) (s : State) (cells : Cells) → HasKind p.types cells variable.Integer high → Ready p [] s → variable_kind p.variables x ≡ Some variable.Integer → has_statement fs ≡ true → FitStmts p true fs → Fits p (cells_of s.heap) [] s.control → Fine p (ranges_next named x fs (Some low) (reads_integer high) s)
   high_fine x fs low Null s cells has ready is some own fits = absurd has
   high_fine x fs low (Names o) s cells has ready is some own fits = absurd has
-  high_fine x fs low (Part o first) s cells has ready is some own fits = absurd has
+  high_fine x fs low (Part o place) s cells has ready is some own fits = absurd has
   high_fine x fs low (Scalar (scalar.Integer high)) s cells has ready is some own fits = counts_fine (int_le low high) x low high fs s ready is some own fits
   high_fine x fs low (Scalar (scalar.Boolean b)) s cells has ready is some own fits = absurd has
 
   ranges_fine : (x : ℕ) (fs : StmtsForm) (low high : Value) (s : State) (cells : Cells) → HasKind p.types cells variable.Integer low → HasKind p.types cells variable.Integer high → Ready p [] s → variable_kind p.variables x ≡ Some variable.Integer → has_statement fs ≡ true → FitStmts p true fs → Fits p (cells_of s.heap) [] s.control → Fine p (ranges_next named x fs (reads_integer low) (reads_integer high) s)
   ranges_fine x fs Null high s cells has too ready is some own fits = absurd has
   ranges_fine x fs (Names o) high s cells has too ready is some own fits = absurd has
-  ranges_fine x fs (Part o first) high s cells has too ready is some own fits = absurd has
+  ranges_fine x fs (Part o place) high s cells has too ready is some own fits = absurd has
   ranges_fine x fs (Scalar (scalar.Integer low)) high s cells has too ready is some own fits = high_fine x fs low high s cells too ready is some own fits
   ranges_fine x fs (Scalar (scalar.Boolean b)) high s cells has too ready is some own fits = absurd has
 
@@ -210,11 +205,8 @@ module _ (p : ProgramForm) (fit : SeenFits p) (bodies : List BodyForm) (sees : S
       assign_fine target.of_record target.selectors target.root right s [] ready (and_left fitting lending is.0) fits
   stmt_fine types shown (assigns_record target items) inside s ready is lands fits =
       let leads = is_record_path p.types p.variables target in
-      let filled = is_filled p.types p.variables (record_components p.types target.record_type) items in
-      let others = record_fits p.types p.variables (record_components p.types target.record_type) items in
-      let filling = and_left filled (list_all (item_owns p.variables) items) (and_right leads others is.0) in
-      record_holder_fine p target (λ first. frame.TargetsRecord first target.record_type items) s [] ready (and_left leads others is.0) (λ first. ready.deep)
-      (λ access first rs recorded lies. ([], access, rs, refl, recorded, lies, ap (λ (o : Option (List ComponentKind)). is_filled p.types p.variables o items) (sym recorded) ∙ filling, fits))
+      let others = record_fits p.types p.variables target.record_type items in
+      record_assign_fine p types shown (has_parts types target.record_type) target items s ready refl (and_left leads others is.0) (and_right leads others is.0) fits
   stmt_fine types shown (frees access path) inside s ready is lands fits =
       let freed = is_freed_by p.types access (path_access p.types p.variables path) in
       frees_fine types shown path.of_record path.selectors access path.root s [] ready (and_left freed (not (names_borrower p.variables path)) is.0) is.1 fits
@@ -296,37 +288,36 @@ module _ (p : ProgramForm) (fit : SeenFits p) (bodies : List BodyForm) (sees : S
   line_fine : (v : Value) (s : State) (kinds : List OperandKind) (cells : Cells) → HasKind p.types cells variable.Integer v → Ready p kinds s → Fits p (cells_of s.heap) kinds s.control → Fine p (line_next named (reads_integer v) s)
   line_fine Null s kinds cells has ready fits = absurd has
   line_fine (Names o) s kinds cells has ready fits = absurd has
-  line_fine (Part o first) s kinds cells has ready fits = absurd has
+  line_fine (Part o place) s kinds cells has ready fits = absurd has
   line_fine (Scalar (scalar.Integer i)) s kinds cells has ready fits = running kinds ready fits
   line_fine (Scalar (scalar.Boolean b)) s kinds cells has ready fits = absurd has
 
   -- Declarations (3.11): a record object, whose components have values of their kinds.
-  made_fine : (types : List TypeDefinition) → map type_form types ≡ p.types → (x t : ℕ) (object : TypeNo) (cs : List ComponentKind) (values : List Value) (kinds : List OperandKind) (s : State) → HaveKinds p.types (cells_of s.heap) cs values → Ready p kinds s → variable_kind p.variables x ≡ Some (variable.Record object) → t ≡ object.0 → reached_components p.types t ≡ Some cs → is_access p.types t ≡ false → Fits p (cells_of s.heap) kinds s.control → TypedIn p (made named types x t values s)
-  made_fine types shown x t object cs values kinds s have ready is own reached never fits =
+  made_fine : (types : List TypeDefinition) → map type_form types ≡ p.types → (x t : ℕ) (by : Birth) (object : TypeNo) (cs : List ComponentKind) (values : List Value) (kinds : List OperandKind) (s : State) → HaveKinds p.types (cells_of s.heap) cs values → Ready p kinds s → variable_kind p.variables x ≡ Some (variable.Record object) → t ≡ object.0 → reached_components p.types t ≡ Some cs → is_access p.types t ≡ false → Fits p (cells_of s.heap) kinds s.control → TypedIn p (made named types x t by values s)
+  made_fine types shown x t by object cs values kinds s have ready is own reached never fits =
       let cell = record_cell named types t (height s.masters) values in
       let heap = s.heap ++ new_object cell ∷ [] in
-      running kinds (ready_made p types shown x t object cs values kinds s have ready is own reached never)
-      (treating_fits p (cells_of heap) kinds (Names (record { 0 = length s.heap })) (frame.begins Creation) (all_tasks types t PartsFirst) s.control
+      running kinds (ready_made p types shown x t by object cs values kinds s have ready is own reached never)
+      (treating_fits p (cells_of heap) kinds (Names (record { 0 = length s.heap })) (frame.begins by) (all_tasks types t PartsFirst) s.control
       (t, (cell, named_newest p s.heap cell, refl), all_within types p.types t PartsFirst shown) (fits_more p kinds s.control s.heap cell fits))
 
   -- What holds of a record object where it is declared.
   record_fine : (types : List TypeDefinition) → map type_form types ≡ p.types → (x t : ℕ) (initial : Option (List ItemForm)) (s : State) → Ready p [] s → initial_fits p.types p.variables (declares_record x t initial) ≡ true → Fits p (cells_of s.heap) [] s.control → Fine p (record_next named types x t initial s)
   record_fine types shown x t None s ready is fits =
-      let named_so = and_left (is_record_object t (variable_kind p.variables x)) (record_initial_fits p.types p.variables x (reached_components p.types t) None) is in
+      let named_so = and_left (is_record_object t (variable_kind p.variables x)) (record_initial_fits p.types p.variables x (object_named p.types (Some t)) None) is in
       let own = own_object t (variable_kind p.variables x) named_so in
       let known : is_object_type p.types own.0.0 ≡ true = kind_there p.types p.variables x (variable.Record own.0) fit.variables_fit own.1 in
       let there = object_reached p.types own.0.0 fit.types_fit known in
       let reached : reached_components p.types t ≡ Some there.0 = ap (reached_components p.types) own.2 ∙ there.1 in
       let have = initials_have p.types (cells_of s.heap) (reached_of types t) there.0 (reached_shown types t there.0 shown reached) in
-      made_fine types shown x t own.0 there.0 (initial_values named (reached_of types t)) [] s have ready own.1 own.2 reached (record_no_access p.types p.variables x t fit.variables_fit named_so) fits
+      made_fine types shown x t Creation own.0 there.0 (initial_values named (reached_of types t)) [] s have ready own.1 own.2 reached (record_no_access p.types p.variables x t fit.variables_fit named_so) fits
   record_fine types shown x t (Some items) s ready is fits =
-      let filled = is_filled p.types p.variables (reached_components p.types t) items in
-      let fitting = record_fits p.types p.variables (reached_components p.types t) items in
-      let initial = record_initial_fits p.types p.variables x (reached_components p.types t) (Some items) in
+      let fitting = object_fits p.types p.variables (object_named p.types (Some t)) items in
+      let initial = record_initial_fits p.types p.variables x (object_named p.types (Some t)) (Some items) in
       let named_so = and_left (is_record_object t (variable_kind p.variables x)) initial is in
       let own = own_object t (variable_kind p.variables x) named_so in
       let later = and_right (is_record_object t (variable_kind p.variables x)) initial is in
-      let found = filled_items p (reached_components p.types t) p.variables items (and_left filled (list_all (item_owns p.variables) items) (and_right (list_all (item_before x) items) fitting later)) in
+      let found = object_filled p (object_named p.types (Some t)) items (and_right (list_all (item_before x) items) fitting later) in
       let never : is_access p.types t ≡ false = record_no_access p.types p.variables x t fit.variables_fit named_so in
       running [] (ready_at p [] s (frame.Fills items ∷ frame.DeclaresRecord x t ∷ s.control) ready ready.deep)
       (found.0, found.2, ([], own.0, found.0, refl, own.1, own.2, found.1, never, fits))
@@ -393,15 +384,12 @@ module _ (p : ProgramForm) (fit : SeenFits p) (bodies : List BodyForm) (sees : S
       let taken = ready_kinds p kinds (of_kind (variable.Access fits.1) ∷ fits.0) s fits.2 ready in
       null_test_fine p equal fits.1 (newest named s) (popped s) fits.0 (cells_of s.heap) (newest_of p (variable.Access fits.1) fits.0 s taken) (ready_pop p (variable.Access fits.1) fits.0 s taken) fits.3
   frame_fine types shown (frame.Refers q) stays s kinds ready deep fits =
-      let leads = is_record_path p.types p.variables q in
-      let this = is_this q.record_type (object_in (slice_get p.types fits.0.0)) in
-      let named_so : reached_components p.types fits.0.0 ≡ record_components p.types q.record_type = ap (components_reached p.types) (object_named (slice_get p.types fits.0.0) q.record_type (and_right leads this fits.1)) in
-      record_holder_fine p q (λ first. frame.RefersIn first q.record_type) s kinds ready (and_left leads this fits.1) (λ first. ready.deep)
-      (λ access first rs recorded lies. (kinds, access, fits.0, rs, refl, recorded, lies, named_so ∙ recorded, fits.2))
-  frame_fine types shown (frame.RefersIn first t) stays s kinds ready deep fits =
+      record_holder_fine p q (λ place. frame.RefersIn place q.record_type) s kinds ready fits.1 (λ place. ready.deep)
+      (λ access place rs recorded lies parts. (kinds, access, fits.0, rs, refl, recorded, lies, parts, fits.2, fits.3))
+  frame_fine types shown (frame.RefersIn place t) stays s kinds ready deep fits =
       let taken = ready_kinds p kinds (of_kind (variable.Access fits.1) ∷ fits.0) s fits.4 ready in
-      subst (λ (m : ℕ). Fine p (refers_next named (newest named s) first m (look s.heap (newest named s)) (popped s))) (sym (width_shown types t fits.3 shown fits.5))
-      (refers_fine p (newest named s) fits.1 fits.2 first fits.3 (popped s) fits.0 (ready_pop p (variable.Access fits.1) fits.0 s taken) (newest_of p (variable.Access fits.1) fits.0 s taken) fits.6 fits.7 fits.8)
+      subst (λ (m : ℕ). Fine p (refers_next named (newest named s) place m (look s.heap (newest named s)) (popped s))) (sym (width_shown types t fits.3 shown fits.5))
+      (refers_fine p (newest named s) fits.1 fits.2 t place fits.3 (popped s) fits.0 (ready_pop p (variable.Access fits.1) fits.0 s taken) (newest_of p (variable.Access fits.1) fits.0 s taken) fits.5 fits.6 fits.7 fits.8 fits.9)
   frame_fine types shown (frame.Opens path) stays s kinds ready deep fits = open_fine path.of_record path.selectors path.root fits.0 s kinds ready fits.1 fits.2 fits.3
   frame_fine types shown (frame.OpensIn c) stays s kinds ready deep fits =
       let taken = ready_kinds p kinds (of_kind (variable.Access fits.1) ∷ fits.0) s fits.3 ready in
@@ -443,6 +431,11 @@ module _ (p : ProgramForm) (fit : SeenFits p) (bodies : List BodyForm) (sees : S
       let taken = ready_kinds p kinds (onto fits.2 fits.0) s fits.3 ready in
       subst (λ (m : ℕ). Fine p (store_record_next named object first m (look s.heap object) s)) (sym fits.4)
       (store_record_fine p object fits.1 first fits.2 s fits.0 fits.5 taken fits.6 fits.7 fits.8)
+  frame_fine types shown (frame.Assigns t) stays s kinds ready deep fits =
+      let taken = ready_kinds p kinds (lies_in t ∷ lies_in t ∷ fits.0) s fits.2 ready in
+      let left = ready_older p (lies_in t) (lies_in t ∷ fits.0) s taken in
+      assigns_fine p types shown fit.types_fit t fits.1 (newest named (popped s)) (newest named s) (popped (popped s)) fits.0 (ready_older p (lies_in t) fits.0 (popped s) left) fits.3
+      (newest_operand p (lies_in t) fits.0 (popped s) left) (newest_operand p (lies_in t) (lies_in t ∷ fits.0) s taken) fits.4
   frame_fine types shown (frame.Receives c) stays s kinds ready deep fits =
       let taken = ready_kinds p kinds (of_kind (variable.Access fits.1) ∷ fits.0) s fits.2 ready in
       receive_fine p (newest named s) fits.1 c (popped s) fits.0 (ready_pop p (variable.Access fits.1) fits.0 s taken) (newest_of p (variable.Access fits.1) fits.0 s taken) fits.3 fits.4
@@ -455,8 +448,8 @@ module _ (p : ProgramForm) (fit : SeenFits p) (bodies : List BodyForm) (sees : S
   frame_fine types shown (frame.DeclaresRecord x t) stays s kinds ready deep fits =
       let taken = ready_kinds p kinds (onto fits.2 fits.0) s fits.3 ready in
       let words : words_of types t ≡ length fits.2 = words_shown types t fits.2 shown fits.6 in
-      subst (λ (m : ℕ). TypedIn p (made named types x t (newest_ones named m s) (without_newest named m s))) (sym words)
-      (made_fine types shown x t fits.1 fits.2 (newest_ones named (length fits.2) s) fits.0 (without_newest named (length fits.2) s) (newest_have p fits.2 fits.0 s taken) (ready_without p fits.2 fits.0 s taken) fits.4 fits.5 fits.6 fits.7 fits.8)
+      subst (λ (m : ℕ). TypedIn p (made named types x t Copy (newest_ones named m s) (without_newest named m s))) (sym words)
+      (made_fine types shown x t Copy fits.1 fits.2 (newest_ones named (length fits.2) s) fits.0 (without_newest named (length fits.2) s) (newest_have p fits.2 fits.0 s taken) (ready_without p fits.2 fits.0 s taken) fits.4 fits.5 fits.6 fits.7 fits.8)
   frame_fine types shown (frame.Treats v treatment tasks) stays s kinds ready deep fits = treats_fine p types shown v treatment tasks s kinds ready fits.0 fits.1
   frame_fine types shown frame.Writes stays s kinds ready deep fits =
       let taken = ready_kinds p kinds (of_kind variable.Integer ∷ fits.0) s fits.1 ready in

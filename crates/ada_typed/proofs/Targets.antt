@@ -48,7 +48,7 @@ module _ (p : ProgramForm) where
   target_fine Null access c right kind s kinds ready has leads takes fits = raises p kinds kinds ConstraintError s ready fits
   target_fine (Names o) access c right kind s kinds ready has leads takes fits = target_seen (slice_get s.heap o.0) o access c right kind s kinds ready has leads takes fits
   target_fine (Scalar v) access c right kind s kinds ready has leads takes fits = absurd has
-  target_fine (Part o first) access c right kind s kinds ready has leads takes fits = absurd has
+  target_fine (Part o place) access c right kind s kinds ready has leads takes fits = absurd has
 
   -- A component gets a value of its kind: then each object has what its type says, what is left to do fits, and names are of the types that they were.
   pub record Stored (kinds : List OperandKind) (s : State) (heap : List Object) : Type 0 where
@@ -110,7 +110,7 @@ module _ (p : ProgramForm) where
   store_fine Null access c v kind s kinds name ready has leads fitting fits = absurd name
   store_fine (Names o) access c v kind s kinds name ready has leads fitting fits = store_seen (slice_get s.heap o.0) o access c v kind s kinds ready has refl leads fitting fits
   store_fine (Scalar w) access c v kind s kinds name ready has leads fitting fits = absurd name
-  store_fine (Part o first) access c v kind s kinds name ready has leads fitting fits = absurd name
+  store_fine (Part o place) access c v kind s kinds name ready has leads fitting fits = absurd name
 
   -- A component takes the next number of the input.
   taken_fine : (input : List ℤ) (before : Value) (o : Id) (access : TypeNo) (c : ℕ) (object : Object) (s : State) (kinds : List OperandKind) → Ready p kinds s → Designates (cells_of s.heap) access.0 o → slice_get s.heap o.0 ≡ Some object → selected_kind p.types (Some (variable.Access access)) c ≡ Some variable.Integer → Fits p (cells_of s.heap) kinds s.control → Fine p (received_next named (Names o) c input (Some before) s)
@@ -137,15 +137,16 @@ module _ (p : ProgramForm) where
   receive_fine Null access c s kinds ready has leads fits = raises p kinds kinds ConstraintError s ready fits
   receive_fine (Names o) access c s kinds ready has leads fits = receive_seen (slice_get s.heap o.0) o access c s kinds ready has refl leads fits
   receive_fine (Scalar v) access c s kinds ready has leads fits = absurd has
-  receive_fine (Part o first) access c s kinds ready has leads fits = absurd has
+  receive_fine (Part o place) access c s kinds ready has leads fits = absurd has
 
   -- A component is opened that is given: what refers to it and its value become operands.
   opened_fine : (o : Id) (access : TypeNo) (c : ℕ) (kind : VariableKind) (object : Object) (s : State) (kinds : List OperandKind) → Ready p kinds s → Designates (cells_of s.heap) access.0 o → slice_get s.heap o.0 ≡ Some object → selected_kind p.types (Some (variable.Access access)) c ≡ Some kind → Fits p (cells_of s.heap) (of_kind kind ∷ refers_to kind ∷ kinds) s.control → Fine p (opened_next named (Names o) c (slice_get object.cell.values c) s)
   opened_fine o access c kind object s kinds ready has is leads fits =
       let there = component_there o access c kind object s kinds ready has is leads in
-      let referring = ready_refer p kinds s kind (Part o c) ready (has.0, has.1, ap (λ (a : ℕ). kind_among (reached_components p.types a) c) has.2 ∙ leads) in
+      let referred = Part o (record { component = c; part = 0 }) in
+      let referring = ready_refer p kinds s kind referred ready (has.0, has.1, ap (λ (a : ℕ). kind_among (reached_components p.types a) c) has.2 ∙ leads) in
       subst (λ (found : Option Value). Fine p (opened_next named (Names o) c found s)) (sym there.1)
-      (running (of_kind kind ∷ refers_to kind ∷ kinds) (ready_push p (refers_to kind ∷ kinds) (computed (Part o c) s) kind there.0 referring there.2) fits)
+      (running (of_kind kind ∷ refers_to kind ∷ kinds) (ready_push p (refers_to kind ∷ kinds) (computed referred s) kind there.0 referring there.2) fits)
 
   opens_stage : (stage : Stage) (o : Id) (access : TypeNo) (c : ℕ) (kind : VariableKind) (object : Object) (s : State) (kinds : List OperandKind) → Ready p kinds s → Designates (cells_of s.heap) access.0 o → slice_get s.heap o.0 ≡ Some object → selected_kind p.types (Some (variable.Access access)) c ≡ Some kind → Fits p (cells_of s.heap) (of_kind kind ∷ refers_to kind ∷ kinds) s.control → Fine p (opens_next named (Names o) c (existing object stage) s)
   opens_stage Gone o access c kind object s kinds ready has is leads fits = tt
@@ -160,4 +161,4 @@ module _ (p : ProgramForm) where
   opens_fine Null access c kind s kinds ready has leads fits = raises p kinds (of_kind kind ∷ refers_to kind ∷ kinds) ConstraintError s ready fits
   opens_fine (Names o) access c kind s kinds ready has leads fits = opens_seen (slice_get s.heap o.0) o access c kind s kinds ready has refl leads fits
   opens_fine (Scalar held) access c kind s kinds ready has leads fits = absurd has
-  opens_fine (Part o first) access c kind s kinds ready has leads fits = absurd has
+  opens_fine (Part o place) access c kind s kinds ready has leads fits = absurd has

@@ -7,9 +7,8 @@ use Rattle.ada_parts.specs.declared.tasks.Direction.{Direction}
 use Rattle.ada_parts.specs.Shape.{Shape}
 use Rattle.ada_parts.specs.Task.{Task}
 use Rattle.ada_program.specs.declared.program.TypeDefinition.{TypeDefinition}
-use Rattle.ada_program.specs.Controlled.{shapes_of}
+use Rattle.ada_program.specs.Controlled.{number_reached, shapes_of}
 use Rattle.ada_program.specs.ProgramForm.{TypeForm, ProgramForm, type_form}
-use Rattle.ada_program.specs.Typed.{designated_of}
 use Rattle.ada_meaning.specs.declared.state.Value.{Value}
 use Rattle.ada_meaning.specs.Frame.{Frame, Treatment}
 use Rattle.ada_meaning.specs.Heap.{PartState}
@@ -30,7 +29,7 @@ pub all_within : (types : List TypeDefinition) (forms : List TypeForm) (access :
 all_within types forms access direction shown =
     let same = parts_shown types forms access shown in
     subst (λ (shapes : List Shape). Within shapes (parts_known forms access) (all_tasks types access direction)) (sym (shapes_shown types forms shown))
-    (within_all (shapes_of types) (are_table types) (parts_known forms access) direction (designated_of types access) (omega (arith, same)))
+    (within_all (shapes_of types) (are_table types) (parts_known forms access) direction (number_reached types access) (omega (arith, same)))
 
 -- It is done before what is left.
 pub treating_fits : (p : ProgramForm) (cells : Cells) (kinds : List OperandKind) (v : Value) (treatment : Treatment) (tasks : List Task) (k : List (Frame Value)) → IsTreated p.types cells v tasks → Fits p cells kinds k → Fits p cells kinds (treating v treatment tasks k)

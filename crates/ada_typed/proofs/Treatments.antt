@@ -8,7 +8,7 @@ use Rattle.std.proofs.lemmas.List.{length-set, map-set}
 use Rattle.std.proofs.lemmas.Option.{slice_get-get_or}
 use Rattle.ada_parts.specs.declared.tasks.Component.{Component}
 use Rattle.ada_parts.specs.Shape.{Shape}
-use Rattle.ada_parts.specs.Task.{Task, performs, treats, next as task_next, taken as taken_tasks}
+use Rattle.ada_parts.specs.Task.{Task, performs, treats, next as task_next}
 use Rattle.ada_parts.proofs.Facts.{eq_not}
 use Rattle.ada_program.specs.declared.program.TypeDefinition.{TypeDefinition}
 use Rattle.ada_program.specs.Controlled.{shapes_of}
@@ -28,7 +28,7 @@ use Rattle.ada_meaning.specs.Frame as frame
 use Rattle.ada_meaning.specs.Heap.{PartState, Cell, finds}
 use Rattle.ada_meaning.specs.Named.{Object, State, named, seen, existing, changed, on_object, born_part, finalized_part, with_part, treated}
 use Rattle.ada_meaning.specs.State.{counted}
-use Rattle.ada_meaning.specs.Step.{halts, moves, picks, direction_of, treated_on, born_next, finalized_next, performed_next, treats_next}
+use Rattle.ada_meaning.specs.Step.{picked_task, member_at, halts, moves, picks, direction_of, treated_on, born_next, finalized_next, performed_next, treats_next}
 use Rattle.ada_meaning.proofs.Treatments.{are_table}
 use Rattle.ada_typed.proofs.Parts.{shown_shapes, parts_known, shapes_shown, Within, within_taken}
 use Rattle.ada_typed.proofs.Values.{OperandKind, AreFilled, IsActive, HasParts, StayDesignated, kinds_later, filled_later, active_later, designated_set, filled_set, filled_at, parts_at}
@@ -121,12 +121,12 @@ module _ (p : ProgramForm) where
 
 module _ (p : ProgramForm) (types : List TypeDefinition) (shown : map type_form types ≡ p.types) where
   -- What is left once a component is picked.
-  picked_within : (count : ℕ) (treatment : Treatment) (cs : List Component) (behind : List Task) (i : ℕ) → Within (shown_shapes p.types) count (treats cs ∷ behind) → Within (shown_shapes p.types) count (taken_tasks (shapes_of types) (direction_of treatment) (treats cs ∷ behind) i)
+  picked_within : (count : ℕ) (treatment : Treatment) (cs : List Component) (behind : List Task) (i : ℕ) → Within (shown_shapes p.types) count (treats cs ∷ behind) → Within (shown_shapes p.types) count (picked_task (shapes_of types) (direction_of treatment) (treats cs ∷ behind) i)
   picked_within count treatment cs behind i within =
       let same = shapes_shown types p.types shown in
-      let tasks = taken_tasks (shapes_of types) (direction_of treatment) (treats cs ∷ behind) i in
+      let tasks = picked_task (shapes_of types) (direction_of treatment) (treats cs ∷ behind) i in
       subst (λ (shapes : List Shape). Within shapes count tasks) (sym same)
-      (within_taken (shapes_of types) (are_table types) count (direction_of treatment) cs behind i (subst (λ (shapes : List Shape). Within shapes count (treats cs ∷ behind)) same within))
+      (within_taken (shapes_of types) (are_table types) count (direction_of treatment) cs behind (member_at (direction_of treatment) (length cs) i) (subst (λ (shapes : List Shape). Within shapes count (treats cs ∷ behind)) same within))
 
   treats_one : (o : Id) (treatment : Treatment) (tasks : List Task) (s : State) (kinds : List OperandKind) → Ready p kinds s → IsTreated p.types (cells_of s.heap) (Names o) tasks → Fits p (cells_of s.heap) kinds s.control → Fine p (treats_next named (shapes_of types) (Names o) treatment tasks (task_next tasks) s)
   treats_one o treatment [] s kinds ready is fits = running kinds ready fits
@@ -136,7 +136,7 @@ module _ (p : ProgramForm) (types : List TypeDefinition) (shown : map type_form 
       (ready_treated p kinds s (Names o) treatment behind ready)
       (treating_fits p (cells_of s.heap) kinds (Names o) treatment behind s.control (is.0, is.1, is.2.1) fits)
   treats_one o treatment (treats cs ∷ behind) s kinds ready is fits =
-      let left = λ (i : ℕ). taken_tasks (shapes_of types) (direction_of treatment) (treats cs ∷ behind) i in
+      let left = λ (i : ℕ). picked_task (shapes_of types) (direction_of treatment) (treats cs ∷ behind) i in
       let some : (length cs == 0) ≡ false = eq_not (length cs) 0 (λ none. omega (arith, none, is.2.0)) in
       subst (λ (none : Bool). Fine p (if none then halts Stuck else picks (length cs) (λ i. treated_on named (Names o) treatment (left i) s))) (sym some)
       (λ i lt.
@@ -148,4 +148,4 @@ module _ (p : ProgramForm) (types : List TypeDefinition) (shown : map type_form 
   treats_fine Null treatment tasks s kinds ready is fits = absurd is
   treats_fine (Names o) treatment tasks s kinds ready is fits = treats_one o treatment tasks s kinds ready is fits
   treats_fine (Scalar v) treatment tasks s kinds ready is fits = absurd is
-  treats_fine (Part o first) treatment tasks s kinds ready is fits = absurd is
+  treats_fine (Part o place) treatment tasks s kinds ready is fits = absurd is

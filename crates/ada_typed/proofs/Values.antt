@@ -1,6 +1,6 @@
 -- Values and their kinds: which value a variable or a component may hold, as objects come to be.
 
-use Rattle.ada_typed.specs.Holding.{Cells, Designates, IsAccess, IsRecord, HasKind, HaveKinds, IsPooled, IsFilled}
+use Rattle.ada_typed.specs.Holding.{Cells, Designates, IsAccess, IsRecord, HasKind, HaveKinds, IsPooled, IsFilled, parts_reached}
 use Rattle.std.proofs.Common.{◌≡◌, ℕ, zero, suc, Bool, true, false, List, [], ◌∷◌, ◌++◌, length, Option, Some, None, refl, ap, ◌∙◌, subst}
 use Rattle.std.specs.List.{slice_get, slice_set, slice_index_or}
 use Rattle.ada_program.specs.declared.program.ComponentKind.{ComponentKind}
@@ -9,7 +9,7 @@ use Rattle.ada_program.specs.declared.program.ScalarType.TheVariants.{Integer, B
 use Rattle.ada_program.specs.declared.program.VariableKind.{VariableKind}
 use Rattle.ada_program.specs.declared.program.VariableKind.TheVariants as variable
 use Rattle.ada_program.specs.ProgramForm.{TypeForm, VariableForm}
-use Rattle.ada_program.specs.WellFormed.{reached_components, held_kind, component_kind, kind_among, root_kind, variable_kind, has_record_at}
+use Rattle.ada_program.specs.WellFormed.{reached_components, record_components, held_kind, component_kind, kind_among, root_kind, variable_kind, has_record_at, has_parts_from, part_count}
 use Rattle.ada_meaning.specs.declared.state.Id.{Id}
 use Rattle.ada_meaning.specs.declared.state.Value.{Value}
 use Rattle.ada_meaning.specs.declared.state.Value.TheVariants.{Null, Names, Scalar, Part}
@@ -34,23 +34,34 @@ AreHeld types cells [] vs = Unit {0}
 AreHeld types cells (x ∷ xs) [] = ⊥
 AreHeld types cells (x ∷ xs) (v ∷ vs) = HasKind types cells x.kind v × AreHeld types cells xs vs
 
--- What an operand is: a value of a kind, or what refers to a component that holds such values (6.4.1).
+-- What an operand is: a value of a kind; what refers to a component that holds such values (6.4.1); or what refers to a record of a type (5.2).
 pub data OperandKind : Type 0 where
   of_kind : VariableKind → OperandKind
   refers_to : VariableKind → OperandKind
+  lies_in : (record_type : ℕ) → OperandKind
 
 -- A value refers to a component of an object, which holds values of this kind.
 abbrev pub RefersTo : List TypeForm → Cells → VariableKind → Value → Type 0
 RefersTo types cells kind Null = ⊥
 RefersTo types cells kind (Names o) = ⊥
 RefersTo types cells kind (Scalar v) = ⊥
-RefersTo types cells kind (Part o c) =
-    (cell : Cell Value) × (slice_get cells o.0 ≡ Some cell) × (kind_among (reached_components types cell.access) c ≡ Some kind)
+RefersTo types cells kind (Part o place) =
+    (cell : Cell Value) × (slice_get cells o.0 ≡ Some cell) × (kind_among (reached_components types cell.access) place.component ≡ Some kind)
+
+-- A value refers to a record of a type, which lies in an object with its components and its controlled parts (7.6).
+abbrev pub RefersToRecord : List TypeForm → Cells → (record_type : ℕ) → Value → Type 0
+RefersToRecord types cells t Null = ⊥
+RefersToRecord types cells t (Names o) = ⊥
+RefersToRecord types cells t (Scalar v) = ⊥
+RefersToRecord types cells t (Part o place) =
+    (cell : Cell Value) × (slice_get cells o.0 ≡ Some cell) × (has_record_at (reached_components types cell.access) place.component (record_components types t) ≡ true)
+    × (has_parts_from (part_count types t) place.part (parts_reached types cell.access) ≡ true)
 
 -- A value is an operand of this kind.
 abbrev pub IsOperand : List TypeForm → Cells → OperandKind → Value → Type 0
 IsOperand types cells (of_kind kind) v = HasKind types cells kind v
 IsOperand types cells (refers_to kind) v = RefersTo types cells kind v
+IsOperand types cells (lies_in t) v = RefersToRecord types cells t v
 
 -- Operands have these kinds, newest first.
 abbrev pub AreComputed : List TypeForm → Cells → List OperandKind → List Value → Type 0
@@ -97,7 +108,7 @@ module _ (cells after : Cells) (stay : StayDesignated cells after) where
   access_later access Null h = tt
   access_later access (Names o) h = stay access o h
   access_later access (Scalar v) h = h
-  access_later access (Part o first) h = h
+  access_later access (Part o place) h = h
 
   -- The object of a name stays one of its access type.
   cell_later : (o : Id) (cell : Cell Value) → slice_get cells o.0 ≡ Some cell → (later : Cell Value) × (slice_get after o.0 ≡ Some later) × (later.access ≡ cell.access)
@@ -108,17 +119,33 @@ module _ (types : List TypeForm) (cells after : Cells) (stay : StayDesignated ce
   record_later t Null h = tt
   record_later t (Names o) h = stay t o h
   record_later t (Scalar v) h = h
-  record_later t (Part o first) h =
-      let later = cell_later cells after stay o h.0 h.1 in
-      (later.0, later.1, ap (λ (access : ℕ). has_record_at (reached_components types access) first (reached_components types t)) later.2 ∙ h.2)
+  record_later t (Part o place) h =
+      let later = cell_later cells after stay o h.0 h.1 in (
+        later.0,
+        later.1,
+        ap (λ (access : ℕ). has_record_at (reached_components types access) place.component (reached_components types t)) later.2 ∙ h.2,
+        ap (λ (access : ℕ). has_parts_from (parts_reached types t) place.part (parts_reached types access)) later.2 ∙ h.3,
+      )
 
   pub refers_later : (kind : VariableKind) (v : Value) → RefersTo types cells kind v → RefersTo types after kind v
   refers_later kind Null h = h
   refers_later kind (Names o) h = h
   refers_later kind (Scalar v) h = h
-  refers_later kind (Part o c) h =
+  refers_later kind (Part o place) h =
       let later = cell_later cells after stay o h.0 h.1 in
-      (later.0, later.1, ap (λ (access : ℕ). kind_among (reached_components types access) c) later.2 ∙ h.2)
+      (later.0, later.1, ap (λ (access : ℕ). kind_among (reached_components types access) place.component) later.2 ∙ h.2)
+
+  lies_later : (t : ℕ) (v : Value) → RefersToRecord types cells t v → RefersToRecord types after t v
+  lies_later t Null h = h
+  lies_later t (Names o) h = h
+  lies_later t (Scalar v) h = h
+  lies_later t (Part o place) h =
+      let later = cell_later cells after stay o h.0 h.1 in (
+        later.0,
+        later.1,
+        ap (λ (access : ℕ). has_record_at (reached_components types access) place.component (record_components types t)) later.2 ∙ h.2,
+        ap (λ (access : ℕ). has_parts_from (part_count types t) place.part (parts_reached types access)) later.2 ∙ h.3,
+      )
 
   pub kind_later : (kind : VariableKind) (v : Value) → HasKind types cells kind v → HasKind types after kind v
   kind_later variable.Integer v h = h
@@ -144,6 +171,7 @@ module _ (types : List TypeForm) (cells after : Cells) (stay : StayDesignated ce
   operand_later : (kind : OperandKind) (v : Value) → IsOperand types cells kind v → IsOperand types after kind v
   operand_later (of_kind kind) v h = kind_later kind v h
   operand_later (refers_to kind) v h = refers_later kind v h
+  operand_later (lies_in t) v h = lies_later t v h
 
   computed_later : (kinds : List OperandKind) (vs : List Value) → AreComputed types cells kinds vs → AreComputed types after kinds vs
   computed_later [] vs h = tt

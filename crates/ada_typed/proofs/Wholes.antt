@@ -1,16 +1,18 @@
 -- Records as wholes: the components of one are copied onto the operands, or get the values of the newest operands.
 
-use Rattle.ada_typed.specs.Holding.{Designates, IsAccess, HasKind, HaveKinds, cells_of}
+use Rattle.ada_typed.specs.Holding.{Cells, Designates, IsAccess, HasKind, HaveKinds, cells_of, parts_reached}
 use Rattle.std.proofs.Common.{◌≡◌, ℕ, zero, suc, ◌+◌, true, List, [], ◌∷◌, length, drop, Option, Some, None, arith, refl, sym, ap, ◌∙◌, subst}
+use Rattle.std.proofs.lemmas.Bool.{eqb-true}
 use Rattle.std.specs.List.{slice_get}
 use Rattle.ada_program.specs.declared.program.ComponentKind.{ComponentKind}
 use Rattle.ada_program.specs.declared.program.Exception.TheVariants.{ConstraintError}
 use Rattle.ada_program.specs.declared.program.TypeNo.{TypeNo}
 use Rattle.ada_program.specs.declared.program.VariableKind.TheVariants as variable
 use Rattle.ada_program.specs.Form.{ItemForm}
-use Rattle.ada_program.specs.ProgramForm.{ProgramForm}
-use Rattle.ada_program.specs.WellFormed.{reached_components, held_kind, selected_kind, kind_among, begins_with, has_record_at, items_fit}
+use Rattle.ada_program.specs.ProgramForm.{TypeForm, record_of, access_to, object_of, ProgramForm}
+use Rattle.ada_program.specs.WellFormed.{components_reached, named_in, object_in, is_this, reached_components, record_components, has_parts_from, part_count, parts_named, held_kind, selected_kind, kind_among, begins_with, has_record_at, items_fit}
 use Rattle.ada_meaning.specs.declared.state.Id.{Id}
+use Rattle.ada_meaning.specs.declared.state.Place.{Place}
 use Rattle.ada_meaning.specs.declared.state.Value.{Value}
 use Rattle.ada_meaning.specs.declared.state.Value.TheVariants.{Null, Names, Scalar, Part}
 use Rattle.ada_meaning.specs.declared.state.Stage.{Stage}
@@ -20,10 +22,10 @@ use Rattle.ada_meaning.specs.Frame as frame
 use Rattle.ada_meaning.specs.Heap.{Cell}
 use Rattle.ada_meaning.specs.Step.{operands, referred_next, refers_next, set_operands, in_front, record_in, copied_next, copies_next, newest_ones, without_newest, record_target_next, stored_from, record_stored_next, store_record_next}
 use Rattle.ada_meaning.specs.Named.{Object, State, named, look, seen, existing, store}
-use Rattle.ada_typed.proofs.Values.{OperandKind, of_kind, kinds_later, filled_at}
+use Rattle.ada_typed.proofs.Values.{OperandKind, of_kind, refers_to, lies_in, IsOperand, RefersToRecord, kinds_later, filled_at}
 use Rattle.ada_typed.proofs.Records.{active_front, record_held, record_first, reached_record}
-use Rattle.ada_typed.proofs.Control.{onto, IsName, Fits, Ready, TypedIn, running}
-use Rattle.ada_typed.proofs.Evaluations.{Fine, cell_at, own_access, ready_at, ready_push, raises, active_without, active_values}
+use Rattle.ada_typed.proofs.Control.{onto, IsName, IsReference, Fits, Ready, TypedIn, running}
+use Rattle.ada_typed.proofs.Evaluations.{Fine, cell_at, own_access, ready_at, ready_operand, raises, active_without, active_values}
 use Rattle.ada_typed.proofs.Targets.{stored}
 
 -- There is an object where there is a cell.
@@ -31,6 +33,13 @@ object_there : (xs : List Object) (i : ℕ) (cell : Cell Value) → slice_get (c
 object_there [] i cell is = absurd (cc)
 object_there (x ∷ xs) zero cell is = (x, refl)
 object_there (x ∷ xs) (suc i) cell is = object_there xs i cell is
+
+-- The type of a formal parameter that is a record names that record's.
+object_names : (o : Option TypeForm) (t : ℕ) → is_this t (object_in o) ≡ true → named_in o ≡ Some t
+object_names None t is = absurd (cc)
+object_names (Some (record_of name parts components finalization)) t is = absurd (cc)
+object_names (Some (access_to name designated pool)) t is = absurd (cc)
+object_names (Some (object_of record_type)) t is = ap Some (eqb-true record_type t is)
 
 module _ (p : ProgramForm) where
   -- The values of the newest operands, which wait for the components of a record, and the state without them.
@@ -81,32 +90,52 @@ module _ (p : ProgramForm) where
   copies_fine Null access first rs s kinds ready has lies fits = raises p kinds (onto rs kinds) ConstraintError s ready fits
   copies_fine (Names o) access first rs s kinds ready has lies fits = copies_seen (slice_get s.heap o.0) o access first rs s kinds ready has refl lies fits
   copies_fine (Scalar v) access first rs s kinds ready has lies fits = absurd has
-  copies_fine (Part q d) access first rs s kinds ready has lies fits = absurd has
+  copies_fine (Part q place) access first rs s kinds ready has lies fits = absurd has
 
-  -- A record is referred to that is given.
-  referred_fine : (o : Id) (access object_type : TypeNo) (first : ℕ) (rs : List ComponentKind) (object : Object) (s : State) (kinds : List OperandKind) → Ready p kinds s → Designates (cells_of s.heap) access.0 o → slice_get s.heap o.0 ≡ Some object → has_record_at (reached_components p.types access.0) first (Some rs) ≡ true → reached_components p.types object_type.0 ≡ Some rs → Fits p (cells_of s.heap) (of_kind (variable.Record object_type) ∷ kinds) s.control → Fine p (referred_next named (Names o) first (record_in object.cell.values first (length rs)) s)
-  referred_fine o access object_type first rs object s kinds ready has is lies reached fits =
-      let there = record_there o access first rs object s kinds ready has is lies in
-      let own : has_record_at (reached_components p.types has.0.access) first (reached_components p.types object_type.0) ≡ true =
-      ap (λ (a : ℕ). has_record_at (reached_components p.types a) first (reached_components p.types object_type.0)) has.2 ∙
-      ap (λ (found : Option (List ComponentKind)). has_record_at (reached_components p.types access.0) first found) reached ∙ lies in
-      subst (λ (found : Option (List Value)). Fine p (referred_next named (Names o) first found s)) (sym there.1)
-      (running (of_kind (variable.Record object_type) ∷ kinds) (ready_push p kinds s (variable.Record object_type) (Part o first) ready (has.0, has.1, own)) fits)
+  -- A record is referred to that is given, or assigned to another: what refers to it is an operand of the kind that is wanted.
+  referred : (o : Id) (place : Place) (access : TypeNo) (kind : OperandKind) (t : ℕ) (cells : Cells) → Designates cells access.0 o → has_record_at (reached_components p.types access.0) place.component (record_components p.types t) ≡ true → has_parts_from (part_count p.types t) place.part (parts_reached p.types access.0) ≡ true → IsReference p.types kind t → IsOperand p.types cells kind (Part o place)
+  referred o place access (of_kind variable.Integer) t cells has lies parts is = absurd is
+  referred o place access (of_kind variable.Boolean) t cells has lies parts is = absurd is
+  referred o place access (of_kind (variable.Access other)) t cells has lies parts is = absurd is
+  referred o place access (of_kind (variable.Record object)) t cells has lies parts is =
+      let named_so : named_in (slice_get p.types object.0) ≡ Some t = object_names (slice_get p.types object.0) t is in (
+        has.0,
+        has.1,
+        ap (λ (a : ℕ). has_record_at (reached_components p.types a) place.component (reached_components p.types object.0)) has.2
+            ∙ ap (λ (own : Option ℕ). has_record_at (reached_components p.types access.0) place.component (components_reached p.types own)) named_so ∙ lies,
+        ap (λ (a : ℕ). has_parts_from (parts_reached p.types object.0) place.part (parts_reached p.types a)) has.2
+            ∙ ap (λ (own : Option ℕ). has_parts_from (parts_named p.types own) place.part (parts_reached p.types access.0)) named_so ∙ parts,
+      )
+  referred o place access (refers_to kind) t cells has lies parts is = absurd is
+  referred o place access (lies_in u) t cells has lies parts is =
+      subst (λ (v : ℕ). RefersToRecord p.types cells v (Part o place)) (sym is) (
+        has.0,
+        has.1,
+        ap (λ (a : ℕ). has_record_at (reached_components p.types a) place.component (record_components p.types t)) has.2 ∙ lies,
+        ap (λ (a : ℕ). has_parts_from (part_count p.types t) place.part (parts_reached p.types a)) has.2 ∙ parts,
+      )
 
-  refers_stage : (stage : Stage) (o : Id) (access object_type : TypeNo) (first : ℕ) (rs : List ComponentKind) (object : Object) (s : State) (kinds : List OperandKind) → Ready p kinds s → Designates (cells_of s.heap) access.0 o → slice_get s.heap o.0 ≡ Some object → has_record_at (reached_components p.types access.0) first (Some rs) ≡ true → reached_components p.types object_type.0 ≡ Some rs → Fits p (cells_of s.heap) (of_kind (variable.Record object_type) ∷ kinds) s.control → Fine p (refers_next named (Names o) first (length rs) (existing object stage) s)
-  refers_stage Gone o access object_type first rs object s kinds ready has is lies reached fits = tt
-  refers_stage Building o access object_type first rs object s kinds ready has is lies reached fits = referred_fine o access object_type first rs object s kinds ready has is lies reached fits
-  refers_stage Existing o access object_type first rs object s kinds ready has is lies reached fits = referred_fine o access object_type first rs object s kinds ready has is lies reached fits
+  referred_fine : (o : Id) (access : TypeNo) (kind : OperandKind) (t : ℕ) (place : Place) (rs : List ComponentKind) (object : Object) (s : State) (kinds : List OperandKind) → Ready p kinds s → Designates (cells_of s.heap) access.0 o → slice_get s.heap o.0 ≡ Some object → record_components p.types t ≡ Some rs → has_record_at (reached_components p.types access.0) place.component (Some rs) ≡ true → has_parts_from (part_count p.types t) place.part (parts_reached p.types access.0) ≡ true → IsReference p.types kind t → Fits p (cells_of s.heap) (kind ∷ kinds) s.control → Fine p (referred_next named (Names o) place (record_in object.cell.values place.component (length rs)) s)
+  referred_fine o access kind t place rs object s kinds ready has is recorded lies parts wanted fits =
+      let there = record_there o access place.component rs object s kinds ready has is lies in
+      let own = ap (λ (found : Option (List ComponentKind)). has_record_at (reached_components p.types access.0) place.component found) recorded ∙ lies in
+      subst (λ (found : Option (List Value)). Fine p (referred_next named (Names o) place found s)) (sym there.1)
+      (running (kind ∷ kinds) (ready_operand p kinds s kind (Part o place) ready (referred o place access kind t (cells_of s.heap) has own parts wanted)) fits)
 
-  refers_seen : (at_o : Option Object) (o : Id) (access object_type : TypeNo) (first : ℕ) (rs : List ComponentKind) (s : State) (kinds : List OperandKind) → Ready p kinds s → Designates (cells_of s.heap) access.0 o → slice_get s.heap o.0 ≡ at_o → has_record_at (reached_components p.types access.0) first (Some rs) ≡ true → reached_components p.types object_type.0 ≡ Some rs → Fits p (cells_of s.heap) (of_kind (variable.Record object_type) ∷ kinds) s.control → Fine p (refers_next named (Names o) first (length rs) (seen at_o) s)
-  refers_seen None o access object_type first rs s kinds ready has is lies reached fits = tt
-  refers_seen (Some object) o access object_type first rs s kinds ready has is lies reached fits = refers_stage object.stage o access object_type first rs object s kinds ready has is lies reached fits
+  refers_stage : (stage : Stage) (o : Id) (access : TypeNo) (kind : OperandKind) (t : ℕ) (place : Place) (rs : List ComponentKind) (object : Object) (s : State) (kinds : List OperandKind) → Ready p kinds s → Designates (cells_of s.heap) access.0 o → slice_get s.heap o.0 ≡ Some object → record_components p.types t ≡ Some rs → has_record_at (reached_components p.types access.0) place.component (Some rs) ≡ true → has_parts_from (part_count p.types t) place.part (parts_reached p.types access.0) ≡ true → IsReference p.types kind t → Fits p (cells_of s.heap) (kind ∷ kinds) s.control → Fine p (refers_next named (Names o) place (length rs) (existing object stage) s)
+  refers_stage Gone o access kind t place rs object s kinds ready has is recorded lies parts wanted fits = tt
+  refers_stage Building o access kind t place rs object s kinds ready has is recorded lies parts wanted fits = referred_fine o access kind t place rs object s kinds ready has is recorded lies parts wanted fits
+  refers_stage Existing o access kind t place rs object s kinds ready has is recorded lies parts wanted fits = referred_fine o access kind t place rs object s kinds ready has is recorded lies parts wanted fits
 
-  pub refers_fine : (v : Value) (access object_type : TypeNo) (first : ℕ) (rs : List ComponentKind) (s : State) (kinds : List OperandKind) → Ready p kinds s → HasKind p.types (cells_of s.heap) (variable.Access access) v → has_record_at (reached_components p.types access.0) first (Some rs) ≡ true → reached_components p.types object_type.0 ≡ Some rs → Fits p (cells_of s.heap) (of_kind (variable.Record object_type) ∷ kinds) s.control → Fine p (refers_next named v first (length rs) (look s.heap v) s)
-  refers_fine Null access object_type first rs s kinds ready has lies reached fits = raises p kinds (of_kind (variable.Record object_type) ∷ kinds) ConstraintError s ready fits
-  refers_fine (Names o) access object_type first rs s kinds ready has lies reached fits = refers_seen (slice_get s.heap o.0) o access object_type first rs s kinds ready has refl lies reached fits
-  refers_fine (Scalar held) access object_type first rs s kinds ready has lies reached fits = absurd has
-  refers_fine (Part q d) access object_type first rs s kinds ready has lies reached fits = absurd has
+  refers_seen : (at_o : Option Object) (o : Id) (access : TypeNo) (kind : OperandKind) (t : ℕ) (place : Place) (rs : List ComponentKind) (s : State) (kinds : List OperandKind) → Ready p kinds s → Designates (cells_of s.heap) access.0 o → slice_get s.heap o.0 ≡ at_o → record_components p.types t ≡ Some rs → has_record_at (reached_components p.types access.0) place.component (Some rs) ≡ true → has_parts_from (part_count p.types t) place.part (parts_reached p.types access.0) ≡ true → IsReference p.types kind t → Fits p (cells_of s.heap) (kind ∷ kinds) s.control → Fine p (refers_next named (Names o) place (length rs) (seen at_o) s)
+  refers_seen None o access kind t place rs s kinds ready has is recorded lies parts wanted fits = tt
+  refers_seen (Some object) o access kind t place rs s kinds ready has is recorded lies parts wanted fits = refers_stage object.stage o access kind t place rs object s kinds ready has is recorded lies parts wanted fits
+
+  pub refers_fine : (v : Value) (access : TypeNo) (kind : OperandKind) (t : ℕ) (place : Place) (rs : List ComponentKind) (s : State) (kinds : List OperandKind) → Ready p kinds s → HasKind p.types (cells_of s.heap) (variable.Access access) v → record_components p.types t ≡ Some rs → has_record_at (reached_components p.types access.0) place.component (Some rs) ≡ true → has_parts_from (part_count p.types t) place.part (parts_reached p.types access.0) ≡ true → IsReference p.types kind t → Fits p (cells_of s.heap) (kind ∷ kinds) s.control → Fine p (refers_next named v place (length rs) (look s.heap v) s)
+  refers_fine Null access kind t place rs s kinds ready has recorded lies parts wanted fits = raises p kinds (kind ∷ kinds) ConstraintError s ready fits
+  refers_fine (Names o) access kind t place rs s kinds ready has recorded lies parts wanted fits = refers_seen (slice_get s.heap o.0) o access kind t place rs s kinds ready has refl recorded lies parts wanted fits
+  refers_fine (Scalar held) access kind t place rs s kinds ready has recorded lies parts wanted fits = absurd has
+  refers_fine (Part q other) access kind t place rs s kinds ready has recorded lies parts wanted fits = absurd has
 
   -- The object is there in which the record lies that is assigned to: the items are evaluated next.
   record_target_stage : (stage : Stage) (o : Id) (access : TypeNo) (first : ℕ) (rs : List ComponentKind) (items : List ItemForm) (object : Object) (s : State) (kinds : List OperandKind) → Ready p kinds s → Designates (cells_of s.heap) access.0 o → has_record_at (reached_components p.types access.0) first (Some rs) ≡ true → items_fit p.types p.variables rs items ≡ true → Fits p (cells_of s.heap) kinds s.control → Fine p (record_target_next named (Names o) first (length rs) items (existing object stage) s)
@@ -124,7 +153,7 @@ module _ (p : ProgramForm) where
   record_target_fine Null access first rs items s kinds ready has lies fill fits = raises p kinds kinds ConstraintError s ready fits
   record_target_fine (Names o) access first rs items s kinds ready has lies fill fits = record_target_seen (slice_get s.heap o.0) o access first rs items s kinds ready has lies fill fits
   record_target_fine (Scalar v) access first rs items s kinds ready has lies fill fits = absurd has
-  record_target_fine (Part q d) access first rs items s kinds ready has lies fill fits = absurd has
+  record_target_fine (Part q place) access first rs items s kinds ready has lies fill fits = absurd has
 
   -- The components of a record get values of their kinds, one after the other.
   all_stored : (vs : List Value) (rs cs : List ComponentKind) (o : Id) (access : TypeNo) (c : ℕ) (s : State) (kinds : List OperandKind) → Ready p kinds s → Designates (cells_of s.heap) access.0 o → reached_components p.types access.0 ≡ Some cs → begins_with (drop c cs) rs ≡ true → HaveKinds p.types (cells_of s.heap) rs vs → Fits p (cells_of s.heap) kinds s.control → TypedIn p (record s { heap = stored_from named s.heap (Names o) c vs })
@@ -163,4 +192,4 @@ module _ (p : ProgramForm) where
   store_record_fine Null access first rs s ks name ready has lies fits = absurd name
   store_record_fine (Names o) access first rs s ks name ready has lies fits = store_record_seen (slice_get s.heap o.0) o access first rs s ks ready has refl lies fits
   store_record_fine (Scalar w) access first rs s ks name ready has lies fits = absurd name
-  store_record_fine (Part q d) access first rs s ks name ready has lies fits = absurd name
+  store_record_fine (Part q place) access first rs s ks name ready has lies fits = absurd name

@@ -1,15 +1,16 @@
 -- Which value a variable or a component may hold, and what lies in an object.
 
-use Rattle.std.specs.Prelude.{◌≡◌, ℕ, ℤ, true, List, [], ◌∷◌, map, Some}
+use Rattle.std.specs.Prelude.{◌≡◌, ℕ, ℤ, true, List, [], ◌∷◌, length, map, Some}
 use Rattle.std.specs.List.{slice_get}
 use Rattle.ada_program.specs.declared.program.ComponentKind.{ComponentKind}
 use Rattle.ada_program.specs.declared.program.VariableKind.{VariableKind}
 use Rattle.ada_program.specs.declared.program.VariableKind.TheVariants as variable
 use Rattle.ada_program.specs.declared.program.Program.{Program}
 use Rattle.ada_program.specs.ProgramForm.{TypeForm, ProgramForm, program_form, seen_in}
-use Rattle.ada_program.specs.WellFormed.{IsWellFormed, is_access, reached_components, has_record_at, held_kind, variable_kind}
+use Rattle.ada_program.specs.WellFormed.{IsWellFormed, is_access, reached_components, has_record_at, has_parts_from, object_named, parts_named, held_kind, variable_kind}
 use Rattle.ada_values.specs.declared.value.Value.TheVariants as scalar
 use Rattle.ada_meaning.specs.declared.state.Id.{Id}
+use Rattle.ada_meaning.specs.declared.state.Place.{Place}
 use Rattle.ada_meaning.specs.declared.state.Value.{Value}
 use Rattle.ada_meaning.specs.declared.state.Value.TheVariants.{Null, Names, Scalar, Part}
 use Rattle.ada_meaning.specs.Heap.{Cell}
@@ -27,7 +28,7 @@ IsInteger Null = ⊥
 IsInteger (Names o) = ⊥
 IsInteger (Scalar (scalar.Integer i)) = Unit {0}
 IsInteger (Scalar (scalar.Boolean b)) = ⊥
-IsInteger (Part o first) = ⊥
+IsInteger (Part o place) = ⊥
 
 -- A value is a Boolean (3.5.3).
 abbrev pub IsBoolean : Value → Type 0
@@ -35,7 +36,7 @@ IsBoolean Null = ⊥
 IsBoolean (Names o) = ⊥
 IsBoolean (Scalar (scalar.Integer i)) = ⊥
 IsBoolean (Scalar (scalar.Boolean b)) = Unit {0}
-IsBoolean (Part o first) = ⊥
+IsBoolean (Part o place) = ⊥
 
 -- A name was given to an object of this access type.
 abbrev pub Designates : Cells → ℕ → Id → Type 0
@@ -46,13 +47,19 @@ abbrev pub IsAccess : Cells → ℕ → Value → Type 0
 IsAccess cells access Null = Unit {0}
 IsAccess cells access (Names o) = Designates cells access o
 IsAccess cells access (Scalar v) = ⊥
-IsAccess cells access (Part o first) = ⊥
+IsAccess cells access (Part o place) = ⊥
 
--- A record of the type that is known by an object's type lies in the object of this name, from a component on (6.2).
-abbrev pub LiesIn : List TypeForm → Cells → (object_type : ℕ) → Id → (first : ℕ) → Type 0
-LiesIn types cells t o first =
+-- How many controlled parts the objects have that values of a type name (7.6).
+abbrev pub parts_reached : List TypeForm → (access : ℕ) → ℕ
+parts_reached types access = parts_named types (object_named types (Some access))
+
+-- A record of the type that is known by an object's type lies in the object of this name, where a place says (6.2): its components are components of the
+-- object, and its controlled parts are parts of it (7.6).
+abbrev pub LiesIn : List TypeForm → Cells → (object_type : ℕ) → Id → Place → Type 0
+LiesIn types cells t o place =
     (cell : Cell Value) × (slice_get cells o.0 ≡ Some cell)
-    × (has_record_at (reached_components types cell.access) first (reached_components types t) ≡ true)
+    × (has_record_at (reached_components types cell.access) place.component (reached_components types t) ≡ true)
+    × (has_parts_from (parts_reached types t) place.part (parts_reached types cell.access) ≡ true)
 
 -- What a record object or a record parameter holds: null before it is declared; the name of the object that is known by its type; or what refers to a
 -- record of its type (6.2).
@@ -60,7 +67,7 @@ abbrev pub IsRecord : List TypeForm → Cells → (object_type : ℕ) → Value 
 IsRecord types cells t Null = Unit {0}
 IsRecord types cells t (Names o) = Designates cells t o
 IsRecord types cells t (Scalar v) = ⊥
-IsRecord types cells t (Part o first) = LiesIn types cells t o first
+IsRecord types cells t (Part o place) = LiesIn types cells t o place
 
 -- A value is one that can be held where this kind is.
 abbrev pub HasKind : List TypeForm → Cells → VariableKind → Value → Type 0
@@ -97,6 +104,10 @@ cells_of objects = map cell_of objects
 -- In every run of a well-formed program, what lies in an object is what the record type has that its access type designates.
 abbrev pub ObjectsHaveTheirKinds : Type 0
 ObjectsHaveTheirKinds = (program : Program) → IsWellFormed (program_form program) → (input : List ℤ) (events : List Event) (last : State) (o : Id) (object : Object) → Run program (first_state program input) events last → object_at last.heap o ≡ Some object → IsFilled (program_form program).types (cells_of last.heap) object.cell
+
+-- In every run of a well-formed program, an object has as many controlled parts as the program says of the objects of its type (7.6).
+abbrev pub ObjectsHaveTheirParts : Type 0
+ObjectsHaveTheirParts = (program : Program) → IsWellFormed (program_form program) → (input : List ℤ) (events : List Event) (last : State) (o : Id) (object : Object) → Run program (first_state program input) events last → object_at last.heap o ≡ Some object → length object.cell.parts ≡ parts_reached (program_form program).types object.cell.access
 
 -- The program as the body sees it that runs.
 abbrev pub seen_now : ProgramForm → State → ProgramForm

@@ -1,6 +1,6 @@
 -- A well-formed program is never stuck: each action that a run comes to has a meaning.
 
-use Rattle.std.specs.Prelude.{◌≡◌, ℤ, List, [], ◌∷◌}
+use Rattle.std.specs.Prelude.{◌≡◌, ℕ, ℤ, List, [], ◌∷◌}
 use Rattle.ada_program.specs.declared.program.Choice.TheVariants as choice
 use Rattle.ada_program.specs.declared.program.Program.{Program}
 use Rattle.ada_program.specs.Form.{no_stmts, no_handlers, a_handler, handler_forms}
@@ -8,6 +8,10 @@ use Rattle.ada_program.specs.ProgramForm.{program_form}
 use Rattle.ada_program.specs.WellFormed.{IsWellFormed}
 use Rattle.ada_meaning.specs.declared.event.Halt.{Halt}
 use Rattle.ada_meaning.specs.declared.event.Halt.TheVariants.{Finished, Unhandled, Erroneous, Stuck, Memory}
+use Rattle.ada_meaning.specs.declared.state.Mode.TheVariants.{Running}
+use Rattle.ada_meaning.specs.declared.state.Value.{Value}
+use Rattle.ada_meaning.specs.Frame.{Frame}
+use Rattle.ada_meaning.specs.Frame as frame
 use Rattle.ada_meaning.specs.Named.{State}
 use Rattle.ada_meaning.specs.Run.{Event, Run, Halts, first_state}
 
@@ -45,6 +49,17 @@ GetsStuck program = (input : List ℤ) × (events : List Event) × (last : State
 -- parameters, also of an access type, which returns, and one with a record and a component for its formal parameters, and comes to its end.
 abbrev pub AWellFormedProgramFinishes : Type 0
 AWellFormedProgramFinishes = (program : Program) × IsWellFormed (program_form program) × Finishes program
+
+-- A run of the program comes to the assignment of a record that has controlled parts, whose target and source are found (5.2, 7.6).
+abbrev pub AssignsParts : Program → Type 0
+AssignsParts program =
+    (input : List ℤ) × (events : List Event) × (last : State) × (record_type : ℕ) × (behind : List (Frame Value))
+    × Run program (first_state program input) events last × (last.mode ≡ Running) × (last.control ≡ frame.Assigns record_type ∷ behind)
+
+-- So it is for records with controlled parts: a well-formed program declares one, and another as a copy of it, assigns the second to the first, and comes to
+-- its end.
+abbrev pub AWellFormedProgramAssignsParts : Type 0
+AWellFormedProgramAssignsParts = (program : Program) × IsWellFormed (program_form program) × AssignsParts program × Finishes program
 
 -- The premise is needed: a program that writes the image of a Boolean as that of an Integer gets stuck.
 abbrev pub AnIllTypedProgramGetsStuck : Type 0

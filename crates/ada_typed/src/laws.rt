@@ -1,8 +1,8 @@
 //! What types promise about runs, by the definitions alone.
 
 ghost use Rattle.ada_typed.specs.Freeing.{ObjectsAreFreedByTheirTypes, AProgramFreesItsOwn, AProgramFreesAnother};
-ghost use Rattle.ada_typed.specs.Holding.{ObjectsHaveTheirKinds, VariablesHaveTheirKinds};
-ghost use Rattle.ada_typed.specs.Stuck.{WellFormedProgramsAreNeverStuck, WellFormedProgramsEndByTheLanguage, AWellFormedProgramFinishes, AnIllTypedProgramGetsStuck, AnEmptyHandlerGetsStuck};
+ghost use Rattle.ada_typed.specs.Holding.{ObjectsHaveTheirKinds, ObjectsHaveTheirParts, VariablesHaveTheirKinds};
+ghost use Rattle.ada_typed.specs.Stuck.{WellFormedProgramsAreNeverStuck, WellFormedProgramsEndByTheLanguage, AWellFormedProgramFinishes, AWellFormedProgramAssignsParts, AnIllTypedProgramGetsStuck, AnEmptyHandlerGetsStuck};
 
 /// A well-formed program is never stuck: in each of its runs the next action has a meaning.
 pub fn well_formed_programs_are_never_stuck()
@@ -19,6 +19,12 @@ pub fn well_formed_programs_end_by_the_language()
 /// designates: a value of its kind for each component, in order.
 pub fn objects_have_their_kinds()
     ensures { ObjectsHaveTheirKinds }
+{}
+
+/// In every run of a well-formed program, an object has as many controlled parts as the program says of the objects of its
+/// type (7.6).
+pub fn objects_have_their_parts()
+    ensures { ObjectsHaveTheirParts }
 {}
 
 /// In every run of a well-formed program, each variable of the running activation holds a value of its kind, whether or
@@ -51,6 +57,12 @@ pub fn a_program_frees_another()
 /// and one with a record and a component for its formal parameters, and comes to its end.
 pub fn a_well_formed_program_finishes()
     ensures { AWellFormedProgramFinishes }
+{}
+
+/// So it is for records with controlled parts: a well-formed program declares one, and another as a copy of it, assigns the
+/// second to the first, and comes to its end.
+pub fn a_well_formed_program_assigns_parts()
+    ensures { AWellFormedProgramAssignsParts }
 {}
 
 /// The premise is needed: a program that writes the image of a Boolean as that of an Integer gets stuck.

@@ -2,7 +2,7 @@
 
 ghost use Rattle.std.specs.Prelude.{◌≡◌, IfOk, IfErr};
 ghost use Rattle.ada_flow.specs.Flow.{ObeysRules};
-ghost use Rattle.ada_meaning.specs.Law.{Safe};
+ghost use Rattle.ada_meaning.specs.Safe.{Safe};
 ghost use Rattle.ada_program.specs.Freed.{FreesItsOwn};
 ghost use Rattle.ada_program.specs.Nested.{CollectionsNest};
 ghost use Rattle.ada_program.specs.ProgramForm.{program_form};

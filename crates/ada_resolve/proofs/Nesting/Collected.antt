@@ -7,6 +7,7 @@ use Rattle.std.proofs.lemmas.Bool.{leb-true, leb-false}
 use Rattle.ada_program.specs.declared.program.ComponentKind.{ComponentKind}
 use Rattle.ada_program.specs.declared.program.ComponentKind.TheVariants as component
 use Rattle.ada_program.specs.Nested.{collected, record_objects, is_one_of, kind_is_open, are_open, collection_nests, record_nests, part_nests}
+use Rattle.ada_program.specs.declared.program.Finalization.{Finalization}
 use Rattle.ada_program.specs.ProgramForm.{PartForm, TypeForm, record_of, access_to, object_of}
 use Rattle.ada_program.specs.WellFormed as fits
 use Rattle.ada_resolve.specs.declared.scope.Entity.{Entity}
@@ -21,7 +22,7 @@ use Rattle.ada_resolve.proofs.WellFormed.Created.{accesses, collect_later, due}
 use Rattle.ada_resolve.proofs.WellFormed.Elaborated.{Late, ended_here}
 use Rattle.ada_resolve.proofs.WellFormed.Forms.{AreIn, forms, access_stays, object_stays, record_stays}
 use Rattle.ada_resolve.proofs.WellFormed.Names.{EntityFits}
-use Rattle.ada_resolve.proofs.WellFormed.Tables.{both_parts, first_part, second_part, all_get, get_within}
+use Rattle.ada_resolve.proofs.WellFormed.Tables.{both_parts, first_part, second_part, all_get, get_within, plain_of}
 
 -- a part creates the collections of its own access types, and of no others
 due_most : (c d : Bool) → cond c (cond d 1 0) 0 ≤ 1
@@ -78,16 +79,16 @@ access_there types a e = by_form (slice_get types a) refl e
   where
     by_form : (o : Option TypeForm) → slice_get types a ≡ o → is_some (fits.designated_in o) ≡ true → (name : List ℕ) × (d : ℕ) × (pool : Option ℕ) × (slice_get types a ≡ Some (access_to name d pool))
     by_form None is e = absurd (cc e)
-    by_form (Some (record_of name ps cs)) is e = absurd (cc e)
+    by_form (Some (record_of name ps cs final)) is e = absurd (cc e)
     by_form (Some (access_to name d pool)) is e = (name, d, pool, is)
     by_form (Some (object_of r)) is e = absurd (cc e)
 
-record_there : (types : List TypeForm) (d : ℕ) → fits.is_record types d ≡ true → (name : List ℕ) × (ps : List PartForm) × (cs : List ComponentKind) × (slice_get types d ≡ Some (record_of name ps cs))
+record_there : (types : List TypeForm) (d : ℕ) → fits.is_record types d ≡ true → (name : List ℕ) × (ps : List PartForm) × (cs : List ComponentKind) × (final : Option Finalization) × (slice_get types d ≡ Some (record_of name ps cs final))
 record_there types d e = by_form (slice_get types d) refl e
   where
-    by_form : (o : Option TypeForm) → slice_get types d ≡ o → is_some (fits.components_in o) ≡ true → (name : List ℕ) × (ps : List PartForm) × (cs : List ComponentKind) × (slice_get types d ≡ Some (record_of name ps cs))
+    by_form : (o : Option TypeForm) → slice_get types d ≡ o → is_some (fits.components_in o) ≡ true → (name : List ℕ) × (ps : List PartForm) × (cs : List ComponentKind) × (final : Option Finalization) × (slice_get types d ≡ Some (record_of name ps cs final))
     by_form None is e = absurd (cc e)
-    by_form (Some (record_of name ps cs)) is e = (name, ps, cs, is)
+    by_form (Some (record_of name ps cs final)) is e = (name, ps, cs, final, is)
     by_form (Some (access_to name d pool)) is e = absurd (cc e)
     by_form (Some (object_of r)) is e = absurd (cc e)
 
@@ -116,15 +117,16 @@ module _ (around : List ℕ) (m : Known) (s : Sound m) (l : Late m) (f : IsFresh
       (components_there cs lies.1 (second_part (fits.kind_fits m.types c) (list_all (fits.kind_fits m.types) cs) fit))
 
   -- a record type of the part, or one that is open around it
-  record_own : (t : ℕ) (name : List ℕ) (ps : List PartForm) (cs : List ComponentKind) → m.here.first_type ≤ t → slice_get m.types t ≡ Some (record_of name ps cs) → RecordOpen there m.types t
-  record_own t name ps cs behind is =
-      (name, ps, cs, is, components_there cs (w.forms t (record_of name ps cs) behind is) (all_get (fits.type_fits m.types) m.types t (record_of name ps cs) s.types_fit is))
+  record_own : (t : ℕ) (name : List ℕ) (ps : List PartForm) (cs : List ComponentKind) (final : Option Finalization) → m.here.first_type ≤ t → slice_get m.types t ≡ Some (record_of name ps cs final) → RecordOpen there m.types t
+  record_own t name ps cs final behind is =
+      let form = record_of name ps cs final in
+      (name, ps, cs, final, is, components_there cs (w.forms t form behind is) (plain_of m.types form (all_get (fits.type_fits m.types) m.types t form s.types_fit is)))
 
   record_designated : (d : ℕ) → (d < m.here.first_type → RecordOpen around m.types d) → fits.is_record m.types d ≡ true → RecordOpen there m.types d
   record_designated d lies is = by_place (nat_le m.here.first_type d) refl
     where
       by_place : (b : Bool) → nat_le m.here.first_type d ≡ b → RecordOpen there m.types d
-      by_place true behind = let r = record_there m.types d is in record_own d r.0 r.1 r.2 (leb-true m.here.first_type d behind) r.3
+      by_place true behind = let r = record_there m.types d is in record_own d r.0 r.1 r.2 r.3 (leb-true m.here.first_type d behind) r.4
       by_place false before = record_opener (collected m.here.elaborated) around m.types d (lies (leb-false m.here.first_type d before))
 
   -- the objects of a collection of the part
@@ -142,8 +144,8 @@ module _ (around : List ℕ) (m : Known) (s : Sound m) (l : Late m) (f : IsFresh
       let record_is = all_get (fits.type_fits m.types) m.types a (access_to is.0 is.1 is.2) s.types_fit is.3 in
       let r = record_designated is.1 (w.forms a (access_to is.0 is.1 is.2) own.0 is.3) record_is in
       let access_later = access_stays m.types types g a is.0 is.1 is.2 is.3 in
-      let record_later = record_stays m.types types g is.1 r.0 r.1 r.2 r.3 in
-      both_parts (not (is_one_of around a)) (are_open there (fits.reached_components types a)) (not_around a own.0) (rw (access_later.1, record_later) r.4)
+      let record_later = record_stays m.types types g is.1 r.0 r.1 r.2 r.3 r.4 in
+      both_parts (not (is_one_of around a)) (are_open there (fits.reached_components types a)) (not_around a own.0) (rw (access_later.1, record_later) r.5)
 
   -- the record objects of the part
   object_nests : (types : List TypeForm) → AreIn (forms m.types) (forms types) → (o : ℕ) → is_one_of (record_objects m.here.elaborated) o ≡ true → record_nests types there o ≡ true
@@ -152,8 +154,8 @@ module _ (around : List ℕ) (m : Known) (s : Sound m) (l : Late m) (f : IsFresh
       let record_is = all_get (fits.type_fits m.types) m.types o (object_of own.1) s.types_fit own.2 in
       let r = record_designated own.1 (w.forms o (object_of own.1) own.0 own.2) record_is in
       let object_later = object_stays m.types types g o own.1 own.2 in
-      let record_later = record_stays m.types types g own.1 r.0 r.1 r.2 r.3 in
-      rw (object_later, record_later) r.4
+      let record_later = record_stays m.types types g own.1 r.0 r.1 r.2 r.3 r.4 in
+      rw (object_later, record_later) r.5
 
   -- the collections and the record objects of the part nest, whatever types are declared behind it
   pub own_nests : (types : List TypeForm) → AreIn (forms m.types) (forms types) → part_nests types around m.here.elaborated ≡ true
@@ -177,7 +179,7 @@ module _ (around : List ℕ) (m : Known) (s : Sound m) (l : Late m) (f : IsFresh
   -- what a name of the part stands for
   entity_own : Complete m → (text : List ℕ) (e : Entity) → named text m.here.names ≡ Some e → IsOwnType m.here.first_type e → EntityFits m.types m.variables text e → EntityOpen there m.types e
   entity_own c text (entity.Incomplete t) is own fit = c text t is
-  entity_own c text (entity.Record t size) is own fit = record_own t.0 text fit.0 fit.1 own fit.2
+  entity_own c text (entity.Record t size) is own fit = record_own t.0 text fit.0 fit.1 fit.2 own fit.3
   entity_own c text (entity.Access t) is own fit = own_there t.0 (λ less. absurd (omega (arith, less, own))) (rw fit.2 refl)
   entity_own c text e is own fit = tt
 

@@ -6,8 +6,8 @@ use Rattle.std.specs.List.{list_all, slice_get, slice_set}
 use Rattle.std.proofs.lemmas.Bool.{leb-true, leb-false}
 use Rattle.ada_tree.specs.Declarations.{SizeTree}
 use Rattle.ada_tree.specs.Names.{Ident, NameTree}
-use Rattle.ada_tree.specs.Records.{StaticTree, ComponentTree, RecordTree}
-use Rattle.ada_tree.specs.Statements.{DeclarationTree, exception_declaration, constant_declaration, pool_declaration, attribute_clause, incomplete_type, access_type, record_type, instance, object_declaration, borrower_declaration}
+use Rattle.ada_tree.specs.Records.{StaticTree, ComponentTree}
+use Rattle.ada_tree.specs.Statements.{DeclarationTree, exception_declaration, constant_declaration, pool_declaration, attribute_clause, incomplete_type, access_type, record_type, derived_type, instance, object_declaration, borrower_declaration}
 use Rattle.ada_program.specs.declared.program.ComponentKind.{ComponentKind}
 use Rattle.ada_program.specs.declared.program.ComponentKind.TheVariants as component
 use Rattle.ada_program.specs.declared.program.Exception.TheVariants as exception
@@ -30,7 +30,8 @@ use Rattle.ada_resolve.specs.Objects.{type_in, object_type_found, held_of, kind_
 use Rattle.ada_resolve.specs.Paths.{elementary_in, elementary_of}
 use Rattle.ada_resolve.specs.Pools.{aspect_found, next_pool, pool_known}
 use Rattle.ada_resolve.specs.Rights.{Assigned}
-use Rattle.ada_resolve.specs.Records.{Composition, no_components, kind_in, kind_of_component, kinds_within, composed_with, composed, composition_of, components_written, record_type_known}
+use Rattle.ada_resolve.specs.Derived.{limited_parent, with_parent}
+use Rattle.ada_resolve.specs.Records.{Composition, no_components, kind_in, kind_of_component, kinds_within, composed_with, composed, components_written, counted, finalization_made, record_made, with_record}
 use Rattle.ada_resolve.specs.Resolution.{known_at, declaration_remark, declaration_known}
 use Rattle.ada_resolve.specs.Statics.{static_value}
 use Rattle.ada_resolve.specs.Types.{completed_type, record_in, record_found, defined, number_of, incomplete_known, access_defined}
@@ -62,7 +63,7 @@ parts_later around n types more g (p ∷ ps) b w =
     (λ text e is. entity_later around n types more g e (b.0 text e is) (w.0 text e is), parts_later around n types more g ps b.1 w.1)
 
 form_later : (around : List ℕ) (n : ℕ) (types more : List TypeForm) → StaysBefore n types more → (form : TypeForm) → FormLies around n types form → FormLies around n more form
-form_later around n types more g (record_of name ps cs) w = w
+form_later around n types more g (record_of name ps cs final) w = w
 form_later around n types more g (access_to name d pool) w = λ less. record_later around types more d (λ form is. g d form less is) (w less)
 form_later around n types more g (object_of r) w = λ less. record_later around types more r (λ form is. g r form less is) (w less)
 
@@ -90,7 +91,7 @@ objects_both n types (declares_record x object initial ∷ es) ds old new =
 -- a collection is no record object
 no_objects : (n t : ℕ) (types ts : List TypeForm) (es : List DeclarationForm) → ObjectsLie n types (collections_of t ts es)
 no_objects n t types [] es = λ o e. absurd (cc e)
-no_objects n t types (record_of name ps cs ∷ ts) es = no_objects n (t + 1) types ts es
+no_objects n t types (record_of name ps cs final ∷ ts) es = no_objects n (t + 1) types ts es
 no_objects n t types (object_of r ∷ ts) es = no_objects n (t + 1) types ts es
 no_objects n t types (access_to name d pool ∷ ts) es = by_test (is_collected t es) (no_objects n (t + 1) types ts es)
   where
@@ -121,18 +122,18 @@ own_entered : (n : ℕ) (ns : List Named) (text : List ℕ) (e : Entity) → IsO
 own_entered n ns text e own old = all_entered (λ t x. IsOwnType n x) ns text e own (λ t x ne is. old t x is)
 
 -- a type that is declared or completed
-type_open : (around : List ℕ) (k : Known) (text : List ℕ) (e : Entity) (c : Option TypeNo) (form : TypeForm) → Sound k → OpenAround around k → Keeps k (declared (record k { types = defined c form k.types }) text e) → IsOwnType k.here.first_type e → FormLies around k.here.first_type k.types form → OpenAround around (declared (record k { types = defined c form k.types }) text e)
-type_open around k text e c form s w g own lies =
+type_open : (around : List ℕ) (k : Known) (text : List ℕ) (e : Entity) (c : Option TypeNo) (form : TypeForm) (m : ℕ) → Sound k → OpenAround around k → Keeps k (declared (record k { types = defined c form k.types; controlled = m }) text e) → IsOwnType k.here.first_type e → FormLies around k.here.first_type k.types form → OpenAround around (declared (record k { types = defined c form k.types; controlled = m }) text e)
+type_open around k text e c form m s w g own lies =
     let n = k.here.first_type in
     let more = defined c form k.types in
-    let stays = before_stays k (declared (record k { types = more }) text e) s g in
+    let stays = before_stays k (declared (record k { types = more; controlled = m }) text e) s g in
     record {
       before = w.before;
       outer = parts_later around n k.types more stays k.outer s.bounds.outer_before w.outer;
       own = own_entered n k.here.names text e own w.own;
       forms = λ t x le is. form_later around n k.types more stays x
           (got_defined (FormLies around n k.types) c k.types form t x lies (λ there. w.forms t x le there) is);
-      objects = objects_stay k (declared (record k { types = more }) text e) s g w.objects;
+      objects = objects_stay k (declared (record k { types = more; controlled = m }) text e) s g w.objects;
     }
 
 -- nothing is declared but a name
@@ -147,7 +148,7 @@ own_number k text (Some t) s slot = s.bounds.open_own text t slot
 
 -- `type T;`
 incomplete_open : (around : List ℕ) (k : Known) (name : Ident) → Sound k → OpenAround around k → Keeps k (incomplete_known k name) → OpenAround around (incomplete_known k name)
-incomplete_open around k name s w g = type_open around k name.text (entity.Incomplete (record { 0 = length k.types })) None (record_of name.text [] []) s w g s.bounds.first tt
+incomplete_open around k name s w g = type_open around k name.text (entity.Incomplete (record { 0 = length k.types })) None (record_of name.text [] [] None) k.controlled s w g s.bounds.first tt
 
 -- `type A is access T;`
 found_open : (around : List ℕ) (n : ℕ) (types : List TypeForm) (o : Option Entity) (d : TypeNo) → ((e : Entity) → o ≡ Some e → EntityLies around n types e) → record_in o ≡ Some d → d.0 < n → RecordOpen around types d.0
@@ -167,7 +168,7 @@ designated_open around k designated d w is =
 access_open_at : (around : List ℕ) (k : Known) (name : Ident) (c o : Option TypeNo) (pool : Option PoolNo) → Sound k → OpenAround around k → IsSlot k name.text c → Keeps k (access_defined k name c o pool) → ((d : TypeNo) → o ≡ Some d → d.0 < k.here.first_type → RecordOpen around k.types d.0) → OpenAround around (access_defined k name c o pool)
 access_open_at around k name c None pool s w slot g lies = w
 access_open_at around k name c (Some d) pool s w slot g lies =
-    type_open around k name.text (entity.Access (number_of c k.types)) c (access_to name.text d.0 (pool_number pool)) s w g (own_number k name.text c s slot) (lies d refl)
+    type_open around k name.text (entity.Access (number_of c k.types)) c (access_to name.text d.0 (pool_number pool)) k.controlled s w g (own_number k name.text c s slot) (lies d refl)
 
 -- `type T is record .. end record;`
 both_lie : (around : List ℕ) (n : ℕ) (own others : List ComponentKind) → ComponentsLie around n own → ComponentsLie around n others → ComponentsLie around n (own ++ others)
@@ -194,7 +195,7 @@ record_lies around k w t lies = by_place (nat_le k.here.first_type t) refl
 
     own : n ≤ t → (o : Option TypeForm) → slice_get k.types t ≡ o → ComponentsLie around n (elementary_in o)
     own behind None is = tt
-    own behind (Some (record_of name ps cs)) is = w.forms t (record_of name ps cs) behind is
+    own behind (Some (record_of name ps cs final)) is = w.forms t (record_of name ps cs final) behind is
     own behind (Some (access_to name d pool)) is = tt
     own behind (Some (object_of r)) is = tt
 
@@ -202,7 +203,7 @@ record_lies around k w t lies = by_place (nat_le k.here.first_type t) refl
     by_place true behind = own (leb-true n t behind) (slice_get k.types t) refl
     by_place false before =
         let r = lies (leb-false n t before) in
-        subst (λ (o : Option TypeForm). ComponentsLie around n (elementary_in o)) (sym r.3) (open_lie around n r.2 r.4)
+        subst (λ (o : Option TypeForm). ComponentsLie around n (elementary_in o)) (sym r.4) (open_lie around n r.2 r.5)
 
 kind_lies : (around : List ℕ) (k : Known) (o : Option Entity) (initial : Option StaticTree) → OpenAround around k → ((e : Entity) → o ≡ Some e → EntityLies around k.here.first_type k.types e) → ComponentsLie around k.here.first_type (kinds_within k.types (kind_in o k initial))
 kind_lies around k None initial u w = (tt, tt)
@@ -220,12 +221,12 @@ components_lie around k w before (c ∷ cs) old =
     (both_lie around k.here.first_type before.kinds (kinds_within k.types (kind_of_component k c)) old
     (kind_lies around k (visible k c.type_name.text) c.initial w (visible_lies around k w c.type_name.text)))
 
-record_type_open : (around : List ℕ) (k : Known) (name : Ident) (definition : RecordTree) → Sound k → OpenAround around k → IsSlot k name.text (completed_type k name) → Keeps k (record_type_known k name definition) → OpenAround around (record_type_known k name definition)
-record_type_open around k name definition s w slot g =
+record_type_open : (around : List ℕ) (k : Known) (name : Ident) (before : Composition) (cs : List ComponentTree) → ComponentsLie around k.here.first_type before.kinds → Sound k → OpenAround around k → IsSlot k name.text (completed_type k name) → Keeps k (with_record k name (composed k before cs)) → OpenAround around (with_record k name (composed k before cs))
+record_type_open around k name before cs old s w slot g =
     let c = completed_type k name in
-    let made = composition_of k (components_written definition) in
-    type_open around k name.text (entity.Record (number_of c k.types) made.size) c (record_of name.text made.parts made.kinds) s w g
-    (own_number k name.text c s slot) (components_lie around k w no_components (components_written definition) tt)
+    let made = composed k before cs in
+    type_open around k name.text (entity.Record (number_of c k.types) made.size) c (record_made k.controlled name made) (counted (finalization_made k.controlled made) k.controlled) s w g
+    (own_number k name.text c s slot) (components_lie around k w before cs old)
 
 -- `procedure Free is new Ada.Unchecked_Deallocation (T, A);`
 instance_open : (around : List ℕ) (k : Known) (name : Ident) (o : Option TypeNo) → OpenAround around k → OpenAround around (instance_of k name o)
@@ -250,12 +251,12 @@ pool_open around k name size w = record {
 
 -- `for A'Storage_Pool use P;`
 form_bare : (around : List ℕ) (n : ℕ) (types : List TypeForm) (x : TypeForm) → FormLies around n types x → FormLies around n types (bare x)
-form_bare around n types (record_of name ps cs) w = w
+form_bare around n types (record_of name ps cs final) w = w
 form_bare around n types (access_to name d pool) w = w
 form_bare around n types (object_of r) w = w
 
 bare_form : (around : List ℕ) (n : ℕ) (types : List TypeForm) (x : TypeForm) → FormLies around n types (bare x) → FormLies around n types x
-bare_form around n types (record_of name ps cs) w = w
+bare_form around n types (record_of name ps cs final) w = w
 bare_form around n types (access_to name d pool) w = w
 bare_form around n types (object_of r) w = w
 
@@ -385,7 +386,10 @@ declaration_open around k (access_type spot name designated aspect) s w q =
     access_open_at around k name (completed_type k name) (record_found k designated) (aspect_found k aspect) s w (slot_of k name spot q.1.1.0)
     (declaration_keeps k (access_type spot name designated aspect) s q) (λ d is. designated_open around k designated d w is)
 declaration_open around k (record_type spot name definition) s w q =
-    record_type_open around k name definition s w (slot_of k name spot q.1.0) (declaration_keeps k (record_type spot name definition) s q)
+    record_type_open around k name no_components (components_written definition) tt s w (slot_of k name spot q.1.0) (declaration_keeps k (record_type spot name definition) s q)
+declaration_open around k (derived_type spot name parent definition) s w q =
+    record_type_open around k name (with_parent (limited_parent k parent)) (components_written definition) tt s w (slot_of k name spot q.1.0)
+    (declaration_keeps k (derived_type spot name parent definition) s q)
 declaration_open around k (instance spot name generic object access) s w q = instance_open around k name (freed_found k access (record_found k object)) w
 declaration_open around k (constant_declaration name value) s w q = name_open around k name.text (entity.Number (static_value k value)) w tt
 declaration_open around k (exception_declaration name) s w q = record {

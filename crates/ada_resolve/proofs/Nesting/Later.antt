@@ -6,7 +6,7 @@ use Rattle.std.specs.List.{list_all}
 use Rattle.ada_text.specs.declared.spot.Spot.{Spot}
 use Rattle.ada_tree.specs.Declarations.{HeadTree}
 use Rattle.ada_tree.specs.Names.{Ident}
-use Rattle.ada_tree.specs.Statements.{DeclarationTree, exception_declaration, constant_declaration, pool_declaration, attribute_clause, incomplete_type, access_type, record_type, instance}
+use Rattle.ada_tree.specs.Statements.{DeclarationTree, exception_declaration, constant_declaration, pool_declaration, attribute_clause, incomplete_type, access_type, record_type, derived_type, instance}
 use Rattle.ada_program.specs.declared.program.PoolNo.{PoolNo}
 use Rattle.ada_program.specs.declared.program.TypeNo.{TypeNo}
 use Rattle.ada_program.specs.declared.program.VariableKind.{VariableKind}
@@ -163,8 +163,8 @@ module _ (types : List TypeForm) where
   object_nests us k t r g =
       let more = k.types ++ object_of t ∷ [] in
       let object_later = object_stays more types g (length k.types) t (get_last k.types (object_of t)) in
-      let record_is = record_stays more types g t r.0 r.1 r.2 (get_more k.types (object_of t) t (record_of r.0 r.1 r.2) r.3) in
-      rw (object_later, record_is) r.4
+      let record_is = record_stays more types g t r.0 r.1 r.2 r.3 (get_more k.types (object_of t) t (record_of r.0 r.1 r.2 r.3) r.4) in
+      rw (object_later, record_is) r.5
 
   late_record : (around : List ℕ) (k : Known) (name : Ident) (t : TypeNo) (initial : Option (List ItemForm)) → RecordOpen (collected k.here.elaborated ++ around) k.types t.0 → LateOpen around k → LateOpen around (record_created k name t initial)
   late_record around k name t initial r w =
@@ -255,6 +255,7 @@ module _ (types : List TypeForm) where
   IsEarly (incomplete_type spot name) = Unit {0}
   IsEarly (access_type spot name designated aspect) = Unit {0}
   IsEarly (record_type spot name definition) = Unit {0}
+  IsEarly (derived_type spot name parent definition) = Unit {0}
   IsEarly (instance spot name generic object access) = Unit {0}
   IsEarly (constant_declaration name value) = Unit {0}
   IsEarly (exception_declaration name) = Unit {0}
@@ -266,6 +267,7 @@ module _ (types : List TypeForm) where
   declaration_calls us k (incomplete_type spot name) is w = (calls_entered types k.bodies us k.here.names name.text _ tt w.0, w.1)
   declaration_calls us k (access_type spot name designated aspect) is w = access_calls us k name (completed_type k name) (record_found k designated) (aspect_found k aspect) w
   declaration_calls us k (record_type spot name definition) is w = (calls_entered types k.bodies us k.here.names name.text _ tt w.0, w.1)
+  declaration_calls us k (derived_type spot name parent definition) is w = (calls_entered types k.bodies us k.here.names name.text _ tt w.0, w.1)
   declaration_calls us k (instance spot name generic object access) is w = instance_calls us k name (freed_found k access (record_found k object)) w
   declaration_calls us k (constant_declaration name value) is w = (calls_entered types k.bodies us k.here.names name.text _ tt w.0, w.1)
   declaration_calls us k (exception_declaration name) is w = (calls_entered types k.bodies us k.here.names name.text _ tt w.0, w.1)

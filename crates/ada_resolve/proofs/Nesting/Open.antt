@@ -9,6 +9,7 @@ use Rattle.ada_program.specs.declared.program.ComponentKind.TheVariants as compo
 use Rattle.ada_program.specs.declared.program.Exception.TheVariants.{ConstraintError, ProgramError, StorageError}
 use Rattle.ada_program.specs.Form.{DeclarationForm, creates_pool, collects, declares, declares_record}
 use Rattle.ada_program.specs.Nested.{collected, is_one_of, kind_is_open, record_objects}
+use Rattle.ada_program.specs.declared.program.Finalization.{Finalization}
 use Rattle.ada_program.specs.ProgramForm.{PartForm, TypeForm, record_of, access_to, object_of}
 use Rattle.ada_resolve.specs.declared.library.Withs.{Withs}
 use Rattle.ada_resolve.specs.declared.scope.Entity.{Entity}
@@ -23,7 +24,7 @@ use Rattle.ada_resolve.proofs.WellFormed.Tables.{all_weaker, both_parts, first_p
 -- the record type of a number is there, and its components name collections that are open around
 abbrev pub RecordOpen : (around : List ℕ) → List TypeForm → ℕ → Type 0
 RecordOpen around types t =
-    (name : List ℕ) × (ps : List PartForm) × (cs : List ComponentKind) × (slice_get types t ≡ Some (record_of name ps cs)) × (list_all (kind_is_open around) cs ≡ true)
+    (name : List ℕ) × (ps : List PartForm) × (cs : List ComponentKind) × (final : Option Finalization) × (slice_get types t ≡ Some (record_of name ps cs final)) × (list_all (kind_is_open around) cs ≡ true)
 
 -- what a name of a part around stands for: an access type whose collection is open, or a record type that names such ones alone
 abbrev pub EntityOpen : (around : List ℕ) → List TypeForm → Entity → Type 0
@@ -60,7 +61,7 @@ ComponentsLie around n (kind ∷ kinds) = KindLies around n kind × ComponentsLi
 -- a type of the part: a record type with such components, or an access type or that of a record object, whose record type is one of the part or one
 -- that is open around it
 abbrev pub FormLies : (around : List ℕ) → ℕ → List TypeForm → TypeForm → Type 0
-FormLies around n types (record_of name ps cs) = ComponentsLie around n cs
+FormLies around n types (record_of name ps cs final) = ComponentsLie around n cs
 FormLies around n types (access_to name d pool) = d < n → RecordOpen around types d
 FormLies around n types (object_of r) = r < n → RecordOpen around types r
 
@@ -183,7 +184,7 @@ kind_opener us vs (component.Access t) e = one_of_second us vs t.0 e
 
 pub record_opener : (us vs : List ℕ) (types : List TypeForm) (t : ℕ) → RecordOpen vs types t → RecordOpen (us ++ vs) types t
 record_opener us vs types t w =
-    (w.0, w.1, w.2, w.3, all_weaker (kind_is_open vs) (kind_is_open (us ++ vs)) (kind_opener us vs) w.2 w.4)
+    (w.0, w.1, w.2, w.3, w.4, all_weaker (kind_is_open vs) (kind_is_open (us ++ vs)) (kind_opener us vs) w.2 w.5)
 
 entity_opener : (us vs : List ℕ) (types : List TypeForm) (e : Entity) → EntityOpen vs types e → EntityOpen (us ++ vs) types e
 entity_opener us vs types (entity.Incomplete t) w = w
@@ -198,7 +199,7 @@ parts_opener us vs types (p ∷ ps) w = (λ text e is. entity_opener us vs types
 -- where types stay, but for their pools, records stay open
 pub record_later : (around : List ℕ) (types more : List TypeForm) (t : ℕ) → ((form : TypeForm) → slice_get (forms types) t ≡ Some form → slice_get (forms more) t ≡ Some form) → RecordOpen around types t → RecordOpen around more t
 record_later around types more t g w =
-    let form = record_of w.0 w.1 w.2 in (w.0, w.1, w.2, record_there more t w.0 w.1 w.2 (g form (get_form types t form w.3)), w.4)
+    let form = record_of w.0 w.1 w.2 w.3 in (w.0, w.1, w.2, w.3, record_there more t w.0 w.1 w.2 w.3 (g form (get_form types t form w.4)), w.5)
 
 -- the collections that declarations create are those that are collected
 pub collected_is : (es : List DeclarationForm) (a : ℕ) → is_one_of (collected es) a ≡ is_collected a es

@@ -6,7 +6,7 @@ use Rattle.std.specs.Prelude.{◌&&◌}
 use Rattle.ada_text.specs.declared.spot.Spot.{Spot}
 use Rattle.ada_tree.specs.Declarations.{HeadTree}
 use Rattle.ada_tree.specs.Names.{Ident}
-use Rattle.ada_tree.specs.Statements.{DeclarationTree, exception_declaration, constant_declaration, pool_declaration, attribute_clause, incomplete_type, access_type, record_type, instance, object_declaration, borrower_declaration, body_declaration, SchemeTree, endless, while_scheme, for_scheme, StatementTree, if_statement, loop_statement, block, declare_block, DeclarationsTree, no_declarations, a_declaration, StatementsTree, no_statements, a_statement, BranchesTree, no_branches, a_branch, HandlersTree, no_handlers, a_handler, SequenceTree, a_sequence}
+use Rattle.ada_tree.specs.Statements.{DeclarationTree, exception_declaration, constant_declaration, pool_declaration, attribute_clause, incomplete_type, access_type, record_type, derived_type, instance, object_declaration, borrower_declaration, body_declaration, SchemeTree, endless, while_scheme, for_scheme, StatementTree, if_statement, loop_statement, block, declare_block, DeclarationsTree, no_declarations, a_declaration, StatementsTree, no_statements, a_statement, BranchesTree, no_branches, a_branch, HandlersTree, no_handlers, a_handler, SequenceTree, a_sequence}
 use Rattle.ada_program.specs.declared.program.VariableKind.TheVariants as variable
 use Rattle.ada_program.specs.Form.{StmtForm, chooses, repeats, counts, encloses, StmtsForm, no_stmts, a_stmt, BranchesForm, otherwise, HandlersForm}
 use Rattle.ada_program.specs.Form as form
@@ -237,6 +237,7 @@ module _ (types : List TypeForm) where
   early_state us k (incomplete_type spot name) is s (behind off w) q = absurd (no_types k spot off q.0)
   early_state us k (access_type spot name designated aspect) is s (behind off w) q = absurd (no_types k spot off q.0)
   early_state us k (record_type spot name definition) is s (behind off w) q = absurd (no_types k spot off q.0)
+  early_state us k (derived_type spot name parent definition) is s (behind off w) q = absurd (no_types k spot off q.0)
   early_state us k (instance spot name generic object access) is s (behind off w) q = absurd (no_types k spot off q.0)
   early_state us k (constant_declaration name value) is s (behind off w) q = absurd (no_types k name.spot off q.0)
   early_state us k (exception_declaration name) is s (behind off w) q = absurd (no_types k name.spot off q.0)
@@ -378,6 +379,9 @@ module _ (types : List TypeForm) where
     told_nested (record_type spot name definition) us at next s o b w c g e =
         let one = single_done (record_type spot name definition) at next e in
         subst (λ v. State types us v) (sym one.known) (early_state us at.0 (record_type spot name definition) tt s w one.quiet)
+    told_nested (derived_type spot name parent definition) us at next s o b w c g e =
+        let one = single_done (derived_type spot name parent definition) at next e in
+        subst (λ v. State types us v) (sym one.known) (early_state us at.0 (derived_type spot name parent definition) tt s w one.quiet)
     told_nested (instance spot name generic object access) us at next s o b w c g e =
         let one = single_done (instance spot name generic object access) at next e in
         subst (λ v. State types us v) (sym one.known) (early_state us at.0 (instance spot name generic object access) tt s w one.quiet)

@@ -1,6 +1,6 @@
 -- A declaration leaves what is known in order, and what stays.
 
-use Rattle.std.proofs.Common.{◌≡◌, ℕ, ◌≤◌, Bool, true, false, cond, List, [], ◌∷◌, ◌++◌, length, length-append, refl, sym, subst, arith}
+use Rattle.std.proofs.Common.{◌≡◌, ℕ, ◌≤◌, Bool, true, false, cond, List, [], ◌∷◌, ◌++◌, length, length-append, refl, sym, ◌∙◌, subst, arith}
 use Rattle.std.specs.Prelude.{◌||◌, not, nat_lt, Option, Some, None, is_some}
 use Rattle.ada_text.specs.declared.spot.Spot.{Spot}
 use Rattle.ada_program.specs.declared.program.Exception.TheVariants as exception
@@ -13,9 +13,9 @@ use Rattle.ada_program.specs.ProgramForm.{TypeForm, record_of, access_to, object
 use Rattle.ada_program.specs.WellFormed as fits
 use Rattle.ada_tree.specs.Declarations.{AspectTree, SizeTree}
 use Rattle.ada_tree.specs.Expressions.{RightTree}
-use Rattle.ada_tree.specs.Names.{Ident}
+use Rattle.ada_tree.specs.Names.{Ident, NameTree}
 use Rattle.ada_tree.specs.Records.{RecordTree}
-use Rattle.ada_tree.specs.Statements.{DeclarationTree, exception_declaration, constant_declaration, pool_declaration, attribute_clause, incomplete_type, access_type, record_type, instance, object_declaration, borrower_declaration}
+use Rattle.ada_tree.specs.Statements.{DeclarationTree, exception_declaration, constant_declaration, pool_declaration, attribute_clause, incomplete_type, access_type, record_type, derived_type, instance, object_declaration, borrower_declaration}
 use Rattle.ada_resolve.specs.declared.scope.Entity.{Entity}
 use Rattle.ada_resolve.specs.declared.scope.Entity.TheVariants as entity
 use Rattle.ada_resolve.specs.Borrowers.{borrower_remark, borrower_known}
@@ -27,13 +27,15 @@ use Rattle.ada_resolve.specs.Pools.{aspect_found, is_storage_pool, size_value, n
 use Rattle.ada_resolve.specs.Remark.{wrong}
 use Rattle.ada_resolve.specs.Rights.{Assigned}
 use Rattle.ada_resolve.specs.Objects.{object_type_found, held_of, kind_of, initial_items_in, initial_value_in, initial_found, initial_source, missing_collections, ends_types, after_types, with_variable, variable_created, object_created, next_record, with_record_object, record_created, created_of, object_known}
-use Rattle.ada_resolve.specs.Records.{composition_of, components_written, record_type_known, record_type_remark}
+use Rattle.ada_resolve.specs.Derived.{derived_type_known, derived_type_remark, limited_parent, with_parent}
+use Rattle.ada_resolve.specs.Records.{Composition, composed, composition_of, components_written, counted, finalization_made, record_made, record_type_known, record_type_remark, with_record}
 use Rattle.ada_resolve.specs.Resolution.{known_at, declaration_remark, declaration_known}
 use Rattle.ada_resolve.specs.Statics.{static_value}
 use Rattle.ada_resolve.specs.Types.{completed_type, record_found, number_of, incomplete_known, incomplete_remark, access_remark, access_defined, access_known, with_definition}
 use Rattle.ada_resolve.proofs.WellFormed.Borrowers.{lent_of, lent_kind, borrower_is}
 use Rattle.ada_resolve.proofs.WellFormed.Exceptions.{raised_outer}
-use Rattle.ada_resolve.proofs.WellFormed.Names.{EntityFits, variables_behind, PartsFit}
+use Rattle.ada_resolve.proofs.WellFormed.Names.{EntityFits, variables_behind, PartsFit, laid_in}
+use Rattle.ada_resolve.proofs.WellFormed.Numbered.{numbered_same}
 use Rattle.ada_resolve.proofs.WellFormed.Placed.{grown, placed_forms, placed_housed, placed_fit, placed_unused, parts_placed}
 use Rattle.ada_resolve.proofs.WellFormed.Remarks.{Quiet, quiet_if, quiet_unless}
 use Rattle.ada_resolve.specs.declared.fault.NameRule.TheVariants.{Layout, NotInProfile}
@@ -41,7 +43,7 @@ use Rattle.ada_resolve.proofs.WellFormed.Tables.{all_more, all_weaker, both_part
 use Rattle.ada_resolve.proofs.WellFormed.Types.{IsAccessIn, found_access, IsKindIn, found_type, record_visible, full_visible}
 use Rattle.ada_resolve.proofs.Standing.Housed.{called_later, housed_later, clause_pool_known}
 use Rattle.ada_resolve.proofs.Standing.Order.{Sound, IsSettled, Keeps, keeps_same, keeps_on, longer_types, visible_settled}
-use Rattle.ada_resolve.proofs.Standing.Types.{name_sound, incomplete_sound, record_sound, access_sound, object_type_sound, one_longer}
+use Rattle.ada_resolve.proofs.Standing.Types.{name_sound, incomplete_sound, record_sound, derived_sound, access_sound, object_type_sound, one_longer}
 use Rattle.ada_resolve.proofs.Standing.Kept.{IsSlot, new_slot, slot_of, keeps_new, keeps_name, keeps_defined, keeps_elaborated, keeps_object_type, keeps_variable, keeps_exception, keeps_pool, keeps_frozen, keeps_placed}
 
 -- only what is elaborated changes
@@ -53,6 +55,7 @@ elaborated_sound es k w = record {
   exceptions = w.exceptions;
   called = w.called;
   housed = w.housed;
+  controlled = w.controlled;
   sized = w.sized;
   bounds = record { first = w.bounds.first; first_variable = w.bounds.first_variable; modes = w.bounds.modes; first_body = w.bounds.first_body; open_own = w.bounds.open_own; open_unused = w.bounds.open_unused; outer_before = w.bounds.outer_before };
 }
@@ -83,6 +86,7 @@ variable_sound v k w fit = record {
   exceptions = w.exceptions;
   called = w.called;
   housed = w.housed;
+  controlled = w.controlled;
   sized = w.sized;
   bounds = record {
     first = w.bounds.first;
@@ -104,6 +108,7 @@ raised_sound name k w = record {
   exceptions = raised_outer k.exceptions name (parts k) w.exceptions;
   called = w.called;
   housed = w.housed;
+  controlled = w.controlled;
   sized = w.sized;
   bounds = record { first = w.bounds.first; first_variable = w.bounds.first_variable; modes = w.bounds.modes; first_body = w.bounds.first_body; open_own = w.bounds.open_own; open_unused = w.bounds.open_unused; outer_before = w.bounds.outer_before };
 }
@@ -119,6 +124,7 @@ with_pool_sound p k w =
       exceptions = w.exceptions;
       called = called_later (length k.bodies) (length k.pools) (length k.bodies) (length (k.pools ++ p ∷ [])) (omega arith) (omega (arith, one)) (parts k) w.called;
       housed = housed_later (length k.pools) (length (k.pools ++ p ∷ [])) (omega (arith, one)) k.types w.housed;
+      controlled = w.controlled;
       sized = w.sized;
       bounds = record { first = w.bounds.first; first_variable = w.bounds.first_variable; modes = w.bounds.modes; first_body = w.bounds.first_body; open_own = w.bounds.open_own; open_unused = w.bounds.open_unused; outer_before = w.bounds.outer_before };
     }
@@ -132,6 +138,7 @@ frozen_sound access k w = record {
   exceptions = w.exceptions;
   called = w.called;
   housed = w.housed;
+  controlled = w.controlled;
   sized = w.sized;
   bounds = record { first = w.bounds.first; first_variable = w.bounds.first_variable; modes = w.bounds.modes; first_body = w.bounds.first_body; open_own = w.bounds.open_own; open_unused = w.bounds.open_unused; outer_before = w.bounds.outer_before };
 }
@@ -143,12 +150,13 @@ placed_sound access pool k there w =
     let same = placed_forms pool.0 k.types access.0 in
     let g = grown k.types more same in
     record {
-      types_fit = placed_fit k.types more same w.types_fit;
+      types_fit = placed_fit k.types more same (laid_in k.types k.variables (parts k) w.names) w.types_fit;
       variables_fit = all_weaker (fits.variable_fits k.types) (fits.variable_fits more) (variable_kept k.types more (types_keep k.types more g)) k.variables w.variables_fit;
       names = parts_placed k.types more same k.variables (parts k) w.names;
       exceptions = w.exceptions;
       called = w.called;
       housed = placed_housed (length k.pools) pool.0 k.types access.0 there w.housed;
+      controlled = w.controlled ∙ sym (numbered_same k.types more same);
       sized = w.sized;
       bounds = record {
         first = let a = w.bounds.first in let b = longer_types k.types more g in omega (arith, a, b);
@@ -168,23 +176,32 @@ none_ended k spot q = second_part (no_variable_yet k) (no_body_yet k) (quiet_unl
 -- `type T;`
 incomplete_keeps : (k : Known) (spot : Spot) (name : Ident) → Quiet (incomplete_remark k spot name) → Keeps k (incomplete_known k name)
 incomplete_keeps k spot name q =
-    keeps_new k name.text (entity.Incomplete (record { 0 = length k.types })) (k.types ++ record_of name.text [] [] ∷ []) (new_slot k name spot q.1)
-    (λ t form is. get_more k.types (record_of name.text [] []) t form is) (one_longer k.types (record_of name.text [] [])) (omega arith)
+    keeps_new k name.text (entity.Incomplete (record { 0 = length k.types })) (k.types ++ record_of name.text [] [] None ∷ []) k.controlled (new_slot k name spot q.1)
+    (λ t form is. get_more k.types (record_of name.text [] [] None) t form is) (one_longer k.types (record_of name.text [] [] None)) (omega arith)
 
 -- `type A is access T;`
 access_keeps_at : (k : Known) (name : Ident) (o : Option TypeNo) (pool : Option PoolNo) → no_body_yet k ≡ true → Sound k → IsSlot k name.text (completed_type k name) → Keeps k (access_defined k name (completed_type k name) o pool)
 access_keeps_at k name None pool none w slot = keeps_same k
-access_keeps_at k name (Some d) pool none w slot = keeps_defined k name.text (entity.Access (number_of (completed_type k name) k.types)) (completed_type k name) (access_to name.text d.0 (pool_number pool)) none w slot refl tt
+access_keeps_at k name (Some d) pool none w slot = keeps_defined k name.text (entity.Access (number_of (completed_type k name) k.types)) (completed_type k name) (access_to name.text d.0 (pool_number pool)) k.controlled none w slot refl tt
 
 access_keeps : (k : Known) (spot : Spot) (name designated : Ident) (aspect : Option AspectTree) → Sound k → Quiet (access_remark k spot name designated aspect) → Keeps k (access_known k name designated aspect)
 access_keeps k spot name designated aspect w q = access_keeps_at k name (record_found k designated) (aspect_found k aspect) (none_ended k spot q.0) w (slot_of k name spot q.1.1.0)
 
+-- a record type that is made of this
+record_made_keeps : (k : Known) (name : Ident) (made : Composition) → no_body_yet k ≡ true → Sound k → IsSlot k name.text (completed_type k name) → Keeps k (with_record k name made)
+record_made_keeps k name made none w slot =
+    keeps_defined k name.text (entity.Record (number_of (completed_type k name) k.types) made.size) (completed_type k name)
+    (record_made k.controlled name made) (counted (finalization_made k.controlled made) k.controlled) none w slot refl tt
+
 -- `type T is record .. end record;`
 record_keeps : (k : Known) (spot : Spot) (name : Ident) (definition : RecordTree) → Sound k → Quiet (record_type_remark k spot name definition) → Keeps k (record_type_known k name definition)
 record_keeps k spot name definition w q =
-    let made = composition_of k (components_written definition) in
-    keeps_defined k name.text (entity.Record (number_of (completed_type k name) k.types) made.size) (completed_type k name)
-    (record_of name.text made.parts made.kinds) (none_ended k spot q.0) w (slot_of k name spot q.1.0) refl tt
+    record_made_keeps k name (composition_of k (components_written definition)) (none_ended k spot q.0) w (slot_of k name spot q.1.0)
+
+-- `type T is new Ada.Finalization.Controlled with record .. end record;`
+derived_keeps : (k : Known) (spot : Spot) (name : Ident) (parent : NameTree) (definition : RecordTree) → Sound k → Quiet (derived_type_remark k spot name parent definition) → Keeps k (derived_type_known k name parent definition)
+derived_keeps k spot name parent definition w q =
+    record_made_keeps k name (composed k (with_parent (limited_parent k parent)) (components_written definition)) (none_ended k spot q.0) w (slot_of k name spot q.1.0)
 
 -- `procedure Free is new Ada.Unchecked_Deallocation (T, A);`
 instance_sound_at : (k : Known) (name : Ident) (o : Option TypeNo) → Sound k → IsAccessIn k.types o → Sound (instance_of k name o)
@@ -355,6 +372,7 @@ pub declaration_sound : (k : Known) (d : DeclarationTree) → Sound k → Quiet 
 declaration_sound k (incomplete_type spot name) w q = incomplete_sound k name w
 declaration_sound k (access_type spot name designated aspect) w q = access_sound k name designated aspect (none_ended k spot q.0) w q.1.0
 declaration_sound k (record_type spot name definition) w q = record_sound k name definition (none_ended k spot q.0) w
+declaration_sound k (derived_type spot name parent definition) w q = derived_sound k name parent definition (none_ended k spot q.0) w
 declaration_sound k (instance spot name generic object access) w q = instance_sound_at k name (freed_found k access (record_found k object)) w (found_access k access (record_found k object) w.names)
 declaration_sound k (constant_declaration name value) w q = name_sound k name.text (entity.Number (static_value k value)) w tt tt tt tt (λ none. tt)
 declaration_sound k (exception_declaration name) w q = exception_sound k name w
@@ -374,6 +392,7 @@ pub declaration_keeps : (k : Known) (d : DeclarationTree) → Sound k → Quiet 
 declaration_keeps k (incomplete_type spot name) w q = incomplete_keeps k spot name q
 declaration_keeps k (access_type spot name designated aspect) w q = access_keeps k spot name designated aspect w q
 declaration_keeps k (record_type spot name definition) w q = record_keeps k spot name definition w q
+declaration_keeps k (derived_type spot name parent definition) w q = derived_keeps k spot name parent definition w q
 declaration_keeps k (instance spot name generic object access) w q = instance_keeps_at k name (freed_found k access (record_found k object)) (new_slot k name spot q.1.0)
 declaration_keeps k (constant_declaration name value) w q = keeps_name k name.text (entity.Number (static_value k value)) (new_slot k name name.spot q.1.0) tt
 declaration_keeps k (exception_declaration name) w q = exception_keeps k name (new_slot k name name.spot q.1)

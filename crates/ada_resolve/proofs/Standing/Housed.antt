@@ -58,7 +58,7 @@ pool_later n m le None e = refl
 pool_later n m le (Some pool) e = let less = ltb-true pool n e in lt-ltb pool m (omega (arith, less, le))
 
 has_later : (n m : ℕ) → n ≤ m → (form : TypeForm) → fits.has_known_pool n form ≡ true → fits.has_known_pool m form ≡ true
-has_later n m le (record_of name ps cs) e = refl
+has_later n m le (record_of name ps cs final) e = refl
 has_later n m le (access_to name d pool) e = pool_later n m le pool e
 has_later n m le (object_of r) e = refl
 

@@ -31,7 +31,7 @@ access_within types t is = by_form (slice_get types t) refl
 -- where a part is complete, all its types are before the next one
 pub own_before : (k : Known) (text : List ℕ) (e : Entity) → named text k.here.names ≡ Some e → EntityFits k.types k.variables text e → IsBefore (length k.types) e
 own_before k text (entity.Incomplete t) is f = get_within k.types t.0 _ f
-own_before k text (entity.Record t size) is f = get_within k.types t.0 _ f.2
+own_before k text (entity.Record t size) is f = get_within k.types t.0 _ f.3
 own_before k text (entity.Access t) is f = get_within k.types t.0 _ f.2
 own_before k text (entity.Instance t) is f = access_within k.types t.0 f
 own_before k text e is f = tt
@@ -56,6 +56,7 @@ part_sound k s c = record {
   exceptions = (λ text e is. absurd (cc is), s.exceptions);
   called = (λ text e is. absurd (cc is), s.called);
   housed = s.housed;
+  controlled = s.controlled;
   sized = s.sized;
   bounds = record {
     first = omega arith;
@@ -149,6 +150,7 @@ left_sound k m s c w around outer g = record {
   exceptions = outers_raised k m w outer;
   called = outers_called k m w outer;
   housed = w.housed;
+  controlled = w.controlled;
   sized = w.sized;
   bounds = record {
     first = let a = s.bounds.first in let b = more_types k m g in omega arith;

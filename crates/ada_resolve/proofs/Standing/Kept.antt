@@ -78,8 +78,8 @@ settled_entered ns text e t own old other u is =
     all_entered (λ v x. IsOther t x) ns text e own (λ v x ne there. other_of t x (λ w same. old v w (there ∙ ap (λ y. Some y) same))) other (entity.Incomplete u) is
 
 -- a new name, with types that only grow; it stands for no incomplete type, or for a new one
-pub keeps_new : (k : Known) (text : List ℕ) (e : Entity) (types : List TypeForm) → named text k.here.names ≡ None → ((t : ℕ) (form : TypeForm) → slice_get k.types t ≡ Some form → slice_get types t ≡ Some form) → length k.types ≤ length types → IsBehind (length k.types) e → Keeps k (declared (record k { types = types }) text e)
-keeps_new k text e types none grow long own = record {
+pub keeps_new : (k : Known) (text : List ℕ) (e : Entity) (types : List TypeForm) (n : ℕ) → named text k.here.names ≡ None → ((t : ℕ) (form : TypeForm) → slice_get k.types t ≡ Some form → slice_get types t ≡ Some form) → length k.types ≤ length types → IsBehind (length k.types) e → Keeps k (declared (record k { types = types; controlled = n }) text e)
+keeps_new k text e types n none grow long own = record {
   types = λ t form is settled. (
     forms_in k.types types grow t form is,
     λ none.
@@ -112,11 +112,11 @@ keeps_new k text e types none grow long own = record {
 
 -- a new name alone
 pub keeps_name : (k : Known) (text : List ℕ) (e : Entity) → named text k.here.names ≡ None → IsBehind (length k.types) e → Keeps k (declared k text e)
-keeps_name k text e none own = keeps_new k text e k.types none (λ t form is. is) (omega arith) own
+keeps_name k text e none own = keeps_new k text e k.types k.controlled none (λ t form is. is) (omega arith) own
 
 -- a completed name
-pub keeps_full : (k : Known) (text : List ℕ) (e : Entity) (t : TypeNo) (form : TypeForm) → no_body_yet k ≡ true → Sound k → named text k.here.names ≡ Some (entity.Incomplete t) → name_of_type (Some form) ≡ Some text → IsSettledEntity e → Keeps k (declared (record k { types = slice_set k.types t.0 form }) text e)
-keeps_full k text e t form none w there own done = record {
+pub keeps_full : (k : Known) (text : List ℕ) (e : Entity) (t : TypeNo) (form : TypeForm) (n : ℕ) → no_body_yet k ≡ true → Sound k → named text k.here.names ≡ Some (entity.Incomplete t) → name_of_type (Some form) ≡ Some text → IsSettledEntity e → Keeps k (declared (record k { types = slice_set k.types t.0 form; controlled = n }) text e)
+keeps_full k text e t form n none w there own done = record {
   types = λ u x is settled. (
     other_form u x (λ same. settled none text t there same) is,
     λ yet. settled_entered k.here.names text e u (no_other u e done) (settled yet),
@@ -124,7 +124,7 @@ keeps_full k text e t form none w there own done = record {
   accesses = λ u name d is.
       let own = access_there k.types u name d is in
       other_form u (access_to name d None) (λ same. no_access name d own.0 (subst (λ (n : ℕ). slice_get k.types n ≡ Some (access_to name d own.0)) (sym same) own.1)) is;
-  placed = pools_set k.types t.0 (record_of text [] []) form old refl;
+  placed = pools_set k.types t.0 (record_of text [] [] None) form old refl;
   pools = λ t x is. is;
   type_names = λ u name is. by_number u name is (eqb t.0 u) refl;
   names = λ other x s is. named_entered k.here.names text other e ∙ by_text other x s is (bytes_eq other text) refl;
@@ -143,7 +143,7 @@ keeps_full k text e t form none w there own done = record {
   procedure = refl;
 }
   where
-    old : slice_get k.types t.0 ≡ Some (record_of text [] [])
+    old : slice_get k.types t.0 ≡ Some (record_of text [] [] None)
     old = w.names.0 text (entity.Incomplete t) there
 
     no_other : (u : ℕ) (x : Entity) → IsSettledEntity x → IsOther u x
@@ -151,7 +151,7 @@ keeps_full k text e t form none w there own done = record {
     no_other u x s = tt
 
     no_access : (name : List ℕ) (d : ℕ) (pool : Option ℕ) → slice_get k.types t.0 ≡ Some (access_to name d pool) → ⊥
-    no_access name d pool is = let same : Some (access_to name d pool) ≡ Some (record_of text [] []) = sym is ∙ old in cc same
+    no_access name d pool is = let same : Some (access_to name d pool) ≡ Some (record_of text [] [] None) = sym is ∙ old in cc same
 
     other_form : (u : ℕ) (x : TypeForm) → (t.0 ≡ u → ⊥) → slice_get (forms k.types) u ≡ Some x → slice_get (forms (slice_set k.types t.0 form)) u ≡ Some x
     other_form u x ne is =
@@ -162,7 +162,7 @@ keeps_full k text e t form none w there own done = record {
     by_number u name is true on =
         let same : t.0 ≡ u = eqb-true t.0 u on in
         let before : Some text ≡ Some name = sym (ap (λ o. name_of_type o) (sym (ap (λ n. slice_get k.types n) same) ∙ old)) ∙ is in
-        ap (λ o. name_of_type o) (subst (λ (n : ℕ). slice_get (slice_set k.types t.0 form) n ≡ Some form) same (get_set k.types t.0 (record_of text [] []) form old)) ∙ (own ∙ before)
+        ap (λ o. name_of_type o) (subst (λ (n : ℕ). slice_get (slice_set k.types t.0 form) n ≡ Some form) same (get_set k.types t.0 (record_of text [] [] None) form old)) ∙ (own ∙ before)
     by_number u name is false off = ap (λ o. name_of_type o) (get_other k.types t.0 u form (λ same. apart (eq-eqb t.0 u same))) ∙ is
       where
         apart : eqb t.0 u ≡ true → ⊥
@@ -177,18 +177,18 @@ keeps_full k text e t form none w there own done = record {
         unsettled x s same = cc same
 
 -- a type that is declared
-pub keeps_defined : (k : Known) (text : List ℕ) (e : Entity) (c : Option TypeNo) (form : TypeForm) → no_body_yet k ≡ true → Sound k → IsSlot k text c → name_of_type (Some form) ≡ Some text → IsSettledEntity e → Keeps k (declared (record k { types = defined c form k.types }) text e)
-keeps_defined k text e None form yet w slot own done = keeps_new k text e (k.types ++ form ∷ []) slot (λ t x is. get_more k.types form t x is) (one_longer k.types form) (own_settled e done)
+pub keeps_defined : (k : Known) (text : List ℕ) (e : Entity) (c : Option TypeNo) (form : TypeForm) (n : ℕ) → no_body_yet k ≡ true → Sound k → IsSlot k text c → name_of_type (Some form) ≡ Some text → IsSettledEntity e → Keeps k (declared (record k { types = defined c form k.types; controlled = n }) text e)
+keeps_defined k text e None form n yet w slot own done = keeps_new k text e (k.types ++ form ∷ []) n slot (λ t x is. get_more k.types form t x is) (one_longer k.types form) (own_settled e done)
   where
     own_settled : (x : Entity) → IsSettledEntity x → IsBehind (length k.types) x
     own_settled (entity.Incomplete u) s = absurd s
     own_settled x s = tt
-keeps_defined k text e (Some t) form yet w slot own done = keeps_full k text e t form yet w slot own done
+keeps_defined k text e (Some t) form n yet w slot own done = keeps_full k text e t form n yet w slot own done
 
 -- it is there
 pub defined_there : (k : Known) (text : List ℕ) (c : Option TypeNo) (form : TypeForm) → Sound k → IsSlot k text c → slice_get (defined c form k.types) (number_of c k.types).0 ≡ Some form
 defined_there k text None form w slot = get_last k.types form
-defined_there k text (Some t) form w slot = get_set k.types t.0 (record_of text [] []) form (w.names.0 text (entity.Incomplete t) slot)
+defined_there k text (Some t) form w slot = get_set k.types t.0 (record_of text [] [] None) form (w.names.0 text (entity.Incomplete t) slot)
 
 -- only what is elaborated changes
 pub keeps_elaborated : (es : List DeclarationForm) (k : Known) → Keeps k (with_elaborated es k)
@@ -292,7 +292,7 @@ keeps_exception name k = record {
 
 -- the name of a type is not that of its pool
 pub name_bare : (x : TypeForm) → name_of_type (Some (bare x)) ≡ name_of_type (Some x)
-name_bare (record_of name ps cs) = refl
+name_bare (record_of name ps cs final) = refl
 name_bare (access_to name d pool) = refl
 name_bare (object_of r) = refl
 

@@ -71,6 +71,7 @@ pub record Sound (k : Known) : Type 0 where
   pub exceptions : PartsRaised k.exceptions (parts k)
   pub called : PartsCalled (length k.bodies) (length k.pools) (parts k)
   pub housed : list_all (fits.has_known_pool (length k.pools)) k.types ≡ true
+  pub controlled : k.controlled ≡ fits.numbered_types k.types
   pub sized : AllSized k.bodies
   pub bounds : IsBounded k
 
@@ -258,7 +259,7 @@ outer_settled k t s before none text u there same = let own = s.bounds.open_own 
 pub record_settled : (k : Known) (text : List ℕ) (t : TypeNo) (size : ℕ) → Sound k → named text k.here.names ≡ Some (entity.Record t size) → IsSettled k t.0
 record_settled k text t size s is none other u there same =
     let mine = s.names.0 text (entity.Record t size) is in
-    let both_forms : Some (record_of text mine.0 mine.1) ≡ Some (record_of other [] []) = sym mine.2 ∙ (ap (λ n. slice_get k.types n) (sym same) ∙ s.names.0 other (entity.Incomplete u) there) in
+    let both_forms : Some (record_of text mine.0 mine.1 mine.2) ≡ Some (record_of other [] [] None) = sym mine.3 ∙ (ap (λ n. slice_get k.types n) (sym same) ∙ s.names.0 other (entity.Incomplete u) there) in
     let text_is : text ≡ other = cc both_forms in
     two_of (subst (λ (n : List ℕ). named n k.here.names ≡ Some (entity.Record t size)) text_is is)
   where
@@ -290,16 +291,16 @@ visible_settled k text t size s is = by_own (named_in text (parts k)) (bytes_eq 
     by_own : (own : Option Entity) (b : Bool) → named_in text (parts k) ≡ own → inner_first own b (outermost k.withs text) ≡ Some (entity.Record t size) → IsSettled k t.0
     by_own (Some x) b there e = let same : x ≡ entity.Record t size = cc e in by_part x there same
     by_own None true there e = absurd (cc e)
-    by_own None false there e = let no = outermost_fits [] [] k.withs text (entity.Record t size) e in absurd (cc (no.2))
+    by_own None false there e = let no = outermost_fits [] [] k.withs text (entity.Record t size) e in absurd (cc (no.3))
 
 -- and one that is no record type
 pub known_settled : (k : Known) (t : ℕ) (name : List ℕ) (d : ℕ) (pool : Option ℕ) → Sound k → slice_get k.types t ≡ Some (access_to name d pool) → IsSettled k t
 known_settled k t name d pool s is none other u there same =
-    let both_forms : Some (access_to name d pool) ≡ Some (record_of other [] []) = sym is ∙ (ap (λ n. slice_get k.types n) (sym same) ∙ s.names.0 other (entity.Incomplete u) there) in cc both_forms
+    let both_forms : Some (access_to name d pool) ≡ Some (record_of other [] [] None) = sym is ∙ (ap (λ n. slice_get k.types n) (sym same) ∙ s.names.0 other (entity.Incomplete u) there) in cc both_forms
 
 pub object_settled : (k : Known) (t r : ℕ) → Sound k → slice_get k.types t ≡ Some (object_of r) → IsSettled k t
 object_settled k t r s is none other u there same =
-    let both_forms : Some (object_of r) ≡ Some (record_of other [] []) = sym is ∙ (ap (λ n. slice_get k.types n) (sym same) ∙ s.names.0 other (entity.Incomplete u) there) in cc both_forms
+    let both_forms : Some (object_of r) ≡ Some (record_of other [] [] None) = sym is ∙ (ap (λ n. slice_get k.types n) (sym same) ∙ s.names.0 other (entity.Incomplete u) there) in cc both_forms
 
 -- nothing is declared at first
 pub first_sound : (withs : Withs) (procedure : List ℕ) → Sound (known_first withs procedure)
@@ -310,6 +311,7 @@ first_sound withs procedure = record {
   exceptions = (λ t x e. absurd (cc e), tt);
   called = (λ t x e. absurd (cc e), tt);
   housed = refl;
+  controlled = refl;
   sized = tt;
   bounds = record { first = omega arith; first_variable = omega arith; modes = omega arith; first_body = omega arith; open_own = λ text t e. absurd (cc e); open_unused = λ none text t e. absurd (cc e); outer_before = tt };
 }

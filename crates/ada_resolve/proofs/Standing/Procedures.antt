@@ -258,6 +258,7 @@ with_body_sound k f s g fit =
       exceptions = (λ text e is. formal_raised k.exceptions f.variables text e (g.names text e is), s.exceptions);
       called = (λ text e is. formal_called (length k.bodies) (length k.pools) f.variables text e (g.names text e is), s.called);
       housed = s.housed;
+      controlled = s.controlled;
       sized = s.sized;
       bounds = record {
         first = omega arith;
@@ -350,6 +351,7 @@ left_body_sound k z b s f own = record {
   exceptions = outers_raised k z f.sound f.outer;
   called = let one = longer_bodies z.bodies b in called_later (length z.bodies) (length z.pools) (length (z.bodies ++ b ∷ [])) (length z.pools) (omega (arith, one)) (omega arith) (parts k) (outers_called k z f.sound f.outer);
   housed = f.sound.housed;
+  controlled = f.sound.controlled;
   sized = sized_more z.bodies b f.sound.sized own;
   bounds = record {
     first = let a = s.bounds.first in let more = longer_types k.types z.types f.types in omega arith;

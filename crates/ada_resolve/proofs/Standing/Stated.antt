@@ -41,6 +41,7 @@ texts_stay texts k s c = record {
     exceptions = s.exceptions;
     called = s.called;
     housed = s.housed;
+    controlled = s.controlled;
     sized = s.sized;
     bounds = record { first = s.bounds.first; first_variable = s.bounds.first_variable; modes = s.bounds.modes; first_body = s.bounds.first_body; open_own = s.bounds.open_own; open_unused = s.bounds.open_unused; outer_before = s.bounds.outer_before };
   };

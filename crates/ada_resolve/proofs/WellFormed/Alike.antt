@@ -5,7 +5,7 @@ use Rattle.std.specs.Prelude.{Option, Some, None, nat_le}
 use Rattle.std.proofs.lemmas.Bool.{leb-false}
 use Rattle.ada_tree.specs.Declarations.{HeadTree}
 use Rattle.ada_tree.specs.Names.{Ident}
-use Rattle.ada_tree.specs.Statements.{DeclarationTree, exception_declaration, constant_declaration, pool_declaration, attribute_clause, incomplete_type, access_type, record_type, instance, object_declaration, borrower_declaration}
+use Rattle.ada_tree.specs.Statements.{DeclarationTree, exception_declaration, constant_declaration, pool_declaration, attribute_clause, incomplete_type, access_type, record_type, derived_type, instance, object_declaration, borrower_declaration}
 use Rattle.ada_program.specs.declared.program.PoolNo.{PoolNo}
 use Rattle.ada_program.specs.declared.program.TypeNo.{TypeNo}
 use Rattle.ada_program.specs.declared.program.VariableKind.{VariableKind}
@@ -115,6 +115,7 @@ pub declaration_alike : (k : Known) (d : DeclarationTree) → Quiet (declaration
 declaration_alike k (incomplete_type spot name) q = record { bodies = refl; texts = refl }
 declaration_alike k (access_type spot name designated aspect) q = access_alike k name (completed_type k name) (record_found k designated) (aspect_found k aspect)
 declaration_alike k (record_type spot name definition) q = record { bodies = refl; texts = refl }
+declaration_alike k (derived_type spot name parent definition) q = record { bodies = refl; texts = refl }
 declaration_alike k (instance spot name generic object access) q = instance_alike k name (freed_found k access (record_found k object))
 declaration_alike k (constant_declaration name value) q = record { bodies = refl; texts = refl }
 declaration_alike k (exception_declaration name) q = record { bodies = refl; texts = refl }

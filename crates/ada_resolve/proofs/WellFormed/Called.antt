@@ -147,7 +147,7 @@ object_known types object = by_form (slice_get types object)
   where
     by_form : (o : Option TypeForm) → record_known_by o ≡ fits.object_in o
     by_form None = refl
-    by_form (Some (record_of name ps cs)) = refl
+    by_form (Some (record_of name ps cs final)) = refl
     by_form (Some (access_to name d pool)) = refl
     by_form (Some (object_of r)) = refl
 

@@ -72,7 +72,7 @@ either_zero false = refl
 
 pub later_none : (ts : List TypeForm) (k a : ℕ) (es : List DeclarationForm) → a < k → count a (collections_of k ts es) ≡ 0
 later_none [] k a es less = refl
-later_none (record_of name ps cs ∷ ts) k a es less = later_none ts (k + 1) a es (omega arith)
+later_none (record_of name ps cs final ∷ ts) k a es less = later_none ts (k + 1) a es (omega arith)
 later_none (object_of r ∷ ts) k a es less = later_none ts (k + 1) a es (omega arith)
 later_none (access_to name d pool ∷ ts) k a es less =
     let rest : count a (collections_of (k + 1) ts es) ≡ 0 = later_none ts (k + 1) a es (omega arith) in
@@ -81,7 +81,7 @@ later_none (access_to name d pool ∷ ts) k a es less =
 
 pub made : (ts : List TypeForm) (k i : ℕ) (es : List DeclarationForm) → count (k + i) (collections_of k ts es) ≡ cond (is_collected (k + i) es) 0 (accesses ts i)
 made [] k i es = sym (either_zero (is_collected (k + i) es))
-made (record_of name ps cs ∷ ts) k zero es =
+made (record_of name ps cs final ∷ ts) k zero es =
     let here : k + 0 ≡ k = omega arith in
     let rest : count k (collections_of (k + 1) ts es) ≡ 0 = later_none ts (k + 1) k es (omega arith) in
     rw here (rest ∙ sym (either_zero (is_collected k es)))
@@ -94,7 +94,7 @@ made (access_to name d pool ∷ ts) k zero es =
     let rest : count k (collections_of (k + 1) ts es) ≡ 0 = later_none ts (k + 1) k es (omega arith) in
     let own : eqb k k ≡ true = eq-eqb k k refl in
     rw here (made_first (is_collected k es) k k (collections_of (k + 1) ts es) ∙ (rw (own, rest) (omega arith)))
-made (record_of name ps cs ∷ ts) k (suc i) es =
+made (record_of name ps cs final ∷ ts) k (suc i) es =
     let next : k + suc i ≡ (k + 1) + i = omega arith in rw next (made ts (k + 1) i es)
 made (object_of r ∷ ts) k (suc i) es =
     let next : k + suc i ≡ (k + 1) + i = omega arith in rw next (made ts (k + 1) i es)
@@ -106,7 +106,7 @@ made (access_to name d pool ∷ ts) k (suc i) es =
 
 pub at_most_made : (ts : List TypeForm) (k a : ℕ) (es : List DeclarationForm) → count a (collections_of k ts es) ≤ cond (is_collected a es) 0 1
 at_most_made [] k a es = omega arith
-at_most_made (record_of name ps cs ∷ ts) k a es = at_most_made ts (k + 1) a es
+at_most_made (record_of name ps cs final ∷ ts) k a es = at_most_made ts (k + 1) a es
 at_most_made (object_of r ∷ ts) k a es = at_most_made ts (k + 1) a es
 at_most_made (access_to name d pool ∷ ts) k a es =
     rw (made_first (is_collected k es) k a (collections_of (k + 1) ts es)) (made_at (at_most_made ts (k + 1) a es) (eqb k a) refl)

@@ -186,7 +186,7 @@ accesses_past types a past = by_place (slice_get types a) refl
 -- one collection each, from a number on
 has_from : (cs : List Creation) (ts : List TypeForm) (k : ℕ) → ((i : ℕ) → fits.is_access ts i ≡ true → collected (k + i) cs ≡ 1) → fits.has_collections cs k ts ≡ true
 has_from cs [] k w = refl
-has_from cs (record_of name ps parts ∷ ts) k w = has_from cs ts (k + 1) (λ i e. let next : (k + 1) + i ≡ k + suc i = omega arith in rw next (w (suc i) e))
+has_from cs (record_of name ps parts final ∷ ts) k w = has_from cs ts (k + 1) (λ i e. let next : (k + 1) + i ≡ k + suc i = omega arith in rw next (w (suc i) e))
 has_from cs (access_to name d pool ∷ ts) k w =
     let here : collected k cs ≡ 1 = let at : k ≡ k + 0 = omega arith in rw at (w 0 refl) in
     both_parts (eqb (collected k cs) 1) (fits.has_collections cs (k + 1) ts) (eq-eqb (collected k cs) 1 here)

@@ -98,7 +98,7 @@ only_fit types variables (declares_record x object initial) e = absurd (cc e)
 -- the collections that end the types
 made_are_first : (ts : List TypeForm) (t : ℕ) (es : List DeclarationForm) → list_all is_first (collections_of t ts es) ≡ true
 made_are_first [] t es = refl
-made_are_first (record_of name ps cs ∷ ts) t es = made_are_first ts (t + 1) es
+made_are_first (record_of name ps cs final ∷ ts) t es = made_are_first ts (t + 1) es
 made_are_first (object_of r ∷ ts) t es = made_are_first ts (t + 1) es
 made_are_first (access_to name d pool ∷ ts) t es = first_either (is_collected t es) (collections_of (t + 1) ts es) (made_are_first ts (t + 1) es)
   where
@@ -108,7 +108,7 @@ made_are_first (access_to name d pool ∷ ts) t es = first_either (is_collected 
 
 made_known : (n : ℕ) (ts : List TypeForm) (t : ℕ) (es : List DeclarationForm) → list_all (makes_known n) (collections_of t ts es) ≡ true
 made_known n [] t es = refl
-made_known n (record_of name ps cs ∷ ts) t es = made_known n ts (t + 1) es
+made_known n (record_of name ps cs final ∷ ts) t es = made_known n ts (t + 1) es
 made_known n (object_of r ∷ ts) t es = made_known n ts (t + 1) es
 made_known n (access_to name d pool ∷ ts) t es = either (is_collected t es) (collections_of (t + 1) ts es) (made_known n ts (t + 1) es)
   where
@@ -118,7 +118,7 @@ made_known n (access_to name d pool ∷ ts) t es = either (is_collected t es) (c
 
 made_fit : (types ts : List TypeForm) (t : ℕ) (es : List DeclarationForm) → ((i : ℕ) → fits.is_access ts i ≡ true → fits.is_access types (t + i) ≡ true) → list_all (fits.collection_fits types) (collections_of t ts es) ≡ true
 made_fit types [] t es w = refl
-made_fit types (record_of name ps cs ∷ ts) t es w = made_fit types ts (t + 1) es (λ i e. let next : (t + 1) + i ≡ t + suc i = omega arith in rw next (w (suc i) e))
+made_fit types (record_of name ps cs final ∷ ts) t es w = made_fit types ts (t + 1) es (λ i e. let next : (t + 1) + i ≡ t + suc i = omega arith in rw next (w (suc i) e))
 made_fit types (object_of r ∷ ts) t es w = made_fit types ts (t + 1) es (λ i e. let next : (t + 1) + i ≡ t + suc i = omega arith in rw next (w (suc i) e))
 made_fit types (access_to name d pool ∷ ts) t es w =
     fit_either (is_collected t es) (collections_of (t + 1) ts es) (let at : t ≡ t + 0 = omega arith in rw at (w 0 refl))

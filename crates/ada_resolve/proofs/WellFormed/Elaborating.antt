@@ -7,7 +7,7 @@ use Rattle.std.proofs.lemmas.Bool.{ltb-false, lt-ltb, ne_eqb}
 use Rattle.ada_text.specs.declared.spot.Spot.{Spot}
 use Rattle.ada_tree.specs.Declarations.{SizeTree}
 use Rattle.ada_tree.specs.Names.{Ident, NameTree}
-use Rattle.ada_tree.specs.Statements.{DeclarationTree, exception_declaration, constant_declaration, pool_declaration, attribute_clause, incomplete_type, access_type, record_type, instance, object_declaration, borrower_declaration}
+use Rattle.ada_tree.specs.Statements.{DeclarationTree, exception_declaration, constant_declaration, pool_declaration, attribute_clause, incomplete_type, access_type, record_type, derived_type, instance, object_declaration, borrower_declaration}
 use Rattle.ada_program.specs.declared.program.PoolNo.{PoolNo}
 use Rattle.ada_program.specs.declared.program.TypeNo.{TypeNo}
 use Rattle.ada_program.specs.Form.{DeclarationForm, creates_pool, collects, declares, declares_record}
@@ -22,6 +22,8 @@ use Rattle.ada_resolve.specs.Instances.{access_type_in, access_if, access_in, de
 use Rattle.ada_resolve.specs.Objects.{after_types}
 use Rattle.ada_resolve.specs.Pools.{aspect_found, size_value, pool_known}
 use Rattle.ada_resolve.specs.Resolution.{known_at, declaration_remark, declaration_known}
+use Rattle.ada_resolve.specs.Derived.{derived_type_known}
+use Rattle.ada_resolve.specs.Records.{record_type_known}
 use Rattle.ada_resolve.specs.Types.{record_found, access_defined, completed_type}
 use Rattle.ada_resolve.proofs.Standing.{Sound, ended_sound, declaration_keeps}
 use Rattle.ada_resolve.proofs.Standing as standing
@@ -41,7 +43,7 @@ accesses_kept k m w t e = found (slice_get k.types t) refl e
   where
     found : (o : Option TypeForm) → slice_get k.types t ≡ o → is_some (fits.designated_in o) ≡ true → fits.is_access m.types t ≡ true
     found None is e = absurd (cc e)
-    found (Some (record_of name ps cs)) is e = absurd (cc e)
+    found (Some (record_of name ps cs final)) is e = absurd (cc e)
     found (Some (access_to name d pool)) is e =
         let there = access_there m.types t name d (w.accesses t name d (get_form k.types t (access_to name d pool) is)) in rw there.1 refl
     found (Some (object_of r)) is e = absurd (cc e)
@@ -53,8 +55,8 @@ collection_kept types more w (declares x source) e = refl
 collection_kept types more w (declares_record x object initial) e = refl
 
 -- more types, and one more name
-early_types : (k : Known) (more : List TypeForm) (text : List ℕ) (e : Entity) → Early k → KeepsAccesses k.types more → Early (declared (record k { types = more }) text e)
-early_types k more text e w g = record {
+early_types : (k : Known) (more : List TypeForm) (n : ℕ) (text : List ℕ) (e : Entity) → Early k → KeepsAccesses k.types more → Early (declared (record k { types = more; controlled = n }) text e)
+early_types k more n text e w g = record {
   collections_fit = all_weaker (fits.collection_fits k.types) (fits.collection_fits more) (collection_kept k.types more g) k.here.elaborated w.collections_fit;
   only_collections = w.only_collections;
   at_most_one = w.at_most_one;
@@ -65,7 +67,7 @@ early_types k more text e w g = record {
 -- `type A is access T;`
 access_order : (k : Known) (name : Ident) (c o : Option TypeNo) (pool : Option PoolNo) → Early k → types_go_on k ≡ true → KeepsAccesses k.types (access_defined k name c o pool).types → InOrder (access_defined k name c o pool)
 access_order k name c None pool w none g = early w none
-access_order k name c (Some d) pool w none g = early (early_types k _ name.text _ w g) none
+access_order k name c (Some d) pool w none g = early (early_types k _ k.controlled name.text _ w g) none
 
 -- an instance frees objects of an access type of its part
 own_of_those : (types : List TypeForm) (o : Option Entity) (r : Option TypeNo) (first : ℕ) (spot : Spot) → Quiet (own_type (access_type_in o) first spot) → Quiet (own_type (access_in o types r) first spot)
@@ -136,17 +138,20 @@ clause_order k None pool w none = early w none
 -- a declaration
 pub declaration_order : (k : Known) (d : DeclarationTree) → Sound k → InOrder k → Quiet (declaration_remark (known_at k d) d) → InOrder (declaration_known (known_at k d) d)
 declaration_order k (incomplete_type spot name) s o q =
-    early (early_types k _ name.text _ (early_of k spot o q.0) (accesses_kept k _ (declaration_keeps k (incomplete_type spot name) s q)))
+    early (early_types k _ k.controlled name.text _ (early_of k spot o q.0) (accesses_kept k _ (declaration_keeps k (incomplete_type spot name) s q)))
     (none_yet_of k spot q.0)
 declaration_order k (access_type spot name designated aspect) s o q =
     access_order k name (completed_type k name) (record_found k designated) (aspect_found k aspect) (early_of k spot o q.0) (none_yet_of k spot q.0)
     (accesses_kept k _ (declaration_keeps k (access_type spot name designated aspect) s q))
 declaration_order k (record_type spot name definition) s o q =
-    early (early_types k _ name.text _ (early_of k spot o q.0) (accesses_kept k _ (declaration_keeps k (record_type spot name definition) s q)))
+    early (early_types k _ (record_type_known k name definition).controlled name.text _ (early_of k spot o q.0) (accesses_kept k _ (declaration_keeps k (record_type spot name definition) s q)))
+    (none_yet_of k spot q.0)
+declaration_order k (derived_type spot name parent definition) s o q =
+    early (early_types k _ (derived_type_known k name parent definition).controlled name.text _ (early_of k spot o q.0) (accesses_kept k _ (declaration_keeps k (derived_type spot name parent definition) s q)))
     (none_yet_of k spot q.0)
 declaration_order k (instance spot name generic object_name access) s o q = instance_order k spot name generic object_name access s o q
 declaration_order k (constant_declaration name value) s o q =
-    early (early_types k k.types name.text _ (early_of k name.spot o q.0) (λ t e. e)) (none_yet_of k name.spot q.0)
+    early (early_types k k.types k.controlled name.text _ (early_of k name.spot o q.0) (λ t e. e)) (none_yet_of k name.spot q.0)
 declaration_order k (exception_declaration name) s o q =
     let w = early_of k name.spot o q.0 in
     early (record { collections_fit = w.collections_fit; only_collections = w.only_collections; at_most_one = w.at_most_one; own = w.own; pools = w.pools })

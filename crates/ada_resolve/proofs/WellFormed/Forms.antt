@@ -4,6 +4,7 @@ use Rattle.std.proofs.Common.{◌≡◌, ◌∙◌, ℕ, Bool, List, [], ◌∷�
 use Rattle.std.specs.Prelude.{Option, Some, None}
 use Rattle.std.specs.List.{list_all, slice_get, slice_set}
 use Rattle.ada_program.specs.declared.program.ComponentKind.{ComponentKind}
+use Rattle.ada_program.specs.declared.program.Finalization.{Finalization}
 use Rattle.ada_program.specs.ProgramForm.{PartForm, TypeForm, record_of, access_to, object_of}
 
 -- each element is there, with its number
@@ -12,7 +13,7 @@ AreIn {X} xs ys = (i : ℕ) (x : X) → slice_get xs i ≡ Some x → slice_get 
 
 -- a type without its pool
 abbrev pub bare : TypeForm → TypeForm
-bare (record_of name ps cs) = record_of name ps cs
+bare (record_of name ps cs final) = record_of name ps cs final
 bare (access_to name d pool) = access_to name d None
 bare (object_of r) = object_of r
 
@@ -36,24 +37,24 @@ form_there (x ∷ types) zero form e = let same : bare x ≡ form = cc e in (x, 
 form_there (x ∷ types) (suc t) form e = form_there types t form e
 
 -- types that are the same but for their pools are the same with pools, where they have none
-bare_record : (x : TypeForm) (name : List ℕ) (ps : List PartForm) (cs : List ComponentKind) → bare x ≡ record_of name ps cs → x ≡ record_of name ps cs
-bare_record (record_of n p c) name ps cs e = e
-bare_record (access_to n d pool) name ps cs e = absurd (cc e)
-bare_record (object_of r) name ps cs e = absurd (cc e)
+bare_record : (x : TypeForm) (name : List ℕ) (ps : List PartForm) (cs : List ComponentKind) (final : Option Finalization) → bare x ≡ record_of name ps cs final → x ≡ record_of name ps cs final
+bare_record (record_of n p c z) name ps cs final e = e
+bare_record (access_to n d pool) name ps cs final e = absurd (cc e)
+bare_record (object_of r) name ps cs final e = absurd (cc e)
 
 bare_object : (x : TypeForm) (r : ℕ) → bare x ≡ object_of r → x ≡ object_of r
-bare_object (record_of n p c) r e = absurd (cc e)
+bare_object (record_of n p c z) r e = absurd (cc e)
 bare_object (access_to n d pool) r e = absurd (cc e)
 bare_object (object_of u) r e = e
 
 bare_access : (x : TypeForm) (name : List ℕ) (d : ℕ) → bare x ≡ access_to name d None → (pool : Option ℕ) × (x ≡ access_to name d pool)
-bare_access (record_of n p c) name d e = absurd (cc e)
+bare_access (record_of n p c z) name d e = absurd (cc e)
 bare_access (access_to n u pool) name d e = let same_name : n ≡ name = cc e in let same : u ≡ d = cc e in (pool, rw (same_name, same) refl)
 bare_access (object_of r) name d e = absurd (cc e)
 
-pub record_there : (types : List TypeForm) (t : ℕ) (name : List ℕ) (ps : List PartForm) (cs : List ComponentKind) → slice_get (forms types) t ≡ Some (record_of name ps cs) → slice_get types t ≡ Some (record_of name ps cs)
-record_there types t name ps cs e =
-    let there = form_there types t (record_of name ps cs) e in there.1 ∙ ap (λ v. Some v) (bare_record there.0 name ps cs there.2)
+pub record_there : (types : List TypeForm) (t : ℕ) (name : List ℕ) (ps : List PartForm) (cs : List ComponentKind) (final : Option Finalization) → slice_get (forms types) t ≡ Some (record_of name ps cs final) → slice_get types t ≡ Some (record_of name ps cs final)
+record_there types t name ps cs final e =
+    let there = form_there types t (record_of name ps cs final) e in there.1 ∙ ap (λ v. Some v) (bare_record there.0 name ps cs final there.2)
 
 pub object_there : (types : List TypeForm) (t r : ℕ) → slice_get (forms types) t ≡ Some (object_of r) → slice_get types t ≡ Some (object_of r)
 object_there types t r e = let there = form_there types t (object_of r) e in there.1 ∙ ap (λ v. Some v) (bare_object there.0 r there.2)
@@ -80,8 +81,8 @@ forms_set (z ∷ types) (suc t) x y e same = ap (λ ts. bare z ∷ ts) (forms_se
 
 -- each type is there among more of them, but for its pool
 module _ (types more : List TypeForm) (g : AreIn (forms types) (forms more)) where
-  pub record_stays : (t : ℕ) (name : List ℕ) (ps : List PartForm) (cs : List ComponentKind) → slice_get types t ≡ Some (record_of name ps cs) → slice_get more t ≡ Some (record_of name ps cs)
-  record_stays t name ps cs e = record_there more t name ps cs (g t (record_of name ps cs) (get_form types t (record_of name ps cs) e))
+  pub record_stays : (t : ℕ) (name : List ℕ) (ps : List PartForm) (cs : List ComponentKind) (final : Option Finalization) → slice_get types t ≡ Some (record_of name ps cs final) → slice_get more t ≡ Some (record_of name ps cs final)
+  record_stays t name ps cs final e = record_there more t name ps cs final (g t (record_of name ps cs final) (get_form types t (record_of name ps cs final) e))
 
   pub object_stays : (t r : ℕ) → slice_get types t ≡ Some (object_of r) → slice_get more t ≡ Some (object_of r)
   object_stays t r e = object_there more t r (g t (object_of r) (get_form types t (object_of r) e))

@@ -1,6 +1,6 @@
 -- What fits stays so as types, variables, exceptions and texts are added behind those that are there, and as types get pools.
 
-use Rattle.std.proofs.Common.{◌≡◌, ℕ, ◌<◌, ◌≤◌, Bool, true, cond, List, [], ◌∷◌, length, drop, refl, sym, ap, ◌∙◌, subst, arith, eqb}
+use Rattle.std.proofs.Common.{◌≡◌, ℕ, ◌<◌, ◌≤◌, Bool, true, false, cond, List, [], ◌∷◌, length, drop, refl, sym, ap, ◌∙◌, subst, arith, eqb}
 use Rattle.std.specs.Prelude.{Option, Some, None, ◌&&◌, ◌||◌, not, is_some}
 use Rattle.std.specs.List.{list_all, slice_get}
 use Rattle.std.proofs.lemmas.Bool.{lt-ltb, ltb-true}
@@ -10,6 +10,7 @@ use Rattle.ada_program.specs.declared.program.ComponentKind.{ComponentKind}
 use Rattle.ada_program.specs.declared.program.ComponentKind.TheVariants as component
 use Rattle.ada_program.specs.declared.program.Exception.{Exception}
 use Rattle.ada_program.specs.declared.program.Exception.TheVariants as exception
+use Rattle.ada_program.specs.declared.program.Finalization.{Finalization}
 use Rattle.ada_program.specs.declared.program.VariableKind.{VariableKind}
 use Rattle.ada_program.specs.declared.program.VariableKind.TheVariants as variable
 use Rattle.ada_program.specs.declared.program.ScalarType.{ScalarType}
@@ -18,28 +19,29 @@ use Rattle.ada_program.specs.Form.{PathForm, ActualForm, in_value, in_null, in_a
 use Rattle.ada_program.specs.ProgramForm.{TypeForm, record_of, access_to, object_of, VariableForm}
 use Rattle.ada_program.specs.WellFormed as fits
 use Rattle.ada_resolve.proofs.WellFormed.Forms.{bare, forms, same_at}
+use Rattle.ada_resolve.proofs.WellFormed.Numbered.{final_stays}
 use Rattle.ada_resolve.proofs.WellFormed.Tables.{both_parts, first_part, second_part, all_weaker}
 use Rattle.ada_resolve.proofs.WellFormed.Typing.{nowhere, unary_typed, left_typed, operand_typed, of_type, is_of_type}
 pub use Rattle.ada_resolve.proofs.WellFormed.Forms.{AreIn}
 
 -- what looks at no pool
 designated_bare : (x : TypeForm) → fits.designated_in (Some (bare x)) ≡ fits.designated_in (Some x)
-designated_bare (record_of name ps cs) = refl
+designated_bare (record_of name ps cs final) = refl
 designated_bare (access_to name d pool) = refl
 designated_bare (object_of r) = refl
 
 named_bare : (x : TypeForm) → fits.named_in (Some (bare x)) ≡ fits.named_in (Some x)
-named_bare (record_of name ps cs) = refl
+named_bare (record_of name ps cs final) = refl
 named_bare (access_to name d pool) = refl
 named_bare (object_of r) = refl
 
 components_bare : (x : TypeForm) → fits.components_in (Some (bare x)) ≡ fits.components_in (Some x)
-components_bare (record_of name ps cs) = refl
+components_bare (record_of name ps cs final) = refl
 components_bare (access_to name d pool) = refl
 components_bare (object_of r) = refl
 
 object_bare : (x : TypeForm) → fits.object_in (Some (bare x)) ≡ fits.object_in (Some x)
-object_bare (record_of name ps cs) = refl
+object_bare (record_of name ps cs final) = refl
 object_bare (access_to name d pool) = refl
 object_bare (object_of r) = refl
 
@@ -176,6 +178,28 @@ module _ (types more : List TypeForm) (variables others : List VariableForm) (ts
       by_components None is h = absurd (cc h)
       by_components (Some ks) is h = rw (components_stay t ks is) refl
 
+  -- controlled parts
+  count_stays : (t : ℕ) → is_some (fits.record_components types t) ≡ true → fits.part_count more t ≡ fits.part_count types t
+  count_stays t e = ap (λ (o : Option Finalization). fits.count_said o) (final_stays types more ts t e)
+
+  named_count_stays : (a : Option ℕ) → is_some (fits.object_components types a) ≡ true → fits.parts_named more (fits.object_named more a) ≡ fits.parts_named types (fits.object_named types a)
+  named_count_stays None e = refl
+  named_count_stays (Some t) e = by_type (fits.named_in (slice_get types t)) refl e
+    where
+      by_type : (o : Option ℕ) → fits.named_in (slice_get types t) ≡ o → is_some (fits.components_reached types o) ≡ true → fits.parts_named more (fits.named_in (slice_get more t)) ≡ fits.parts_named types o
+      by_type None is e = absurd (cc e)
+      by_type (Some d) is e = rw (named_stays t d is) (count_stays d e)
+
+  -- where a record lies in an object, both are there
+  object_there : (o : Option (List ComponentKind)) (first : ℕ) (ks : Option (List ComponentKind)) → fits.has_record_at o first ks ≡ true → is_some o ≡ true
+  object_there None first ks h = absurd (cc h)
+  object_there (Some cs) first ks h = refl
+
+  record_there : (o : Option (List ComponentKind)) (first : ℕ) (ks : Option (List ComponentKind)) → fits.has_record_at o first ks ≡ true → is_some ks ≡ true
+  record_there None first ks h = absurd (cc h)
+  record_there (Some cs) first None h = absurd (cc h)
+  record_there (Some cs) first (Some ks) h = refl
+
   record_path_stays : (p : RecordPathForm) → fits.is_record_path types variables p ≡ true → fits.is_record_path more others p ≡ true
   record_path_stays p h = by_kind (fits.path_kind types variables p.object) refl h
     where
@@ -187,9 +211,19 @@ module _ (types more : List TypeForm) (variables others : List VariableForm) (ts
       by_access None h = absurd (cc h)
       by_access (Some t) h = by_object t (fits.reached_components types t) refl h
 
-      by_kind : (o : Option VariableKind) → fits.path_kind types variables p.object ≡ o → fits.has_record_at (fits.object_components types (fits.access_of o)) p.first (fits.record_components types p.record_type) ≡ true → fits.is_record_path more others p ≡ true
+      both_stay : (a : Option ℕ) → (fits.has_record_at (fits.object_components types a) p.first (fits.record_components types p.record_type) && fits.has_parts_from (fits.part_count types p.record_type) p.part (fits.parts_named types (fits.object_named types a))) ≡ true → (fits.has_record_at (fits.object_components more a) p.first (fits.record_components more p.record_type) && fits.has_parts_from (fits.part_count more p.record_type) p.part (fits.parts_named more (fits.object_named more a))) ≡ true
+      both_stay a h =
+          let leads = fits.has_record_at (fits.object_components types a) p.first (fits.record_components types p.record_type) in
+          let own : Bool = fits.has_parts_from (fits.part_count types p.record_type) p.part (fits.parts_named types (fits.object_named types a)) in
+          let led = first_part leads own h in
+          let count = count_stays p.record_type (record_there (fits.object_components types a) p.first (fits.record_components types p.record_type) led) in
+          let within = named_count_stays a (object_there (fits.object_components types a) p.first (fits.record_components types p.record_type) led) in
+          both_parts (fits.has_record_at (fits.object_components more a) p.first (fits.record_components more p.record_type)) (fits.has_parts_from (fits.part_count more p.record_type) p.part (fits.parts_named more (fits.object_named more a)))
+          (by_access a led) (rw (count, within) (second_part leads own h))
+
+      by_kind : (o : Option VariableKind) → fits.path_kind types variables p.object ≡ o → (fits.has_record_at (fits.object_components types (fits.access_of o)) p.first (fits.record_components types p.record_type) && fits.has_parts_from (fits.part_count types p.record_type) p.part (fits.parts_named types (fits.object_named types (fits.access_of o)))) ≡ true → fits.is_record_path more others p ≡ true
       by_kind None is h = absurd (cc h)
-      by_kind (Some k) is h = rw (path_stays p.object k is) (by_access (fits.access_of (Some k)) h)
+      by_kind (Some k) is h = rw (path_stays p.object k is) (both_stay (fits.access_of (Some k)) h)
 
   -- the items of aggregates
   item_stays : (k : ComponentKind) (i : ItemForm) → fits.component_item_fits types variables k i ≡ true → fits.component_item_fits more others k i ≡ true
@@ -238,6 +272,10 @@ module _ (types more : List TypeForm) (variables others : List VariableForm) (ts
   found_fit None found items w h = absurd (cc h)
   found_fit (Some cs) found items w h = rw (w cs refl) (items_stay cs items h)
 
+  filled_there : (o : Option (List ComponentKind)) (items : List ItemForm) → fits.is_filled types variables o items ≡ true → is_some o ≡ true
+  filled_there None items h = absurd (cc h)
+  filled_there (Some cs) items h = refl
+
   filled_stays : (access : ℕ) (items : List ItemForm) → fits.is_filled types variables (fits.reached_components types access) items ≡ true → fits.is_filled more others (fits.reached_components more access) items ≡ true
   filled_stays access items h = by_components (fits.reached_components types access) refl h
     where
@@ -257,9 +295,14 @@ module _ (types more : List TypeForm) (variables others : List VariableForm) (ts
   access_right_stays access nothing h = refl
   access_right_stays access (value_of path) h = moved_stays path access h
   access_right_stays access (allocates t items) h =
-      both_parts (eqb t access) (fits.is_filled more others (fits.reached_components more access) items)
-      (first_part (eqb t access) (fits.is_filled types variables (fits.reached_components types access) items) h)
-      (filled_stays access items (second_part (eqb t access) (fits.is_filled types variables (fits.reached_components types access) items) h))
+      let same = eqb t access in
+      let filled : Bool = fits.is_filled types variables (fits.reached_components types access) items in
+      let none : Bool = eqb (fits.parts_named types (fits.object_named types (Some access))) 0 in
+      let front = first_part (same && filled) none h in
+      let fit = second_part same filled front in
+      both_parts (same && fits.is_filled more others (fits.reached_components more access) items) (eqb (fits.parts_named more (fits.object_named more (Some access))) 0)
+      (both_parts same (fits.is_filled more others (fits.reached_components more access) items) (first_part same filled front) (filled_stays access items fit))
+      (rw (named_count_stays (Some access) (filled_there (fits.reached_components types access) items fit)) (second_part (same && filled) none h))
   access_right_stays access (allocates_default t) h =
       both_parts (eqb t access) (is_some (fits.reached_components more access))
       (first_part (eqb t access) (is_some (fits.reached_components types access)) h)
@@ -325,12 +368,18 @@ module _ (types more : List TypeForm) (variables others : List VariableForm) (ts
   filled_owns None items h o = absurd (cc h)
   filled_owns (Some cs) items h o = items_own_stay cs items h o
 
-  pub record_stays : (o found : Option (List ComponentKind)) (items : List ItemForm) → ((cs : List ComponentKind) → o ≡ Some cs → found ≡ Some cs) → fits.record_fits types variables o items ≡ true → fits.record_fits more others found items ≡ true
-  record_stays o found items w h =
-      let filled : Bool = fits.is_filled types variables o items in
+  pub record_stays : (t : ℕ) (items : List ItemForm) → fits.record_fits types variables t items ≡ true → fits.record_fits more others t items ≡ true
+  record_stays t items h =
+      let filled : Bool = fits.is_filled types variables (fits.record_components types t) items in
       let owned = list_all (fits.item_owns variables) items in
-      both_parts (fits.is_filled more others found items) (list_all (fits.item_owns others) items) (found_fit o found items w (first_part filled owned h))
-      (filled_owns o items (first_part filled owned h) (second_part filled owned h))
+      let whole : Bool = fits.copies_whole t (fits.finalization_of types t) items in
+      let front = first_part (filled && owned) whole h in
+      let fit = first_part filled owned front in
+      both_parts (fits.is_filled more others (fits.record_components more t) items && list_all (fits.item_owns others) items) (fits.copies_whole t (fits.finalization_of more t) items)
+      (both_parts (fits.is_filled more others (fits.record_components more t) items) (list_all (fits.item_owns others) items)
+      (found_fit (fits.record_components types t) (fits.record_components more t) items (components_stay t) fit)
+      (filled_owns (fits.record_components types t) items fit (second_part filled owned front)))
+      (rw (final_stays types more ts t (filled_there (fits.record_components types t) items fit)) (second_part (filled && owned) whole h))
 
   pub lent_stays : (kind : VariableKind) (borrows : Bool) (s : RightForm) → fits.kind_takes types variables kind s ≡ true → fits.lends_to variables borrows s ≡ true → fits.lends_to others borrows s ≡ true
   lent_stays kind borrows nothing h l = refl
@@ -345,7 +394,8 @@ module _ (types more : List TypeForm) (variables others : List VariableForm) (ts
       both_parts (not borrows) (list_all (fits.item_owns others) items)
       (first_part (not borrows) (list_all (fits.item_owns variables) items) l)
       (filled_owns (fits.reached_components types access.0) items
-      (second_part (eqb t access.0) (fits.is_filled types variables (fits.reached_components types access.0) items) h)
+      (second_part (eqb t access.0) (fits.is_filled types variables (fits.reached_components types access.0) items)
+      (first_part (eqb t access.0 && fits.is_filled types variables (fits.reached_components types access.0) items) (eqb (fits.parts_named types (fits.object_named types (Some access.0))) 0) h))
       (second_part (not borrows) (list_all (fits.item_owns variables) items) l))
   lent_stays variable.Integer borrows (allocates t items) h l = absurd (cc h)
   lent_stays variable.Boolean borrows (allocates t items) h l = absurd (cc h)
@@ -381,13 +431,16 @@ module _ (types more : List TypeForm) (variables others : List VariableForm) (ts
       by_kind None is h = absurd (cc h)
       by_kind (Some k) is h = rw (kind_stays x k is) h
 
-  pub record_initial_stays : (x object : ℕ) (initial : Option (List ItemForm)) → fits.record_initial_fits types variables x (fits.reached_components types object) initial ≡ true → fits.record_initial_fits more others x (fits.reached_components more object) initial ≡ true
-  record_initial_stays x object None h = refl
-  record_initial_stays x object (Some items) h =
+  object_initial_stays : (x : ℕ) (o found : Option ℕ) (items : List ItemForm) → ((d : ℕ) → o ≡ Some d → found ≡ Some d) → (list_all (fits.item_before x) items && fits.object_fits types variables o items) ≡ true → (list_all (fits.item_before x) items && fits.object_fits more others found items) ≡ true
+  object_initial_stays x None found items w h = absurd (cc (second_part (list_all (fits.item_before x) items) false h))
+  object_initial_stays x (Some d) found items w h =
       let before = list_all (fits.item_before x) items in
-      let fit = fits.record_fits types variables (fits.reached_components types object) items in
-      both_parts before (fits.record_fits more others (fits.reached_components more object) items) (first_part before fit h)
-      (record_stays (fits.reached_components types object) (fits.reached_components more object) items (reached_stay object) (second_part before fit h))
+      let fit : Bool = fits.record_fits types variables d items in
+      rw (w d refl) (both_parts before (fits.record_fits more others d items) (first_part before fit h) (record_stays d items (second_part before fit h)))
+
+  record_initial_stays : (x object : ℕ) (initial : Option (List ItemForm)) → fits.record_initial_fits types variables x (fits.object_named types (Some object)) initial ≡ true → fits.record_initial_fits more others x (fits.object_named more (Some object)) initial ≡ true
+  record_initial_stays x object None h = refl
+  record_initial_stays x object (Some items) h = object_initial_stays x (fits.named_in (slice_get types object)) (fits.named_in (slice_get more object)) items (named_stays object) h
 
   initial_stays : (d : DeclarationForm) → fits.initial_fits types variables d ≡ true → fits.initial_fits more others d ≡ true
   initial_stays (creates_pool pool) h = refl
@@ -406,8 +459,8 @@ module _ (types more : List TypeForm) (variables others : List VariableForm) (ts
       (second_part (fits.right_fits more others (fits.variable_kind others x) s) (fits.lends_to others (fits.is_borrower others x) s) now)
   initial_stays (declares_record x object initial) h =
       let known = fits.is_record_object object (fits.variable_kind variables x) in
-      let fit = fits.record_initial_fits types variables x (fits.reached_components types object) initial in
-      both_parts (fits.is_record_object object (fits.variable_kind others x)) (fits.record_initial_fits more others x (fits.reached_components more object) initial)
+      let fit : Bool = fits.record_initial_fits types variables x (fits.object_named types (Some object)) initial in
+      both_parts (fits.is_record_object object (fits.variable_kind others x)) (fits.record_initial_fits more others x (fits.object_named more (Some object)) initial)
       (known_stays x object (first_part known fit h)) (record_initial_stays x object initial (second_part known fit h))
 
   pub collections_stay : (ds : List DeclarationForm) → list_all (fits.collection_fits types) ds ≡ true → list_all (fits.collection_fits more) ds ≡ true
@@ -567,11 +620,9 @@ module _ (types more : List TypeForm) (variables others : List VariableForm) (ts
       statement_stays inside (assigns target s) h = assigned_stays target s h
       statement_stays inside (assigns_record target items) h =
           let leads = fits.is_record_path types variables target in
-          let fit = fits.record_fits types variables (fits.record_components types target.record_type) items in
-          both_parts (fits.is_record_path more others target) (fits.record_fits more others (fits.record_components more target.record_type) items)
-          (record_path_stays target (first_part leads fit h))
-          (record_stays (fits.record_components types target.record_type) (fits.record_components more target.record_type) items
-          (components_stay target.record_type) (second_part leads fit h))
+          let fit : Bool = fits.record_fits types variables target.record_type items in
+          both_parts (fits.is_record_path more others target) (fits.record_fits more others target.record_type items)
+          (record_path_stays target (first_part leads fit h)) (record_stays target.record_type items (second_part leads fit h))
       statement_stays inside (frees access path) h =
           let freed : Bool = fits.is_freed_by types access (fits.path_access types variables path) in
           let owns = not (fits.names_borrower variables path) in

@@ -11,6 +11,7 @@ use Rattle.ada_tree.specs.Names.{Ident}
 use Rattle.ada_tree.specs.Expressions.{ExpressionTree, number_expression, null_expression, path_expression, aggregate_expression, enclosed_expression, unary_expression, binary_expression, ItemsTree, no_more_items, an_item}
 use Rattle.ada_program.specs.declared.program.ComponentKind.{ComponentKind}
 use Rattle.ada_program.specs.declared.program.ComponentKind.TheVariants as kind
+use Rattle.ada_program.specs.declared.program.Finalization.{Finalization}
 use Rattle.ada_program.specs.declared.program.TypeNo.{TypeNo}
 use Rattle.ada_program.specs.declared.program.PartKind.{PartKind}
 use Rattle.ada_program.specs.declared.program.PartKind.TheVariants as part
@@ -22,6 +23,7 @@ use Rattle.ada_resolve.specs.declared.fault.NameRule.TheVariants.{WrongType, Not
 use Rattle.ada_resolve.specs.declared.components.KnownComponent.{KnownComponent}
 use Rattle.ada_resolve.specs.declared.scope.Entity.{Entity}
 use Rattle.ada_resolve.specs.declared.scope.Entity.TheVariants as entity
+use Rattle.ada_resolve.specs.Controlled.{aggregate_wanted}
 use Rattle.ada_resolve.specs.Known.{Known, visible, parts}
 use Rattle.ada_resolve.specs.Naming.{AreLaidOut}
 use Rattle.ada_resolve.specs.Records.{kinds_within}
@@ -158,7 +160,11 @@ leads_to_record types (Some cs) first (Some ks) e = refl
 
 pub copied_record : (types : List TypeForm) (variables : List VariableForm) (path : RecordPathForm) → fits.is_record_path types variables path ≡ true → fits.is_record types path.record_type ≡ true
 copied_record types variables path f =
-    leads_to_record types (fits.object_components types (fits.access_of (fits.path_kind types variables path.object))) path.first (fits.record_components types path.record_type) f
+    let access = fits.access_of (fits.path_kind types variables path.object) in
+    let o = fits.object_components types access in
+    let ks = fits.record_components types path.record_type in
+    let parts : Bool = fits.has_parts_from (fits.part_count types path.record_type) path.part (fits.parts_named types (fits.object_named types access)) in
+    leads_to_record types o path.first ks (first_part (fits.has_record_at o path.first ks) parts f)
 
 -- a copy has the items of a record
 begins_self : (ks : List ComponentKind) → fits.begins_with ks ks ≡ true
@@ -247,24 +253,33 @@ count_is false filling one spot q e = whole_is filling.whole (list_all is_some f
     whole_is false b q e = absurd (cc e)
 
 -- the components of a record type, as they are declared
-pub components_are : (types : List TypeForm) (t : ℕ) (name : List ℕ) (ps : List PartForm) (cs : List ComponentKind) → slice_get types t ≡ Some (record_of name ps cs) → components_of types t ≡ ps
+pub components_are : (types : List TypeForm) (t : ℕ) (name : List ℕ) (ps : List PartForm) (cs : List ComponentKind) (final : Option Finalization) → slice_get types t ≡ Some (record_of name ps cs final) → components_of types t ≡ ps
 unfolding components_of
-components_are types t name ps cs e = rw e refl
+components_are types t name ps cs final e = rw e refl
+
+-- a record type without controlled parts
+no_parts : (final : Option Finalization) → is_some final ≡ false → final ≡ None
+no_parts None e = refl
+no_parts (Some f) e = absurd (cc e)
+
+pub without_parts : (types : List TypeForm) (t : TypeNo) (spot : Spot) → Quiet (aggregate_wanted types (Some t) spot) → fits.finalization_of types t.0 ≡ None
+without_parts types t spot q = no_parts (fits.finalization_of types t.0) (quiet_if (is_some (fits.finalization_of types t.0)) spot WrongType q)
 
 -- an aggregate
-aggregate_fits : (k : Known) (text : List ℕ) (o : Option Entity) (name : Ident) (is_named : Bool) (filling : Filling) (spot : Spot) → PartsFit k.types k.variables (parts k) → ((e : Entity) → o ≡ Some e → EntityFits k.types k.variables text e) → Quiet (complete_type_wanted o name) → FillsFor k.types k.variables (filled_components k (complete_in o)) filling → Quiet (count_remark is_named filling spot) → MeantFits k.types k.variables (aggregate_meant (complete_in o) filling)
-aggregate_fits k text (Some (entity.Record t size)) name is_named filling spot w v q fills c =
+aggregate_fits : (k : Known) (text : List ℕ) (o : Option Entity) (name : Ident) (is_named : Bool) (filling : Filling) (spot : Spot) → PartsFit k.types k.variables (parts k) → ((e : Entity) → o ≡ Some e → EntityFits k.types k.variables text e) → Quiet (complete_type_wanted o name) → Quiet (aggregate_wanted k.types (complete_in o) name.spot) → FillsFor k.types k.variables (filled_components k (complete_in o)) filling → Quiet (count_remark is_named filling spot) → MeantFits k.types k.variables (aggregate_meant (complete_in o) filling)
+aggregate_fits k text (Some (entity.Record t size)) name is_named filling spot w v q g fills c =
     let f = v (entity.Record t size) refl in
-    let whole : components_of k.types t.0 ≡ f.0 = components_are k.types t.0 text f.0 f.1 f.2 in
-    let laid : AreLaidOut k.types 0 (components_of k.types t.0) f.1 = subst (λ (ps : List PartForm). AreLaidOut k.types 0 ps f.1) (sym whole) (laid_in k.types k.variables (parts k) w t.0 (record_of text f.0 f.1) f.2).0 in
+    let whole : components_of k.types t.0 ≡ f.0 = components_are k.types t.0 text f.0 f.1 f.2 f.3 in
+    let laid : AreLaidOut k.types 0 (components_of k.types t.0) f.1 = subst (λ (ps : List PartForm). AreLaidOut k.types 0 ps f.1) (sym whole) (laid_in k.types k.variables (parts k) w t.0 (record_of text f.0 f.1 f.2) f.3).0 in
     let full : list_all is_some filling.slots ≡ true = count_is _ filling _ spot c fills.is_whole in (
-      rw f.2 refl,
-      subst (λ (ks : List ComponentKind). fits.items_fit k.types k.variables ks (flattened filling.slots) ≡ true) (sym (elementary_is k.types t.0 text f.0 f.1 f.2))
+      rw f.3 refl,
+      subst (λ (ks : List ComponentKind). fits.items_fit k.types k.variables ks (flattened filling.slots) ≡ true) (sym (elementary_is k.types t.0 text f.0 f.1 f.2 f.3))
           (all_filled k.types k.variables 0 (components_of k.types t.0) f.1 filling.slots laid fills.slots_fit full),
       all_own k.types k.variables (components_of k.types t.0) filling.slots fills.slots_fit,
+      without_parts k.types t name.spot g,
     )
-aggregate_fits k text (Some e) name is_named filling spot w v q fills c = absurd q
-aggregate_fits k text None name is_named filling spot w v q fills c = absurd q
+aggregate_fits k text (Some e) name is_named filling spot w v q g fills c = absurd q
+aggregate_fits k text None name is_named filling spot w v q g fills c = absurd q
 
 -- an expression, and the items of an aggregate
 mutual
@@ -277,8 +292,8 @@ mutual
   expression_fits k (aggregate_expression type_name items) w q =
       let components = filled_components k (complete_in (visible k type_name.text)) in
       aggregate_fits k type_name.text (visible k type_name.text) type_name (names_component items)
-      (after_items k components (names_component items) (first_filling components) items) type_name.spot w (visible_fits k w type_name.text) q.1.0
-      (items_fill k components (names_component items) (first_filling components) items w (first_fills k.types k.variables components) q.1.1.0) q.1.1.1
+      (after_items k components (names_component items) (first_filling components) items) type_name.spot w (visible_fits k w type_name.text) q.1.0 q.1.1.0
+      (items_fill k components (names_component items) (first_filling components) items w (first_fills k.types k.variables components) q.1.1.1.0) q.1.1.1.1
   expression_fits k (enclosed_expression spot inner) w q = expression_fits k inner w q
   expression_fits k (unary_expression o spot operand) w q =
       unary_fits k.types k.variables o (expression_meant k operand) (expression_spot operand) (expression_fits k operand w q.1.0) q.1.1

@@ -5,6 +5,7 @@ use Rattle.std.specs.Prelude.{Option, Some, None}
 use Rattle.std.specs.List.{slice_get, slice_set}
 use Rattle.std.proofs.lemmas.List.{length-append}
 use Rattle.ada_program.specs.declared.program.ComponentKind.{ComponentKind}
+use Rattle.ada_program.specs.declared.program.Finalization.{Finalization}
 use Rattle.ada_program.specs.declared.program.PartKind.{PartKind}
 use Rattle.ada_program.specs.declared.program.PartKind.TheVariants as part
 use Rattle.ada_program.specs.ProgramForm.{PartForm, TypeForm, record_of, access_to, object_of}
@@ -36,7 +37,7 @@ record_has_both P Q R w part.Parent h g = tt
 
 -- the components of a type lie one behind the other, and records among them are of types that are there; so is a record object
 abbrev pub IsLaid : List TypeForm → TypeForm → Type 0
-IsLaid types (record_of name ps cs) = AreLaidOut types 0 ps cs × OfParts (RecordHas (λ t. fits.is_record types t ≡ true)) ps
+IsLaid types (record_of name ps cs final) = AreLaidOut types 0 ps cs × OfParts (RecordHas (λ t. fits.is_record types t ≡ true)) ps
 IsLaid types (access_to name d pool) = Unit {0}
 IsLaid types (object_of r) = fits.is_record types r ≡ true
 
@@ -46,7 +47,7 @@ AreRecordsLaid types = (t : ℕ) (form : TypeForm) → slice_get types t ≡ Som
 
 -- no component of a type is a record of the type of this number, nor is a record object that is known by the type
 abbrev pub Avoids : ℕ → TypeForm → Type 0
-Avoids t (record_of name ps cs) = OfParts (RecordHas (λ u. u ≡ t → ⊥)) ps
+Avoids t (record_of name ps cs final) = OfParts (RecordHas (λ u. u ≡ t → ⊥)) ps
 Avoids t (access_to name d pool) = Unit {0}
 Avoids t (object_of r) = r ≡ t → ⊥
 
@@ -60,9 +61,9 @@ append_none [] = refl
 append_none (x ∷ xs) = ap (λ ys. x ∷ ys) (append_none xs)
 
 -- the elementary components of a record type
-pub elementary_is : (types : List TypeForm) (t : ℕ) (name : List ℕ) (ps : List PartForm) (cs : List ComponentKind) → slice_get types t ≡ Some (record_of name ps cs) → elementary_of types t ≡ cs
+pub elementary_is : (types : List TypeForm) (t : ℕ) (name : List ℕ) (ps : List PartForm) (cs : List ComponentKind) (final : Option Finalization) → slice_get types t ≡ Some (record_of name ps cs final) → elementary_of types t ≡ cs
 unfolding elementary_of
-elementary_is types t name ps cs is = rw is refl
+elementary_is types t name ps cs final is = rw is refl
 
 pub elementary_same : (types more : List TypeForm) (t : ℕ) → slice_get more t ≡ slice_get types t → elementary_of more t ≡ elementary_of types t
 unfolding elementary_of
@@ -114,7 +115,7 @@ record_same types form t e = by_form (slice_get types t) refl e
     by_form (Some x) is e = elementary_same types (types ++ form ∷ []) t (get_more types form t x is ∙ sym is)
 
 pub form_laid_more : (types : List TypeForm) (form x : TypeForm) → IsLaid types x → IsLaid (types ++ form ∷ []) x
-form_laid_more types form (record_of name ps cs) l = (
+form_laid_more types form (record_of name ps cs final) l = (
   laid_stays types (types ++ form ∷ []) 0 ps cs (λ i c is. record_has (λ t. fits.is_record types t ≡ true) (λ t. elementary_of (types ++ form ∷ []) t ≡ elementary_of types t) (record_same types form) c.kind (l.1 i c is)) l.0,
   λ i c is. record_has (λ t. fits.is_record types t ≡ true) (λ t. fits.is_record (types ++ form ∷ []) t ≡ true) (record_more types form) c.kind (l.1 i c is),
 )
@@ -130,7 +131,7 @@ other_same : (types : List TypeForm) (i : ℕ) (form : TypeForm) (t : ℕ) → (
 other_same types i form t ne = elementary_same types (slice_set types i form) t (get_other types i t form (λ same. ne (sym same)))
 
 pub form_laid_set : (types : List TypeForm) (i : ℕ) (form x : TypeForm) → Avoids i x → IsLaid types x → IsLaid (slice_set types i form) x
-form_laid_set types i form (record_of name ps cs) a l = (
+form_laid_set types i form (record_of name ps cs final) a l = (
   laid_stays types (slice_set types i form) 0 ps cs (λ j c is. record_has (λ t. t ≡ i → ⊥) (λ t. elementary_of (slice_set types i form) t ≡ elementary_of types t) (other_same types i form) c.kind (a j c is)) l.0,
   λ j c is. record_has_both (λ t. t ≡ i → ⊥) (λ t. fits.is_record types t ≡ true) (λ t. fits.is_record (slice_set types i form) t ≡ true) (λ t ne there. record_other types i form t (λ same. ne (sym same)) there) c.kind (a j c is) (l.1 j c is),
 )
@@ -153,7 +154,7 @@ new_unused types all u form is = by_form form (all u form is)
         none_at (x ∷ xs) = none_at xs
 
     by_form : (x : TypeForm) → IsLaid types x → Avoids (length types) x
-    by_form (record_of name ps cs) l = λ i c at. record_has (λ t. fits.is_record types t ≡ true) (λ t. t ≡ length types → ⊥) absent c.kind (l.1 i c at)
+    by_form (record_of name ps cs final) l = λ i c at. record_has (λ t. fits.is_record types t ≡ true) (λ t. t ≡ length types → ⊥) absent c.kind (l.1 i c at)
     by_form (access_to name d pool) l = tt
     by_form (object_of r) l = absent r l
 

@@ -1,9 +1,10 @@
 -- A path with which nothing is wrong means a value, and that has its type.
 
-use Rattle.std.proofs.Common.{◌≡◌, ◌∙◌, ℕ, Bool, true, false, List, [], ◌∷◌, ◌++◌, drop, refl, sym, ap, cond, eq-eqb}
-use Rattle.std.specs.Prelude.{Option, Some, None, is_some, not}
+use Rattle.std.proofs.Common.{◌≡◌, ◌∙◌, ℕ, ◌+◌, ◌≤◌, Bool, true, false, ◌&&◌, ◌||◌, List, [], ◌∷◌, ◌++◌, drop, refl, sym, ap, cond, eqb, eq-eqb}
+use Rattle.std.specs.Prelude.{Option, Some, None, is_some, not, nat_lt}
 use Rattle.std.specs.List.{list_all, slice_get}
 use Rattle.std.proofs.Math.Seq.{drop-append_seam}
+use Rattle.std.proofs.lemmas.Bool.{le-ltb}
 use Rattle.ada_text.specs.declared.spot.Spot.{Spot}
 use Rattle.ada_values.specs.declared.operator.UnaryOperator.{UnaryOperator}
 use Rattle.ada_values.specs.declared.operator.UnaryOperator.TheVariants as unary
@@ -21,7 +22,7 @@ use Rattle.ada_program.specs.WellFormed as fits
 use Rattle.ada_resolve.specs.declared.fault.NameRule.{NameRule}
 use Rattle.ada_resolve.specs.declared.fault.NameRule.TheVariants.{UnknownName, NotInProfile}
 use Rattle.ada_resolve.specs.declared.library.LibraryName.{LibraryName}
-use Rattle.ada_resolve.specs.declared.library.LibraryName.TheVariants.{TextIo, PutLine, UncheckedDeallocation, Finalization, OfFinalization, Pools, FirstFitPool, OfPools, RunInput, Get, EndError, OtherUnit, Unknown}
+use Rattle.ada_resolve.specs.declared.library.LibraryName.TheVariants.{TextIo, PutLine, UncheckedDeallocation, Finalization, Controlled, LimitedControlled, Pools, FirstFitPool, OfPools, RunInput, Get, EndError, OtherUnit, Unknown}
 use Rattle.ada_resolve.specs.declared.library.Withs.{Withs}
 use Rattle.ada_resolve.specs.declared.scope.Entity.{Entity}
 use Rattle.ada_resolve.specs.declared.scope.Entity.TheVariants as entity
@@ -48,7 +49,8 @@ MeantFits types variables (integer_value e) = fits.type_of types variables e ≡
 MeantFits types variables (boolean_value e) = fits.type_of types variables e ≡ Some Boolean
 MeantFits types variables (record_value path) = fits.is_record_path types variables path ≡ true
 MeantFits types variables (aggregate_value t items) =
-    (fits.is_record types t.0 ≡ true) × (fits.items_fit types variables (elementary_of types t.0) items ≡ true) × (list_all (fits.item_owns variables) items ≡ true)
+    (fits.is_record types t.0 ≡ true) × (fits.items_fit types variables (elementary_of types t.0) items ≡ true) × (list_all (fits.item_owns variables) items ≡ true) ×
+    (fits.finalization_of types t.0 ≡ None)
 
 -- the elementary components of a record type
 pub components_there : (types : List TypeForm) (t : ℕ) → fits.is_record types t ≡ true → fits.record_components types t ≡ Some (elementary_of types t)
@@ -57,7 +59,7 @@ components_there types t e = by_form (slice_get types t) e
   where
     by_form : (o : Option TypeForm) → is_some (fits.components_in o) ≡ true → fits.components_in o ≡ Some (elementary_in o)
     by_form None e = absurd (cc e)
-    by_form (Some (record_of name ps cs)) e = refl
+    by_form (Some (record_of name ps cs final)) e = refl
     by_form (Some (access_to name d pool)) e = absurd (cc e)
     by_form (Some (object_of r)) e = absurd (cc e)
 
@@ -71,14 +73,23 @@ pub begins_own : (ks behind : List ComponentKind) → fits.begins_with (ks ++ be
 begins_own [] behind = refl
 begins_own (k ∷ ks) behind = both_parts (fits.is_alike k k) (fits.begins_with (ks ++ behind) ks) (alike_own k) (begins_own ks behind)
 
+-- controlled parts that lie within those of an object
+parts_from : (count from within : ℕ) → from + count ≤ within → fits.has_parts_from count from within ≡ true
+parts_from count from within le = either (eqb count 0) (nat_lt within (from + count)) (le-ltb within (from + count) le)
+  where
+    either : (b c : Bool) → c ≡ false → (b || not c) ≡ true
+    either true c is = refl
+    either false c is = ap (λ (x : Bool). not x) is
+
 -- a record within an object
-within_fits : (types : List TypeForm) (of : Option VariableKind) (t first : ℕ) → TypesFit types → IsWithin types of (elementary_of types t) first → fits.is_record types t ≡ true → fits.has_record_at (fits.object_components types (fits.access_of of)) first (fits.record_components types t) ≡ true
-within_fits types of t first all w r =
+within_fits : (types : List TypeForm) (of : Option VariableKind) (t first from : ℕ) → TypesFit types → IsWithin types of (elementary_of types t) first from (fits.part_count types t) → fits.is_record types t ≡ true → (fits.has_record_at (fits.object_components types (fits.access_of of)) first (fits.record_components types t) && fits.has_parts_from (fits.part_count types t) from (fits.parts_named types (fits.object_named types (fits.access_of of)))) ≡ true
+within_fits types of t first from all w r =
     let whole = components_there types w.1 (named_record types w.0 w.1 all w.5) in
     let own = components_there types t r in
     let ks = elementary_of types t in
     let rest : drop first (elementary_of types w.1) ≡ ks ++ w.3 = ap (λ cs. drop first cs) w.6 ∙ (ap (λ n. drop n (w.2 ++ (ks ++ w.3))) (sym w.7) ∙ drop-append_seam w.2 (ks ++ w.3)) in
-    rw w.4 (rw w.5 (rw whole (rw own (rw rest (begins_own ks w.3)))))
+    both_parts (fits.has_record_at (fits.object_components types (fits.access_of of)) first (fits.record_components types t)) (fits.has_parts_from (fits.part_count types t) from (fits.parts_named types (fits.object_named types (fits.access_of of))))
+    (rw w.4 (rw w.5 (rw whole (rw own (rw rest (begins_own ks w.3)))))) (rw w.4 (rw w.5 (parts_from (fits.part_count types t) from (fits.part_count types w.1) w.8)))
 
 -- what is reached means what it holds
 reached_fits : (types : List TypeForm) (variables : List VariableForm) (path : PathForm) (spot : Spot) (at : Reached) → TypesFit types → IsReached types (fits.path_kind types variables path) at → Quiet (record_type_wanted at spot) → MeantFits types variables (reached_meant path at)
@@ -86,7 +97,7 @@ reached_fits types variables path spot (reached.Value variable.Integer) all is q
 reached_fits types variables path spot (reached.Value variable.Boolean) all is q = rw is refl
 reached_fits types variables path spot (reached.Value (variable.Access t)) all is q = is
 reached_fits types variables path spot (reached.Value (variable.Record object)) all is q = absurd q
-reached_fits types variables path spot (reached.Object t first) all is q = within_fits types (fits.path_kind types variables path) t.0 first all is.0 is.1
+reached_fits types variables path spot (reached.Object t first from) all is q = within_fits types (fits.path_kind types variables path) t.0 first from all is.0 is.1
 reached_fits types variables path spot reached.Nothing all is q = absurd is
 
 -- the root of a path is what its variable holds, or the record object that the variable is
@@ -136,7 +147,8 @@ no_library_name withs TextIo spot p q = no_library_value withs.text_io TextIo sp
 no_library_name withs PutLine spot p q = no_library_value withs.text_io PutLine spot UnknownName p q
 no_library_name withs UncheckedDeallocation spot p q = no_library_value withs.deallocation UncheckedDeallocation spot UnknownName p q
 no_library_name withs Finalization spot p q = no_library_value withs.finalization Finalization spot UnknownName p q
-no_library_name withs OfFinalization spot p q = p
+no_library_name withs Controlled spot p q = no_library_value withs.finalization Controlled spot UnknownName p q
+no_library_name withs LimitedControlled spot p q = no_library_value withs.finalization LimitedControlled spot UnknownName p q
 no_library_name withs Pools spot p q = no_library_value withs.pools Pools spot UnknownName p q
 no_library_name withs FirstFitPool spot p q = no_library_value withs.pools FirstFitPool spot UnknownName p q
 no_library_name withs OfPools spot p q = p

@@ -6,6 +6,7 @@ use Rattle.std.specs.List.{list_all, slice_get}
 use Rattle.std.proofs.lemmas.Bool.{false_from_ne_true}
 use Rattle.std.proofs.lemmas.Slice.Eq.{bytes_eq-Decides}
 use Rattle.ada_text.specs.declared.spot.Spot.{Spot}
+use Rattle.ada_program.specs.declared.program.Finalization.{Finalization}
 use Rattle.ada_program.specs.ProgramForm.{PartForm, TypeForm, record_of, access_to, VariableForm}
 use Rattle.ada_program.specs.WellFormed as fits
 use Rattle.ada_program.specs.declared.program.ComponentKind.{ComponentKind}
@@ -36,8 +37,8 @@ EntityFits types variables text (entity.Pool p) = Unit {0}
 EntityFits types variables text entity.Procedure = Unit {0}
 EntityFits types variables text (entity.Callable p) = Unit {0}
 EntityFits types variables text entity.LibraryUnit = Unit {0}
-EntityFits types variables text (entity.Incomplete t) = slice_get types t.0 ≡ Some (record_of text [] [])
-EntityFits types variables text (entity.Record t size) = (ps : List PartForm) × (cs : List ComponentKind) × (slice_get types t.0 ≡ Some (record_of text ps cs))
+EntityFits types variables text (entity.Incomplete t) = slice_get types t.0 ≡ Some (record_of text [] [] None)
+EntityFits types variables text (entity.Record t size) = (ps : List PartForm) × (cs : List ComponentKind) × (final : Option Finalization) × (slice_get types t.0 ≡ Some (record_of text ps cs final))
 EntityFits types variables text (entity.Access t) = (d : ℕ) × (pool : Option ℕ) × (slice_get types t.0 ≡ Some (access_to text d pool))
 EntityFits types variables text (entity.Instance t) = fits.is_access types t.0 ≡ true
 EntityFits types variables text (entity.Variable x kind) = IsVariableIn variables text kind x.0 × (fits.variable_kind_fits types kind ≡ true)

@@ -33,7 +33,7 @@ use Rattle.ada_resolve.proofs.WellFormed.Counts.{count_more}
 use Rattle.ada_resolve.proofs.WellFormed.Created.{due, accesses_object, makes_known}
 use Rattle.ada_resolve.proofs.WellFormed.Forms.{forms_in}
 use Rattle.ada_resolve.proofs.WellFormed.Elaborated.{Late, InOrder, late}
-use Rattle.ada_resolve.proofs.WellFormed.Growing.{lent_stays, taken_stays, collections_stay, components_stay, initials_stay, record_stays}
+use Rattle.ada_resolve.proofs.WellFormed.Growing.{lent_stays, taken_stays, collections_stay, initials_stay, record_stays}
 use Rattle.ada_resolve.proofs.WellFormed.Typing.{path_before, typed_before, of_type}
 use Rattle.ada_resolve.proofs.WellFormed.Values.{IsSourceFor, right_fits}
 
@@ -68,7 +68,7 @@ first_is_before : (types : List TypeForm) (variables : List VariableForm) (cs : 
 first_is_before types variables [] i h = absurd (cc h)
 first_is_before types variables (c ∷ cs) i h = component_is_before types variables c i h
 
-copied_before : (types : List TypeForm) (variables : List VariableForm) (p : RecordPathForm) (found : Option VariableKind) → fits.path_kind types variables p.object ≡ found → fits.has_record_at (fits.object_components types (fits.access_of found)) p.first (fits.record_components types p.record_type) ≡ true → nat_lt p.object.root (length variables) ≡ true
+copied_before : (types : List TypeForm) (variables : List VariableForm) (p : RecordPathForm) (found : Option VariableKind) → fits.path_kind types variables p.object ≡ found → (fits.has_record_at (fits.object_components types (fits.access_of found)) p.first (fits.record_components types p.record_type) && fits.has_parts_from (fits.part_count types p.record_type) p.part (fits.parts_named types (fits.object_named types (fits.access_of found)))) ≡ true → nat_lt p.object.root (length variables) ≡ true
 copied_before types variables p None is h = absurd (cc h)
 copied_before types variables p (Some k) is h = path_before types variables p.object k is
 
@@ -98,8 +98,10 @@ access_before types variables access nothing h = refl
 access_before types variables access (value_of path) h =
     moved_before types variables path access (fits.path_kind types variables path) refl h
 access_before types variables access (allocates t items) h =
+    let same = eqb t access in
+    let filled : Bool = fits.is_filled types variables (fits.reached_components types access) items in
     filled_before types variables (fits.reached_components types access) items
-    (second_part (eqb t access) (fits.is_filled types variables (fits.reached_components types access) items) h)
+    (second_part same filled (first_part (same && filled) (eqb (fits.parts_named types (fits.object_named types (Some access))) 0) h))
 access_before types variables access (allocates_default t) h = refl
 access_before types variables access (computes e) h = absurd (cc h)
 
@@ -181,21 +183,20 @@ made_order k name borrows kind s first w f =
 -- the items of a record object's initial value are those of its type
 abbrev IsRecordInitial : Known → TypeNo → Option (List ItemForm) → Type 0
 IsRecordInitial k t None = Unit {0}
-IsRecordInitial k t (Some items) = fits.record_fits k.types k.variables (fits.record_components k.types t.0) items ≡ true
+IsRecordInitial k t (Some items) = fits.record_fits k.types k.variables t.0 items ≡ true
 
-items_initial : (k : Known) (t : TypeNo) (o : VariableForm) (initial : Option (List ItemForm)) → IsRecordInitial k t initial → fits.record_initial_fits (k.types ++ object_of t.0 ∷ []) (k.variables ++ o ∷ []) (length k.variables) (fits.reached_components (k.types ++ object_of t.0 ∷ []) (length k.types)) initial ≡ true
+items_initial : (k : Known) (t : TypeNo) (o : VariableForm) (initial : Option (List ItemForm)) → IsRecordInitial k t initial → fits.record_initial_fits (k.types ++ object_of t.0 ∷ []) (k.variables ++ o ∷ []) (length k.variables) (fits.object_named (k.types ++ object_of t.0 ∷ []) (Some (length k.types))) initial ≡ true
 items_initial k t o None h = refl
 items_initial k t o (Some items) h =
     let more = k.types ++ object_of t.0 ∷ [] in
     let others = k.variables ++ o ∷ [] in
     let filled : Bool = fits.is_filled k.types k.variables (fits.record_components k.types t.0) items in
     let own = list_all (fits.item_owns k.variables) items in
-    let stays : fits.record_fits more others (fits.record_components more t.0) items ≡ true =
-    record_stays k.types more k.variables others (forms_in k.types more (λ i x is. get_more k.types (object_of t.0) i x is)) (λ i x is. get_more k.variables o i x is)
-    (fits.record_components k.types t.0) (fits.record_components more t.0) items
-    (components_stay k.types more k.variables others (forms_in k.types more (λ i x is. get_more k.types (object_of t.0) i x is)) (λ i x is. get_more k.variables o i x is) t.0) h in
-    both_parts (list_all (fits.item_before (length k.variables)) items) (fits.record_fits more others (fits.reached_components more (length k.types)) items)
-    (filled_before k.types k.variables (fits.record_components k.types t.0) items (first_part filled own h))
+    let whole : Bool = fits.copies_whole t.0 (fits.finalization_of k.types t.0) items in
+    let stays : fits.record_fits more others t.0 items ≡ true =
+    record_stays k.types more k.variables others (forms_in k.types more (λ i x is. get_more k.types (object_of t.0) i x is)) (λ i x is. get_more k.variables o i x is) t.0 items h in
+    both_parts (list_all (fits.item_before (length k.variables)) items) (fits.object_fits more others (fits.object_named more (Some (length k.types))) items)
+    (filled_before k.types k.variables (fits.record_components k.types t.0) items (first_part filled own (first_part (filled && own) whole h)))
     (rw (get_last k.types (object_of t.0)) stays)
 
 -- one more record object, with the type that it is known by
@@ -214,7 +215,7 @@ record_late k name t initial w f =
           (initials_stay k.types more k.variables others (forms_in k.types more (λ i x is. get_more k.types (object_of t.0) i x is)) (λ i x is. get_more k.variables o i x is) es w.initials_fit)
           (both_parts (fits.initial_fits more others d) true
           (both_parts (fits.is_record_object (length k.types) (fits.variable_kind others (length k.variables)))
-          (fits.record_initial_fits more others (length k.variables) (fits.reached_components more (length k.types)) initial)
+          (fits.record_initial_fits more others (length k.variables) (fits.object_named more (Some (length k.types))) initial)
           (rw (kind_last k.variables o) (eq-eqb (length k.types) (length k.types) refl)) (items_initial k t o initial f)) refl);
       one_each = λ a.
           let h = w.one_each a in

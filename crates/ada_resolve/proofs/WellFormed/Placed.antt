@@ -16,7 +16,8 @@ use Rattle.ada_resolve.specs.Paths.{elementary_of, elementary_in}
 use Rattle.ada_resolve.proofs.WellFormed.Forms.{AreIn, bare, forms, get_form, form_there, forms_length, forms_set, record_stays, access_stays, access_there, same_at, all_forms}
 use Rattle.ada_resolve.proofs.WellFormed.Laid.{AreRecordsLaid, IsLaid, IsUnused, Avoids, record_has, laid_stays}
 use Rattle.ada_resolve.proofs.WellFormed.Names.{EntityFits, PartsFit, variables_behind}
-use Rattle.ada_resolve.proofs.WellFormed.Tables.{all_set, get_more, get_last, get_other, get_set, get_within, none_past, past_none, object_kind_kept, types_kept, types_keep, record_grows}
+use Rattle.ada_resolve.proofs.WellFormed.Numbered.{types_kept, counted_same}
+use Rattle.ada_resolve.proofs.WellFormed.Tables.{all_set, get_more, get_last, get_other, get_set, get_within, none_past, past_none, object_kind_kept, types_keep, record_grows}
 
 pub placed_forms : (pool : ℕ) (types : List TypeForm) (access : ℕ) → forms (placed pool types access) ≡ forms types
 unfolding placed
@@ -24,7 +25,7 @@ placed_forms pool types access = by_form (slice_get types access) refl
   where
     by_form : (o : Option TypeForm) → slice_get types access ≡ o → forms (placed_by o pool types access) ≡ forms types
     by_form None is = refl
-    by_form (Some (record_of name ps cs)) is = refl
+    by_form (Some (record_of name ps cs final)) is = refl
     by_form (Some (access_to name d before)) is = forms_set types access (access_to name d before) (access_to name d (Some pool)) is refl
     by_form (Some (object_of r)) is = refl
 
@@ -39,37 +40,37 @@ placed_housed n pool types access less all = by_form (slice_get types access)
   where
     by_form : (o : Option TypeForm) → list_all (fits.has_known_pool n) (placed_by o pool types access) ≡ true
     by_form None = all
-    by_form (Some (record_of name ps cs)) = all
+    by_form (Some (record_of name ps cs final)) = all
     by_form (Some (access_to name d before)) = all_set (fits.has_known_pool n) types access (access_to name d (Some pool)) all less
     by_form (Some (object_of r)) = all
 
 fit_bare : (types : List TypeForm) (x : TypeForm) → fits.type_fits types (bare x) ≡ fits.type_fits types x
-fit_bare types (record_of name ps cs) = refl
+fit_bare types (record_of name ps cs final) = refl
 fit_bare types (access_to name d pool) = refl
 fit_bare types (object_of r) = refl
 
 elementary_bare : (x : TypeForm) → elementary_in (Some (bare x)) ≡ elementary_in (Some x)
-elementary_bare (record_of name ps cs) = refl
+elementary_bare (record_of name ps cs final) = refl
 elementary_bare (access_to name d pool) = refl
 elementary_bare (object_of r) = refl
 
 laid_bare : (types : List TypeForm) (x : TypeForm) → IsLaid types x → IsLaid types (bare x)
-laid_bare types (record_of name ps cs) l = l
+laid_bare types (record_of name ps cs final) l = l
 laid_bare types (access_to name d pool) l = l
 laid_bare types (object_of r) l = l
 
 bare_laid : (types : List TypeForm) (x : TypeForm) → IsLaid types (bare x) → IsLaid types x
-bare_laid types (record_of name ps cs) l = l
+bare_laid types (record_of name ps cs final) l = l
 bare_laid types (access_to name d pool) l = l
 bare_laid types (object_of r) l = l
 
 avoids_bare : (t : ℕ) (x : TypeForm) → Avoids t x → Avoids t (bare x)
-avoids_bare t (record_of name ps cs) a = a
+avoids_bare t (record_of name ps cs final) a = a
 avoids_bare t (access_to name d pool) a = a
 avoids_bare t (object_of r) a = a
 
 bare_avoids : (t : ℕ) (x : TypeForm) → Avoids t (bare x) → Avoids t x
-bare_avoids t (record_of name ps cs) a = a
+bare_avoids t (record_of name ps cs final) a = a
 bare_avoids t (access_to name d pool) a = a
 bare_avoids t (object_of r) a = a
 
@@ -82,11 +83,11 @@ module _ (types more : List TypeForm) (same : forms more ≡ forms types) where
   pub each_was : (t : ℕ) (form : TypeForm) → slice_get more t ≡ Some form → (x : TypeForm) × (slice_get types t ≡ Some x) × (bare x ≡ bare form)
   each_was t form is = form_there types t (bare form) (subst (λ (ts : List TypeForm). slice_get ts t ≡ Some (bare form)) same (get_form more t form is))
 
-  pub placed_fit : list_all (fits.type_fits types) types ≡ true → list_all (fits.type_fits more) more ≡ true
-  placed_fit all =
+  pub placed_fit : AreRecordsLaid types → list_all (fits.type_fits types) types ≡ true → list_all (fits.type_fits more) more ≡ true
+  placed_fit laid all =
       sym (all_forms (fits.type_fits more) (fit_bare more) more) ∙
       (ap (λ ts. list_all (fits.type_fits more) ts) same ∙
-      (all_forms (fits.type_fits more) (fit_bare more) types ∙ types_kept types more (types_keep types more grown) (record_grows types more grown) types all))
+      (all_forms (fits.type_fits more) (fit_bare more) types ∙ types_kept types more (types_keep types more grown) (record_grows types more grown) (counted_same types more same grown laid) all))
 
   elementary_stays : (t : ℕ) → fits.is_record types t ≡ true → elementary_of more t ≡ elementary_of types t
   unfolding elementary_of
@@ -97,7 +98,7 @@ module _ (types more : List TypeForm) (same : forms more ≡ forms types) where
       by_form (Some x) is e = same_at types more grown (λ o. elementary_in o) elementary_bare t x is ∙ ap (λ o. elementary_in o) (sym is)
 
   form_laid : (x : TypeForm) → IsLaid types x → IsLaid more x
-  form_laid (record_of name ps cs) l = (
+  form_laid (record_of name ps cs final) l = (
     laid_stays types more 0 ps cs (λ i c is. record_has (λ t. fits.is_record types t ≡ true) (λ t. elementary_of more t ≡ elementary_of types t) elementary_stays c.kind (l.1 i c is)) l.0,
     λ i c is. record_has (λ t. fits.is_record types t ≡ true) (λ t. fits.is_record more t ≡ true) (record_grows types more grown) c.kind (l.1 i c is),
   )
@@ -115,8 +116,8 @@ module _ (types more : List TypeForm) (same : forms more ≡ forms types) where
       bare_avoids t form (subst (λ (x : TypeForm). Avoids t x) was.2 (avoids_bare t was.0 (all u was.0 was.1)))
 
   entity_placed : (variables : List VariableForm) (text : List ℕ) (e : Entity) → EntityFits types variables text e → EntityFits more variables text e
-  entity_placed variables text (entity.Incomplete t) f = record_stays types more grown t.0 text _ _ f
-  entity_placed variables text (entity.Record t size) f = (f.0, f.1, record_stays types more grown t.0 text f.0 f.1 f.2)
+  entity_placed variables text (entity.Incomplete t) f = record_stays types more grown t.0 text _ _ _ f
+  entity_placed variables text (entity.Record t size) f = (f.0, f.1, f.2, record_stays types more grown t.0 text f.0 f.1 f.2 f.3)
   entity_placed variables text (entity.Access t) f = let there = access_stays types more grown t.0 text f.0 f.1 f.2 in (f.0, there.0, there.1)
   entity_placed variables text (entity.Instance t) f = (types_keep types more grown).0 t.0 f
   entity_placed variables text (entity.Variable x kind) f = (f.0, object_kind_kept types more (types_keep types more grown) kind f.1)
@@ -124,7 +125,7 @@ module _ (types more : List TypeForm) (same : forms more ≡ forms types) where
   entity_placed variables text e f = f
 
   pub parts_placed : (variables : List VariableForm) (ps : List Part) → PartsFit types variables ps → PartsFit more variables ps
-  parts_placed variables [] f = (placed_laid f.0, placed_fit f.1)
+  parts_placed variables [] f = (placed_laid f.0, placed_fit f.0 f.1)
   parts_placed variables (p ∷ ps) f = (λ text e is. entity_placed variables text e (f.0 text e is), parts_placed (variables_behind p.around variables) ps f.1)
 
 -- a pool that a type has stays its own where types go on
@@ -158,7 +159,7 @@ pools_placed pool types access none t n e = by_form (slice_get types access) ref
   where
     by_form : (o : Option TypeForm) → slice_get types access ≡ o → pool_of (placed_by o pool types access) t ≡ Some n
     by_form None is = e
-    by_form (Some (record_of name ps cs)) is = e
+    by_form (Some (record_of name ps cs final)) is = e
     by_form (Some (access_to name d before)) is =
         let own : before ≡ None = ap (λ (o : Option TypeForm). pool_by o) (sym is) ∙ none in
         pools_set types access (access_to name d before) (access_to name d (Some pool)) is own t n e
@@ -237,7 +238,7 @@ pool_placed pool types access there none t = by_form (slice_get types access) re
 
     by_form : (o : Option TypeForm) → slice_get types access ≡ o → is_some (pool_of (placed_by o pool types access) t) ≡ (eqb access t || is_some (pool_of types t))
     by_form None is = absurd (not_there None is refl)
-    by_form (Some (record_of name ps cs)) is = absurd (not_there (Some (record_of name ps cs)) is refl)
+    by_form (Some (record_of name ps cs final)) is = absurd (not_there (Some (record_of name ps cs final)) is refl)
     by_form (Some (access_to name d before)) is =
         let own : before ≡ None = ap (λ (o : Option TypeForm). pool_by o) (sym is) ∙ none in
         pool_set types access (access_to name d before) (access_to name d (Some pool)) is own t ∙ always (eqb access t) (is_some (pool_of types t))
@@ -253,7 +254,7 @@ placed_pool pool types access there = by_form (slice_get types access) refl
 
     by_form : (o : Option TypeForm) → slice_get types access ≡ o → pool_by (slice_get (placed_by o pool types access) access) ≡ Some pool
     by_form None is = absurd (not_there None is refl)
-    by_form (Some (record_of name ps cs)) is = absurd (not_there (Some (record_of name ps cs)) is refl)
+    by_form (Some (record_of name ps cs final)) is = absurd (not_there (Some (record_of name ps cs final)) is refl)
     by_form (Some (access_to name d before)) is =
         ap (λ (o : Option TypeForm). pool_by o) (get_set types access (access_to name d before) (access_to name d (Some pool)) is)
     by_form (Some (object_of r)) is = absurd (not_there (Some (object_of r)) is refl)

@@ -1,12 +1,13 @@
 -- Where nothing is wrong with what is selected behind a variable, it is there.
 
-use Rattle.std.proofs.Common.{◌≡◌, ◌∙◌, ℕ, ◌+◌, Bool, true, false, cond, List, [], ◌∷◌, ◌++◌, length, append_assoc, refl, sym, ap, subst, suc, arith}
+use Rattle.std.proofs.Common.{◌≡◌, ◌∙◌, ℕ, ◌+◌, ◌≤◌, Bool, true, false, cond, List, [], ◌∷◌, ◌++◌, length, append_assoc, refl, sym, ap, subst, suc, arith}
 use Rattle.std.specs.Prelude.{Option, Some, None, bytes_eq}
 use Rattle.std.specs.List.{slice_get}
 use Rattle.std.proofs.lemmas.List.{length-append}
 use Rattle.ada_text.specs.declared.spot.Spot.{Spot}
 use Rattle.ada_tree.specs.Names.{Ident, SelectorTree, component, dereference}
 use Rattle.ada_program.specs.declared.program.ComponentKind.{ComponentKind}
+use Rattle.ada_program.specs.declared.program.Finalization.{Finalization}
 use Rattle.ada_program.specs.declared.program.PartKind.{PartKind}
 use Rattle.ada_program.specs.declared.program.PartKind.TheVariants as part
 use Rattle.ada_program.specs.declared.program.VariableKind.{VariableKind}
@@ -20,11 +21,12 @@ use Rattle.ada_resolve.specs.declared.selectors.Reached.TheVariants as reached
 use Rattle.ada_resolve.specs.declared.components.KnownComponent.{KnownComponent}
 use Rattle.ada_resolve.specs.Known.{Known}
 use Rattle.ada_resolve.specs.Paths as path
-use Rattle.ada_resolve.specs.Paths.{components_of, elementary_of, elementary_in, known_component, first_behind, held_by, number_by, designated_of, component_named, is_incomplete_type, component_in, component_behind, held_in, object_in, object_behind, selector_reached, selectors_reached, variable_reached, whole_object, record_known_by, record_of_object, number_in, component_selected, components_selected, component_wanted, selectable_wanted, component_within_remark, component_behind_remark, complete_behind, all_remark, selector_remark, selectors_remark}
+use Rattle.ada_resolve.specs.Paths.{components_of, elementary_of, elementary_in, known_component, first_behind, part_behind, held_by, number_by, designated_of, component_named, is_incomplete_type, component_in, component_behind, held_in, object_in, object_behind, selector_reached, selectors_reached, variable_reached, whole_object, record_known_by, record_of_object, number_in, component_selected, components_selected, component_wanted, selectable_wanted, component_within_remark, component_behind_remark, complete_behind, all_remark, selector_remark, selectors_remark}
 use Rattle.ada_resolve.specs.Records.{kinds_within}
 use Rattle.ada_resolve.specs.Remark.{wrong, wrong_if}
 use Rattle.ada_resolve.proofs.WellFormed.Names.{TypesFit, text_same}
 use Rattle.ada_resolve.proofs.WellFormed.Laid.{RecordHas, append_none, elementary_is, lies}
+use Rattle.ada_resolve.proofs.WellFormed.Numbered.{part_lies}
 use Rattle.ada_resolve.proofs.WellFormed.Remarks.{Quiet}
 use Rattle.ada_resolve.proofs.WellFormed.Tables.{all_get, designated_named}
 
@@ -64,7 +66,7 @@ designated_same types access = same (slice_get types access)
   where
     same : (o : Option TypeForm) → path.designated_in o ≡ fits.designated_in o
     same None = refl
-    same (Some (record_of name ps cs)) = refl
+    same (Some (record_of name ps cs final)) = refl
     same (Some (access_to name d pool)) = refl
     same (Some (object_of r)) = refl
 
@@ -80,23 +82,24 @@ designated_more types more t d w e = by_form (slice_get types t) refl e
     by_form None is e = absurd (cc e)
     by_form (Some form) is e = ap (λ (o : Option TypeForm). path.designated_in o) (w t form is) ∙ e
 
--- these elementary components lie in the object behind what is held, the first of them behind as many
-abbrev pub IsWithin : List TypeForm → Option VariableKind → List ComponentKind → ℕ → Type 0
-IsWithin types of kinds first =
+-- these elementary components lie in the object behind what is held, the first of them behind as many, and so do as many controlled parts
+abbrev pub IsWithin : List TypeForm → Option VariableKind → List ComponentKind → (first from count : ℕ) → Type 0
+IsWithin types of kinds first from count =
     (access : ℕ) × (d : ℕ) × (before : List ComponentKind) × (behind : List ComponentKind) × (fits.access_of of ≡ Some access) ×
-    (fits.named_in (slice_get types access) ≡ Some d) × (elementary_of types d ≡ before ++ (kinds ++ behind)) × (length before ≡ first)
+    (fits.named_in (slice_get types access) ≡ Some d) × (elementary_of types d ≡ before ++ (kinds ++ behind)) × (length before ≡ first) ×
+    (from + count ≤ fits.part_count types d)
 
 -- what is reached is held there, or is a record within the object behind what is held there
 abbrev pub IsReached : List TypeForm → Option VariableKind → Reached → Type 0
 IsReached types of reached.Nothing = ⊥
 IsReached types of (reached.Value kind) = of ≡ Some kind
-IsReached types of (reached.Object t first) = IsWithin types of (elementary_of types t.0) first × (fits.is_record types t.0 ≡ true)
+IsReached types of (reached.Object t first from) = IsWithin types of (elementary_of types t.0) first from (fits.part_count types t.0) × (fits.is_record types t.0 ≡ true)
 
 -- a component that is found is one of this record type, and has the name
 abbrev pub IsPartOf : List TypeForm → ℕ → List ℕ → (ℕ × KnownComponent) → Type 0
 IsPartOf types t text found =
-    (name : List ℕ) × (parts : List PartForm) × (components : List ComponentKind) × (slice_get types t ≡ Some (record_of name parts components)) ×
-    (slice_get parts found.0 ≡ Some (record { name = text; kind = found.1.kind; first = found.1.first }))
+    (name : List ℕ) × (parts : List PartForm) × (components : List ComponentKind) × (final : Option Finalization) × (slice_get types t ≡ Some (record_of name parts components final)) ×
+    (slice_get parts found.0 ≡ Some (record { name = text; kind = found.1.kind; first = found.1.first; part = found.1.part }))
 
 -- a name can select it: it is no parent part
 abbrev pub IsSelectable : PartKind → Type 0
@@ -110,20 +113,21 @@ is_selectable (part.Record t) c q = tt
 is_selectable part.Parent c q = absurd q
 
 -- it lies in the object behind what is held, where the record type begins behind as many elementary components
-abbrev pub IsHeld : List TypeForm → Option VariableKind → ℕ → ℕ → List ℕ → Option (ℕ × KnownComponent) → Type 0
-IsHeld types of t first text None = ⊥
-IsHeld types of t first text (Some found) =
-    IsPartOf types t text found × IsWithin types of (kinds_within types found.1.kind) (first + found.1.first) ×
+abbrev pub IsHeld : List TypeForm → Option VariableKind → (t first from : ℕ) → List ℕ → Option (ℕ × KnownComponent) → Type 0
+IsHeld types of t first from text None = ⊥
+IsHeld types of t first from text (Some found) =
+    IsPartOf types t text found ×
+    IsWithin types of (kinds_within types found.1.kind) (first + found.1.first) (from + found.1.part) (fits.parts_within types found.1.kind) ×
     RecordHas (λ u. fits.is_record types u ≡ true) found.1.kind × IsSelectable found.1.kind
 
 -- where a type has a component, it is a record type with these
-pub has_record : (types : List TypeForm) (t j : ℕ) (c : PartForm) → slice_get (components_of types t) j ≡ Some c → (name : List ℕ) × (parts : List PartForm) × (components : List ComponentKind) × (slice_get types t ≡ Some (record_of name parts components)) × (slice_get parts j ≡ Some c)
+pub has_record : (types : List TypeForm) (t j : ℕ) (c : PartForm) → slice_get (components_of types t) j ≡ Some c → (name : List ℕ) × (parts : List PartForm) × (components : List ComponentKind) × (final : Option Finalization) × (slice_get types t ≡ Some (record_of name parts components final)) × (slice_get parts j ≡ Some c)
 unfolding components_of
 has_record types t j c e = by_form (slice_get types t) refl e
   where
-    by_form : (o : Option TypeForm) → slice_get types t ≡ o → slice_get (path.components_in o) j ≡ Some c → (name : List ℕ) × (parts : List PartForm) × (components : List ComponentKind) × (slice_get types t ≡ Some (record_of name parts components)) × (slice_get parts j ≡ Some c)
+    by_form : (o : Option TypeForm) → slice_get types t ≡ o → slice_get (path.components_in o) j ≡ Some c → (name : List ℕ) × (parts : List PartForm) × (components : List ComponentKind) × (final : Option Finalization) × (slice_get types t ≡ Some (record_of name parts components final)) × (slice_get parts j ≡ Some c)
     by_form None is e = absurd (cc e)
-    by_form (Some (record_of name ps cs)) is e = (name, ps, cs, is, e)
+    by_form (Some (record_of name ps cs final)) is e = (name, ps, cs, final, is, e)
     by_form (Some (access_to name d pool)) is e = absurd (cc e)
     by_form (Some (object_of r)) is e = absurd (cc e)
 
@@ -134,33 +138,41 @@ part_within before own middle rest behind =
     sym (append_assoc before own (middle ++ (rest ++ behind)))
 
 -- a component of a record type within the object
-part_is : (types : List TypeForm) (of : Option VariableKind) (t first : ℕ) (name : List ℕ) (ps : List PartForm) (cs : List ComponentKind) (j : ℕ) (c : PartForm) → TypesFit types → IsWithin types of (elementary_of types t) first → slice_get types t ≡ Some (record_of name ps cs) → slice_get ps j ≡ Some c → IsWithin types of (kinds_within types c.kind) (first + c.first)
-part_is types of t first name ps cs j c laid w there at =
-    let own = lies types 0 ps cs j c (laid.0 t (record_of name ps cs) there).0 at in
+part_is : (types : List TypeForm) (of : Option VariableKind) (t first from : ℕ) (name : List ℕ) (ps : List PartForm) (cs : List ComponentKind) (final : Option Finalization) (j : ℕ) (c : PartForm) → TypesFit types → IsWithin types of (elementary_of types t) first from (fits.part_count types t) → slice_get types t ≡ Some (record_of name ps cs final) → slice_get ps j ≡ Some c → IsWithin types of (kinds_within types c.kind) (first + c.first) (from + c.part) (fits.parts_within types c.kind)
+part_is types of t first from name ps cs final j c laid w there at =
+    let own = lies types 0 ps cs j c (laid.0 t (record_of name ps cs final) there).0 at in
     let kinds = kinds_within types c.kind in
-    let whole : elementary_of types t ≡ own.0 ++ (kinds ++ own.1) = elementary_is types t name ps cs there ∙ own.2 in
+    let whole : elementary_of types t ≡ own.0 ++ (kinds ++ own.1) = elementary_is types t name ps cs final there ∙ own.2 in
     let place = own.3 in
-    let from = w.7 in
+    let begin = w.7 in
     let long = length-append w.2 own.0 in
-    (w.0, w.1, w.2 ++ own.0, own.1 ++ w.3, w.4, w.5, w.6 ∙ (ap (λ ks. w.2 ++ (ks ++ w.3)) whole ∙ part_within w.2 own.0 kinds own.1 w.3), long ∙ omega (arith, place, from))
+    let among = part_lies types t name ps cs final j c laid.1 there at in
+    let within = w.8 in
+    (w.0, w.1, w.2 ++ own.0, own.1 ++ w.3, w.4, w.5, w.6 ∙ (ap (λ ks. w.2 ++ (ks ++ w.3)) whole ∙ part_within w.2 own.0 kinds own.1 w.3), long ∙ omega (arith, place, begin), omega (arith, among, within))
 
-held_within : (k : Known) (types : List TypeForm) (of : Option VariableKind) (spot : Spot) (t first : ℕ) (c : Ident) → TypesFit types → Stays k.types types → IsWithin types of (elementary_of types t) first → Quiet (component_within_remark k spot (Some t) c) → IsHeld types of t first c.text (component_in k (Some t) c)
-held_within k types of spot t first c laid w is q = complete_or (is_incomplete_type k t) q
+-- a component of a record type, by what it is and where it lies
+abbrev IsSelected : List TypeForm → Option VariableKind → (t first from : ℕ) → List ℕ → ℕ → KnownComponent → Type 0
+IsSelected types of t first from text n m =
+    IsPartOf types t text (n, m) × IsWithin types of (kinds_within types m.kind) (first + m.first) (from + m.part) (fits.parts_within types m.kind) ×
+    RecordHas (λ u. fits.is_record types u ≡ true) m.kind × IsSelectable m.kind
+
+held_within : (k : Known) (types : List TypeForm) (of : Option VariableKind) (spot : Spot) (t first from : ℕ) (c : Ident) → TypesFit types → Stays k.types types → IsWithin types of (elementary_of types t) first from (fits.part_count types t) → Quiet (component_within_remark k spot (Some t) c) → IsHeld types of t first from c.text (component_in k (Some t) c)
+held_within k types of spot t first from c laid w is q = complete_or (is_incomplete_type k t) q
   where
-    found_or : (o : Option (ℕ × KnownComponent)) → IsNamedOf c.text (components_of k.types t) 0 o → Quiet (component_wanted o c) → IsHeld types of t first c.text o
+    found_or : (o : Option (ℕ × KnownComponent)) → IsNamedOf c.text (components_of k.types t) 0 o → Quiet (component_wanted o c) → IsHeld types of t first from c.text o
     found_or None i q = absurd q
     found_or (Some found) i q =
         let at : found.0 ≡ i.0 = i.2 ∙ omega arith in
         let h = has_record k.types t i.0 i.1 i.3 in
-        let there : slice_get types t ≡ Some (record_of h.0 h.1 h.2) = w t (record_of h.0 h.1 h.2) h.3 in
+        let there : slice_get types t ≡ Some (record_of h.0 h.1 h.2 h.3) = w t (record_of h.0 h.1 h.2 h.3) h.4 in
         let selectable : IsSelectable i.1.kind = subst (λ (m : KnownComponent). IsSelectable m.kind) (sym i.4) (is_selectable found.1.kind c q) in
-        let so : IsPartOf types t i.1.name (i.0, known_component i.1) × IsWithin types of (kinds_within types i.1.kind) (first + i.1.first) × RecordHas (λ u. fits.is_record types u ≡ true) i.1.kind × IsSelectable i.1.kind =
-        ((h.0, h.1, h.2, there, h.4), part_is types of t first h.0 h.1 h.2 i.0 i.1 laid is there h.4, (laid.0 t (record_of h.0 h.1 h.2) there).1 i.0 i.1 h.4, selectable) in
-        subst (λ (text : List ℕ). IsHeld types of t first text (Some found)) i.5
-        (subst (λ (m : KnownComponent). IsPartOf types t i.1.name (found.0, m) × IsWithin types of (kinds_within types m.kind) (first + m.first) × RecordHas (λ u. fits.is_record types u ≡ true) m.kind × IsSelectable m.kind) i.4
-        (subst (λ (n : ℕ). IsPartOf types t i.1.name (n, known_component i.1) × IsWithin types of (kinds_within types i.1.kind) (first + i.1.first) × RecordHas (λ u. fits.is_record types u ≡ true) i.1.kind × IsSelectable i.1.kind) (sym at) so))
+        let so : IsSelected types of t first from i.1.name i.0 (known_component i.1) =
+        ((h.0, h.1, h.2, h.3, there, h.5), part_is types of t first from h.0 h.1 h.2 h.3 i.0 i.1 laid is there h.5, (laid.0 t (record_of h.0 h.1 h.2 h.3) there).1 i.0 i.1 h.5, selectable) in
+        subst (λ (text : List ℕ). IsHeld types of t first from text (Some found)) i.5
+        (subst (λ (m : KnownComponent). IsSelected types of t first from i.1.name found.0 m) i.4
+        (subst (λ (n : ℕ). IsSelected types of t first from i.1.name n (known_component i.1)) (sym at) so))
 
-    complete_or : (b : Bool) → Quiet (cond b (wrong spot WrongType) (component_wanted (component_named 0 c.text (components_of k.types t)) c)) → IsHeld types of t first c.text (cond b None (component_named 0 c.text (components_of k.types t)))
+    complete_or : (b : Bool) → Quiet (cond b (wrong spot WrongType) (component_wanted (component_named 0 c.text (components_of k.types t)) c)) → IsHeld types of t first from c.text (cond b None (component_named 0 c.text (components_of k.types t)))
     complete_or true q = absurd q
     complete_or false q = found_or (component_named 0 c.text (components_of k.types t)) (name_at 0 c.text (components_of k.types t)) q
 
@@ -170,16 +182,16 @@ named_record types t d w e = by_form (slice_get types t) refl e
   where
     by_form : (o : Option TypeForm) → slice_get types t ≡ o → fits.named_in o ≡ Some d → fits.is_record types d ≡ true
     by_form None is e = absurd (cc e)
-    by_form (Some (record_of name ps cs)) is e = absurd (cc e)
+    by_form (Some (record_of name ps cs final)) is e = absurd (cc e)
     by_form (Some (access_to name u pool)) is e = let same : u ≡ d = cc e in subst (λ (v : ℕ). fits.is_record types v ≡ true) same (all_get (fits.type_fits types) types t (access_to name u pool) w.1 is)
     by_form (Some (object_of u)) is e = let same : u ≡ d = cc e in subst (λ (v : ℕ). fits.is_record types v ≡ true) same (all_get (fits.type_fits types) types t (object_of u) w.1 is)
 
 -- an object behind what is held
-object_behind_is : (k : Known) (types : List TypeForm) (of : Option VariableKind) (t : TypeNo) (d : ℕ) → TypesFit types → Stays k.types types → of ≡ Some (variable.Access t) → designated_of k.types t.0 ≡ Some d → IsWithin types of (elementary_of types d) 0 × (fits.is_record types d ≡ true)
+object_behind_is : (k : Known) (types : List TypeForm) (of : Option VariableKind) (t : TypeNo) (d : ℕ) → TypesFit types → Stays k.types types → of ≡ Some (variable.Access t) → designated_of k.types t.0 ≡ Some d → IsWithin types of (elementary_of types d) 0 0 (fits.part_count types d) × (fits.is_record types d ≡ true)
 object_behind_is k types of t d all w is e =
     let there : fits.designated_type types t.0 ≡ Some d = sym (designated_same types t.0) ∙ designated_more k.types types t.0 d w e in
     let named_so = designated_named (slice_get types t.0) d there in
-    ((t.0, d, [], [], rw is refl, named_so, sym (append_none (elementary_of types d)), refl), named_record types t.0 d all named_so)
+    ((t.0, d, [], [], rw is refl, named_so, sym (append_none (elementary_of types d)), refl, omega arith), named_record types t.0 d all named_so)
 
 -- the record type of a record object, by the type that the object is known by
 named_more : (types more : List TypeForm) (object d : ℕ) → Stays types more → record_of_object types object ≡ Some d → fits.named_in (slice_get more object) ≡ Some d
@@ -188,7 +200,7 @@ named_more types more object d w e = by_form (slice_get types object) refl e
   where
     by_form : (o : Option TypeForm) → slice_get types object ≡ o → record_known_by o ≡ Some d → fits.named_in (slice_get more object) ≡ Some d
     by_form None is e = absurd (cc e)
-    by_form (Some (record_of name ps cs)) is e = absurd (cc e)
+    by_form (Some (record_of name ps cs final)) is e = absurd (cc e)
     by_form (Some (access_to name t pool)) is e = absurd (cc e)
     by_form (Some (object_of r)) is e = rw (w object (object_of r) is) e
 
@@ -200,22 +212,22 @@ whole_is k types of object all w is = by_type (record_of_object k.types object.0
     by_type None e = is
     by_type (Some d) e =
         let named_so = named_more k.types types object.0 d w e in
-        ((object.0, d, [], [], rw is refl, named_so, sym (append_none (elementary_of types d)), refl), named_record types object.0 d all named_so)
+        ((object.0, d, [], [], rw is refl, named_so, sym (append_none (elementary_of types d)), refl, omega arith), named_record types object.0 d all named_so)
 
 -- the record type whose component is selected
 abbrev pub IsBehind : Known → Reached → ℕ → Type 0
 IsBehind k (reached.Value (variable.Access t)) d = designated_of k.types t.0 ≡ Some d
-IsBehind k (reached.Object t first) d = t.0 ≡ d
+IsBehind k (reached.Object t first from) d = t.0 ≡ d
 IsBehind k other d = ⊥
 
-held_designated : (k : Known) (types : List TypeForm) (of : Option VariableKind) (spot : Spot) (t : TypeNo) (c : Ident) (o : Option ℕ) → TypesFit types → Stays k.types types → of ≡ Some (variable.Access t) → designated_of k.types t.0 ≡ o → Quiet (component_within_remark k spot o c) → (d : ℕ) × (o ≡ Some d) × IsHeld types of d 0 c.text (component_in k o c)
+held_designated : (k : Known) (types : List TypeForm) (of : Option VariableKind) (spot : Spot) (t : TypeNo) (c : Ident) (o : Option ℕ) → TypesFit types → Stays k.types types → of ≡ Some (variable.Access t) → designated_of k.types t.0 ≡ o → Quiet (component_within_remark k spot o c) → (d : ℕ) × (o ≡ Some d) × IsHeld types of d 0 0 c.text (component_in k o c)
 held_designated k types of spot t c None laid w is e q = absurd q
-held_designated k types of spot t c (Some d) laid w is e q = (d, refl, held_within k types of spot d 0 c laid w (object_behind_is k types of t d laid w is e).0 q)
+held_designated k types of spot t c (Some d) laid w is e q = (d, refl, held_within k types of spot d 0 0 c laid w (object_behind_is k types of t d laid w is e).0 q)
 
-pub held_behind : (k : Known) (types : List TypeForm) (of : Option VariableKind) (spot : Spot) (at : Reached) (c : Ident) → TypesFit types → Stays k.types types → IsReached types of at → Quiet (component_behind_remark k spot at c) → (d : ℕ) × IsBehind k at d × IsHeld types of d (first_behind at) c.text (component_behind k at c)
+pub held_behind : (k : Known) (types : List TypeForm) (of : Option VariableKind) (spot : Spot) (at : Reached) (c : Ident) → TypesFit types → Stays k.types types → IsReached types of at → Quiet (component_behind_remark k spot at c) → (d : ℕ) × IsBehind k at d × IsHeld types of d (first_behind at) (part_behind at) c.text (component_behind k at c)
 held_behind k types of spot reached.Nothing c laid w is q = absurd is
 held_behind k types of spot (reached.Value (variable.Access t)) c laid w is q = held_designated k types of spot t c (designated_of k.types t.0) laid w is refl q
-held_behind k types of spot (reached.Object t first) c laid w is q = (t.0, refl, held_within k types of spot t.0 first c laid w is.0 q)
+held_behind k types of spot (reached.Object t first from) c laid w is q = (t.0, refl, held_within k types of spot t.0 first from c laid w is.0 q)
 held_behind k types of spot at c laid w is q = absurd q
 
 -- an elementary component holds what its kind says
@@ -229,22 +241,22 @@ kind_in_record types d n kind e = by_form (slice_get types d) refl e
   where
     by_form : (o : Option TypeForm) → slice_get types d ≡ o → slice_get (elementary_in o) n ≡ Some kind → fits.kind_among (fits.components_in o) n ≡ Some (fits.held_kind kind)
     by_form None is e = absurd (cc e)
-    by_form (Some (record_of name ps cs)) is e = rw e refl
+    by_form (Some (record_of name ps cs final)) is e = rw e refl
     by_form (Some (access_to name u pool)) is e = absurd (cc e)
     by_form (Some (object_of r)) is e = absurd (cc e)
 
-kind_is_behind : (types : List TypeForm) (of : Option VariableKind) (n : ℕ) (kind : ComponentKind) → IsWithin types of (kind ∷ []) n → fits.kind_behind types (fits.access_of of) n ≡ Some (fits.held_kind kind)
-kind_is_behind types of n kind w =
+kind_is_behind : (types : List TypeForm) (of : Option VariableKind) (n from count : ℕ) (kind : ComponentKind) → IsWithin types of (kind ∷ []) n from count → fits.kind_behind types (fits.access_of of) n ≡ Some (fits.held_kind kind)
+kind_is_behind types of n from count kind w =
     let there : slice_get (elementary_of types w.1) n ≡ Some kind =
     ap (λ ks. slice_get ks n) w.6 ∙ (ap (λ m. slice_get (w.2 ++ (kind ∷ w.3)) m) (sym w.7) ∙ get_behind w.2 w.3 kind) in
     rw w.4 (rw w.5 (kind_in_record types w.1 n kind there))
 
-pub held_reached : (types : List TypeForm) (of : Option VariableKind) (d first : ℕ) (text : List ℕ) (o : Option (ℕ × KnownComponent)) → IsHeld types of d first text o → IsReached types (fits.selectors_kind types of (number_in first o)) (held_in first o)
-held_reached types of d first text None h = absurd h
-held_reached types of d first text (Some found) h = by_kind found.1.kind h.1 h.2 h.3
+pub held_reached : (types : List TypeForm) (of : Option VariableKind) (d first from : ℕ) (text : List ℕ) (o : Option (ℕ × KnownComponent)) → IsHeld types of d first from text o → IsReached types (fits.selectors_kind types of (number_in first o)) (held_in first from o)
+held_reached types of d first from text None h = absurd h
+held_reached types of d first from text (Some found) h = by_kind found.1.kind h.1 h.2 h.3
   where
-    by_kind : (kind : PartKind) → IsWithin types of (kinds_within types kind) (first + found.1.first) → RecordHas (λ u. fits.is_record types u ≡ true) kind → IsSelectable kind → IsReached types (fits.selectors_kind types of (number_by kind (first + found.1.first))) (held_by kind (first + found.1.first))
-    by_kind (part.Elementary kind) w r s = kind_is_behind types of (first + found.1.first) kind w
+    by_kind : (kind : PartKind) → IsWithin types of (kinds_within types kind) (first + found.1.first) (from + found.1.part) (fits.parts_within types kind) → RecordHas (λ u. fits.is_record types u ≡ true) kind → IsSelectable kind → IsReached types (fits.selectors_kind types of (number_by kind (first + found.1.first))) (held_by kind (first + found.1.first) (from + found.1.part))
+    by_kind (part.Elementary kind) w r s = kind_is_behind types of (first + found.1.first) (from + found.1.part) 0 kind w
     by_kind (part.Record t) w r s = (w, r)
     by_kind part.Parent w r s = absurd s
 
@@ -253,7 +265,7 @@ object_designated : (k : Known) (types : List TypeForm) (of : Option VariableKin
 object_designated k types of spot t None all w is e q = absurd q
 object_designated k types of spot t (Some d) all w is e q = complete_or (is_incomplete_type k d) q
   where
-    complete_or : (b : Bool) → Quiet (wrong_if b spot WrongType) → IsReached types of (cond b reached.Nothing (reached.Object (record { 0 = d }) 0))
+    complete_or : (b : Bool) → Quiet (wrong_if b spot WrongType) → IsReached types of (cond b reached.Nothing (reached.Object (record { 0 = d }) 0 0))
     complete_or true q = absurd q
     complete_or false q = object_behind_is k types of t d all w is e
 
@@ -265,7 +277,7 @@ object_is k types of spot at all w is q = absurd q
 -- selectors, one behind the other
 selector_is : (k : Known) (types : List TypeForm) (of : Option VariableKind) (spot : Spot) (at : Reached) (s : SelectorTree) → TypesFit types → Stays k.types types → IsReached types of at → Quiet (selector_remark k spot at s) → IsReached types (fits.selectors_kind types of (component_selected k at s)) (selector_reached k at s)
 selector_is k types of spot at (component c) laid w is q =
-    let h = held_behind k types of spot at c laid w is q in held_reached types of h.0 (first_behind at) c.text (component_behind k at c) h.2
+    let h = held_behind k types of spot at c laid w is q in held_reached types of h.0 (first_behind at) (part_behind at) c.text (component_behind k at c) h.2
 selector_is k types of spot at (dereference all) laid w is q = object_is k types of spot at laid w is q
 
 kind_after : (types : List TypeForm) (of : Option VariableKind) (xs ys : List ℕ) → fits.selectors_kind types of (xs ++ ys) ≡ fits.selectors_kind types (fits.selectors_kind types of xs) ys

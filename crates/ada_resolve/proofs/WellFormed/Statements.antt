@@ -68,7 +68,7 @@ value_fits k texts inside path kind None h f = tt
 -- `R := ..;`
 record_fits : (k : Known) (texts : List (List ℕ)) (inside : Bool) (path : RecordPathForm) (s : Option Assigned) → fits.is_record_path k.types k.variables path ≡ true → IsSourceFor k.types k.variables (held.Record (record { 0 = path.record_type })) false s → FormFits k texts inside (assignment_of (Some (record_target path)) s)
 record_fits k texts inside path (Some (a_whole items)) h f =
-    (both_parts (fits.is_record_path k.types k.variables path) (fits.record_fits k.types k.variables (fits.record_components k.types path.record_type) items) h f, refl, refl)
+    (both_parts (fits.is_record_path k.types k.variables path) (fits.record_fits k.types k.variables path.record_type items) h f, refl, refl)
 record_fits k texts inside path (Some (a_value s)) h f = tt
 record_fits k texts inside path None h f = tt
 

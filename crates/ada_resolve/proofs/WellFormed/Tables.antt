@@ -5,6 +5,7 @@ use Rattle.std.specs.Prelude.{Option, Some, None, is_some, not}
 use Rattle.std.specs.List.{list_all, slice_get, slice_set}
 use Rattle.ada_program.specs.declared.program.ComponentKind.{ComponentKind}
 use Rattle.ada_program.specs.declared.program.ComponentKind.TheVariants as kind
+use Rattle.ada_program.specs.declared.program.Finalization.{Finalization}
 use Rattle.ada_program.specs.declared.program.VariableKind.{VariableKind}
 use Rattle.ada_program.specs.declared.program.VariableKind.TheVariants as variable
 use Rattle.ada_program.specs.ProgramForm.{PartForm, TypeForm, record_of, access_to, object_of, VariableForm}
@@ -142,21 +143,21 @@ components_kept types more w cs e = all_weaker (fits.kind_fits types) (fits.kind
 -- an access type is no record type
 one_kind : (o : Option TypeForm) → is_some (fits.components_in o) ≡ true → is_some (fits.designated_in o) ≡ true → ⊥
 one_kind None a b = (cc a)
-one_kind (Some (record_of name ps cs)) a b = (cc b)
+one_kind (Some (record_of name ps cs final)) a b = (cc b)
 one_kind (Some (access_to name d pool)) a b = (cc a)
 one_kind (Some (object_of r)) a b = (cc a)
 
 -- nor is a type by which a record object is known
 no_object : (o : Option TypeForm) → is_some (fits.components_in o) ≡ true → is_some (fits.object_in o) ≡ true → ⊥
 no_object None a b = (cc a)
-no_object (Some (record_of name ps cs)) a b = (cc b)
+no_object (Some (record_of name ps cs final)) a b = (cc b)
 no_object (Some (access_to name d pool)) a b = (cc a)
 no_object (Some (object_of r)) a b = (cc a)
 
 -- objects of the type that an access type designates are what its values name
 pub designated_named : (o : Option TypeForm) (d : ℕ) → fits.designated_in o ≡ Some d → fits.named_in o ≡ Some d
 designated_named None d e = absurd (cc e)
-designated_named (Some (record_of name ps cs)) d e = absurd (cc e)
+designated_named (Some (record_of name ps cs final)) d e = absurd (cc e)
 designated_named (Some (access_to name t pool)) d e = e
 designated_named (Some (object_of r)) d e = absurd (cc e)
 
@@ -197,12 +198,12 @@ object_set (x ∷ types) (suc i) form r (suc t) e = object_set types i form r t 
 pub keeps_set : (types : List TypeForm) (i : ℕ) (form : TypeForm) → fits.is_record types i ≡ true → Keeps types (slice_set types i form)
 keeps_set types i form r = (access_set types i form r, object_set types i form r)
 
-pub record_set : (types : List TypeForm) (i : ℕ) (name : List ℕ) (ps : List PartForm) (cs : List ComponentKind) (t : ℕ) → fits.is_record types t ≡ true → fits.is_record (slice_set types i (record_of name ps cs)) t ≡ true
-record_set [] i name ps cs t e = absurd (cc e)
-record_set (x ∷ types) zero name ps cs zero e = refl
-record_set (x ∷ types) zero name ps cs (suc t) e = e
-record_set (x ∷ types) (suc i) name ps cs zero e = e
-record_set (x ∷ types) (suc i) name ps cs (suc t) e = record_set types i name ps cs t e
+pub record_set : (types : List TypeForm) (i : ℕ) (name : List ℕ) (ps : List PartForm) (cs : List ComponentKind) (final : Option Finalization) (t : ℕ) → fits.is_record types t ≡ true → fits.is_record (slice_set types i (record_of name ps cs final)) t ≡ true
+record_set [] i name ps cs final t e = absurd (cc e)
+record_set (x ∷ types) zero name ps cs final zero e = refl
+record_set (x ∷ types) zero name ps cs final (suc t) e = e
+record_set (x ∷ types) (suc i) name ps cs final zero e = e
+record_set (x ∷ types) (suc i) name ps cs final (suc t) e = record_set types i name ps cs final t e
 
 pub record_other : (types : List TypeForm) (i : ℕ) (form : TypeForm) (t : ℕ) → (i ≡ t → ⊥) → fits.is_record types t ≡ true → fits.is_record (slice_set types i form) t ≡ true
 record_other [] i form t ne e = absurd (cc e)
@@ -211,14 +212,60 @@ record_other (x ∷ types) zero form (suc t) ne e = e
 record_other (x ∷ types) (suc i) form zero ne e = e
 record_other (x ∷ types) (suc i) form (suc t) ne e = record_other types i form t (λ h. ne (ap (λ k. suc k) h)) e
 
--- types that keep both kinds keep what fits
-type_kept : (types more : List TypeForm) → Keeps types more → ((t : ℕ) → fits.is_record types t ≡ true → fits.is_record more t ≡ true) → (x : TypeForm) → fits.type_fits types x ≡ true → fits.type_fits more x ≡ true
-type_kept types more a r (record_of name ps cs) e = components_kept types more a cs e
-type_kept types more a r (access_to name d pool) e = r d e
-type_kept types more a r (object_of t) e = r t e
+-- what of a type fits, but for its controlled parts
+abbrev pub is_plain : List TypeForm → TypeForm → Bool
+is_plain types (record_of name ps cs final) = list_all (fits.kind_fits types) cs
+is_plain types (access_to name d pool) = fits.is_record types d
+is_plain types (object_of t) = fits.is_record types t
 
-pub types_kept : (types more : List TypeForm) → Keeps types more → ((t : ℕ) → fits.is_record types t ≡ true → fits.is_record more t ≡ true) → (xs : List TypeForm) → list_all (fits.type_fits types) xs ≡ true → list_all (fits.type_fits more) xs ≡ true
-types_kept types more a r xs e = all_weaker (fits.type_fits types) (fits.type_fits more) (type_kept types more a r) xs e
+-- its controlled parts
+abbrev pub is_counted : List TypeForm → TypeForm → Bool
+is_counted types (record_of name ps cs final) = fits.parent_first ps && fits.says_parts types final ps && fits.is_numbered_alone types final
+is_counted types (access_to name d pool) = true
+is_counted types (object_of t) = true
+
+-- both together
+pub type_both : (types : List TypeForm) (x : TypeForm) → is_plain types x ≡ true → is_counted types x ≡ true → fits.type_fits types x ≡ true
+type_both types (record_of name ps cs final) e f =
+    let kinds = list_all (fits.kind_fits types) cs in
+    let first = fits.parent_first ps in
+    let says : Bool = fits.says_parts types final ps in
+    let alone : Bool = fits.is_numbered_alone types final in
+    both_parts (kinds && first && says) alone
+    (both_parts (kinds && first) says (both_parts kinds first e (first_part first says (first_part (first && says) alone f))) (second_part first says (first_part (first && says) alone f)))
+    (second_part (first && says) alone f)
+type_both types (access_to name d pool) e f = e
+type_both types (object_of t) e f = e
+
+pub plain_of : (types : List TypeForm) (x : TypeForm) → fits.type_fits types x ≡ true → is_plain types x ≡ true
+plain_of types (record_of name ps cs final) e =
+    let kinds = list_all (fits.kind_fits types) cs in
+    let first = fits.parent_first ps in
+    let says : Bool = fits.says_parts types final ps in
+    first_part kinds first (first_part (kinds && first) says (first_part (kinds && first && says) (fits.is_numbered_alone types final) e))
+plain_of types (access_to name d pool) e = e
+plain_of types (object_of t) e = e
+
+pub counted_of : (types : List TypeForm) (x : TypeForm) → fits.type_fits types x ≡ true → is_counted types x ≡ true
+counted_of types (record_of name ps cs final) e =
+    let kinds = list_all (fits.kind_fits types) cs in
+    let first = fits.parent_first ps in
+    let says : Bool = fits.says_parts types final ps in
+    let alone : Bool = fits.is_numbered_alone types final in
+    let front = first_part (kinds && first && says) alone e in
+    both_parts (first && says) alone (both_parts first says (second_part kinds first (first_part (kinds && first) says front)) (second_part (kinds && first) says front))
+    (second_part (kinds && first && says) alone e)
+counted_of types (access_to name d pool) e = refl
+counted_of types (object_of t) e = refl
+
+-- types that keep both kinds keep what is plain
+plain_kept : (types more : List TypeForm) → Keeps types more → ((t : ℕ) → fits.is_record types t ≡ true → fits.is_record more t ≡ true) → (x : TypeForm) → is_plain types x ≡ true → is_plain more x ≡ true
+plain_kept types more a r (record_of name ps cs final) e = components_kept types more a cs e
+plain_kept types more a r (access_to name d pool) e = r d e
+plain_kept types more a r (object_of t) e = r t e
+
+pub plains_kept : (types more : List TypeForm) → Keeps types more → ((t : ℕ) → fits.is_record types t ≡ true → fits.is_record more t ≡ true) → (xs : List TypeForm) → list_all (is_plain types) xs ≡ true → list_all (is_plain more) xs ≡ true
+plains_kept types more a r xs e = all_weaker (is_plain types) (is_plain more) (plain_kept types more a r) xs e
 
 -- neither of two tests holds
 pub left_fails : (a b : Bool) → (a || b) ≡ false → a ≡ false
@@ -234,35 +281,35 @@ abbrev pub OfNoObject : ℕ → List TypeForm → Type 0
 OfNoObject t types = (u r : ℕ) → slice_get types u ≡ Some (object_of r) → r ≡ t → ⊥
 
 -- a record type that no type designates, and of which there is no object, becomes another
-pub types_without : (types more : List TypeForm) (i : ℕ) → Keeps types more → ((t : ℕ) → (i ≡ t → ⊥) → fits.is_record types t ≡ true → fits.is_record more t ≡ true) → (xs : List TypeForm) → is_designated i xs ≡ false → OfNoObject i xs → list_all (fits.type_fits types) xs ≡ true → list_all (fits.type_fits more) xs ≡ true
-types_without types more i a r [] d o e = refl
-types_without types more i a r (record_of name ps cs ∷ xs) d o e =
-    both_parts (list_all (fits.kind_fits more) cs) (list_all (fits.type_fits more) xs)
-    (components_kept types more a cs (first_part (list_all (fits.kind_fits types) cs) (list_all (fits.type_fits types) xs) e))
-    (types_without types more i a r xs d (λ u t is. o (suc u) t is) (second_part (list_all (fits.kind_fits types) cs) (list_all (fits.type_fits types) xs) e))
-types_without types more i a r (access_to name t pool ∷ xs) d o e =
-    both_parts (fits.is_record more t) (list_all (fits.type_fits more) xs)
+pub plains_without : (types more : List TypeForm) (i : ℕ) → Keeps types more → ((t : ℕ) → (i ≡ t → ⊥) → fits.is_record types t ≡ true → fits.is_record more t ≡ true) → (xs : List TypeForm) → is_designated i xs ≡ false → OfNoObject i xs → list_all (is_plain types) xs ≡ true → list_all (is_plain more) xs ≡ true
+plains_without types more i a r [] d o e = refl
+plains_without types more i a r (record_of name ps cs final ∷ xs) d o e =
+    both_parts (list_all (fits.kind_fits more) cs) (list_all (is_plain more) xs)
+    (components_kept types more a cs (first_part (list_all (fits.kind_fits types) cs) (list_all (is_plain types) xs) e))
+    (plains_without types more i a r xs d (λ u t is. o (suc u) t is) (second_part (list_all (fits.kind_fits types) cs) (list_all (is_plain types) xs) e))
+plains_without types more i a r (access_to name t pool ∷ xs) d o e =
+    both_parts (fits.is_record more t) (list_all (is_plain more) xs)
     (r t (λ same. let no : eqb t i ≡ false = left_fails (eqb t i) (is_designated i xs) d in let on : eqb t i ≡ true = eq-eqb t i (sym same) in absurd (cc (no, on)))
-    (first_part (fits.is_record types t) (list_all (fits.type_fits types) xs) e))
-    (types_without types more i a r xs (right_fails (eqb t i) (is_designated i xs) d) (λ u v is. o (suc u) v is) (second_part (fits.is_record types t) (list_all (fits.type_fits types) xs) e))
-types_without types more i a r (object_of t ∷ xs) d o e =
-    both_parts (fits.is_record more t) (list_all (fits.type_fits more) xs)
-    (r t (λ same. o 0 t refl (sym same)) (first_part (fits.is_record types t) (list_all (fits.type_fits types) xs) e))
-    (types_without types more i a r xs d (λ u v is. o (suc u) v is) (second_part (fits.is_record types t) (list_all (fits.type_fits types) xs) e))
+    (first_part (fits.is_record types t) (list_all (is_plain types) xs) e))
+    (plains_without types more i a r xs (right_fails (eqb t i) (is_designated i xs) d) (λ u v is. o (suc u) v is) (second_part (fits.is_record types t) (list_all (is_plain types) xs) e))
+plains_without types more i a r (object_of t ∷ xs) d o e =
+    both_parts (fits.is_record more t) (list_all (is_plain more) xs)
+    (r t (λ same. o 0 t refl (sym same)) (first_part (fits.is_record types t) (list_all (is_plain types) xs) e))
+    (plains_without types more i a r xs d (λ u v is. o (suc u) v is) (second_part (fits.is_record types t) (list_all (is_plain types) xs) e))
 
 -- types that are there stay what they are, but for their pools
 access_bare : (x : TypeForm) → is_some (fits.designated_in (Some (bare x))) ≡ is_some (fits.designated_in (Some x))
-access_bare (record_of name ps cs) = refl
+access_bare (record_of name ps cs final) = refl
 access_bare (access_to name d pool) = refl
 access_bare (object_of r) = refl
 
 object_bare : (x : TypeForm) → is_some (fits.object_in (Some (bare x))) ≡ is_some (fits.object_in (Some x))
-object_bare (record_of name ps cs) = refl
+object_bare (record_of name ps cs final) = refl
 object_bare (access_to name d pool) = refl
 object_bare (object_of r) = refl
 
 record_bare : (x : TypeForm) → is_some (fits.components_in (Some (bare x))) ≡ is_some (fits.components_in (Some x))
-record_bare (record_of name ps cs) = refl
+record_bare (record_of name ps cs final) = refl
 record_bare (access_to name d pool) = refl
 record_bare (object_of r) = refl
 

@@ -1,15 +1,16 @@
 -- What is assigned where nothing is wrong is of the type of its object.
 
-use Rattle.std.proofs.Common.{◌≡◌, ℕ, Bool, true, false, List, [], ◌∷◌, refl, sym, cond, ap, subst, eqb, eq-eqb, eqb-true}
+use Rattle.std.proofs.Common.{◌≡◌, ℕ, Bool, true, false, ◌&&◌, List, [], ◌∷◌, refl, sym, cond, ap, subst, eqb, eq-eqb, eqb-true}
 use Rattle.std.specs.Prelude.{◌||◌, not, Option, Some, None, is_some}
 use Rattle.std.specs.List.{list_all, slice_get}
 use Rattle.ada_text.specs.declared.spot.Spot.{Spot}
 use Rattle.ada_program.specs.declared.program.ComponentKind.{ComponentKind}
+use Rattle.ada_program.specs.declared.program.Finalization.{Finalization}
 use Rattle.ada_program.specs.declared.program.VariableKind.{VariableKind}
 use Rattle.ada_program.specs.declared.program.VariableKind.TheVariants as variable
 use Rattle.ada_program.specs.declared.program.ScalarType.TheVariants.{Integer, Boolean}
 use Rattle.ada_program.specs.declared.program.TypeNo.{TypeNo}
-use Rattle.ada_program.specs.Form.{PathForm, ItemForm, item_of_record, RightForm, reads}
+use Rattle.ada_program.specs.Form.{PathForm, ItemForm, item_of_record, RecordPathForm, RightForm, reads}
 use Rattle.ada_tree.specs.Names.{Ident, PathTree}
 use Rattle.ada_tree.specs.Expressions.{ItemsTree, no_more_items, an_item, RightTree, expression_right, allocator_right, creation_right}
 use Rattle.ada_program.specs.ProgramForm.{PartForm, TypeForm, record_of, access_to, object_of, VariableForm}
@@ -19,6 +20,7 @@ use Rattle.ada_resolve.specs.declared.scope.Entity.{Entity}
 use Rattle.ada_resolve.specs.declared.scope.Entity.TheVariants as entity
 use Rattle.ada_resolve.specs.declared.rights.Held.{Held}
 use Rattle.ada_resolve.specs.declared.rights.Held.TheVariants as held
+use Rattle.ada_resolve.specs.Controlled.{aggregate_wanted, is_limited, says_limited}
 use Rattle.ada_resolve.specs.Known.{Known, visible, parts}
 use Rattle.ada_resolve.specs.Naming.{AreLaidOut}
 use Rattle.ada_resolve.specs.Types.{complete_found, complete_in, is_access_to, designates}
@@ -35,7 +37,7 @@ use Rattle.ada_resolve.proofs.WellFormed.Tables.{both_parts, designated_named}
 use Rattle.ada_resolve.proofs.WellFormed.Names.{EntityFits, PartsFit, visible_fits, laid_in}
 use Rattle.ada_resolve.proofs.WellFormed.Typing.{is_of_type}
 use Rattle.ada_resolve.proofs.WellFormed.Meanings.{MeantFits, components_there, path_fits}
-use Rattle.ada_resolve.proofs.WellFormed.Items.{components_are, copied_record, expression_fits, items_fit, record_value_is}
+use Rattle.ada_resolve.proofs.WellFormed.Items.{components_are, copied_record, expression_fits, items_fit, record_value_is, without_parts}
 
 -- what is assigned to is there: it holds this, or is a record
 abbrev pub IsTargetIn : List TypeForm → List VariableForm → Option Target → Type 0
@@ -81,7 +83,7 @@ abbrev pub IsSourceFor : List TypeForm → List VariableForm → Held → (borro
 IsSourceFor types variables held.Integer borrows (Some (a_value s)) = IsRightFor types variables variable.Integer borrows (Some s)
 IsSourceFor types variables held.Boolean borrows (Some (a_value s)) = IsRightFor types variables variable.Boolean borrows (Some s)
 IsSourceFor types variables (held.Access t) borrows (Some (a_value s)) = IsRightFor types variables (variable.Access t) borrows (Some s)
-IsSourceFor types variables (held.Record t) borrows (Some (a_whole items)) = fits.record_fits types variables (fits.record_components types t.0) items ≡ true
+IsSourceFor types variables (held.Record t) borrows (Some (a_whole items)) = fits.record_fits types variables t.0 items ≡ true
 IsSourceFor types variables kind borrows o = ⊥
 
 -- no borrower is assigned but to a borrower
@@ -90,13 +92,21 @@ lent_fits variables kind true path t spot q = refl
 lent_fits variables kind false path t spot q = ap (λ (b : Bool). not b) (quiet_if (fits.names_borrower variables path) spot WrongType q)
 
 -- the items of a record
-whole_fits : (types : List TypeForm) (variables : List VariableForm) (t : ℕ) (items : List ItemForm) → fits.is_record types t ≡ true → (fits.items_fit types variables (elementary_of types t) items ≡ true) × (list_all (fits.item_owns variables) items ≡ true) → fits.record_fits types variables (fits.record_components types t) items ≡ true
-whole_fits types variables t items r h =
-    both_parts (fits.is_filled types variables (fits.record_components types t) items) (list_all (fits.item_owns variables) items)
-    (rw (components_there types t r) h.0) h.1
+whole_fits : (types : List TypeForm) (variables : List VariableForm) (t : ℕ) (items : List ItemForm) → fits.is_record types t ≡ true → (fits.items_fit types variables (elementary_of types t) items ≡ true) × (list_all (fits.item_owns variables) items ≡ true) → fits.copies_whole t (fits.finalization_of types t) items ≡ true → fits.record_fits types variables t items ≡ true
+whole_fits types variables t items r h c =
+    let filled : Bool = fits.is_filled types variables (fits.record_components types t) items in
+    let owned = list_all (fits.item_owns variables) items in
+    both_parts (filled && owned) (fits.copies_whole t (fits.finalization_of types t) items)
+    (both_parts filled owned (rw (components_there types t r) h.0) h.1) c
+
+-- a record that is not limited is copied whole
+copied_whole : (t : ℕ) (path : RecordPathForm) (final : Option Finalization) → t ≡ path.record_type → says_limited final ≡ false → fits.copies_whole t final (item_of_record path ∷ []) ≡ true
+copied_whole t path None same free = refl
+copied_whole t path (Some f) same free =
+    both_parts (not f.limited) (eqb path.record_type t && true) (ap (λ (b : Bool). not b) free) (both_parts (eqb path.record_type t) true (eq-eqb path.record_type t (sym same)) refl)
 
 -- the value of an expression
-assigned_fits : (types : List TypeForm) (variables : List VariableForm) (kind : Held) (borrows : Bool) (m : Meant) (spot : Spot) → MeantFits types variables m → Quiet (assigned_wanted (Some kind) m spot) → Quiet (lent_wanted variables (Some kind) borrows m spot) → IsSourceFor types variables kind borrows (assigned m)
+assigned_fits : (types : List TypeForm) (variables : List VariableForm) (kind : Held) (borrows : Bool) (m : Meant) (spot : Spot) → MeantFits types variables m → Quiet (assigned_wanted types (Some kind) m spot) → Quiet (lent_wanted variables (Some kind) borrows m spot) → IsSourceFor types variables kind borrows (assigned m)
 assigned_fits types variables held.Integer borrows (integer_value e) spot f q r = (is_of_type Integer (fits.type_of types variables e) f, refl)
 assigned_fits types variables held.Boolean borrows (boolean_value e) spot f q r = (is_of_type Boolean (fits.type_of types variables e) f, refl)
 assigned_fits types variables (held.Access access) borrows null_value spot f q r = (refl, refl)
@@ -104,21 +114,24 @@ assigned_fits types variables (held.Access access) borrows (access_value path t)
     let same : access.0 ≡ t.0 = eqb-true access.0 t.0 (quiet_unless (eqb access.0 t.0) spot WrongType q) in
     (rw f (eq-eqb t.0 access.0 (sym same)), lent_fits variables (held.Access access) borrows path t spot r)
 assigned_fits types variables (held.Record t) borrows (record_value path) spot f q r =
-    let same : t.0 ≡ path.record_type = eqb-true t.0 path.record_type (quiet_unless (eqb t.0 path.record_type) spot WrongType q) in
+    let same : t.0 ≡ path.record_type = eqb-true t.0 path.record_type (quiet_unless (eqb t.0 path.record_type) spot WrongType q.0) in
     whole_fits types variables t.0 (item_of_record path ∷ [])
-    (subst (λ (u : ℕ). fits.is_record types u ≡ true) (sym same) (copied_record types variables path f)) (record_value_is types variables t (record_value path) spot f q)
+    (subst (λ (u : ℕ). fits.is_record types u ≡ true) (sym same) (copied_record types variables path f)) (record_value_is types variables t (record_value path) spot f q.0)
+    (copied_whole t.0 path (fits.finalization_of types t.0) same (quiet_if (is_limited types t.0) spot WrongType q.1))
 assigned_fits types variables (held.Record t) borrows (aggregate_value found items) spot f q r =
-    let same : t.0 ≡ found.0 = eqb-true t.0 found.0 (quiet_unless (eqb t.0 found.0) spot WrongType q) in
+    let same : t.0 ≡ found.0 = eqb-true t.0 found.0 (quiet_unless (eqb t.0 found.0) spot WrongType q.0) in
     whole_fits types variables t.0 items
-    (subst (λ (u : ℕ). fits.is_record types u ≡ true) (sym same) f.0) (record_value_is types variables t (aggregate_value found items) spot f q)
+    (subst (λ (u : ℕ). fits.is_record types u ≡ true) (sym same) f.0) (record_value_is types variables t (aggregate_value found items) spot f q.0)
+    (subst (λ (u : ℕ). fits.copies_whole t.0 (fits.finalization_of types u) items ≡ true) (sym same) (rw f.3 refl))
 assigned_fits types variables kind borrows unknown spot f q r = absurd f
 assigned_fits types variables kind borrows (lent_value t) spot f q r = absurd f
+assigned_fits types variables (held.Record t) borrows m spot f q r = absurd q.0
 assigned_fits types variables kind borrows m spot f q r = absurd q
 
 -- what an access type designates
 designated_is : (o : Option TypeForm) (r : ℕ) → is_access_to o r ≡ true → fits.designated_in o ≡ Some r
 designated_is None r e = absurd (cc e)
-designated_is (Some (record_of name ps cs)) r e = absurd (cc e)
+designated_is (Some (record_of name ps cs final)) r e = absurd (cc e)
 designated_is (Some (access_to name d pool)) r e = ap (λ v. Some v) (eqb-true d r e)
 designated_is (Some (object_of t)) r e = absurd (cc e)
 
@@ -126,39 +139,40 @@ pub access_designates : (types : List TypeForm) (access record_type : ℕ) → d
 unfolding designates
 access_designates types access record_type e = designated_is (slice_get types access) record_type e
 
-reached_is : (types : List TypeForm) (access t : ℕ) (name : List ℕ) (ps : List PartForm) (cs : List ComponentKind) → fits.designated_type types access ≡ Some t → slice_get types t ≡ Some (record_of name ps cs) → fits.reached_components types access ≡ Some cs
-reached_is types access t name ps cs d e = rw (designated_named (slice_get types access) t d) (rw e refl)
+reached_is : (types : List TypeForm) (access t : ℕ) (name : List ℕ) (ps : List PartForm) (cs : List ComponentKind) (final : Option Finalization) → fits.designated_type types access ≡ Some t → slice_get types t ≡ Some (record_of name ps cs final) → fits.reached_components types access ≡ Some cs
+reached_is types access t name ps cs final d e = rw (designated_named (slice_get types access) t d) (rw e refl)
 
 -- a new object
-filled_one : (k : Known) (text : List ℕ) (e : Entity) (access : TypeNo) (spot end_spot : Spot) (name : Ident) (items : ItemsTree) → PartsFit k.types k.variables (parts k) → EntityFits k.types k.variables text e → Quiet (allocated_wanted (Some e) k.types (Some access) spot name) → Quiet (all_items_remark k (filled_components k (complete_in (Some e))) items end_spot) → IsRightFor k.types k.variables (variable.Access access) false (allocation k (Some access) (complete_in (Some e)) items)
-filled_one k text (entity.Record t size) access spot end_spot name items w f q i =
+filled_one : (k : Known) (text : List ℕ) (e : Entity) (access : TypeNo) (spot end_spot : Spot) (name : Ident) (items : ItemsTree) → PartsFit k.types k.variables (parts k) → EntityFits k.types k.variables text e → Quiet (allocated_wanted (Some e) k.types (Some access) spot name) → Quiet (aggregate_wanted k.types (complete_in (Some e)) end_spot) → Quiet (all_items_remark k (filled_components k (complete_in (Some e))) items end_spot) → IsRightFor k.types k.variables (variable.Access access) false (allocation k (Some access) (complete_in (Some e)) items)
+filled_one k text (entity.Record t size) access spot end_spot name items w f q g i =
     let d : fits.designated_type k.types access.0 ≡ Some t.0 = access_designates k.types access.0 t.0 (quiet_unless (designates k.types access.0 t.0) spot WrongType q) in
-    let whole : components_of k.types t.0 ≡ f.0 = components_are k.types t.0 text f.0 f.1 f.2 in
-    let laid : AreLaidOut k.types 0 (components_of k.types t.0) f.1 = subst (λ (ps : List PartForm). AreLaidOut k.types 0 ps f.1) (sym whole) (laid_in k.types k.variables (parts k) w t.0 (record_of text f.0 f.1) f.2).0 in
-    let reached : fits.reached_components k.types access.0 ≡ Some f.1 = reached_is k.types access.0 t.0 text f.0 f.1 d f.2 in
+    let whole : components_of k.types t.0 ≡ f.0 = components_are k.types t.0 text f.0 f.1 f.2 f.3 in
+    let laid : AreLaidOut k.types 0 (components_of k.types t.0) f.1 = subst (λ (ps : List PartForm). AreLaidOut k.types 0 ps f.1) (sym whole) (laid_in k.types k.variables (parts k) w t.0 (record_of text f.0 f.1 f.2) f.3).0 in
+    let reached : fits.reached_components k.types access.0 ≡ Some f.1 = reached_is k.types access.0 t.0 text f.0 f.1 f.2 d f.3 in
     let made = flattened (filling_of k (Some (components_of k.types t.0)) items).slots in
     let fit = items_fit k (components_of k.types t.0) f.1 items end_spot w i laid in (
-      both_parts (eqb access.0 access.0) (fits.is_filled k.types k.variables (fits.reached_components k.types access.0) made) (eq-eqb access.0 access.0 refl)
-          (rw reached fit.0),
+      both_parts (eqb access.0 access.0 && fits.is_filled k.types k.variables (fits.reached_components k.types access.0) made) (eqb (fits.parts_named k.types (fits.object_named k.types (Some access.0))) 0)
+          (both_parts (eqb access.0 access.0) (fits.is_filled k.types k.variables (fits.reached_components k.types access.0) made) (eq-eqb access.0 access.0 refl) (rw reached fit.0))
+          (rw (designated_named (slice_get k.types access.0) t.0 d) (rw (without_parts k.types t end_spot g) refl)),
       fit.1,
     )
-filled_one k text e access spot end_spot name items w f q i = absurd q
+filled_one k text e access spot end_spot name items w f q g i = absurd q
 
-filled_named : (k : Known) (text : List ℕ) (o : Option Entity) (access : TypeNo) (spot end_spot : Spot) (name : Ident) (items : ItemsTree) → PartsFit k.types k.variables (parts k) → ((e : Entity) → o ≡ Some e → EntityFits k.types k.variables text e) → Quiet (allocated_wanted o k.types (Some access) spot name) → Quiet (all_items_remark k (filled_components k (complete_in o)) items end_spot) → IsRightFor k.types k.variables (variable.Access access) false (allocation k (Some access) (complete_in o) items)
-filled_named k text (Some e) access spot end_spot name items w v q i = filled_one k text e access spot end_spot name items w (v e refl) q i
-filled_named k text None access spot end_spot name items w v q i = absurd q
+filled_named : (k : Known) (text : List ℕ) (o : Option Entity) (access : TypeNo) (spot end_spot : Spot) (name : Ident) (items : ItemsTree) → PartsFit k.types k.variables (parts k) → ((e : Entity) → o ≡ Some e → EntityFits k.types k.variables text e) → Quiet (allocated_wanted o k.types (Some access) spot name) → Quiet (aggregate_wanted k.types (complete_in o) end_spot) → Quiet (all_items_remark k (filled_components k (complete_in o)) items end_spot) → IsRightFor k.types k.variables (variable.Access access) false (allocation k (Some access) (complete_in o) items)
+filled_named k text (Some e) access spot end_spot name items w v q g i = filled_one k text e access spot end_spot name items w (v e refl) q g i
+filled_named k text None access spot end_spot name items w v q g i = absurd q
 
 aggregate_fits : (k : Known) (access : TypeNo) (spot : Spot) (type_name : Ident) (items : ItemsTree) → PartsFit k.types k.variables (parts k) → Quiet (aggregate_remark k (Some access) spot type_name items) → IsRightFor k.types k.variables (variable.Access access) false (aggregate_found k (Some access) type_name items)
 unfolding aggregate_remark aggregate_found allocated_remark complete_found
 aggregate_fits k access spot type_name items w q =
-    filled_named k type_name.text (visible k type_name.text) access spot type_name.spot type_name items w (visible_fits k w type_name.text) q.0 q.1
+    filled_named k type_name.text (visible k type_name.text) access spot type_name.spot type_name items w (visible_fits k w type_name.text) q.0 q.1.0 q.1.1
 
 -- a new object without items
 default_one : (k : Known) (text : List ℕ) (o : Option Entity) (access : TypeNo) (spot : Spot) (name : Ident) → ((e : Entity) → o ≡ Some e → EntityFits k.types k.variables text e) → Quiet (allocated_wanted o k.types (Some access) spot name) → IsRightFor k.types k.variables (variable.Access access) false (default_allocation (Some access) (complete_in o))
 default_one k text (Some (entity.Record t size)) access spot name v q =
     let f = v (entity.Record t size) refl in
     let d : fits.designated_type k.types access.0 ≡ Some t.0 = access_designates k.types access.0 t.0 (quiet_unless (designates k.types access.0 t.0) spot WrongType q) in
-    let reached : fits.reached_components k.types access.0 ≡ Some f.1 = reached_is k.types access.0 t.0 text f.0 f.1 d f.2 in
+    let reached : fits.reached_components k.types access.0 ≡ Some f.1 = reached_is k.types access.0 t.0 text f.0 f.1 f.2 d f.3 in
     (both_parts (eqb access.0 access.0) (is_some (fits.reached_components k.types access.0)) (eq-eqb access.0 access.0 refl) (rw reached refl), refl)
 default_one k text (Some e) access spot name v q = absurd q
 default_one k text None access spot name v q = absurd q

@@ -7,3 +7,6 @@ returns-clause-parts_first c program input events last run = (runs.finalizations
 
 pub returns-clause-wholes_first : goal.returns-clause-wholes_first
 returns-clause-wholes_first c program input events last run = (runs.finalizations program input events last run).wholes_first
+
+pub returns-clause-assigned_once : goal.returns-clause-assigned_once
+returns-clause-assigned_once c program input events last run = (runs.finalizations program input events last run).assigned_once

@@ -6,4 +6,5 @@ use Rattle.ada_interpreter.proofs.loaded.push_shape.Goals as goal
 
 pub push-requires : goal.push-requires
 push-requires c =
-    subst (λ (ts : List ℕ). All (HasParts c.args.shapes.now) ts) (sym c.in_ok-components-in-Record.ensures) (components_some c.args.shapes.now c.deref.result.now)
+    subst (λ (ts : List ℕ). All (HasParts c.args.shapes.now) ts) (sym c.in_ok-components.ensures)
+    (components_some c.args.types.now c.args.shapes.now c.args.parts.now)

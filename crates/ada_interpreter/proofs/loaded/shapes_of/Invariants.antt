@@ -1,7 +1,7 @@
--- Once the types that are left are in the table, all are.
-use Rattle.std.proofs.Common.{◌≡◌, drop}
-use Rattle.ada_program.specs.Controlled.{shapes_of, shapes_behind}
+-- The types that were passed are in the table.
+use Rattle.std.proofs.Common.{◌≡◌}
+use Rattle.ada_program.specs.Controlled.{shapes_up_to}
 use Rattle.ada_interpreter.proofs.loaded.shapes_of.Given as goal
 
 abbrev pub invariant-loop-definition : goal.invariant-loop-definition
-invariant-loop-definition l = shapes_behind l.shapes (drop l.definition-index l.types) ≡ shapes_of l.types
+invariant-loop-definition l = l.shapes ≡ shapes_up_to l.types l.definition-index

@@ -1,8 +1,6 @@
-use Rattle.std.proofs.Common.{◌≡◌, ◌∙◌, ◌∷◌, map, ap, refl}
+use Rattle.std.proofs.Common.{◌∷◌, map, refl}
 use Rattle.ada_tree.specs.Records.{component_of}
-use Rattle.ada_resolve.specs.Kept.{composition_in, kept_from, kept_with}
-use Rattle.ada_resolve.specs.Records.{Composition, further_component_remark, no_components}
-use Rattle.ada_resolve.specs.Remark.{noted}
+use Rattle.ada_resolve.specs.Kept.{composition_in, kept_from}
 use Rattle.ada_resolve.specs.View.{known_of}
 use Rattle.ada_resolve.proofs.ComponentLists.{meant_at, remark_at, step_meant, step_remark}
 use Rattle.ada_resolve.proofs.resolver.Resolver.component_list.Goals as goal
@@ -12,13 +10,12 @@ loop-definition-init c =
     let k = known_of c.args.self.now in
     let one = component_of c.args.first.now in
     let rest = map component_of c.args.rest.now in
-    let made : composition_in c.component.new.components ≡ kept_with k no_components one =
-    c.in_ok-component.ensures.meant ∙ ap (λ (b : Composition). kept_with k b one) c.new-components.ensures in
-    let told : c.component.new.notes ≡ noted (further_component_remark k no_components one) c.args.notes.now =
-    c.in_ok-component.ensures.remark ∙ ap (λ (b : Composition). noted (further_component_remark k b one) c.args.notes.now) c.new-components.ensures in
+    let before = composition_in c.args.before in
+    let made = c.in_ok-component.ensures.meant in
+    let told = c.in_ok-component.ensures.remark in
     record {
-      meant = step_meant k no_components (composition_in c.component.new.components) (kept_from k no_components (one ∷ rest)) one rest (one ∷ rest) made refl refl;
-      remark = step_remark k no_components (composition_in c.component.new.components) one rest (one ∷ rest) c.args.notes.now c.component.new.notes _ made refl told refl;
+      meant = step_meant k before (composition_in c.component.new.components) (kept_from k before (one ∷ rest)) one rest (one ∷ rest) made refl refl;
+      remark = step_remark k before (composition_in c.component.new.components) one rest (one ∷ rest) c.args.notes.now c.component.new.notes _ made refl told refl;
     }
 
 pub loop-definition-preserved : goal.loop-definition-preserved

@@ -1,0 +1,5 @@
+procedure Main is
+type Box is new Ada.Finalization.Controlled with null record;
+begin
+null;
+end Main;

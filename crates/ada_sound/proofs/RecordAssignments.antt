@@ -1,0 +1,181 @@
+-- Records that have controlled parts are assigned to one another (5.2, 7.6): both are found first; then the target is finalized, its components get the values
+-- of the other one's, and it is adjusted. Their components are Integers and Booleans.
+
+use Rattle.std.proofs.Common.{◌≡◌, ℕ, suc, ◌+◌, Bool, true, false, ◌||◌, ◌&&◌, List, [], ◌∷◌, length, take, drop, refl, ◌∙◌, inr}
+use Rattle.std.proofs.lemmas.Bool.{and_parts}
+use Rattle.std.specs.Prelude.{Option, Some, None}
+use Rattle.std.specs.List.{list_any, list_all}
+use Rattle.ada_parts.specs.declared.tasks.Direction.TheVariants.{PartsFirst, WholeFirst}
+use Rattle.ada_program.specs.declared.program.ComponentKind.{ComponentKind}
+use Rattle.ada_program.specs.declared.program.ComponentKind.TheVariants as component
+use Rattle.ada_program.specs.declared.program.Exception.TheVariants.{ConstraintError}
+use Rattle.ada_program.specs.declared.program.TypeDefinition.{TypeDefinition}
+use Rattle.ada_program.specs.declared.program.VariableKind.{VariableKind}
+use Rattle.ada_program.specs.Form.{RecordPathForm, ItemForm, null_item, item_of_path, item_of_value, item_of_record, StmtsForm, assigns_record}
+use Rattle.ada_program.specs.ProgramForm.{TypeForm, VariableForm}
+use Rattle.ada_program.specs.Handling.{is_same}
+use Rattle.ada_program.specs.Typed.{width_of}
+use Rattle.ada_program.specs.WellFormed.{held_kind, kind_among, record_components, reached_components, is_record_path, item_fits, is_filled, item_owns, copies_whole, finalization_of, record_fits}
+use Rattle.ada_effects.specs.Effects.{effects_of, record_path_raises, item_raises, items_raise, stmt_raises}
+use Rattle.ada_flow.specs.Flow.{Holds, hold_at, lost_by, is_owning, is_owning_record, reaches_it, copies_to, uses_in_items, uses_in_record, gives_record, ends_with}
+use Rattle.ada_meaning.specs.declared.event.Birth.TheVariants.{Adjustment}
+use Rattle.ada_meaning.specs.declared.event.Cause.TheVariants.{Assigning}
+use Rattle.ada_meaning.specs.declared.state.Value.{Value}
+use Rattle.ada_meaning.specs.declared.state.Value.TheVariants.{Null}
+use Rattle.ada_meaning.specs.Event.{Quiet}
+use Rattle.ada_meaning.specs.Frame.{Does, Refers, Assigns, Copies, StoresRecord, begins, ends}
+use Rattle.ada_meaning.specs.State.{Activation}
+use Rattle.ada_meaning.specs.Step.{first_or, older, treating, record_tasks, assigning, assigns_next, copy_next, moves}
+use Rattle.ada_meaning.specs.Named.{State, named, whole, base, part_base, same}
+use Rattle.ada_owners.specs.Walks.{ListedExist}
+use Rattle.ada_owners.proofs.Objects.{listed_at}
+use Rattle.ada_sound.proofs.Begins.{Referred, record_referred, drop_kind}
+use Rattle.ada_sound.proofs.Copied.{copied_plain, record_there}
+use Rattle.ada_sound.proofs.Defaults.{Reaches}
+use Rattle.ada_sound.proofs.Followings.{first_kept}
+use Rattle.ada_sound.proofs.Invariant.{outers, Known, Control, Rooms, Goes, Raised, RunsOn, IsPlainIn, IsHolder, ReferredBy, IsTarget, IsSource, PassesTo, Working, Fine, ways}
+use Rattle.ada_sound.proofs.Outcomes.{using_goes, ends_goes}
+use Rattle.ada_sound.proofs.Raising.{or_left, or_right}
+use Rattle.ada_sound.proofs.Ready.{running, at_work, stays, ready_on, runs_on, treats_ready, treating_behind}
+use Rattle.ada_sound.proofs.Wholes.{width_is}
+
+-- Where a record without access values lies in an object, its components there are no access values.
+same_owning : (c d : ComponentKind) → held_kind c ≡ held_kind d → is_owning c ≡ is_owning d
+same_owning (component.Integer i) (component.Integer j) e = refl
+same_owning (component.Boolean i) (component.Boolean j) e = refl
+same_owning (component.Access t) (component.Access u) e = refl
+same_owning (component.Integer i) (component.Boolean j) e = absurd (cc e)
+same_owning (component.Integer i) (component.Access u) e = absurd (cc e)
+same_owning (component.Boolean i) (component.Integer j) e = absurd (cc e)
+same_owning (component.Boolean i) (component.Access u) e = absurd (cc e)
+same_owning (component.Access t) (component.Integer j) e = absurd (cc e)
+same_owning (component.Access t) (component.Boolean j) e = absurd (cc e)
+
+neither : (a b : Bool) → (a || b) ≡ false → (a ≡ false) × (b ≡ false)
+neither true b e = absurd (cc e)
+neither false b e = (refl, e)
+
+plain_from : (components kinds : List ComponentKind) → ((c : ℕ) (k : VariableKind) → kind_among (Some kinds) c ≡ Some k → kind_among (Some components) c ≡ Some k) → list_any is_owning kinds ≡ false → list_any is_owning (take (length kinds) components) ≡ false
+plain_from components [] within plain = refl
+plain_from [] (kind ∷ kinds) within plain = refl
+plain_from (c ∷ components) (kind ∷ kinds) within plain =
+    let first = within 0 (held_kind kind) refl in
+    let alike : held_kind c ≡ held_kind kind = cc first in
+    let p = neither (is_owning kind) (list_any is_owning kinds) plain in
+    rw (same_owning c kind alike, p.0) (plain_from components kinds (λ i k is. within (suc i) k is) p.1)
+
+plain_within : (components kinds : List ComponentKind) (first : ℕ) → ((c : ℕ) (k : VariableKind) → kind_among (Some kinds) c ≡ Some k → kind_among (Some components) (first + c) ≡ Some k) → list_any is_owning kinds ≡ false → list_any is_owning (take (length kinds) (drop first components)) ≡ false
+plain_within components kinds first within plain =
+    plain_from (drop first components) kinds (λ c k is. drop_kind components first c ∙ within c k is) plain
+
+-- What typing says of the one record that is copied: its path leads to a record.
+source_lies : (types : List TypeForm) (variables : List VariableForm) (t : ℕ) (source : RecordPathForm) → record_fits types variables t (item_of_record source ∷ []) ≡ true → is_record_path types variables source ≡ true
+source_lies types variables t source fits = go (record_components types t) filled
+  where
+    filled : is_filled types variables (record_components types t) (item_of_record source ∷ []) ≡ true
+    filled =
+        (and_parts (is_filled types variables (record_components types t) (item_of_record source ∷ [])) (list_all (item_owns variables) (item_of_record source ∷ []))
+        (and_parts (is_filled types variables (record_components types t) (item_of_record source ∷ []) && list_all (item_owns variables) (item_of_record source ∷ [])) (copies_whole t (finalization_of types t) (item_of_record source ∷ [])) fits).0).0
+
+    go : (found : Option (List ComponentKind)) → is_filled types variables found (item_of_record source ∷ []) ≡ true → is_record_path types variables source ≡ true
+    go None e = absurd (cc e)
+    go (Some components) e =
+        let item = (and_parts (item_fits types variables components (item_of_record source)) _ e).0 in
+        (and_parts (is_record_path types variables source) _ item).0
+
+module _ (known : Known) (a : Activation Value) (rest : List (Activation Value)) (s : State) where
+  module _ {more : Rooms → Holds → Type 0} (w : Working known s.heap a.places s.masters more) where
+    exist : ListedExist s.heap
+    exist o x found listed = (w.stored.sane o x found).listed_exists listed
+
+    -- A record that is found lies in an object that is there.
+    found_there : (p : RecordPathForm) (v : Value) → is_record_path known.program.types known.program.variables p ≡ true → lost_by (hold_at w.holds p.object.root) p.object.spot ≡ None → ReferredBy s.heap a.places p v → Referred known.program.types known.program.variables (outers known).referenced s.heap p v
+    found_there p v lies kept by = record_referred exist w.fit p v lies kept by
+
+    source_there : (p : RecordPathForm) (v : Value) → Referred known.program.types known.program.variables (outers known).referenced s.heap p v → IsSource s.heap v
+    source_there p v r = let h = listed_at s.heap r.o r.t r.there in (r.o, r.place, r.is, (h.object, h.found, h.listed))
+
+    -- Its components there are no access values, if it has none.
+    target_there : (p : RecordPathForm) (v : Value) (kinds : List ComponentKind) → record_components known.program.types p.record_type ≡ Some kinds → is_owning_record known.program.types p.record_type ≡ false → Referred known.program.types known.program.variables (outers known).referenced s.heap p v → IsTarget known s.heap (length kinds) v
+    target_there p v kinds is plain r =
+        let h = listed_at s.heap r.o r.t r.there in
+        let none : list_any is_owning kinds ≡ false = rw is at plain in (
+          r.o,
+          r.place,
+          r.is,
+          (
+            h.object,
+            h.found,
+            h.listed,
+            λ components reached. (
+                let reaches : reached_components known.program.types r.t ≡ Some components = rw (h.access) at reached in
+                plain_within components kinds r.place.component (λ c k at'. let within = r.within c k (rw is at') in rw reaches at within) none
+                ),
+          ),
+        )
+
+  -- The target is found, and then the other record.
+  pub copy_begins : (target : RecordPathForm) (items : List ItemForm) (fs : StmtsForm) (k : Control) → is_record_path known.program.types known.program.variables target ≡ true → record_fits known.program.types known.program.variables target.record_type items ≡ true → Working known s.heap a.places s.masters (λ rooms holds. Goes (gives_record known.program.types target items holds) (RunsOn known (Does fs ∷ k) rooms) (Raised (λ e. stmt_raises (effects_of known.program) (is_same e) (assigns_record target items)) (ways known k rooms))) → Fine known s.heap s.masters (copy_next named target items (running (Does fs ∷ k) a rest s))
+  copy_begins target [] fs k lies fits w = tt
+  copy_begins target (null_item ∷ is) fs k lies fits w = tt
+  copy_begins target (item_of_path path ∷ is) fs k lies fits w = tt
+  copy_begins target (item_of_value e ∷ is) fs k lies fits w = tt
+  copy_begins target (item_of_record source ∷ i ∷ is) fs k lies fits w = tt
+  copy_begins target (item_of_record source ∷ []) fs k lies fits w =
+      let program = known.program in
+      let path = target.object in
+      let items = item_of_record source ∷ [] in
+      let owning = is_owning_record program.types target.record_type in
+      let copied = is_owning_record program.types source.record_type in
+      let may = record_path_raises target || items_raise items in
+      let raised' = Raised (λ e. stmt_raises (effects_of known.program) (is_same e) (assigns_record target items)) (ways known k w.rooms) in
+      let u = using_goes (reaches_it path ∷ uses_in_record program.types path.spot target.record_type items) w.holds (ends_with may w.holds w.holds) (RunsOn known (Does fs ∷ k) w.rooms) raised' w.rest in
+      let n = ends_goes may w.holds w.holds (RunsOn known (Does fs ∷ k) w.rooms) raised' u.1 in
+      let first = first_kept w.holds (reaches_it path) (uses_in_record program.types path.spot target.record_type items) u.0 in
+      let plain = first_kept w.holds (copies_to owning path.spot) (uses_in_items program.types path.spot None [] items) first.1 in
+      let second = first_kept w.holds (copies_to copied path.spot) (reaches_it source.object ∷ []) plain.1 in
+      let kept = (first_kept w.holds (reaches_it source.object) [] second.1).0 in
+      let there = record_there program.types program.variables target lies in
+      ready_on known (Refers target ∷ Refers source ∷ Assigns target.record_type ∷ Does fs ∷ k) a rest s a.operands
+      (at_work w (
+        first.0,
+        (λ raises. let either = or_left (record_path_raises target) (items_raise items) raises in n.1 either ConstraintError either),
+        (λ v by. (
+          kept,
+          (λ raises. let either = or_right (record_path_raises target) (items_raise items) (or_left (item_raises (item_of_record source)) (items_raise []) raises) in n.1 either ConstraintError either),
+          (λ u by'. (
+            (
+              there.kinds,
+              there.components,
+              target_there w target v there.kinds there.components (copied_plain owning path.spot plain.0) (found_there w target v lies first.0 by),
+              source_there w source u (found_there w source u (source_lies program.types program.variables target.record_type source fits) kept by'),
+            ),
+            n.0,
+          )),
+        )),
+      ))
+
+  -- Both are found: nothing is done, where they are one.
+  module _ (types : List TypeDefinition) (reaches : Reaches known types) (k : Control) where
+    begins_assigning : (t : ℕ) (v u : Value) (below : List Value) (kinds : List ComponentKind) → record_components known.program.types t ≡ Some kinds → IsTarget known s.heap (length kinds) v → IsSource s.heap u → Working known s.heap a.places s.masters (RunsOn known k) → Fine known s.heap s.masters (moves Quiet (assigning named types t v u (running k (record a { operands = below }) rest s)))
+    begins_assigning t v u below kinds is (o, place, to, plain) (p, other, from, there) w =
+        let adjusts = treating (whole v) (begins (Adjustment s.next)) (record_tasks types t PartsFirst (part_base v)) k in
+        let stores = StoresRecord (whole v) (base v) (width_of types t) ∷ adjusts in
+        let holder : IsHolder s.heap (whole u) = rw from there in
+        let gets : IsPlainIn known s.heap (whole v) (base v) (width_of types t) = rw (width_is known types reaches k a rest s t kinds is, to) plain in
+        let behind = treating_behind known (whole v) (Adjustment s.next) (record_tasks types t PartsFirst (part_base v)) k w.rooms w.holds w.rest in
+        stays known Quiet (assigning named types t v u (running k (record a { operands = below }) rest s)) (
+          tt,
+          treats_ready known (whole v) (ends (Assigning s.next)) (record_tasks types t WholeFirst (part_base v)) (Copies (base u) t ∷ stores) s.heap a.places (whole u ∷ below) s.masters
+              (inr (at_work w (holder, (gets, behind)))),
+        ) tt
+
+    pub assigns_fine : (t : ℕ) (operands : List Value) → Working known s.heap a.places s.masters (PassesTo known s.heap a.places operands (Assigns t ∷ k)) → Fine known s.heap s.masters (assigns_next named types t (first_or Null (older operands)) (first_or Null operands) (same (first_or Null (older operands)) (first_or Null operands)) (running k (record a { operands = older (older operands) }) rest s))
+    assigns_fine t operands w = go (same (first_or Null (older operands)) (first_or Null operands))
+      where
+        go : (one : Option Bool) → Fine known s.heap s.masters (assigns_next named types t (first_or Null (older operands)) (first_or Null operands) one (running k (record a { operands = older (older operands) }) rest s))
+        go None = tt
+        go (Some true) = runs_on known k (record a { operands = older (older operands) }) rest s (at_work w w.rest.1) Quiet tt
+        go (Some false) =
+            let are = w.rest.0 in
+            begins_assigning t (first_or Null (older operands)) (first_or Null operands) (older (older operands)) are.0 are.1 are.2 are.3 (at_work w w.rest.1)
