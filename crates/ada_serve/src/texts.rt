@@ -6,7 +6,7 @@ ghost use Rattle.std.specs.String.{string_bytes};
 ghost use Rattle.ada_meaning.specs.Event.{event_of};
 ghost use Rattle.ada_serve.specs.Runner.{event_text};
 ghost use Rattle.ada_interpreter.specs.Machine.{program_of};
-ghost use Rattle.ada_serve.specs.Texts.{back_text, image, line_text, name_of, text_at, trace_text};
+ghost use Rattle.ada_serve.specs.Texts.{back_text, born_text, finalized_text, image, line_text, name_of, text_at, trace_text};
 ghost use Rattle.ada_serve.specs.Texts.{exceptions_of, refusal_text, stopped_text, unhandled_text};
 ghost use Rattle.ada_verdict.specs.Shown.{shown};
 
@@ -14,7 +14,7 @@ use ada_interpreter::Machine;
 use ada_meaning::{Event, Line};
 use ada_pools::PoolChoices;
 use ada_program::program::{Exception, TextNo, TypeDefinition};
-use ada_program::{Program, TypeNo};
+use ada_program::{Program, RecordNo, TypeNo};
 use ada_verdict::Refusal;
 use itoa::Buffer;
 use std::alloc::AllocError;
@@ -31,20 +31,10 @@ pub fn put_event(
     ensures { OnOk result (page.new.items ≡ page.old.items ++ event_text program.now trace (event_of event)) }
 {
     match event {
-        Event::Born { record, number, .. } if trace => {
-            put_trace(
-                page,
-                "# born ",
-                name_of(machine.controlled_type(record)),
-                number,
-            )
+        Event::Born { record, number, .. } if trace => put_born(page, machine, record, number),
+        Event::Finalized { record, number, .. } if trace => {
+            put_finalized(page, machine, record, number)
         }
-        Event::Finalized { record, number, .. } if trace => put_trace(
-            page,
-            "# finalized ",
-            name_of(machine.controlled_type(record)),
-            number,
-        ),
         Event::Back {
             access,
             number,
@@ -54,6 +44,34 @@ pub fn put_event(
         Event::Line(line) => put_line(page, &program.texts, line),
         _ => Ok(()),
     }
+}
+
+/// Appends that a controlled value of a record type has come to exist.
+fn put_born(
+    page: &mut Vec<u8>,
+    machine: &Machine<'_, PoolChoices>,
+    record: RecordNo,
+    number: u64,
+) -> Result<(), AllocError>
+    ensures { OnOk result (page.new.items
+        ≡ page.old.items ++ born_text (program_of machine.now) record.0 number) }
+{
+    let name = name_of(machine.controlled_type(record));
+    put_trace(page, "# born ", name, number)
+}
+
+/// Appends that a controlled value of a record type is finalized.
+fn put_finalized(
+    page: &mut Vec<u8>,
+    machine: &Machine<'_, PoolChoices>,
+    record: RecordNo,
+    number: u64,
+) -> Result<(), AllocError>
+    ensures { OnOk result (page.new.items
+        ≡ page.old.items ++ finalized_text (program_of machine.now) record.0 number) }
+{
+    let name = name_of(machine.controlled_type(record));
+    put_trace(page, "# finalized ", name, number)
 }
 
 /// Appends that the storage of an object of an access type goes back.
