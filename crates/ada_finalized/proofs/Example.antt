@@ -9,6 +9,7 @@ use Rattle.ada_program.specs.declared.program.Right.TheVariants as right
 use Rattle.ada_program.specs.declared.program.Stmt.{Stmt}
 use Rattle.ada_program.specs.declared.program.Stmt as stmt
 use Rattle.ada_program.specs.declared.program.ComponentKind.TheVariants as component
+use Rattle.ada_program.specs.declared.program.Operations.{Operations}
 use Rattle.ada_program.specs.declared.program.Part.{Part}
 use Rattle.ada_program.specs.declared.program.PartKind.{PartKind}
 use Rattle.ada_program.specs.declared.program.PartKind.TheVariants as part
@@ -19,7 +20,7 @@ use Rattle.ada_program.specs.declared.program.Declaration.TheVariants as declara
 use Rattle.ada_program.specs.declared.program.Variable.{Variable}
 use Rattle.ada_program.specs.declared.program.VariableKind.TheVariants as variable
 use Rattle.ada_program.specs.declared.program.Program.{Program}
-use Rattle.ada_program.specs.Controlled.{shapes_of}
+use Rattle.ada_program.specs.Controlled.{no_operations, shapes_of}
 use Rattle.ada_program.specs.Form.{stmt_form, expression_form, stmt_forms, statement_rules}
 use Rattle.ada_meaning.specs.declared.event.Halt.TheVariants.{Finished}
 use Rattle.ada_meaning.specs.Named.{next}
@@ -33,15 +34,15 @@ use Rattle.ada_finalized.specs.Example.{controlled_shapes, controlled_stmts, con
 abbrev of_kind : PartKind → ℕ → Part
 of_kind kind number = record { name = no_name; kind = kind; first = record { 0 = 0 }; part = record { 0 = number } }
 
-abbrev controlled_with : PartKind → (number count : ℕ) → TypeDefinition
-controlled_with kind number count =
+abbrev pub controlled_with : PartKind → (number count : ℕ) → Operations → TypeDefinition
+controlled_with kind number count operations =
     definition.Record no_name (vec (of_kind part.Parent 0 ∷ of_kind kind 1 ∷ []) (omega arith)) (vec (component.Integer (pos 0) ∷ []) (omega arith))
-    (Some (record { number = record { 0 = number }; parts = count; limited = false }))
+    (Some (record { number = record { 0 = number }; parts = count; limited = false; operations = operations }))
 
 abbrev types : List TypeDefinition
 types =
-    controlled_with (part.Elementary (component.Integer (pos 0))) 0 1
-    ∷ controlled_with (part.Record (record { 0 = 0 })) 1 2
+    controlled_with (part.Elementary (component.Integer (pos 0))) 0 1 no_operations
+    ∷ controlled_with (part.Record (record { 0 = 0 })) 1 2 no_operations
     ∷ definition.Access no_name (record { 0 = 1 }) None
     ∷ definition.Object (record { 0 = 1 })
     ∷ definition.Object (record { 0 = 1 })

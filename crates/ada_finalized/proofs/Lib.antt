@@ -4,15 +4,37 @@ pub mod Counts
 pub mod Ranks
 -- what a treatment keeps
 pub mod Treated
--- what other steps make of a state
+-- what is being done to objects, by what is left to do
+pub mod Doings
+-- how what is left to do stands
+pub mod Stacks
+-- which parts are waited for
+pub mod Claims
+-- what holds of all that may come next
+pub mod Leading
+-- what steps of code make of a state
 pub mod Made
 pub mod Evaluations
 pub mod Statements
 pub mod Walk
 -- what holds of every state of a run
 pub mod Invariant
--- steps that treat an object, end it, and copy a record to it
-pub mod Treating
+-- steps that keep all values
+pub mod Going
+-- the value of a part comes to exist
+pub mod Begun
+-- it is finalized
+pub mod Ended
+-- what begins to be done to an object
+pub mod Created
+-- steps that finalize and begin nothing
+pub mod Passing
+-- steps of code
+pub mod Coding
+-- steps that treat an object
+pub mod Operating
+-- steps behind a treatment
+pub mod Closing
 -- steps while the target and the source of an assignment are found
 pub mod Finding
 -- each step keeps the invariant
@@ -23,7 +45,10 @@ pub mod Told
 pub mod Runs
 -- objects have the values of their parts
 pub mod Standing
--- a program with controlled types
+-- no treatment comes to a value that does not exist
+pub mod Twice
+-- programs with controlled types
 pub mod Example
+pub mod Undone
 -- what the laws refuse
 pub mod Refused

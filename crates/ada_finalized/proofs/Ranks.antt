@@ -8,7 +8,7 @@ use Rattle.ada_meaning.specs.declared.state.Id.{Id}
 use Rattle.ada_meaning.specs.declared.state.Value.{Value}
 use Rattle.ada_meaning.specs.declared.state.Value.TheVariants.{Null, Names, Scalar, Part}
 use Rattle.ada_meaning.specs.Heap.{PartState}
-use Rattle.ada_meaning.specs.Step.{new_parts, stored_from}
+use Rattle.ada_meaning.specs.Step.{new_part, stored_from}
 use Rattle.ada_meaning.specs.Named.{Object, named, changed, on_object, filled, store, with_part, treated}
 use Rattle.ada_finalized.proofs.Counts.{one_if}
 
@@ -170,10 +170,16 @@ pub rise_self : (o n : ℕ) → rise o n o n ≡ 1
 rise_self o n = ap (λ (c : Bool). if c then one_if (n == n) else 0) (eq_self o) ∙ ap one_if (eq_self n)
 
 -- A new object.
-pub new_rank : (count n : ℕ) → rank_of (slice_get (new_parts count) n) ≡ 0
-new_rank zero n = refl
-new_rank (suc count) zero = refl
-new_rank (suc count) (suc n) = new_rank count n
+pub new_rank : (firsts : List ℕ) (n : ℕ) → rank_of (slice_get (map new_part firsts) n) ≡ 0
+new_rank [] n = refl
+new_rank (first ∷ firsts) zero = refl
+new_rank (first ∷ firsts) (suc n) = new_rank firsts n
+
+-- No part of it has a value.
+pub new_dead : (firsts : List ℕ) (n : ℕ) (p : PartState) → slice_get (map new_part firsts) n ≡ Some p → p.alive ≡ false
+new_dead [] n p is = absurd (cc is)
+new_dead (first ∷ firsts) zero p is = let one : new_part first ≡ p = cc is in sym (ap (λ (q : PartState). q.alive) one)
+new_dead (first ∷ firsts) (suc n) p is = new_dead firsts n p is
 
 pub rank_more : (xs : Heap) (y : Object) → ((n : ℕ) → rank_in y n ≡ 0) → (j n : ℕ) → rank_at (xs ++ y ∷ []) j n ≡ rank_at xs j n
 rank_more [] y new zero n = new n
@@ -185,6 +191,16 @@ rank_more (x ∷ xs) y new (suc j) n = rank_more xs y new j n
 pub more_at : (xs : Heap) (y : Object) → slice_get (xs ++ y ∷ []) (length xs) ≡ Some y
 more_at [] y = refl
 more_at (x ∷ xs) y = more_at xs y
+
+pub more_same : (xs : Heap) (y : Object) (j : ℕ) → j ≢ length xs → slice_get (xs ++ y ∷ []) j ≡ slice_get xs j
+more_same [] y zero ne = absurd (ne refl)
+more_same [] y (suc j) ne = refl
+more_same (x ∷ xs) y zero ne = refl
+more_same (x ∷ xs) y (suc j) ne = more_same xs y j (λ e. ne (ap suc e))
+
+pub more_none : (xs : Heap) → slice_get xs (length xs) ≡ None
+more_none [] = refl
+more_none (x ∷ xs) = more_none xs
 
 pub more_others : (xs : Heap) (y : Object) (j : ℕ) (z : Object) → j ≢ length xs → slice_get (xs ++ y ∷ []) j ≡ Some z → slice_get xs j ≡ Some z
 more_others [] y zero z ne is = absurd (ne refl)

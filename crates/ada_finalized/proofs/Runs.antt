@@ -3,7 +3,6 @@
 use Rattle.std.proofs.Common.{◌≡◌, ◌⊎◌, ℕ, ◌+◌, ◌≤◌, ℤ, true, false, List, [], ◌∷◌, ◌++◌, Option, Some, None, refl, sym, ap, ◌∙◌, inl, inr, subst, arith}
 use Rattle.std.specs.Prelude.{IfSome}
 use Rattle.std.specs.List.{slice_get, AllPairs, AllByRecursion}
-use Rattle.std.proofs.lemmas.Bool.Decides.{eqb_tells}
 use Rattle.std.proofs.lemmas.List.Elements.{All-from_recursion}
 use Rattle.std.proofs.lemmas.List.Kept.{AllPairs-cons}
 use Rattle.ada_program.specs.declared.program.Program.{Program}
@@ -20,31 +19,34 @@ use Rattle.ada_meaning.specs.Law.{ControlledValue, finalized_of, Happened, Gives
 use Rattle.ada_meaning.specs.Life.{KeepsObjects}
 use Rattle.ada_meaning.specs.Finalization.{Bears, Finalizes, IsBorn, FinalizedByBack, begun_of, InsideIsBegun, FinalizationLaw}
 use Rattle.ada_meaning.proofs.Lives.{names_are_used_once}
-use Rattle.ada_order.proofs.Controls.{Work, stays, numbers, owns, enters, Leave, waits, shortens, gives, left, Deed, works, leaves}
+use Rattle.ada_order.proofs.Controls.{Work, stays, numbers, owns, enters, Leave, waits, shortens, gives, operates, left, Deed, works, leaves}
 use Rattle.ada_order.proofs.Leavings.{step_deed}
 use Rattle.ada_order.proofs.Orders.{Kept, kept_first, step_keeps}
-use Rattle.ada_finalized.specs.Law.{InEveryRun, NeverFinalizesTwice}
+use Rattle.ada_finalized.specs.Law.{InEveryRun}
 use Rattle.ada_finalized.proofs.Counts.{one_if}
 use Rattle.ada_finalized.proofs.Ranks.{Heap, rank_of, rank_in, rank_by, rank_at}
-use Rattle.ada_finalized.proofs.Invariant.{Settled, stands, is_over, Busy, beginning, clearing, ended, leaving, copying, storing, AllSettled, Fits, idle, finding, passing, busy, IsOut, Told, Goes, Sound}
-use Rattle.ada_finalized.proofs.Steps.{sound, led}
-use Rattle.ada_finalized.proofs.Told.{value, born_at, finalized_at, begun_at, told_born, told_finalized, Marks, told_back, marked, out_kept, marks_kept, Pairs, out_once, paired}
+use Rattle.ada_finalized.proofs.Stacks.{nothing, calm}
+use Rattle.ada_finalized.proofs.Leading.{led}
+use Rattle.ada_finalized.proofs.Invariant.{Sane, exists, is_gone, runs, Fits, IsOut, out_kept, Told, Goes, GoesOn}
+use Rattle.ada_finalized.proofs.Steps.{sound}
+use Rattle.ada_finalized.proofs.Told.{value, born_at, finalized_at, begun_at, told_born, told_finalized, Marks, told_back, marked, marks_kept, Pairs, paired}
 
 -- The number of the next master or cause never falls.
 work_grows : (types : List TypeDefinition) (s : State) (told : Option (Request Value)) (e : Event) (after : State) → Work types s.masters s.next told e after → s.next ≤ after.next
-work_grows types s told e after (stays none by plain masters is) = omega (arith, is)
-work_grows types s told e after (numbers none by plain masters is) = omega (arith, is)
-work_grows types s told e after (owns what due begun by plain masters is) = omega (arith, is)
-work_grows types s told e after (enters none by plain masters is) = omega (arith, is)
+work_grows types s told e after (stays none by stands masters is) = omega (arith, is)
+work_grows types s told e after (numbers none by stands masters is) = omega (arith, is)
+work_grows types s told e after (owns what due begun by stands masters is) = omega (arith, is)
+work_grows types s told e after (enters none by stands masters is) = omega (arith, is)
 
 leave_grows : (s : State) (told : Option (Request Value)) (e : Event) (after : State) → Leave s.masters s.next told e after → s.next ≤ after.next
-leave_grows s told e after (waits none by control master masters is) = omega (arith, is)
-leave_grows s told e after (shortens gone by control plain masters is) = omega (arith, is)
-leave_grows s told e after (gives m i none of by newest control master masters is) = omega (arith, is)
-leave_grows s told e after (left m rest none e_is before plain masters is) = omega (arith, is)
+leave_grows s told e after (waits none by stands masters is) = omega (arith, is)
+leave_grows s told e after (shortens gone by stands masters is) = omega (arith, is)
+leave_grows s told e after (gives m i none of by newest seen stands masters is) = omega (arith, is)
+leave_grows s told e after (operates m i none of by newest seen stands masters is) = omega (arith, is)
+leave_grows s told e after (left m rest none e_is before remains masters is) = omega (arith, is)
 
 deed_grows : (types : List TypeDefinition) (s : State) (told : Option (Request Value)) (e : Event) (after : State) → Deed types s told e after → s.next ≤ after.next
-deed_grows types s told e after (works none w) = work_grows types s told e after w
+deed_grows types s told e after (works w) = work_grows types s told e after w
 deed_grows types s told e after (leaves l) = leave_grows s told e after l
 
 -- The events of a run behind others, the newest first.
@@ -63,50 +65,34 @@ pub record Holds (types : List TypeDefinition) (past : List Event) (s : State) :
   pub kept : Kept types s
 
 pub first_holds : (program : Program) (input : List ℤ) → Holds program.types.items [] (first_state program input)
-first_holds program input = record { fits = idle (tt, tt) (λ j y is. absurd (cc is)); kept = kept_first program input }
+first_holds program input = record {
+  fits = record {
+    stands = runs (calm _ [] tt nothing);
+    inv = record {
+      fine = tt;
+      apart = tt;
+      claims = λ j n. refl;
+      sane = λ j y is. absurd (cc is);
+      there = λ none. tt;
+    };
+  };
+  kept = kept_first program input;
+}
 
 -- Of an object whose words are back no value is left.
 odd_never : (found : Option PartState) (turn : ℕ) → ((p : PartState) → found ≡ Some p → p.alive ≡ false) → rank_of found ≡ turn + turn + 1 → ⊥
 odd_never None turn dead one = omega (arith, one)
 odd_never (Some p) turn dead one = let none = ap one_if (dead p refl) in omega (arith, one, none)
 
-all_finalized : (types : List TypeDefinition) (x : Object) (n turn : ℕ) → Settled types x → x.out ≡ false → rank_in x n ≡ turn + turn + 1 → ⊥
-all_finalized types x n turn (stands h) back one = let never : true ≡ false = sym h.whole.out ∙ back in absurd (cc never)
-all_finalized types x n turn (is_over h) back one = odd_never (slice_get x.cell.parts n) turn (h.dead n) one
-
-busy_out : (types : List TypeDefinition) (past : List Event) (o : ℕ) (x : Object) (s : State) → Busy types past o x s → x.out ≡ true
-busy_out types past o x s (beginning tasks all called by k is plain numbered listed whole lives t recorded) = whole.out
-busy_out types past o x s (clearing tasks all called cause behind is b whole lives t) = whole.out
-busy_out types past o x s (ended cause pool k is plain own listed whole dead) = whole.out
-busy_out types past o x s (leaving cause pool k is plain own out over) = out
-busy_out types past o x s (copying n from to width t source all tasks k is plain listed numbered operand whole lives treated) = whole.out
-busy_out types past o x s (storing n to width all tasks k is plain listed numbered whole lives treated) = whole.out
-
-settled_finalized : (types : List TypeDefinition) (xs : Heap) (o n turn : ℕ) → AllSettled types xs → IsOut xs o false → rank_at xs o n ≡ turn + turn + 1 → ⊥
-settled_finalized types xs o n turn each (x, (is, back)) one =
-    all_finalized types x n turn (each o x is) back (sym (ap (λ (found : Option Object). rank_by found n) is) ∙ one)
+all_finalized : (types : List TypeDefinition) (x : Object) (n turn : ℕ) → Sane types x → x.out ≡ false → rank_in x n ≡ turn + turn + 1 → ⊥
+all_finalized types x n turn (exists stage out parts) back one = let never : true ≡ false = sym out ∙ back in absurd (cc never)
+all_finalized types x n turn (is_gone gone listed dead) back one = odd_never (slice_get x.cell.parts n) turn (dead n) one
 
 back_finalized : (types : List TypeDefinition) (past : List Event) (s : State) (o n turn : ℕ) → Fits types past s → IsOut s.heap o false → rank_at s.heap o n ≡ turn + turn + 1 → ⊥
-back_finalized types past s o n turn (idle plain each) out one = settled_finalized types s.heap o n turn each out one
-back_finalized types past s o n turn (finding running f each) out one = settled_finalized types s.heap o n turn each out one
-back_finalized types past s o n turn (passing e raises p each) out one = settled_finalized types s.heap o n turn each out one
-back_finalized types past s o n turn (busy p y runs at_p others b) (x, (is, back)) one =
-    elim (eqb_tells o p) [ inl h ↦ here h.1 | inr h ↦ all_finalized types x n turn (others o x h.1 is) back (sym (ap (λ (found : Option Object). rank_by found n) is) ∙ one) ]
-  where
-    here : o ≡ p → ⊥
-    here e = out_once s.heap p (y, (at_p, busy_out types past p y s b)) (subst (λ (i : ℕ). IsOut s.heap i false) e (x, (is, back)))
+back_finalized types past s o n turn h (x, (is, back)) one =
+    all_finalized types x n turn (h.inv.sane o x is) back (sym (ap (λ (found : Option Object). rank_by found n) is) ∙ one)
 
 module _ (program : Program) where
-  pub step_goes : (past : List Event) (s after : State) (choice : Choice) (e : Event) → Holds program.types.items past s → Step program s choice e after → Goes program.types.items past s e after
-  step_goes past s after choice e h l =
-      led program.types.items past s (next program.types.items (body_forms program) s) choice e after (sound program.types.items (body_forms program) past s h.fits) l
-
-  pub step_holds : (past : List Event) (s after : State) (choice : Choice) (e : Event) → Holds program.types.items past s → Step program s choice e after → Holds program.types.items (e ∷ past) after
-  step_holds past s after choice e h l = record { fits = (step_goes past s after choice e h l).fits; kept = step_keeps program s choice e after h.kept l }
-
-  step_told : (past : List Event) (s after : State) (choice : Choice) (e : Event) → Holds program.types.items past s → Step program s choice e after → Told program.types.items past s e after
-  step_told past s after choice e h l = (step_goes past s after choice e h l).told
-
   step_remains : (s after : State) (choice : Choice) (e : Event) → Step program s choice e after → KeepsObjects s.heap after.heap
   step_remains s after choice e l = names_are_used_once program s after (e ∷ []) (there choice after l here)
 
@@ -114,6 +100,17 @@ module _ (program : Program) where
   step_grows past s after choice e h l =
       let d = step_deed program s choice e after h.kept.stands l in
       deed_grows program.types.items s d.0 e after d.1
+
+  pub step_goes : (past : List Event) (s after : State) (choice : Choice) (e : Event) → Holds program.types.items past s → Step program s choice e after → Goes program.types.items past s e after
+  step_goes past s after choice e h l =
+      led (GoesOn program.types.items past s) (next program.types.items (body_forms program) s) choice e after (sound program.types.items (body_forms program) past s h.fits) l
+      (record { grows = step_grows past s after choice e h l; keeps = step_remains s after choice e l })
+
+  pub step_holds : (past : List Event) (s after : State) (choice : Choice) (e : Event) → Holds program.types.items past s → Step program s choice e after → Holds program.types.items (e ∷ past) after
+  step_holds past s after choice e h l = record { fits = (step_goes past s after choice e h l).fits; kept = step_keeps program s choice e after h.kept l }
+
+  step_told : (past : List Event) (s after : State) (choice : Choice) (e : Event) → Holds program.types.items past s → Step program s choice e after → Told program.types.items past s e after
+  step_told past s after choice e h l = (step_goes past s after choice e h l).told
 
   pub holds_then : (past : List Event) (s last : State) (events : List Event) → Run program s events last → Holds program.types.items past s → Holds program.types.items (past_then events past) last
   holds_then past s last events here h = h
@@ -261,8 +258,3 @@ finalizations program input events last run = law program input events last run
 
 pub finalized_once : InEveryRun (λ shapes events. AllPairs FinalizedTwoValues events)
 finalized_once program input events last run = λ i j d lt within. (pairs program input events last run i j d lt within).finalized_once
-
-pub never_twice : NeverFinalizesTwice
-never_twice program input events last run halts =
-    subst (Sound program.types.items (past_then events []) last) halts
-    (sound program.types.items (body_forms program) (past_then events []) last (last_holds program input events last run).fits)

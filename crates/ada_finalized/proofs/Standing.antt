@@ -1,23 +1,29 @@
--- An object that is in its collection has the values of all its parts, where nothing is treated.
+-- An object that is in its collection has the values of all its parts, where nothing is treated; and where no type overrides an operation, nothing is treated
+-- but in front of all else that is left to do.
 
-use Rattle.std.proofs.Common.{◌≡◌, ℕ, zero, suc, ◌<◌, true, false, List, [], ◌∷◌, length, Some, refl, sym, ap, ◌∙◌, inl, inr, subst, arith}
+use Rattle.std.proofs.Common.{◌≡◌, ◌≢◌, ℕ, ℤ, zero, suc, ◌<◌, true, false, List, [], ◌∷◌, length, Option, Some, refl, sym, ap, ◌∙◌, inl, inr, subst, arith}
 use Rattle.std.specs.List.{slice_get}
 use Rattle.std.proofs.lemmas.Bool.Decides.{eqb_tells}
+use Rattle.ada_program.specs.declared.program.Program.{Program}
 use Rattle.ada_program.specs.declared.program.TypeDefinition.{TypeDefinition}
-use Rattle.ada_program.specs.Controlled.{shapes_of}
-use Rattle.ada_parts.specs.declared.tasks.Direction.TheVariants.{PartsFirst}
-use Rattle.ada_parts.specs.Part.{Part}
-use Rattle.ada_parts.specs.Task.{Task}
+use Rattle.ada_program.specs.Controlled.{OverridesNothing, shapes_of}
 use Rattle.ada_meaning.specs.declared.state.Value.{Value}
-use Rattle.ada_meaning.specs.declared.event.Birth.TheVariants.{Adjustment}
-use Rattle.ada_meaning.specs.Frame.{Frame, begins}
-use Rattle.ada_meaning.specs.Step.{treating}
+use Rattle.ada_meaning.specs.declared.state.Mode.{Mode}
+use Rattle.ada_meaning.specs.declared.state.Mode.TheVariants.{Running, Raising, Exiting, Returning}
+use Rattle.ada_meaning.specs.Frame.{Frame, begins, begins_by}
+use Rattle.ada_meaning.specs.Frame as frame
+use Rattle.ada_meaning.specs.State.{begins_in, begins_among}
+use Rattle.ada_meaning.specs.Step.{parts_held}
 use Rattle.ada_meaning.specs.Named.{Object, State}
-use Rattle.ada_meaning.specs.Run.{Event}
+use Rattle.ada_meaning.specs.Run.{Event, Run, first_state}
 use Rattle.ada_meaning.specs.Finalization.{NothingTreated, HasParts}
-use Rattle.ada_finalized.specs.Law.{AllPartsStand}
-use Rattle.ada_finalized.proofs.Treated.{Treated}
-use Rattle.ada_finalized.proofs.Invariant.{name, Lives, Whole, Settled, stands, is_over, Busy, beginning, clearing, ended, leaving, copying, storing, Fits, idle, finding, passing, busy, lives_alike}
+use Rattle.ada_finalized.specs.Law.{AllPartsStand, StatementsTreatNothing}
+use Rattle.ada_finalized.proofs.Ranks.{Heap}
+use Rattle.ada_finalized.proofs.Doings.{Calm, Doing, Treating, Ending, doings, rest, rest_doings, Of, on_other, gains, losses}
+use Rattle.ada_finalized.proofs.Stacks.{Acts, Control, code, guard, finalization, Stack, nothing, calm, comes_back, operates, awaits, confines, to_end, to_copy, ending_then, none_behind}
+use Rattle.ada_finalized.proofs.Claims.{Claimed}
+use Rattle.ada_finalized.proofs.Invariant.{Sane, exists, is_gone, Fine, AssignsThen, Stands, runs, finding, passing, ends_operation, beginning, ending, leaving, storing, Fits}
+use Rattle.ada_finalized.proofs.Going.{alive_of, listed_exists}
 use Rattle.ada_finalized.proofs.Runs.{past_then, last_holds}
 
 -- What is within the length is there.
@@ -26,53 +32,205 @@ some_at [] n lt = absurd (omega (arith, lt))
 some_at (x ∷ xs) zero lt = (x, refl)
 some_at (x ∷ xs) (suc n) lt = some_at xs n (omega (arith, lt))
 
-living_parts : (types : List TypeDefinition) (x : Object) → Whole types x → Lives x [] → HasParts types x
-living_parts types x whole lives n lt =
-    let is = whole.parts in
-    let p = some_at x.cell.parts n (omega (arith, lt, is)) in
-    (p.0, p.1, lives n p.0 p.1)
+-- Objects are only to cease to exist.
+OnlyEnding : Doing → Type 0
+OnlyEnding (Treating v treatment tasks) = ⊥
+OnlyEnding (Ending v) = Unit {0}
 
-settled_parts : (types : List TypeDefinition) (x : Object) → Settled types x → x.listed ≡ true → HasParts types x
-settled_parts types x (stands h) listed = living_parts types x h.whole h.lives
-settled_parts types x (is_over h) listed = let never : true ≡ false = sym listed ∙ h.listed in absurd (cc never)
+only_ending : (k : Control) → NothingTreated k → Of OnlyEnding (doings k)
+unfolding OnlyEnding
+only_ending [] h = tt
+only_ending (frame.Treats v treatment tasks ∷ k) h = absurd h
+only_ending (frame.Awaits v by done of part tasks ∷ k) h = absurd h
+only_ending (frame.Ends v ∷ k) h = (tt, only_ending k h)
+only_ending (f ∷ k) h = only_ending k h
 
--- Where nothing is to be adjusted behind what is copied, nothing has been finalized.
-adjusted_parts :
-    (types : List TypeDefinition) (x : Object) (v : Value) (n : ℕ) (all : List Part) (tasks : List Task) (k : List (Frame Value)) → Whole types x
-    → Lives x all → Treated (shapes_of types) PartsFirst all [] tasks → NothingTreated (treating v (begins (Adjustment n)) tasks k) → HasParts types x
-adjusted_parts types x v n all [] k whole lives t nothing =
-    living_parts types x whole (lives_alike x all [] (λ m. let e = t.each m in omega (arith, e)) lives)
-adjusted_parts types x v n all (task ∷ tasks) k whole lives t nothing = absurd nothing
+-- So nothing waits for a part of an object that is in its collection.
+module _ (types : List TypeDefinition) (past : List Event) (xs : Heap) (next o : ℕ) (x : Object) (at_o : slice_get xs o ≡ Some x) (listed : x.listed ≡ true) where
+  other_object : (v : Value) → Fine types past xs next (Ending v) → (n : ℕ) → gains (shapes_of types) o n (Ending v ∷ []) ≡ 0
+  other_object v (i, (is, (y, (at_i, unlisted)))) n = elim (eqb_tells i o) [ inl h ↦ absurd (same h.1) | inr h ↦ none h.1 ]
+    where
+      same : i ≡ o → ⊥
+      same e =
+          let both : Some y ≡ Some x = sym at_i ∙ ap (slice_get xs) e ∙ at_o in
+          let one : y ≡ x = cc both in
+          let never : true ≡ false = sym listed ∙ sym (ap (λ (z : Object). z.listed) one) ∙ unlisted in
+          cc never
 
-busy_parts :
-    (types : List TypeDefinition) (past : List Event) (o : ℕ) (x : Object) (s : State) → Busy types past o x s → NothingTreated s.control → x.listed ≡ true
-    → HasParts types x
-busy_parts types past o x s (beginning tasks all called by k is plain numbered listed' whole lives t recorded) nothing listed = absurd (subst NothingTreated is nothing)
-busy_parts types past o x s (clearing tasks all called cause behind is b whole lives t) nothing listed = absurd (subst NothingTreated is nothing)
-busy_parts types past o x s (ended cause pool k is plain own unlisted whole dead) nothing listed =
-    let never : true ≡ false = sym listed ∙ unlisted in absurd (cc never)
-busy_parts types past o x s (leaving cause pool k is plain own out over) nothing listed =
-    let never : true ≡ false = sym listed ∙ over.listed in absurd (cc never)
-busy_parts types past o x s (copying n from to width t source all tasks k is plain listed' numbered operand whole lives treated) nothing listed =
-    adjusted_parts types x (name o) n all tasks k whole lives treated (subst NothingTreated is nothing)
-busy_parts types past o x s (storing n to width all tasks k is plain listed' numbered whole lives treated) nothing listed =
-    adjusted_parts types x (name o) n all tasks k whole lives treated (subst NothingTreated is nothing)
+      none : i ≢ o → gains (shapes_of types) o n (Ending v ∷ []) ≡ 0
+      none ne = subst (λ (u : Value). gains (shapes_of types) o n (Ending u ∷ []) ≡ 0) (sym is) (let a = on_other i o 1 ne in omega (arith, a))
+
+  none_gained : (ds : List Doing) → Of OnlyEnding ds → Of (Fine types past xs next) ds → (n : ℕ) → gains (shapes_of types) o n ds ≡ 0
+  unfolding OnlyEnding
+  none_gained [] only fine n = refl
+  none_gained (Treating v treatment tasks ∷ ds) only fine n = absurd only.0
+  none_gained (Ending v ∷ ds) only fine n =
+      let a = other_object v fine.0 n in let b = none_gained ds only.1 fine.1 n in omega (arith, a, b)
+
+  none_lost : (ds : List Doing) → Of OnlyEnding ds → (n : ℕ) → losses (shapes_of types) o n ds ≡ 0
+  unfolding OnlyEnding
+  none_lost [] only n = refl
+  none_lost (Treating v treatment tasks ∷ ds) only n = absurd only.0
+  none_lost (Ending v ∷ ds) only n = let a = none_lost ds only.1 n in omega (arith, a)
+
+listed_length : (types : List TypeDefinition) (x : Object) → x.listed ≡ true → Sane types x → length x.cell.parts ≡ parts_held types x.cell.access
+listed_length types x listed (exists stage out parts) = parts
+listed_length types x listed (is_gone gone unlisted dead) = let never : true ≡ false = sym listed ∙ unlisted in absurd (cc never)
 
 fits_parts :
     (types : List TypeDefinition) (past : List Event) (s : State) (o : ℕ) (x : Object) → Fits types past s → NothingTreated s.control → slice_get s.heap o ≡ Some x
     → x.listed ≡ true → HasParts types x
-fits_parts types past s o x (idle plain each) nothing is listed = settled_parts types x (each o x is) listed
-fits_parts types past s o x (finding running f each) nothing is listed = settled_parts types x (each o x is) listed
-fits_parts types past s o x (passing e raises p each) nothing is listed = settled_parts types x (each o x is) listed
-fits_parts types past s o x (busy p y runs at_p others b) nothing is listed =
-    elim (eqb_tells o p) [ inl h ↦ same h.1 | inr h ↦ settled_parts types x (others o x h.1 is) listed ]
-  where
-    same : o ≡ p → HasParts types x
-    same e =
-        let both : Some y ≡ Some x = sym at_p ∙ ap (slice_get s.heap) (sym e) ∙ is in
-        let one : y ≡ x = cc both in
-        busy_parts types past p x s (subst (λ (z : Object). Busy types past p z s) one b) nothing listed
+fits_parts types past s o x h still is listed n lt =
+    let shapes = shapes_of types in
+    let ds = doings s.control in
+    let sane = h.inv.sane o x is in
+    let le = listed_length types x listed sane in
+    let p = some_at x.cell.parts n (omega (arith, lt, le)) in
+    let only = only_ending s.control still in
+    let a = none_gained types past s.heap s.next o x is listed ds only h.inv.fine n in
+    let b = none_lost types past s.heap s.next o x is listed ds only n in
+    let c = subst (λ (found : Option Object). Claimed found n (gains shapes o n ds) (losses shapes o n ds)) is (h.inv.claims o n) (listed_exists types x listed sane) p.0 p.1 in
+    (p.0, p.1, alive_of p.0.alive (omega (arith, a, b, c)))
 
 pub all_stand : AllPartsStand
-all_stand program input events last run nothing o x is listed =
-    fits_parts program.types.items (past_then events []) last o.0 x (last_holds program input events last run).fits nothing is listed
+all_stand program input events last run still o x is listed =
+    fits_parts program.types.items (past_then events []) last o.0 x (last_holds program input events last run).fits still is listed
+
+-- Where nothing is done to any object, nothing is treated.
+nothing_done : (k : Control) → doings k ≡ [] → NothingTreated k
+nothing_done [] e = tt
+nothing_done (frame.Treats v treatment tasks ∷ k) e = absurd (cc e)
+nothing_done (frame.Awaits v by done of part tasks ∷ k) e = absurd (cc e)
+nothing_done (frame.Ends v ∷ k) e = absurd (cc e)
+nothing_done (f ∷ k) e = nothing_done k e
+
+-- A frame with which no treatment begins, and behind which none is to come.
+abbrev pub TreatsNothing : Frame Value → Type 0
+TreatsNothing (frame.Treats v treatment tasks) = ⊥
+TreatsNothing (frame.Awaits v by done of part tasks) = ⊥
+TreatsNothing frame.Confines = ⊥
+TreatsNothing (frame.Copies from t) = ⊥
+TreatsNothing (frame.StoresRecord v to width) = ⊥
+TreatsNothing f = Unit {0}
+
+-- The end of an operation's body.
+abbrev pub EndsOperation : Frame Value → Type 0
+EndsOperation (frame.Awaits v by done of part tasks) = Unit {0}
+EndsOperation frame.Confines = Unit {0}
+EndsOperation f = ⊥
+
+-- Where no type overrides an operation, nothing is treated but in front of all else.
+module _ (types : List TypeDefinition) (none : OverridesNothing types) (past : List Event) (s : State) where
+  pub code_nothing : (k : Control) (acts : Acts) → Stack types code acts k → NothingTreated k
+  code_nothing k acts h = nothing_done k (none_behind types none acts k h)
+
+  pub assigns_nothing : (acts : Acts) (k : Control) → AssignsThen types acts (rest k) → NothingTreated k
+  assigns_nothing acts k h = nothing_done k (sym (rest_doings k) ∙ go (rest k) h)
+    where
+      go : (j : Control) → AssignsThen types acts j → doings j ≡ []
+      go [] h' = absurd h'
+      go (frame.Assigns t ∷ j) h' = none_behind types none acts j h'
+      go (f ∷ j) h' = absurd h'
+
+  pub guard_never : (acts : Acts) (k : Control) → Stack types guard acts k → ⊥
+  guard_never acts _ (awaits v by done of part tasks k some h) = some none
+  guard_never acts _ (confines k some h) = some none
+
+  first_of : Frame Value → Control → Frame Value
+  first_of d [] = d
+  first_of d (f ∷ k) = f
+
+  by_first : (f g : Frame Value) (k j : Control) → f ∷ k ≡ g ∷ j → (TreatsNothing g → ⊥) → TreatsNothing f → NothingTreated (f ∷ k)
+  unfolding first_of
+  by_first f g k j e never h = absurd (never (subst TreatsNothing (ap (first_of f) e) h))
+
+  finalization_nothing : (acts : Acts) (f : Frame Value) (k : Control) → TreatsNothing f → Stack types finalization acts (f ∷ k) → NothingTreated (f ∷ k)
+  finalization_nothing acts f k h (to_end o cause pool [] j is own once st) =
+      let e : f ∷ k ≡ ending_then o cause pool j = is in
+      subst NothingTreated (sym e) (code_nothing j acts st)
+  finalization_nothing acts f k h (to_end o cause pool (task ∷ tasks) j is own once st) = by_first f _ k _ is (λ never. never) h
+  finalization_nothing acts f k h (to_copy o n from t to width source [] later j is less once operand st) = by_first f _ k _ is (λ never. never) h
+  finalization_nothing acts f k h (to_copy o n from t to width source (task ∷ tasks) later j is less once operand st) = by_first f _ k _ is (λ never. never) h
+
+  pub nothing_fits : (f : Frame Value) (k : Control) → s.control ≡ f ∷ k → TreatsNothing f → Stands types s → NothingTreated s.control
+  nothing_fits f k is h (runs st) = code_nothing s.control s.activations st
+  nothing_fits f k is h (finding running g after) = assigns_nothing s.activations s.control after
+  nothing_fits f k is h (passing e raises p after) = assigns_nothing s.activations s.control after
+  nothing_fits f k is h (ends_operation st) = absurd (guard_never s.activations s.control st)
+  nothing_fits f k is h (beginning o by done task tasks j running c st) = subst NothingTreated (sym is) (by_first f _ k _ (sym is ∙ c) (λ never. never) h)
+  nothing_fits f k is h (ending running st) =
+      subst NothingTreated (sym is) (finalization_nothing s.activations f k h (subst (Stack types finalization s.activations) is st))
+  nothing_fits f k is h (leaving o x cause pool j running c own st at_o gone) = subst NothingTreated (sym c) (code_nothing j s.activations st)
+  nothing_fits f k is h (storing o n to width tasks j running c st) = subst NothingTreated (sym is) (by_first f _ k _ (sym is ∙ c) (λ never. never) h)
+
+  -- No operation's body ends.
+  guard_first : (f g : Frame Value) (k j : Control) → f ∷ k ≡ g ∷ j → EndsOperation f → EndsOperation g
+  unfolding first_of
+  guard_first f g k j e h = subst EndsOperation (ap (first_of f) e) h
+
+  calm_no_guard : (f : Frame Value) → Calm f → EndsOperation f → ⊥
+  calm_no_guard (frame.Awaits v by done of part tasks) c h = c
+  calm_no_guard frame.Confines c h = c
+  calm_no_guard f c h = h
+
+  code_no_guard : (f : Frame Value) (k c : Control) (acts : Acts) → c ≡ f ∷ k → EndsOperation f → Stack types code acts c → ⊥
+  code_no_guard f k _ acts e h nothing = cc e
+  code_no_guard f k _ acts e h (calm g j c st) = calm_no_guard g c (guard_first f g k j (sym e) h)
+  code_no_guard f k _ acts e h (comes_back actuals references j st) = guard_first f _ k j (sym e) h
+  code_no_guard f k _ acts e h (operates j st) = guard_first f _ k j (sym e) h
+
+  finding_no_guard : (f : Frame Value) (k : Control) (acts : Acts) → EndsOperation f → AssignsThen types acts (rest (f ∷ k)) → ⊥
+  finding_no_guard (frame.Awaits v by done of part tasks) k acts h after = after
+  finding_no_guard frame.Confines k acts h after = after
+  finding_no_guard f k acts h after = h
+
+  finalization_no_guard : (f : Frame Value) (k : Control) (acts : Acts) → EndsOperation f → Stack types finalization acts (f ∷ k) → ⊥
+  finalization_no_guard f k acts h (to_end o cause pool [] j is own once st) = guard_first f _ k _ is h
+  finalization_no_guard f k acts h (to_end o cause pool (task ∷ tasks) j is own once st) = guard_first f _ k _ is h
+  finalization_no_guard f k acts h (to_copy o n from t to width source [] later j is less once operand st) = guard_first f _ k _ is h
+  finalization_no_guard f k acts h (to_copy o n from t to width source (task ∷ tasks) later j is less once operand st) = guard_first f _ k _ is h
+
+  pub fits_no_guard : (f : Frame Value) (k : Control) → s.control ≡ f ∷ k → EndsOperation f → Stands types s → ⊥
+  fits_no_guard f k is h (runs st) = code_no_guard f k s.control s.activations is h st
+  fits_no_guard f k is h (finding running g after) = finding_no_guard f k s.activations h (subst (λ (c : Control). AssignsThen types s.activations (rest c)) is after)
+  fits_no_guard f k is h (passing e raises p after) = finding_no_guard f k s.activations h (subst (λ (c : Control). AssignsThen types s.activations (rest c)) is after)
+  fits_no_guard f k is h (ends_operation st) = guard_never s.activations s.control st
+  fits_no_guard f k is h (beginning o by done task tasks j running c st) = guard_first f _ k _ (sym is ∙ c) h
+  fits_no_guard f k is h (ending running st) = finalization_no_guard f k s.activations h (subst (Stack types finalization s.activations) is st)
+  fits_no_guard f k is h (leaving o x cause pool j running c own st at_o gone) = guard_first f _ k _ (sym is ∙ c) h
+  fits_no_guard f k is h (storing o n to width tasks j running c st) = guard_first f _ k _ (sym is ∙ c) h
+
+-- So it is at any frame that treats nothing, as one of a Free does.
+pub nothing_treated_at :
+    (program : Program) (input : List ℤ) (events : List Event) (last : State) → OverridesNothing program.types.items
+    → Run program (first_state program input) events last → (f : Frame Value) (k : Control) → last.control ≡ f ∷ k → TreatsNothing f
+    → NothingTreated last.control
+nothing_treated_at program input events last none run f k is h =
+    nothing_fits program.types.items none (past_then events []) last f k is h (last_holds program input events last run).fits.stands
+
+-- And so it is where a statement begins.
+beginning_in : (mode : Mode) (k : Control) → begins_in mode k ≡ true → begins_among k ≡ true
+beginning_in Running k e = e
+beginning_in (Raising x) k e = absurd (cc e)
+beginning_in Exiting k e = absurd (cc e)
+beginning_in Returning k e = absurd (cc e)
+
+beginning_first : (f : Frame Value) → begins_by f ≡ true → TreatsNothing f
+beginning_first (frame.Does fs) e = tt
+beginning_first f e = absurd (cc e)
+
+beginning_among : (k : Control) → begins_among k ≡ true → (f : Frame Value) × ((j : Control) × ((k ≡ f ∷ j) × TreatsNothing f))
+beginning_among [] e = absurd (cc e)
+beginning_among (f ∷ j) e = (f, (j, (refl, beginning_first f e)))
+
+pub nothing_treated : StatementsTreatNothing
+nothing_treated program input events last none run e =
+    let f = beginning_among last.control (beginning_in last.mode last.control e) in
+    nothing_treated_at program input events last none run f.0 f.1.0 f.1.1.0 f.1.1.1
+
+-- Where no type overrides an operation, no run comes to the end of one's body.
+pub no_operation_ends :
+    (program : Program) (input : List ℤ) (events : List Event) (last : State) → OverridesNothing program.types.items
+    → Run program (first_state program input) events last → (f : Frame Value) (k : Control) → last.control ≡ f ∷ k → EndsOperation f → ⊥
+no_operation_ends program input events last none run f k is h =
+    fits_no_guard program.types.items none (past_then events []) last f k is h (last_holds program input events last run).fits.stands

@@ -1,6 +1,6 @@
 -- What an event tells, what it leaves behind for good, and what two events say of each other.
 
-use Rattle.std.proofs.Common.{◌≡◌, ◌≢◌, ◌⊎◌, ℕ, zero, suc, ◌+◌, ◌<◌, ◌≤◌, true, false, List, [], ◌∷◌, length, Option, Some, None, refl, sym, ap, ◌∙◌, inl, inr, subst, arith}
+use Rattle.std.proofs.Common.{◌≡◌, ◌≢◌, ◌⊎◌, ℕ, ◌+◌, ◌<◌, ◌≤◌, true, false, List, ◌∷◌, length, Option, Some, None, refl, sym, ap, ◌∙◌, inl, inr, subst, arith}
 use Rattle.std.specs.List.{slice_get, Contains}
 use Rattle.std.proofs.lemmas.Bool.Decides.{eqb_tells}
 use Rattle.ada_program.specs.declared.program.TypeDefinition.{TypeDefinition}
@@ -23,9 +23,10 @@ use Rattle.ada_meaning.specs.Law.{ControlledValue, back_of, finalized_of, cause_
 use Rattle.ada_meaning.specs.Life.{KeepsObjects}
 use Rattle.ada_meaning.specs.Finalization.{born_of, object_in, BornTwoValues, BornBeforeFinalized, NothingAfterBack, BegunPart, begun_of, EndedPart, ended_of, NotInside, PartsComeFirst, NotAround, WholesComeFirst, adjusted_by, adjusted_of, assigned_by, EndsBeforeItAdjusts}
 use Rattle.ada_finalized.proofs.Counts.{count}
-use Rattle.ada_finalized.proofs.Treating.{one_here}
+use Rattle.ada_finalized.proofs.Going.{one_here}
 use Rattle.ada_finalized.proofs.Ranks.{Heap, rank_at, rise, rise_or, rise_self}
-use Rattle.ada_finalized.proofs.Invariant.{name, Numbered, begun_part, IsLeft, OfTreatments, of_left, treatments_map, Origin, goes_on, creates, adjusts, clears, parts, Untold, IsOut, IsUnlisted, NoneInside, NotLeft, NotCleared, Caused, Told, still, bears, finalizes}
+use Rattle.ada_finalized.proofs.Doings.{name, doings, Key, begin, end, number_of, IsLeft, OfTreatments, of_left, treatments_map}
+use Rattle.ada_finalized.proofs.Invariant.{Numbered, begun_part, Origin, goes_on, creates, adjusts, clears, parts, Untold, IsOut, IsUnlisted, NoneInside, NotLeft, NotCleared, Caused, caused_on, out_kept, length_kept, Told, still, bears, finalizes}
 
 -- A value of a part, by how often the part had one before.
 abbrev pub value : (object part turn : ℕ) → ControlledValue
@@ -99,30 +100,31 @@ pub record FinalizedAt (xs ys : Heap) (v : ControlledValue) : Type 0 where
 pub record BegunAt (types : List TypeDefinition) (past : List Event) (s after : State) (b : BegunPart) : Type 0 where
   pub numbered : Numbered (adjusted_by b.by) after.next
   pub there : b.treated.object.0 < length after.heap
+  pub done : List Part
   pub behind : List Task
-  pub left : IsLeft (name b.treated.object.0) (begins b.by) (performs b.treated.part.of b.treated.part.number ∷ behind) s.control
-  pub none_inside : OfTreatments (NoneInside (shapes_of types) b) after.control
+  pub left : IsLeft (name b.treated.object.0) (begins b.by done) (performs b.treated.part.of b.treated.part.number ∷ behind) (doings s.control)
+  pub none_inside : OfTreatments (NoneInside (shapes_of types) b) (doings after.control)
   pub inside :
       (p : Part) → LiesIn (shapes_of types) p.number b.treated.part → Contains (parts_at (shapes_of types) b.treated.part.of b.treated.part.number) p
       → Happened (λ f. begun_of f ≡ Some (record { treated = record { object = b.treated.object; part = p }; by = b.by })) past
 
 -- The part whose value is finalized: all that lies in it is left.
 pub record EndedAt (types : List TypeDefinition) (s after : State) (t : EndedPart) : Type 0 where
-  pub caused : Caused t.treated.object.0 t.cause after
+  pub caused : Caused t.treated.object.0 t.cause after.heap after.next
   pub behind : List Task
-  pub left : IsLeft (name t.treated.object.0) (ends t.cause) (performs t.treated.part.of t.treated.part.number ∷ behind) s.control
-  pub not_left : OfTreatments (NotLeft (shapes_of types) t) after.control
+  pub left : IsLeft (name t.treated.object.0) (ends t.cause) (performs t.treated.part.of t.treated.part.number ∷ behind) (doings s.control)
+  pub not_left : OfTreatments (NotLeft (shapes_of types) t) (doings after.control)
   pub inside : (m : ℕ) → LiesIn (shapes_of types) m t.treated.part → 1 ≤ count m (parts_left (shapes_of types) behind)
 
 -- What an assignment adjusts, and what it finalizes.
 pub record AdjustedAt (after : State) (n : ℕ) : Type 0 where
   pub numbered : n < after.next
-  pub cleared : OfTreatments (NotCleared n) after.control
+  pub cleared : OfTreatments (NotCleared n) (doings after.control)
 
 pub record AssignedAt (s : State) (n : ℕ) : Type 0 where
   pub object : ℕ
   pub tasks : List Task
-  pub left : IsLeft (name object) (ends (Assigning n)) tasks s.control
+  pub left : IsLeft (name object) (ends (Assigning n)) tasks (doings s.control)
 
 one_more : (xs ys : Heap) (o n : ℕ) → ((j m : ℕ) → rank_at ys j m ≡ rank_at xs j m + rise o n j m) → rank_at ys o n ≡ rank_at xs o n + 1
 one_more xs ys o n ranks = let a = ranks o n in let b = rise_self o n in omega (arith, a, b)
@@ -137,14 +139,14 @@ assigning_is (Undoing number) n is = absurd (cc is)
 module _ (types : List TypeDefinition) (past : List Event) (s : State) (e : Event) (after : State) where
   pub born_at : (v : ControlledValue) → Told types past s e after → born_of e ≡ Some v → BornAt s.heap after.heap v
   born_at v (still untold own ranks back) is = nothing_is (born_of e) v (untold_born e untold) is
-  born_at v (bears o n of turn number by behind e_is rank ranks out there numbered left none not_cleared inside) is =
+  born_at v (bears o n of turn number by done behind e_is rank ranks out there numbered left none not_cleared inside) is =
       some_is (BornAt s.heap after.heap) (born_of e) (value o n turn) v (ap born_of e_is) is
       (record { before = rank; after = (let a = one_more s.heap after.heap o n ranks in omega (arith, a, rank)); out = out })
   born_at v (finalizes o n of turn number cause behind e_is rank ranks out caused left not_left inside) is = nothing_is (born_of e) v (ap born_of e_is) is
 
   pub finalized_at : (v : ControlledValue) → Told types past s e after → finalized_of e ≡ Some v → FinalizedAt s.heap after.heap v
   finalized_at v (still untold own ranks back) is = nothing_is (finalized_of e) v (untold_finalized e untold) is
-  finalized_at v (bears o n of turn number by behind e_is rank ranks out there numbered left none not_cleared inside) is =
+  finalized_at v (bears o n of turn number by done behind e_is rank ranks out there numbered left none not_cleared inside) is =
       nothing_is (finalized_of e) v (ap finalized_of e_is) is
   finalized_at v (finalizes o n of turn number cause behind e_is rank ranks out caused left not_left inside) is =
       some_is (FinalizedAt s.heap after.heap) (finalized_of e) (value o n turn) v (ap finalized_of e_is) is
@@ -152,42 +154,42 @@ module _ (types : List TypeDefinition) (past : List Event) (s : State) (e : Even
 
   pub begun_at : (b : BegunPart) → Told types past s e after → begun_of e ≡ Some b → BegunAt types past s after b
   begun_at b (still untold own ranks back) is = nothing_is (begun_of e) b (untold_begun e untold) is
-  begun_at b (bears o n of turn number by behind e_is rank ranks out there numbered left none not_cleared inside) is =
+  begun_at b (bears o n of turn number by done behind e_is rank ranks out there numbered left none not_cleared inside) is =
       some_is (BegunAt types past s after) (begun_of e) (begun_part o (record { of = of; number = n }) by) b (ap begun_of e_is) is
-      (record { numbered = numbered; there = there; behind = behind; left = left; none_inside = none; inside = inside })
+      (record { numbered = numbered; there = there; done = done; behind = behind; left = left; none_inside = none; inside = inside })
   begun_at b (finalizes o n of turn number cause behind e_is rank ranks out caused left not_left inside) is = nothing_is (begun_of e) b (ap begun_of e_is) is
 
   pub ended_at : (t : EndedPart) → Told types past s e after → ended_of e ≡ Some t → EndedAt types s after t
   ended_at t (still untold own ranks back) is = nothing_is (ended_of e) t (untold_ended e untold) is
-  ended_at t (bears o n of turn number by behind e_is rank ranks out there numbered left none not_cleared inside) is = nothing_is (ended_of e) t (ap ended_of e_is) is
+  ended_at t (bears o n of turn number by done behind e_is rank ranks out there numbered left none not_cleared inside) is = nothing_is (ended_of e) t (ap ended_of e_is) is
   ended_at t (finalizes o n of turn number cause behind e_is rank ranks out caused left not_left inside) is =
       some_is (EndedAt types s after) (ended_of e) (record { treated = record { object = record { 0 = o }; part = record { of = of; number = n } }; cause = cause }) t
       (ap ended_of e_is) is (record { caused = caused; behind = behind; left = left; not_left = not_left; inside = inside })
 
   adjusted_at : (n : ℕ) → Told types past s e after → adjusted_of e ≡ Some n → AdjustedAt after n
   adjusted_at n (still untold own ranks back) is = nothing_is (adjusted_of e) n (untold_adjusted e untold) is
-  adjusted_at n (bears o m of turn number by behind e_is rank ranks out there numbered left none not_cleared inside) is =
-      record { numbered = numbered n (sym (ap adjusted_of e_is) ∙ is); cleared = not_cleared n }
+  adjusted_at n (bears o m of turn number by done behind e_is rank ranks out there numbered left none not_cleared inside) is =
+      record { numbered = numbered n (sym (ap adjusted_of e_is) ∙ is); cleared = not_cleared n (sym (ap adjusted_of e_is) ∙ is) }
   adjusted_at n (finalizes o m of turn number cause behind e_is rank ranks out caused left not_left inside) is = nothing_is (adjusted_of e) n (ap adjusted_of e_is) is
 
   assigned_at : (n : ℕ) → Told types past s e after → assigned_by (cause_of e) ≡ Some n → AssignedAt s n
   assigned_at n (still untold own ranks back) is = nothing_is (assigned_by (cause_of e)) n own is
-  assigned_at n (bears o m of turn number by behind e_is rank ranks out there numbered left none not_cleared inside) is =
+  assigned_at n (bears o m of turn number by done behind e_is rank ranks out there numbered left none not_cleared inside) is =
       nothing_is (assigned_by (cause_of e)) n (ap (λ (f : Event). assigned_by (cause_of f)) e_is) is
   assigned_at n (finalizes o m of turn number cause behind e_is rank ranks out caused left not_left inside) is =
       let by = assigning_is cause n (sym (ap (λ (f : Event). assigned_by (cause_of f)) e_is) ∙ is) in
-      record { object = o; tasks = performs of m ∷ behind; left = subst (λ (c : Cause). IsLeft (name o) (ends c) (performs of m ∷ behind) s.control) by left }
+      record { object = o; tasks = performs of m ∷ behind; left = subst (λ (c : Cause). IsLeft (name o) (ends c) (performs of m ∷ behind) (doings s.control)) by left }
 
   -- Ranks never fall.
   rank_grows : Told types past s e after → (j m : ℕ) → rank_at s.heap j m ≤ rank_at after.heap j m
   rank_grows (still untold own ranks back) j m = let a = ranks j m in omega (arith, a)
-  rank_grows (bears o n of turn number by behind e_is rank ranks out there numbered left none not_cleared inside) j m = let a = ranks j m in omega (arith, a)
+  rank_grows (bears o n of turn number by done behind e_is rank ranks out there numbered left none not_cleared inside) j m = let a = ranks j m in omega (arith, a)
   rank_grows (finalizes o n of turn number cause behind e_is rank ranks out caused left not_left inside) j m = let a = ranks j m in omega (arith, a)
 
   -- A value that exists after a step has come to exist in it, or before; and it is there after it, or has been finalized in it.
   pub told_born : (o n turn : ℕ) → Told types past s e after → turn + turn + 1 ≤ rank_at after.heap o n → (turn + turn + 1 ≤ rank_at s.heap o n) ⊎ (born_of e ≡ Some (value o n turn))
   told_born o n turn (still untold own ranks back) some = inl (let a = ranks o n in omega (arith, a, some))
-  told_born o n turn (bears j m of turn' number by behind e_is rank ranks out there numbered left none not_cleared inside) some =
+  told_born o n turn (bears j m of turn' number by done behind e_is rank ranks out there numbered left none not_cleared inside) some =
       elim (rise_or j m o n) [
         | inl h ↦ inl (let a = ranks o n in omega (arith, a, some, h))
         | inr h ↦ here h.0 h.1 h.2
@@ -217,7 +219,7 @@ module _ (types : List TypeDefinition) (past : List Event) (s : State) (e : Even
       (o n turn : ℕ) → Told types past s e after → rank_at s.heap o n ≡ turn + turn + 1
       → (rank_at after.heap o n ≡ turn + turn + 1) ⊎ (finalized_of e ≡ Some (value o n turn))
   told_finalized o n turn (still untold own ranks back) one = inl (ranks o n ∙ one)
-  told_finalized o n turn (bears j m of turn' number by behind e_is rank ranks out there numbered left none not_cleared inside) one =
+  told_finalized o n turn (bears j m of turn' number by done behind e_is rank ranks out there numbered left none not_cleared inside) one =
       elim (rise_or j m o n) [
         | inl h ↦ inl (let a = ranks o n in omega (arith, a, one, h))
         | inr h ↦ absurd (never (subst (λ (i : ℕ). rank_at s.heap i n ≡ turn' + turn') h.1 (subst (λ (i : ℕ). rank_at s.heap j i ≡ turn' + turn') h.2 rank)))
@@ -244,14 +246,14 @@ pub record Marks (types : List TypeDefinition) (e : Event) (s : State) : Type 0 
   pub back : (o : Id) → back_of e ≡ Some o → IsOut s.heap o.0 false
   pub numbered : (b : BegunPart) → begun_of e ≡ Some b → Numbered (adjusted_by b.by) s.next
   pub there : (b : BegunPart) → begun_of e ≡ Some b → b.treated.object.0 < length s.heap
-  pub none_inside : (b : BegunPart) → begun_of e ≡ Some b → OfTreatments (NoneInside (shapes_of types) b) s.control
-  pub caused : (t : EndedPart) → ended_of e ≡ Some t → Caused t.treated.object.0 t.cause s
-  pub not_left : (t : EndedPart) → ended_of e ≡ Some t → OfTreatments (NotLeft (shapes_of types) t) s.control
+  pub none_inside : (b : BegunPart) → begun_of e ≡ Some b → OfTreatments (NoneInside (shapes_of types) b) (doings s.control)
+  pub caused : (t : EndedPart) → ended_of e ≡ Some t → Caused t.treated.object.0 t.cause s.heap s.next
+  pub not_left : (t : EndedPart) → ended_of e ≡ Some t → OfTreatments (NotLeft (shapes_of types) t) (doings s.control)
   pub adjusted : (n : ℕ) → adjusted_of e ≡ Some n → AdjustedAt s n
 
 pub told_back : (types : List TypeDefinition) (past : List Event) (s : State) (e : Event) (after : State) → Told types past s e after → (o : Id) → back_of e ≡ Some o → IsOut after.heap o.0 false
 told_back types past s e after (still untold own ranks back) o is = back o is
-told_back types past s e after (bears j m of turn number by behind e_is rank ranks out there numbered left none not_cleared inside) o is = nothing_is (back_of e) o (ap back_of e_is) is
+told_back types past s e after (bears j m of turn number by done behind e_is rank ranks out there numbered left none not_cleared inside) o is = nothing_is (back_of e) o (ap back_of e_is) is
 told_back types past s e after (finalizes j m of turn number cause behind e_is rank ranks out caused left not_left inside) o is = nothing_is (back_of e) o (ap back_of e_is) is
 
 pub marked : (types : List TypeDefinition) (past : List Event) (s : State) (e : Event) (after : State) → Told types past s e after → Marks types e after
@@ -267,24 +269,7 @@ marked types past s e after told = record {
   adjusted = λ n is. adjusted_at types past s e after n told is;
 }
 
--- Words that are back stay back, what has left its collection stays out of it, and objects stay there.
-pub out_kept : (xs ys : Heap) (o : ℕ) → KeepsObjects xs ys → IsOut xs o false → IsOut ys o false
-out_kept [] ys o k (x, (is, out)) = absurd (cc is)
-out_kept (z ∷ xs) [] o k out = absurd k
-out_kept (z ∷ xs) (y ∷ ys) zero k (x, (is, out)) = let one : x ≡ z = cc is in (y, (refl, k.0.back (subst (λ (u : Object). u.out ≡ false) one out)))
-out_kept (z ∷ xs) (y ∷ ys) (suc o) k (x, (is, out)) = out_kept xs ys o k.1 (x, (is, out))
-
-unlisted_kept : (xs ys : Heap) (o : ℕ) → KeepsObjects xs ys → IsUnlisted xs o → IsUnlisted ys o
-unlisted_kept [] ys o k (x, (is, unlisted)) = absurd (cc is)
-unlisted_kept (z ∷ xs) [] o k unlisted = absurd k
-unlisted_kept (z ∷ xs) (y ∷ ys) zero k (x, (is, unlisted)) = let one : x ≡ z = cc is in (y, (refl, k.0.unlisted (subst (λ (u : Object). u.listed ≡ false) one unlisted)))
-unlisted_kept (z ∷ xs) (y ∷ ys) (suc o) k (x, (is, unlisted)) = unlisted_kept xs ys o k.1 (x, (is, unlisted))
-
-length_kept : (xs ys : Heap) → KeepsObjects xs ys → length xs ≤ length ys
-length_kept [] ys k = omega arith
-length_kept (z ∷ xs) [] k = absurd k
-length_kept (z ∷ xs) (y ∷ ys) k = let le = length_kept xs ys k.1 in omega (arith, le)
-
+-- What is in its collection has not left it.
 unlisted_once : (xs : Heap) (o : ℕ) (x : Object) → slice_get xs o ≡ Some x → x.listed ≡ true → IsUnlisted xs o → ⊥
 unlisted_once xs o x is listed (y, (is', unlisted)) =
     let never : true ≡ false = sym listed ∙ some_is (λ (z : Object). x.listed ≡ z.listed) (slice_get xs o) x y is is' refl ∙ unlisted in
@@ -298,10 +283,10 @@ place_of v d = d
 -- What an event has left behind stays, since what is left to do goes on or is new.
 module _ (types : List TypeDefinition) (s after : State) (keeps : KeepsObjects s.heap after.heap) (grows : s.next ≤ after.next) where
   none_inside_kept :
-      (b : BegunPart) → Numbered (adjusted_by b.by) s.next → b.treated.object.0 < length s.heap → OfTreatments (NoneInside (shapes_of types) b) s.control
+      (b : BegunPart) → Numbered (adjusted_by b.by) s.next → b.treated.object.0 < length s.heap → OfTreatments (NoneInside (shapes_of types) b) (doings s.control)
       → (v : Value) (treatment : Treatment) (tasks : List Task) → Origin types s v treatment tasks → NoneInside (shapes_of types) b v treatment tasks
-  none_inside_kept b numbered there each v treatment tasks (goes_on before left less) v_is t_is m lies =
-      let none = of_left (NoneInside (shapes_of types) b) v treatment before s.control left each v_is t_is m lies in
+  none_inside_kept b numbered there each v treatment tasks (goes_on earlier before left same less) v_is t_is m lies =
+      let none = of_left (NoneInside (shapes_of types) b) v earlier before (doings s.control) left each v_is (same ∙ t_is) m lies in
       let l = less m in
       omega (arith, none, l)
   none_inside_kept b numbered there each v treatment tasks (creates by t_new own v_new) v_is t_is m lies =
@@ -310,75 +295,71 @@ module _ (types : List TypeDefinition) (s after : State) (keeps : KeepsObjects s
   none_inside_kept b numbered there each v treatment tasks (adjusts t_new) v_is t_is m lies =
       let lt = numbered s.next (ap number_begun (sym t_is ∙ t_new)) in absurd (omega (arith, lt))
     where
-      number_begun : Treatment → Option ℕ
-      number_begun (begins by) = adjusted_by by
-      number_begun (ends cause) = None
-  none_inside_kept b numbered there each v treatment tasks (clears t_new) v_is t_is m lies = let never : begins b.by ≡ ends (Assigning s.next) = sym t_is ∙ t_new in absurd (cc never)
+      number_begun : Key → Option ℕ
+      number_begun (begin by) = adjusted_by by
+      number_begun (end cause) = None
+  none_inside_kept b numbered there each v treatment tasks (clears cause t_new number) v_is t_is m lies = let never : begin b.by ≡ end cause = sym t_is ∙ t_new in absurd (cc never)
   none_inside_kept b numbered there each v treatment tasks (parts cause o x t_new own v_new is listed) v_is t_is m lies =
-      let never : begins b.by ≡ ends cause = sym t_is ∙ t_new in absurd (cc never)
+      let never : begin b.by ≡ end cause = sym t_is ∙ t_new in absurd (cc never)
 
   not_left_kept :
-      (t : EndedPart) → Caused t.treated.object.0 t.cause s → OfTreatments (NotLeft (shapes_of types) t) s.control
+      (t : EndedPart) → Caused t.treated.object.0 t.cause s.heap s.next → OfTreatments (NotLeft (shapes_of types) t) (doings s.control)
       → (v : Value) (treatment : Treatment) (tasks : List Task) → Origin types s v treatment tasks → NotLeft (shapes_of types) t v treatment tasks
-  not_left_kept t caused each v treatment tasks (goes_on before left less) v_is t_is =
-      let none = of_left (NotLeft (shapes_of types) t) v treatment before s.control left each v_is t_is in
+  not_left_kept t caused each v treatment tasks (goes_on earlier before left same less) v_is t_is =
+      let none = of_left (NotLeft (shapes_of types) t) v earlier before (doings s.control) left each v_is (same ∙ t_is) in
       let l = less t.treated.part.number in
       omega (arith, none, l)
-  not_left_kept t caused each v treatment tasks (creates by t_new own v_new) v_is t_is = let never : ends t.cause ≡ begins by = sym t_is ∙ t_new in absurd (cc never)
-  not_left_kept t caused each v treatment tasks (adjusts t_new) v_is t_is = let never : ends t.cause ≡ begins (Adjustment s.next) = sym t_is ∙ t_new in absurd (cc never)
-  not_left_kept t caused each v treatment tasks (clears t_new) v_is t_is =
-      let same : ends t.cause ≡ ends (Assigning s.next) = sym t_is ∙ t_new in
-      let one : t.cause ≡ Assigning s.next = cc same in
-      let lt = caused.assigned s.next (ap (λ (c : Cause). assigned_by (Some c)) one) in
+  not_left_kept t caused each v treatment tasks (creates by t_new own v_new) v_is t_is = let never : end t.cause ≡ begin by = sym t_is ∙ t_new in absurd (cc never)
+  not_left_kept t caused each v treatment tasks (adjusts t_new) v_is t_is = let never : end t.cause ≡ begin (Adjustment s.next) = sym t_is ∙ t_new in absurd (cc never)
+  not_left_kept t caused each v treatment tasks (clears cause t_new number) v_is t_is =
+      let same : end t.cause ≡ end cause = sym t_is ∙ t_new in
+      let one : t.cause ≡ cause = cc same in
+      let lt = caused.numbered s.next (ap number_of one ∙ number) in
       absurd (omega (arith, lt))
   not_left_kept t caused each v treatment tasks (parts cause o x t_new own v_new is listed) v_is t_is =
-      let same : ends t.cause ≡ ends cause = sym t_is ∙ t_new in
+      let same : end t.cause ≡ end cause = sym t_is ∙ t_new in
       let one : t.cause ≡ cause = cc same in
       let place : o ≡ t.treated.object.0 = ap (λ (u : Value). place_of u 0) (sym v_new ∙ v_is) in
-      let unlisted = caused.parted (ap (λ (c : Cause). assigned_by (Some c)) one ∙ own) in
+      let unlisted = caused.parted (ap number_of one ∙ own) in
       absurd (unlisted_once s.heap o x is listed (subst (IsUnlisted s.heap) (sym place) unlisted))
 
   not_cleared_kept :
-      (n : ℕ) → n < s.next → OfTreatments (NotCleared n) s.control → (v : Value) (treatment : Treatment) (tasks : List Task)
+      (n : ℕ) → n < s.next → OfTreatments (NotCleared n) (doings s.control) → (v : Value) (treatment : Treatment) (tasks : List Task)
       → Origin types s v treatment tasks → NotCleared n v treatment tasks
-  not_cleared_kept n lt each v treatment tasks (goes_on before left less) t_is = of_left (NotCleared n) v treatment before s.control left each t_is
-  not_cleared_kept n lt each v treatment tasks (creates by t_new own v_new) t_is = let never : ends (Assigning n) ≡ begins by = sym t_is ∙ t_new in absurd (cc never)
-  not_cleared_kept n lt each v treatment tasks (adjusts t_new) t_is = let never : ends (Assigning n) ≡ begins (Adjustment s.next) = sym t_is ∙ t_new in absurd (cc never)
-  not_cleared_kept n lt each v treatment tasks (clears t_new) t_is =
-      let same : ends (Assigning n) ≡ ends (Assigning s.next) = sym t_is ∙ t_new in
-      let one : n ≡ s.next = cc same in
-      absurd (omega (arith, lt, one))
-  not_cleared_kept n lt each v treatment tasks (parts cause o x t_new own v_new is listed) t_is =
-      let same : ends (Assigning n) ≡ ends cause = sym t_is ∙ t_new in
+  not_cleared_kept n lt each v treatment tasks (goes_on earlier before left same less) t_is = of_left (NotCleared n) v earlier before (doings s.control) left each (same ∙ t_is)
+  not_cleared_kept n lt each v treatment tasks (creates by t_new own v_new) t_is = let never : end (Assigning n) ≡ begin by = sym t_is ∙ t_new in absurd (cc never)
+  not_cleared_kept n lt each v treatment tasks (adjusts t_new) t_is = let never : end (Assigning n) ≡ begin (Adjustment s.next) = sym t_is ∙ t_new in absurd (cc never)
+  not_cleared_kept n lt each v treatment tasks (clears cause t_new number) t_is =
+      let same : end (Assigning n) ≡ end cause = sym t_is ∙ t_new in
       let one : Assigning n ≡ cause = cc same in
-      let never : Some n ≡ None = ap (λ (c : Cause). assigned_by (Some c)) one ∙ own in
+      let both : Some n ≡ Some s.next = ap number_of one ∙ number in
+      let number_is : n ≡ s.next = cc both in
+      absurd (omega (arith, lt, number_is))
+  not_cleared_kept n lt each v treatment tasks (parts cause o x t_new own v_new is listed) t_is =
+      let same : end (Assigning n) ≡ end cause = sym t_is ∙ t_new in
+      let one : Assigning n ≡ cause = cc same in
+      let never : Some n ≡ None = ap number_of one ∙ own in
       absurd (cc never)
 
   numbered_kept : (number : Option ℕ) → Numbered number s.next → Numbered number after.next
   numbered_kept number h n is = let lt = h n is in omega (arith, lt, grows)
 
-  caused_kept : (o : ℕ) (cause : Cause) → Caused o cause s → Caused o cause after
-  caused_kept o cause h = record {
-    assigned = numbered_kept (assigned_by (Some cause)) h.assigned;
-    parted = λ own. unlisted_kept s.heap after.heap o keeps (h.parted own);
-  }
-
-  pub marks_kept : (past : List Event) (e f : Event) → Told types past s f after → OfTreatments (Origin types s) after.control → Marks types e s → Marks types e after
+  pub marks_kept : (past : List Event) (e f : Event) → Told types past s f after → OfTreatments (Origin types s) (doings after.control) → Marks types e s → Marks types e after
   marks_kept past e f told origins m = record {
     born = λ v is. let a = m.born v is in let b = rank_grows types past s f after told v.object.0 v.part in omega (arith, a, b);
     finalized = λ v is. let a = m.finalized v is in let b = rank_grows types past s f after told v.object.0 v.part in omega (arith, a, b);
     back = λ o is. out_kept s.heap after.heap o.0 keeps (m.back o is);
     numbered = λ b is. numbered_kept (adjusted_by b.by) (m.numbered b is);
     there = λ b is. let lt = m.there b is in let le = length_kept s.heap after.heap keeps in omega (arith, lt, le);
-    none_inside = λ b is. treatments_map (Origin types s) (NoneInside (shapes_of types) b) after.control (none_inside_kept b (m.numbered b is) (m.there b is) (m.none_inside b is)) origins;
-    caused = λ t is. caused_kept t.treated.object.0 t.cause (m.caused t is);
-    not_left = λ t is. treatments_map (Origin types s) (NotLeft (shapes_of types) t) after.control (not_left_kept t (m.caused t is) (m.not_left t is)) origins;
+    none_inside = λ b is. treatments_map (Origin types s) (NoneInside (shapes_of types) b) (doings after.control) (none_inside_kept b (m.numbered b is) (m.there b is) (m.none_inside b is)) origins;
+    caused = λ t is. caused_on types past f s.heap after.heap s.next after.next keeps grows t.treated.object.0 t.cause (m.caused t is);
+    not_left = λ t is. treatments_map (Origin types s) (NotLeft (shapes_of types) t) (doings after.control) (not_left_kept t (m.caused t is) (m.not_left t is)) origins;
     adjusted = λ n is.
         let a = m.adjusted n is in
         let lt = a.numbered in
         record {
           numbered = omega (arith, lt, grows);
-          cleared = treatments_map (Origin types s) (NotCleared n) after.control (not_cleared_kept n lt a.cleared) origins;
+          cleared = treatments_map (Origin types s) (NotCleared n) (doings after.control) (not_cleared_kept n lt a.cleared) origins;
         };
   }
 
@@ -444,8 +425,8 @@ module _ (types : List TypeDefinition) (past : List Event) (s : State) (e f : Ev
       let now = begun_at types past s f after b told at_f in
       let tasks = performs b.treated.part.of b.treated.part.number ∷ now.behind in
       let none =
-      of_left (NoneInside (shapes_of types) a) (name b.treated.object.0) (begins b.by) tasks s.control now.left (m.none_inside a is)
-      (ap (λ (o : Id). name o.0) (sym same_object)) (ap begins (sym same_by)) b.treated.part.number lies in
+      of_left (NoneInside (shapes_of types) a) (name b.treated.object.0) (begins b.by now.done) tasks (doings s.control) now.left (m.none_inside a is)
+      (ap (λ (o : Id). name o.0) (sym same_object)) (ap begin (sym same_by)) b.treated.part.number lies in
       let one = one_here b.treated.part (parts_left (shapes_of types) now.behind) in
       omega (arith, none, one)
 
@@ -455,8 +436,8 @@ module _ (types : List TypeDefinition) (past : List Event) (s : State) (e f : Ev
       let now = ended_at types past s f after b told at_f in
       let tasks = performs b.treated.part.of b.treated.part.number ∷ now.behind in
       let none =
-      of_left (NotLeft (shapes_of types) a) (name b.treated.object.0) (ends b.cause) tasks s.control now.left (m.not_left a is)
-      (ap (λ (o : Id). name o.0) (sym same_object)) (ap ends (sym same_cause)) in
+      of_left (NotLeft (shapes_of types) a) (name b.treated.object.0) (ends b.cause) tasks (doings s.control) now.left (m.not_left a is)
+      (ap (λ (o : Id). name o.0) (sym same_object)) (ap end (sym same_cause)) in
       let some = now.inside a.treated.part.number lies in
       omega (arith, none, some)
 
@@ -464,8 +445,8 @@ module _ (types : List TypeDefinition) (past : List Event) (s : State) (e f : Ev
   ends_first_here : (a b : ℕ) → adjusted_of e ≡ Some a → assigned_by (cause_of f) ≡ Some b → a ≢ b
   ends_first_here a b is at_f one =
       let now = assigned_at types past s f after b told at_f in
-      of_left (NotCleared a) (name now.object) (ends (Assigning b)) now.tasks s.control now.left (m.adjusted a is).cleared
-      (ap (λ (n : ℕ). ends (Assigning n)) (sym one))
+      of_left (NotCleared a) (name now.object) (ends (Assigning b)) now.tasks (doings s.control) now.left (m.adjusted a is).cleared
+      (ap (λ (n : ℕ). end (Assigning n)) (sym one))
 
   pub paired : Pairs (shapes_of types) e f
   paired = record {

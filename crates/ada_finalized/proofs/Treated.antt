@@ -1,7 +1,7 @@
 -- What a treatment keeps: each part that it is of is called already, or is left, and not both; and the order of what is left.
 
 use Rattle.std.proofs.Common.{◌≡◌, ◌≢◌, ◌⊎◌, ℕ, zero, suc, ◌+◌, ◌<◌, ◌≤◌, Bool, true, false, ◌==◌, if◌then◌else◌, List, [], ◌∷◌, ◌++◌, length, refl, sym, ap, ◌∙◌, inl, inr, subst, arith}
-use Rattle.std.specs.Prelude.{Option, Some, None}
+use Rattle.std.specs.Prelude.{Option, Some, None, map}
 use Rattle.std.specs.List.{Contains, flat_map, range_with_len, slice_get}
 use Rattle.std.proofs.lemmas.List.{append-nil}
 use Rattle.std.proofs.lemmas.List.Elements.{Contains-append_left, Contains-append_right, Contains-append_cases}
@@ -15,7 +15,7 @@ use Rattle.ada_parts.specs.declared.tasks.Component.{Component}
 use Rattle.ada_parts.specs.declared.tasks.Direction.{Direction}
 use Rattle.ada_parts.specs.declared.tasks.Direction.TheVariants.{PartsFirst, WholeFirst}
 use Rattle.ada_parts.specs.Shape.{Shape, IsTable, shape_of, parts_of, own_parts}
-use Rattle.ada_parts.specs.Part.{Part, in_order, own_part, parts_at, LiesIn}
+use Rattle.ada_parts.specs.Part.{Part, in_order, own_part, parts_at, numbers, LiesIn}
 use Rattle.ada_parts.specs.Task.{Task, performs, opened, taken, IsOpen, OfComponents}
 use Rattle.ada_parts.specs.Law.{parts_left}
 use Rattle.ada_parts.proofs.Facts.{eq_self, eq_not}
@@ -351,3 +351,64 @@ all_inside_called shapes all called of n behind t p lies inner =
     let mine = t.closed b p (is_one shapes PartsFirst all called b behind t) inner in
     let same = only_one all p q.0 (t.once p.number) mine (t.called_of q.0 q.1.0) (sym q.1.1) in
     subst (Contains called) (sym same) q.1.0
+
+-- What a finalization keeps: each part is left once, and where it is finalized, what lies in it is left behind.
+pub record Clearing (shapes : List Shape) (tasks : List Task) : Type 0 where
+  pub known : OfComponents (Known shapes) tasks
+  pub once : (n : ℕ) → count n (parts_left shapes tasks) ≤ 1
+  pub outer : Outer shapes tasks
+
+pub clearing_first : (shapes : List Shape) (all : List Part) (tasks : List Task) → Treated shapes WholeFirst all [] tasks → Clearing shapes tasks
+clearing_first shapes all tasks t =
+    record { known = t.known; once = λ n. (let e = t.each n in let o = t.once n in omega (arith, e, o)); outer = t.ordered }
+
+pub clearing_left :
+    (shapes : List Shape) (tasks : List Task) (i : ℕ) → IsTable shapes → IsOpen tasks i → Clearing shapes tasks → (n : ℕ)
+    → count n (parts_left shapes (taken shapes WholeFirst tasks i)) ≡ count n (parts_left shapes tasks)
+clearing_left shapes tasks i table opens c n =
+    count_permutation n (parts_left shapes tasks) (parts_left shapes (taken shapes WholeFirst tasks i)) (left_taken shapes WholeFirst tasks i table opens c.known)
+
+pub clearing_picked :
+    (shapes : List Shape) (tasks : List Task) (i : ℕ) → IsTable shapes → IsOpen tasks i → Clearing shapes tasks → Clearing shapes (taken shapes WholeFirst tasks i)
+clearing_picked shapes tasks i table opens c = record {
+  known = kept_picked shapes WholeFirst (Known shapes) (known_closed shapes table) tasks i opens c.known;
+  once = λ n. (let e = clearing_left shapes tasks i table opens c n in let o = c.once n in omega (arith, e, o));
+  outer = outer_taken shapes tasks i table opens c.known c.outer;
+}
+
+pub clearing_performed : (shapes : List Shape) (of n : ℕ) (behind : List Task) → Clearing shapes (performs of n ∷ behind) → Clearing shapes behind
+clearing_performed shapes of n behind c =
+    record { known = c.known; once = λ m. (let o = c.once m in omega (arith, o)); outer = c.outer.1 }
+
+pub clearing_inside :
+    (shapes : List Shape) (of n : ℕ) (behind : List Task) → Clearing shapes (performs of n ∷ behind) → (m : ℕ)
+    → LiesIn shapes m (record { of = of; number = n }) → 1 ≤ count m (parts_left shapes behind)
+clearing_inside shapes of n behind c m lies = count_has m (parts_left shapes behind) (c.outer.0 m lies)
+
+-- The parts that have begun are finalized in the reverse order.
+abbrev pub undoing : (done : List Part) → List Task
+undoing done = map (λ p. performs p.of p.number) done
+
+pub undoing_left : (shapes : List Shape) (done : List Part) → parts_left shapes (undoing done) ≡ done
+undoing_left shapes [] = refl
+undoing_left shapes (p ∷ done) = ap (λ (ps : List Part). p ∷ ps) (undoing_left shapes done)
+
+undoing_known : (shapes : List Shape) (done : List Part) → OfComponents (Known shapes) (undoing done)
+undoing_known shapes [] = tt
+undoing_known shapes (p ∷ done) = undoing_known shapes done
+
+pub undoing_cleared :
+    (shapes : List Shape) (all done : List Part) (tasks : List Task) → Treated shapes PartsFirst all done tasks → Outer shapes (undoing done)
+    → Clearing shapes (undoing done)
+undoing_cleared shapes all done tasks t outer = record {
+  known = undoing_known shapes done;
+  once = λ n. (let l = ap (count n) (undoing_left shapes done) in let e = t.each n in let o = t.once n in omega (arith, l, e, o));
+  outer = outer;
+}
+
+-- One more has begun: all that lies in it has.
+pub undoing_more :
+    (shapes : List Shape) (all done : List Part) (of n : ℕ) (behind : List Task) → Treated shapes PartsFirst all done (performs of n ∷ behind)
+    → Outer shapes (undoing done) → Outer shapes (undoing (record { of = of; number = n } ∷ done))
+undoing_more shapes all done of n behind t outer =
+    ((λ m lies. subst (λ (ps : List Part). Contains (numbers ps) m) (sym (undoing_left shapes done)) (t.ordered.0 m lies)), outer)

@@ -1,16 +1,21 @@
--- A program whose record types are controlled, and what a run of it shows.
+-- Programs whose record types are controlled, and what a run of each shows.
 
-use Rattle.std.specs.Prelude.{◌≡◌, true, ℕ, List, [], ◌∷◌, Some, None}
+use Rattle.std.specs.Prelude.{◌≡◌, true, false, ℕ, List, [], ◌∷◌, Some, None}
 use Rattle.std.specs.List.{filter}
+use Rattle.ada_program.specs.declared.program.Exception.TheVariants.{ConstraintError}
+use Rattle.ada_program.specs.declared.program.FormalMode.TheVariants.{InOut}
+use Rattle.ada_program.specs.declared.program.Operations.{Operations}
 use Rattle.ada_program.specs.declared.program.Program.{Program}
-use Rattle.ada_program.specs.Controlled.{shapes_of}
-use Rattle.ada_program.specs.Form.{RecordPathForm, item_of_record, nothing, allocates_default, assigns, assigns_record, frees, encloses, StmtsForm, no_stmts, a_stmt, no_handlers, collects, declares, declares_record, stmt_forms}
+use Rattle.ada_program.specs.declared.program.VariableKind.TheVariants as variable
+use Rattle.ada_program.specs.Controlled.{shapes_of, operations_of}
+use Rattle.ada_program.specs.Form.{RecordPathForm, item_of_record, nothing, allocates_default, skips, assigns, assigns_record, frees, raises, encloses, StmtsForm, no_stmts, a_stmt, no_handlers, collects, declares, declares_record, stmt_forms}
+use Rattle.ada_program.specs.ProgramForm.{BodyForm, body_forms}
 use Rattle.ada_parts.specs.Shape.{Shape}
 use Rattle.ada_meaning.specs.declared.state.Value.{Value}
 use Rattle.ada_meaning.specs.declared.state.Value.TheVariants.{Names}
 use Rattle.ada_meaning.specs.declared.event.Birth.TheVariants.{Creation, Copy, Adjustment}
-use Rattle.ada_meaning.specs.declared.event.Cause.TheVariants.{Leaving, Freeing, Assigning}
-use Rattle.ada_meaning.specs.declared.event.Halt.TheVariants.{Finished}
+use Rattle.ada_meaning.specs.declared.event.Cause.TheVariants.{Leaving, Freeing, Assigning, Undoing}
+use Rattle.ada_meaning.specs.declared.event.Halt.TheVariants.{Finished, Unhandled}
 use Rattle.ada_meaning.specs.Event.{Born, Finalized, Back, Followed, Left}
 use Rattle.ada_meaning.specs.Run.{Event, Halts}
 use Rattle.ada_order.specs.Example.{InSomeRun, is_seen, variable_at}
@@ -83,3 +88,41 @@ abbrev pub ValuesAreFinalized : Type 0
 ValuesAreFinalized =
     (program : Program) × (shapes_of program.types.items ≡ controlled_shapes) × (stmt_forms program ≡ controlled_stmts)
     × InSomeRun program (λ events last. Halts program last Finished × (filter is_seen events ≡ controlled_events))
+
+-- procedure Initialize (X : in out Outer) is begin raise Constraint_Error; end Initialize;
+abbrev pub raising_initialize : BodyForm
+raising_initialize = record {
+  formals = InOut ∷ [];
+  variables = record { name = []; spot = record { line = 1; column = 1 }; kind = variable.Record (record { 0 = 3 }); borrows = false } ∷ [];
+  declarations = [];
+  statements = a_stmt (raises ConstraintError) no_stmts;
+  handlers = no_handlers;
+  end_spot = record { line = 1; column = 1 };
+}
+
+-- declare X : Outer; begin null; end;
+abbrev pub undone_stmts : StmtsForm
+undone_stmts = a_stmt (encloses (declares_record 0 2 None ∷ []) (a_stmt skips no_stmts) no_handlers) no_stmts
+
+-- Outer overrides Initialize, by this procedure.
+abbrev pub outer_operations : Operations
+outer_operations = record { initialize = Some (record { 0 = 0 }); adjust = None; finalize = None }
+
+-- The component of X is initialized, and then Initialize is called for X itself. It raises Constraint_Error, so its body is left, and the initialization is
+-- undone: the component is finalized, X ceases to exist, and its words go back. The exception leaves the block and the main procedure.
+abbrev pub undone_events : List Event
+undone_events =
+    Born object_x 1 0 0 1 Creation
+    ∷ Left 2
+    ∷ Finalized object_x 1 0 0 1 (Undoing 3)
+    ∷ Back object_x 2 0 None None (Undoing 3)
+    ∷ Left 1
+    ∷ Left 0
+    ∷ []
+
+-- A run of a program with these types, this procedure and these statements ends by the exception, after these events.
+abbrev pub InitializationIsUndone : Type 0
+InitializationIsUndone =
+    (program : Program) × (shapes_of program.types.items ≡ controlled_shapes) × (operations_of program.types.items 1 ≡ outer_operations)
+    × (body_forms program ≡ raising_initialize ∷ []) × (stmt_forms program ≡ undone_stmts)
+    × InSomeRun program (λ events last. Halts program last (Unhandled ConstraintError) × (filter is_seen events ≡ undone_events))

@@ -2,5 +2,5 @@
 
 -- what is said of every run
 pub mod Law
--- a run that meets the premises
+-- runs that meet the premises
 pub mod Example

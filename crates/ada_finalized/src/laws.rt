@@ -4,8 +4,8 @@ ghost use Rattle.std.specs.Prelude.{All, AllPairs};
 ghost use Rattle.ada_meaning.specs.Law.{FinalizedTwoValues};
 ghost use Rattle.ada_meaning.specs.Finalization.{BornTwoValues, BornBeforeFinalized, IsBorn, FinalizedByBack, NothingAfterBack};
 ghost use Rattle.ada_meaning.specs.Finalization.{PartsComeFirst, WholesComeFirst, EndsBeforeItAdjusts, InsideIsBegun, FinalizationLaw};
-ghost use Rattle.ada_finalized.specs.Example.{ValuesAreFinalized};
-ghost use Rattle.ada_finalized.specs.Law.{InEveryRun, NeverFinalizesTwice, AllPartsStand};
+ghost use Rattle.ada_finalized.specs.Example.{ValuesAreFinalized, InitializationIsUndone};
+ghost use Rattle.ada_finalized.specs.Law.{InEveryRun, NeverFinalizesTwice, AllPartsStand, StatementsTreatNothing};
 
 /// A controlled value comes to exist once, and is finalized once, after that and before the words of its object go back
 /// (7.6, 7.6.1, 13.11.2).
@@ -18,7 +18,8 @@ pub fn values_are_finalized_once()
     ensures nothing_after_back { InEveryRun (λ shapes events. AllPairs NothingAfterBack events) }
 {}
 
-/// No run comes to the finalization of a value that does not exist, whether or not its program obeys any rule (7.6.1).
+/// Where no type overrides an operation, no treatment of an object comes to a value that does not exist, whether or not the
+/// program obeys any rule (7.6.1). A Free may, and the body of an operation may bring one to do so.
 pub fn never_finalizes_twice()
     ensures { NeverFinalizesTwice }
 {}
@@ -32,10 +33,12 @@ pub fn parts_go_in_order()
 {}
 
 /// Each part of an object is initialized or adjusted: those that lie in a record before it, and all before anything else is
-/// done; so an object that is in its collection has all its values (7.6).
+/// done; so an object that is in its collection has all its values (7.6). Where no type overrides an operation, that is so at
+/// the beginning of each statement.
 pub fn all_parts_are_initialized()
     ensures inside_begun { InEveryRun InsideIsBegun }
     ensures all_stand { AllPartsStand }
+    ensures nothing_treated { StatementsTreatNothing }
 {}
 
 /// All laws of finalization together.
@@ -44,7 +47,9 @@ pub fn runs_keep_the_law()
 {}
 
 /// The laws are not empty: a record object with a controlled component, and an allocated one, are initialized; the one is
-/// assigned to the other; and they are finalized at the leaving of their block, and by a Free.
+/// assigned to the other; and they are finalized at the leaving of their block, and by a Free. In another run an Initialize
+/// raises an exception, and the initialization of its object is undone.
 pub fn premises_are_met()
-    ensures { ValuesAreFinalized }
+    ensures finalized { ValuesAreFinalized }
+    ensures undone { InitializationIsUndone }
 {}

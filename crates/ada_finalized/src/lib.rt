@@ -2,8 +2,9 @@
 //! leave to do. Nothing here runs: each function of [`laws`] is a theorem on the definitions of meaning, and its contract is
 //! the statement.
 //!
-//! What a crate above takes from here: `finalized_once`, `finalizations` and `never_twice` of `proofs::Runs`, and `all_stand`
-//! of `proofs::Standing`, for the `Law` and the `Safe` of a program.
+//! What a crate above takes from here, for the `Law` and the `Safe` of a program: `finalized_once` and `finalizations` of
+//! `proofs::Runs`, `all_stand`, `nothing_treated`, `nothing_treated_at` and `no_operation_ends` of `proofs::Standing`, and
+//! `never_twice` of `proofs::Twice`.
 #![tactic(auto)]
 
 pub mod laws;

@@ -1,6 +1,6 @@
 -- An assignment to a record with controlled parts begins, once both records are found.
 
-use Rattle.std.proofs.Common.{◌≡◌, ℕ, suc, ◌+◌, ◌≤◌, Bool, true, false, List, [], ◌∷◌, Option, Some, None, refl, sym, ap, ◌∙◌, arith}
+use Rattle.std.proofs.Common.{◌≡◌, ℕ, suc, ◌+◌, ◌≤◌, Bool, true, false, List, [], ◌∷◌, Option, Some, None, refl, sym, ap, ◌∙◌, inl, subst, arith}
 use Rattle.std.specs.Prelude.{◌==◌, ◌&&◌}
 use Rattle.std.specs.List.{slice_get}
 use Rattle.ada_program.specs.declared.program.TypeDefinition.{TypeDefinition}
@@ -11,35 +11,40 @@ use Rattle.ada_parts.specs.Shape.{Shape, IsTable}
 use Rattle.ada_parts.specs.Part.{numbers}
 use Rattle.ada_parts.specs.Task.{Task}
 use Rattle.ada_parts.specs.Law.{parts_left}
+use Rattle.ada_meaning.specs.declared.event.Birth.TheVariants.{Adjustment}
 use Rattle.ada_meaning.specs.declared.event.Cause.TheVariants.{Assigning}
 use Rattle.ada_meaning.specs.declared.state.Id.{Id}
 use Rattle.ada_meaning.specs.declared.state.Place.{Place}
 use Rattle.ada_meaning.specs.declared.state.Value.{Value}
 use Rattle.ada_meaning.specs.declared.state.Value.TheVariants.{Null, Names, Scalar, Part}
 use Rattle.ada_meaning.specs.declared.state.Mode.TheVariants.{Running}
-use Rattle.ada_meaning.specs.Frame.{ends}
+use Rattle.ada_meaning.specs.Frame.{begins, ends}
+use Rattle.ada_meaning.specs.Frame as frame
 use Rattle.ada_meaning.specs.Event.{Quiet}
 use Rattle.ada_meaning.specs.State.{Activation, Master}
-use Rattle.ada_meaning.specs.Step.{first_or, older, operands, operands_of, with_operands, newest, popped, tasks_in, treating, assigning, assigns_next}
+use Rattle.ada_meaning.specs.Step.{first_or, older, operands, operands_of, with_operands, newest, popped, tasks_in, treating, assigning as assigning_state, assigns_next}
 use Rattle.ada_meaning.specs.Named.{State, named, same}
 use Rattle.ada_meaning.proofs.Treatments.{are_table}
-use Rattle.ada_storage.specs.State.{Forest, assigns, in_list, in_forest}
+use Rattle.ada_storage.specs.State.{Forest, all_in, in_list, in_forest}
 use Rattle.ada_storage.specs.State as storage
 use Rattle.ada_storage.specs.Step.{goes, step, Simple, copies, copies_by, all_alive, at, at_assignment}
-use Rattle.ada_following.specs.Forests.{forest_in, beside}
-use Rattle.ada_following.specs.Reading.{is_out, master_seen, LacksValue}
+use Rattle.ada_storage.proofs.Invariant.{Alive, after}
+use Rattle.ada_following.specs.Forests.{forest_in, forest_adjusted, Ends}
+use Rattle.ada_following.specs.Reading.{is_out}
 use Rattle.ada_following.proofs.Forests.{simple_at}
 use Rattle.ada_following.proofs.Heaps.{Heap}
-use Rattle.ada_following.proofs.Frames.{Control, Inside, IsLive, KeptBehind, IsRecord, codes, code_under_way, chain, chain_seen}
-use Rattle.ada_following.proofs.Goings.{by_running, Silent, stands_still, one_more, goes_silent}
-use Rattle.ada_following.proofs.Creating.{Facts, starts_ending_in}
-use Rattle.ada_following.proofs.Coding.{Ready, read_follows}
-use Rattle.ada_following.proofs.Finishing.{AllFollow, with_all, Settles}
-use Rattle.ada_following.proofs.PartsLeft.{opened_counts, in_beside, alive_among, they_live, among_le, is_among, has_dead}
-use Rattle.ada_following.proofs.Assigning.{record_is, record_forest, record_none}
-use Rattle.ada_following.proofs.Assignments.{behind, settles_assigning}
-use Rattle.ada_following.proofs.Failing.{settles_failing}
-use Rattle.ada_following.proofs.Follows.{Follows, lands_later}
+use Rattle.ada_following.proofs.Frames.{Control, static, listing, IsRecord, Lacks, Reads, code}
+use Rattle.ada_following.proofs.Stands.{IsLive, KeptBehind, codes, assigning, failing}
+use Rattle.ada_following.proofs.Stands as stands
+use Rattle.ada_following.proofs.Goings.{by_running, Silent, stands_still, one_more, then_silent, goes_silent}
+use Rattle.ada_following.proofs.Treating.{done_ends}
+use Rattle.ada_following.proofs.Creating.{Settles, starts_ending_in, facts_at}
+use Rattle.ada_following.proofs.Coding.{reads_callers, read_follows}
+use Rattle.ada_following.proofs.Treated.{AllFollow, with_all, after_all}
+use Rattle.ada_following.proofs.PartsLeft.{beside, opened_counts, in_beside, alive_among, they_live, among_le, is_among, has_dead, only_alive, all_have}
+use Rattle.ada_following.proofs.Assigning.{record_is, record_forest, record_none, adjusts_next, starts_adjusting, adjusts_done}
+use Rattle.ada_following.proofs.Assignments.{older_operands}
+use Rattle.ada_following.proofs.Follows.{Facts, Follows}
 
 -- The operands of an assignment.
 live_newest : (h : Heap) (vs : List Value) → KeptBehind h true vs → IsLive h (first_or Null (older vs))
@@ -66,18 +71,25 @@ module _ (shapes : List Shape) (table : IsTable shapes) where
   simple_in (Some t) first q = simple_at shapes t first q
 
 module _
-    (types : List TypeDefinition) (x : State) (s : storage.State) (h : Heap) (m : Master) (ms : List Master) (r : Ready types h (m ∷ ms) x.next Running s) (t : ℕ) (k : Control) (inside : Inside k (m ∷ ms))
+    (types : List TypeDefinition) (x : State) (s : storage.State) (h : Heap) (ms : List Master) (t : ℕ) (k : Control) (M : storage.Master) (c : storage.Control)
+    (reads : Reads types (static h) false (listing h) s.alive (older x.activations) k ms (storage.acts M c)) (is : s.control ≡ storage.acts M c) (run : s.mode ≡ storage.running) (f : Facts types h ms x.next s)
   where
     abbrev found : State
-    found = with_all x h (m ∷ ms) Running k
+    found = with_all x h ms Running k
 
     abbrev taken : State
     taken = popped (popped found)
 
+    same_callers : (vs : List Value) → older (with_operands vs (with_operands (older (operands_of (with_operands (older (operands_of x.activations)) x.activations))) (with_operands (older (operands_of x.activations)) x.activations))) ≡ older x.activations
+    same_callers vs =
+        older_operands vs (with_operands (older (operands_of (with_operands (older (operands_of x.activations)) x.activations))) (with_operands (older (operands_of x.activations)) x.activations))
+        ∙ older_operands (older (operands_of (with_operands (older (operands_of x.activations)) x.activations))) (with_operands (older (operands_of x.activations)) x.activations)
+        ∙ older_operands (older (operands_of x.activations)) x.activations
+
     -- The target and the source.
     module _ (o p : Id) (place other : Place) (is_source : newest named found ≡ Part p other) (out : is_out (slice_get h o.0) ≡ true) where
-      abbrev after : State
-      after = assigning named types t (Part o place) (Part p other) taken
+      abbrev after_it : State
+      after_it = assigning_state named types t (Part o place) (Part p other) taken
 
       abbrev shapes : List Shape
       shapes = shapes_of types
@@ -94,93 +106,159 @@ module _
       abbrev to_adjust : List Task
       to_adjust = tasks_in shapes PartsFirst record_number place.part
 
-      is_newest : operands after ≡ Names p ∷ operands taken
+      is_newest : operands after_it ≡ Names p ∷ operands taken
       is_newest = kept_operands x.activations p other is_source (Names p ∷ operands taken) _ _
 
-      abbrev left_to_do : List Task → Control
-      left_to_do lasts = behind types (operands after) (m ∷ ms) (x.next + 1) o x.next k inside p (operands taken) other.component t place.component (width_of types t) is_newest lasts
+      -- what comes behind the finalization
+      abbrev behind : List Task → Control
+      behind lasts = frame.Copies other.component t ∷ frame.StoresRecord (Names o) place.component (width_of types t) ∷ treating (Names o) (begins (Adjustment x.next) []) lasts k
 
       -- storage assigns to these parts
       abbrev with_copied : Forest → storage.State
-      with_copied f = record s { control = assigns s.next o.0 f (f ∷ []) (chain h (m ∷ ms)); next = suc s.next }
+      with_copied g = record s { control = storage.assigns s.next o.0 g (g ∷ []) (storage.acts M c); next = suc s.next }
 
-      copies_step : (f : Forest) (is : Simple f) → all_alive (s.alive o.0) f ≡ true → step (copies o.0 f is) s ≡ goes storage.quiet (with_copied f)
-      copies_step f is alive =
-          by_running s (chain h (m ∷ ms)) (copies o.0 f is) storage.quiet (with_copied f) r.control r.moded
-          (ap (λ (b : Bool). copies_by b (all_alive (s.alive o.0) f) o.0 f (master_seen h m) (chain h ms) s) (r.out o.0 ∙ out)
-          ∙ ap (λ (b : Bool). copies_by true b o.0 f (master_seen h m) (chain h ms) s) alive)
+      copies_step : (g : Forest) (simple : Simple g) → all_alive (s.alive o.0) g ≡ true → step (copies o.0 g simple) s ≡ goes storage.quiet (with_copied g)
+      copies_step g simple alive =
+          by_running s (storage.acts M c) (copies o.0 g simple) storage.quiet (with_copied g) is run
+          (ap (λ (b : Bool). copies_by b (all_alive (s.alive o.0) g) o.0 g M c s) (f.out o.0 ∙ out)
+          ∙ ap (λ (b : Bool). copies_by true b o.0 g M c s) alive)
 
-      copied_facts : (c : storage.Control) (f : Forest) → Facts types h (m ∷ ms) (x.next + 1) (at c (with_copied f))
-      copied_facts c f = let number = r.next in record { running = r.moded; out = r.out; shape = record { shape = r.shape.shape; alive = r.shape.alive; turn = r.shape.turn }; created = r.created; next = omega (arith, number); sound = r.sound }
+      copied_facts : (l : storage.Control) (g : Forest) → Facts types h ms (x.next + 1) (at l (with_copied g))
+      copied_facts l g = let number = f.next in record { out = f.out; shape = record { shape = f.shape.shape; alive = f.shape.alive; turn = f.shape.turn }; created = f.created; next = omega (arith, number); sound = f.sound }
 
-      comes_to : (r1 : storage.State) → Silent s r1 → Settles types (operands after) h (m ∷ ms) (x.next + 1) (treating (Names o) (ends (Assigning x.next)) to_end (left_to_do to_adjust)) r1 → Follows types s Quiet after
-      comes_to r1 steps z =
-          lands_later types s r1 z.state Quiet after h (m ∷ ms) (x.next + 1) Running (treating (Names o) (ends (Assigning x.next)) to_end (left_to_do to_adjust)) (goes_silent s r1 steps) z.steps z.arrived refl refl refl refl refl
+      -- what is read behind, once all these have values
+      read_after : (g : Forest) → all_alive (s.alive o.0) g ≡ true → Reads types (static h) false (listing h) (after s.alive o.0 g) (older after_it.activations) k ms (storage.acts M c)
+      read_after g alive =
+          reads_callers (same_callers _)
+          (subst (λ (A : Alive). Reads types (static h) false (listing h) A (older x.activations) k ms (storage.acts M c)) (λ i y q. sym (after_all s.alive o.0 g (all_have (s.alive o.0) g alive) y q) i) reads)
+
+      comes_to : (lasts : List Task) (r1 : storage.State) → lasts ≡ to_adjust → Silent s r1 → Settles types after_it.activations h ms (x.next + 1) (treating (Names o) (ends (Assigning x.next)) to_end (behind lasts)) r1 → Follows types s Quiet after_it
+      comes_to lasts r1 same_lasts steps z =
+          let y = subst (λ (ls : List Task). Settles types after_it.activations h ms (x.next + 1) (treating (Names o) (ends (Assigning x.next)) to_end (behind ls)) r1) same_lasts z in
+          record { reached = r1; to = y.state; goes = goes_silent s r1 steps; later = y.steps; arrived = y.arrived }
 
       -- All parts of the record have values.
-      all_there : all_alive (s.alive o.0) parts ≡ true → Follows types s Quiet after
+      settles_all :
+          (lasts : List Task) (left : List Forest) (r1 : storage.State) → IsRecord lasts → forest_adjusted shapes lasts ≡ parts → (lasts ≡ [] → to_end ≡ []) → Ends shapes left to_end → r1.alive ≡ s.alive
+          → r1.control ≡ storage.assigns (suc x.next) o.0 parts left (storage.acts M c) → r1.mode ≡ storage.running → Facts types h ms (x.next + 1) r1 → all_alive (s.alive o.0) parts ≡ true
+          → Settles types after_it.activations h ms (x.next + 1) (treating (Names o) (ends (Assigning x.next)) to_end (behind lasts)) r1
+      settles_all (last ∷ lasts) left r1 record_is same_forest none e same_alive is_r run_r facts alive = record {
+        state = r1;
+        steps = stands_still r1 r1 refl;
+        arrived =
+            record {
+              control = storage.assigns (suc x.next) o.0 (forest_adjusted shapes (last ∷ lasts)) left (storage.acts M c);
+              moded = storage.running;
+              is_control = is_r ∙ ap (λ (g : Forest). storage.assigns (suc x.next) o.0 g left (storage.acts M c)) (sym same_forest);
+              is_moded = run_r;
+              stands =
+                  assigning o p (operands taken) other.component t place.component (width_of types t) x.next last lasts to_end left is_newest record_is e tt
+                  (subst (λ (A : Alive). Reads types (static h) false (listing h) (after A o.0 (forest_adjusted shapes (last ∷ lasts))) (older after_it.activations) k ms (storage.acts M c)) (sym same_alive)
+                  (read_after (forest_adjusted shapes (last ∷ lasts)) (ap (all_alive (s.alive o.0)) same_forest ∙ alive))) refl;
+              facts = facts;
+            };
+      }
+      settles_all [] left r1 record_is same_forest none e same_alive is_r run_r facts alive =
+          let table = are_table types in
+          let K = storage.acts M c in
+          let left_none : Ends shapes left [] = subst (Ends shapes left) (none refl) e in
+          let r2 = at (storage.assigns (suc x.next) o.0 parts [] K) r1 in
+          let r3 = at (storage.adjusts o.0 parts (all_in parts ∷ []) [] K) r1 in
+          let more = starts_adjusting shapes table o.0 parts K [] r3 tt same_forest refl run_r in
+          let r4 = at (storage.adjusts o.0 parts more.jobs [] K) r1 in
+          let r5 = at K r1 in
+          record {
+            state = r5;
+            steps =
+                then_silent r1 r2 r5 (done_ends shapes table (at_assignment (suc x.next) parts K) o.0 (λ c fs q. refl) r1 left is_r run_r left_none)
+                (then_silent r2 r3 r5 (adjusts_next shapes table o.0 parts K (suc x.next) r2 refl run_r)
+                (then_silent r3 r4 r5 more.steps (adjusts_done shapes table o.0 parts K more.jobs [] r4 refl run_r more.left)));
+            arrived =
+                record {
+                  control = K;
+                  moded = storage.running;
+                  is_control = refl;
+                  is_moded = run_r;
+                  stands =
+                      subst (λ (ts : List Task). stands.Stands types h r1.alive after_it.activations ms Running (treating (Names o) (ends (Assigning x.next)) ts (behind [])) K storage.running) (sym (none refl))
+                      (codes (code tt (code tt (reads_callers (same_callers _) (subst (λ (A : Alive). Reads types (static h) false (listing h) A (older x.activations) k ms K) (sym same_alive) reads)))));
+                  facts = facts_at K facts;
+                };
+          }
+
+      all_there : all_alive (s.alive o.0) parts ≡ true → Follows types s Quiet after_it
       all_there alive =
           let table = are_table types in
-          let is : Simple parts = simple_in shapes table record_number place.part in
+          let simple : Simple parts = simple_in shapes table record_number place.part in
           let s1 = with_copied parts in
-          let ending = at_assignment (suc x.next) parts (chain h (m ∷ ms)) in
-          let at_s1 : s1.control ≡ assigns (suc x.next) o.0 parts (parts ∷ []) (chain h (m ∷ ms)) = ap (λ (i : ℕ). assigns i o.0 parts (parts ∷ []) (chain h (m ∷ ms))) r.next in
-          let more = starts_ending_in shapes table ending o.0 (λ c fs q. refl) record_number place.part s1 at_s1 r.moded in
-          let c1 = assigns (suc x.next) o.0 parts more.forests (chain h (m ∷ ms)) in
+          let K = storage.acts M c in
+          let at_s1 : s1.control ≡ storage.assigns (suc x.next) o.0 parts (parts ∷ []) K = ap (λ (i : ℕ). storage.assigns i o.0 parts (parts ∷ []) K) f.next in
+          let more = starts_ending_in shapes table (at_assignment (suc x.next) parts K) o.0 (λ c fs q. refl) record_number place.part s1 at_s1 run in
+          let c1 = storage.assigns (suc x.next) o.0 parts more.forests K in
           let r1 = at c1 s1 in
-          comes_to r1 (one_more s s1 r1 (copies o.0 parts is) (copies_step parts is alive) more.steps)
-          (settles_assigning types (operands after) (m ∷ ms) (x.next + 1) o x.next k inside p (operands taken) other.component t place.component (width_of types t) is_newest
-          h to_end to_adjust parts more.forests r1 more.left refl (copied_facts c1 parts) out
-          (record_is shapes table record_number place.part) (record_forest shapes table record_number place.part) (record_none shapes table record_number place.part))
+          comes_to to_adjust r1 refl (one_more s s1 r1 (copies o.0 parts simple) (copies_step parts simple alive) more.steps)
+          (settles_all to_adjust more.forests r1 (record_is shapes table record_number place.part) (record_forest shapes table record_number place.part) (record_none shapes table record_number place.part) more.left refl refl run (copied_facts c1 parts) alive)
 
       -- Some has none.
       fails_by :
-          (lasts : List Task) (left : List ℕ) (r1 : storage.State) → IsRecord lasts → (lasts ≡ [] → to_end ≡ []) → LacksValue types h o.0 to_end left
-          → r1.control ≡ assigns (suc x.next) o.0 (beside left) (beside left ∷ []) (chain h (m ∷ ms)) → Facts types h (m ∷ ms) (x.next + 1) r1
-          → Settles types (operands after) h (m ∷ ms) (x.next + 1) (treating (Names o) (ends (Assigning x.next)) to_end (left_to_do lasts)) r1
-      fails_by [] left r1 is none lacks at_r1 f =
+          (lasts : List Task) (left : List ℕ) (r1 : storage.State) → IsRecord lasts → (lasts ≡ [] → to_end ≡ []) → Lacks types s.alive o.0 to_end left → all_alive (s.alive o.0) (beside left) ≡ true → r1.alive ≡ s.alive
+          → r1.control ≡ storage.assigns (suc x.next) o.0 (beside left) (beside left ∷ []) (storage.acts M c) → r1.mode ≡ storage.running → Facts types h ms (x.next + 1) r1
+          → Settles types after_it.activations h ms (x.next + 1) (treating (Names o) (ends (Assigning x.next)) to_end (behind lasts)) r1
+      fails_by [] left r1 record_is none lacks alive same_alive at_r1 run_r facts =
           let some = lacks.to_end in
           let nothing = ap (λ (ts : List Task). in_list lacks.dead (numbers (parts_left shapes ts))) (none refl) in
           absurd (omega (arith, some, nothing))
-      fails_by (last ∷ lasts) left r1 is none lacks at_r1 f =
-          settles_failing types after (m ∷ ms) o p (operands taken) other.component t place.component (width_of types t) x.next last lasts k inside is_newest is h to_end left left r1 lacks at_r1 f out
+      fails_by (last ∷ lasts) left r1 record_is none lacks alive same_alive at_r1 run_r facts = record {
+        state = r1;
+        steps = stands_still r1 r1 refl;
+        arrived =
+            record {
+              control = storage.assigns (suc x.next) o.0 (beside left) (beside left ∷ []) (storage.acts M c);
+              moded = storage.running;
+              is_control = at_r1;
+              is_moded = run_r;
+              stands =
+                  failing o p (operands taken) other.component t place.component (width_of types t) x.next last lasts to_end left left (beside left ∷ []) is_newest record_is
+                  (subst (λ (A : Alive). Lacks types A o.0 to_end left) (sym same_alive) lacks) (inl refl) tt
+                  (subst (λ (A : Alive). Reads types (static h) false (listing h) (after A o.0 (beside left)) (older after_it.activations) k ms (storage.acts M c)) (sym same_alive) (read_after (beside left) alive)) refl;
+              facts = facts;
+            };
+      }
 
-      some_lacks : all_alive (s.alive o.0) parts ≡ false → Follows types s Quiet after
+      some_lacks : all_alive (s.alive o.0) parts ≡ false → Follows types s Quiet after_it
       some_lacks dead =
           let table = are_table types in
           let A = s.alive o.0 in
           let ps = numbers (parts_left shapes to_end) in
           let left = alive_among A ps in
-          let is : Simple (beside left) = λ q.
+          let simple : Simple (beside left) = λ q.
           let a = in_beside q left in
           let b = among_le A q ps in
-          let c = counts_in shapes table record_number place.part q in
-          let d = simple_in shapes table record_number place.part q in
-          omega (arith, a, b, c, d) in
+          let d = counts_in shapes table record_number place.part q in
+          let e = simple_in shapes table record_number place.part q in
+          omega (arith, a, b, d, e) in
           let one = has_dead A parts dead in
-          let lacks : LacksValue types h o.0 to_end left =
+          let lacks : Lacks types s.alive o.0 to_end left =
           record {
             dead = one.part;
-            to_end = (let some = one.there in let c = counts_in shapes table record_number place.part one.part in omega (arith, some, c));
-            is_dead = sym (r.shape.alive o.0 one.part) ∙ one.dead;
-            others = λ q some lives. is_among A q ps (r.shape.alive o.0 q ∙ lives) some;
+            to_end = (let some = one.there in let d = counts_in shapes table record_number place.part one.part in omega (arith, some, d));
+            is_dead = only_alive A one.part ps one.dead;
+            others = λ q some lives. is_among A q ps lives some;
           } in
           let s1 = with_copied (beside left) in
-          let c1 = assigns (suc x.next) o.0 (beside left) (beside left ∷ []) (chain h (m ∷ ms)) in
+          let c1 = storage.assigns (suc x.next) o.0 (beside left) (beside left ∷ []) (storage.acts M c) in
           let r1 = at c1 s1 in
-          comes_to r1
-          (one_more s s1 r1 (copies o.0 (beside left) is) (copies_step (beside left) is (they_live A ps))
-          (stands_still s1 r1 (λ i. record s1 { control = assigns (r.next i) o.0 (beside left) (beside left ∷ []) (chain h (m ∷ ms)) })))
-          (fails_by to_adjust left r1 (record_is shapes table record_number place.part) (record_none shapes table record_number place.part) lacks refl (copied_facts c1 (beside left)))
+          comes_to to_adjust r1 refl
+          (one_more s s1 r1 (copies o.0 (beside left) simple) (copies_step (beside left) simple (they_live A ps))
+          (stands_still s1 r1 (λ i. record s1 { control = storage.assigns (f.next i) o.0 (beside left) (beside left ∷ []) (storage.acts M c) })))
+          (fails_by to_adjust left r1 (record_is shapes table record_number place.part) (record_none shapes table record_number place.part) lacks (they_live A ps) refl refl run (copied_facts c1 (beside left)))
 
-      begins_by : (alive : Bool) → all_alive (s.alive o.0) parts ≡ alive → Follows types s Quiet after
+      begins_by : (alive : Bool) → all_alive (s.alive o.0) parts ≡ alive → Follows types s Quiet after_it
       begins_by true alive = all_there alive
       begins_by false alive = some_lacks alive
 
       decided : (same_one : Bool) → AllFollow types s (assigns_next named types t (Part o place) (Part p other) (Some same_one) taken)
-      decided true =
-          read_follows types s Quiet taken refl h m ms x.next Running r Running k
-          (λ c is. code_under_way types h k (m ∷ ms) c inside.1 (is ∙ sym (chain_seen types h k (m ∷ ms) inside.1))) (codes inside.1) refl refl refl refl refl
+      decided true = read_follows types s Quiet taken refl h ms x.next M c is f Running storage.running k (codes (reads_callers (older_operands _ (with_operands (older (operands_of x.activations)) x.activations) ∙ older_operands _ x.activations) reads)) refl refl refl refl refl
       decided false = begins_by (all_alive (s.alive o.0) parts) refl
 
     both_found : (target source : Value) → newest named found ≡ source → IsLive h target → AllFollow types s (assigns_next named types t target source (same target source) taken)

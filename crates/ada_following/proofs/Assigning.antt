@@ -72,6 +72,9 @@ module _ (shapes : List Shape) (table : IsTable shapes) where
         let t = at (adjusts o f (all_in f ∷ []) [] K) r in
         one_more r t t goes_on (by_running r (assigns n o f [] K) goes_on storage.quiet t is run refl) (stands_still t t refl)
 
+    pub adjusts_empty : (jobs : List Job) (done : List ℕ) (r : storage.State) → r.control ≡ adjusts o f jobs done K → r.mode ≡ storage.running → Begins shapes jobs [] → Silent r (at (adjusts o f [] done K) r)
+    adjusts_empty jobs done r is run b = done_begins shapes table (at_adjustment f K) o done (λ c js q. refl) r jobs is run b
+
     pub adjusts_done : (jobs : List Job) (done : List ℕ) (r : storage.State) → r.control ≡ adjusts o f jobs done K → r.mode ≡ storage.running → Begins shapes jobs [] → Silent r (at K r)
     adjusts_done jobs done r is run b =
         let r1 = at (adjusts o f [] done K) r in

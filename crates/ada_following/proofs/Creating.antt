@@ -1,12 +1,14 @@
 -- A new object is initialized, and then it joins where it belongs.
 
-use Rattle.std.proofs.Common.{◌≡◌, ℕ, suc, Bool, List, [], ◌∷◌, length, Option, Some, None, refl, sym, ap, ◌∙◌, inl, subst, arith}
+use Rattle.std.proofs.Common.{◌≡◌, ◌≢◌, ℕ, suc, Bool, true, false, List, [], ◌∷◌, Option, Some, None, refl, sym, ap, ◌∙◌, inl, inr, subst, arith}
 use Rattle.std.specs.List.{slice_get}
+use Rattle.std.proofs.lemmas.Bool.Decides.{eqb_tells}
 use Rattle.ada_program.specs.declared.program.TypeDefinition.{TypeDefinition}
 use Rattle.ada_program.specs.Controlled.{shapes_of}
 use Rattle.ada_parts.specs.declared.tasks.Component.{Component}
 use Rattle.ada_parts.specs.declared.tasks.Direction.TheVariants.{PartsFirst, WholeFirst}
 use Rattle.ada_parts.specs.Shape.{Shape, IsTable}
+use Rattle.ada_parts.specs.Part.{Part as PartOf, numbers}
 use Rattle.ada_parts.specs.Task.{Task, opened}
 use Rattle.ada_meaning.specs.declared.event.Birth.{Birth}
 use Rattle.ada_meaning.specs.declared.event.Birth.TheVariants.{Creation, Copy, Adjustment}
@@ -15,117 +17,156 @@ use Rattle.ada_meaning.specs.declared.state.Value.{Value}
 use Rattle.ada_meaning.specs.declared.state.Value.TheVariants.{Names}
 use Rattle.ada_meaning.specs.declared.state.Mode.TheVariants.{Running}
 use Rattle.ada_meaning.specs.Frame.{begins}
-use Rattle.ada_meaning.specs.Frame as frame
-use Rattle.ada_meaning.specs.Step.{tasks_for, tasks_in, treating}
-use Rattle.ada_meaning.specs.State.{Master}
-use Rattle.ada_meaning.specs.Named.{Object, State, on_object, parted}
-use Rattle.ada_meaning.specs.Run.{Event}
+use Rattle.ada_meaning.specs.Step.{older, tasks_for, tasks_in, treating}
+use Rattle.ada_meaning.specs.State.{Activation, record_object, Item, Master}
+use Rattle.ada_meaning.specs.Named.{Object}
 use Rattle.ada_meaning.proofs.Treatments.{are_table}
-use Rattle.ada_storage.specs.State.{Forest, Job, all_in, Joins, initializes}
+use Rattle.ada_storage.specs.State.{Forest, Job, all_in, bit, same, placed, initializes}
 use Rattle.ada_storage.specs.State as storage
-use Rattle.ada_storage.specs.Step.{Choice, goes_on, joins_as, at, owns_by, joins_by, Beginning, frame_of, begins as begins_by, at_creation, Ending, frame as ending_frame, ends, running_step}
-use Rattle.ada_storage.specs.Following.{Goes}
+use Rattle.ada_storage.specs.Step.{Choice, goes_on, joins_as, at, owns_by, joins_by, is_above, Beginning, frame_of, begins as begins_by, at_creation, Ending, frame as ending_frame, ends, running_step}
+use Rattle.ada_storage.proofs.Facts.{same_self, same_other}
 use Rattle.ada_following.specs.Forests.{forest_at, forest_in, forest_for, AreAlike, Begins}
-use Rattle.ada_following.specs.Reading.{birth_seen, IsInitialized, IsBegun, event_seen, is_out, master_seen, joins_seen}
+use Rattle.ada_following.specs.Reading.{birth_seen, joins_seen}
 use Rattle.ada_following.proofs.Forests.{both_none, simple_at}
 use Rattle.ada_following.proofs.Heaps.{Heap}
-use Rattle.ada_following.proofs.PartTables.{Parts}
-use Rattle.ada_following.proofs.Frames.{Control, Inside, IsCreated, codes, beginning, IsJoining, chain, chain_seen, code_under_way}
-use Rattle.ada_following.proofs.Sound.{Sound}
+use Rattle.ada_following.proofs.Places.{Listing, Items, passed, single, NotIn, below_not_in, above_seen, items_off, Gains}
+use Rattle.ada_following.proofs.Frames.{Control, static, listing, but, Joining, as_item, as_member, IsActing, IsCreated, Reads}
+use Rattle.ada_following.proofs.Readings.{but_here, but_other, reads_join, opens_once, acting}
+use Rattle.ada_following.proofs.Stands.{codes, beginning}
 use Rattle.ada_following.proofs.Goings.{by_running, Silent, stands_still, one_more, then_silent}
 use Rattle.ada_following.proofs.Treating.{doing, Reaches, pick_begins, done_begins, Arrives, pick_ends, nothing_behind}
-use Rattle.ada_following.proofs.Follows.{Follows, lands, lands_later}
-
--- What is known of a state of storage, but for what is under way.
-pub record Facts (types : List TypeDefinition) (h : Heap) (ms : List Master) (n : ℕ) (s : storage.State) : Type 0 where
-  pub running : s.mode ≡ storage.running
-  pub out : (o : ℕ) → (s.objects o).lives ≡ is_out (slice_get h o)
-  pub shape : Parts types h s.objects s.alive s.turn
-  pub created : s.created ≡ length h
-  pub next : s.next ≡ suc n
-  pub sound : Sound h ms
-
--- The object joins.
-joined_now :
-    (r : storage.State) (h g : Heap) (o : ℕ) (ms : List Master) (joins : Joins) (done : List ℕ) → IsJoining h g o ms joins
-    → r.control ≡ initializes o joins [] done (chain g ms) → r.mode ≡ storage.running → Silent r (at (chain h ms) r)
-joined_now r h g o [] joins done j is run = absurd j
-joined_now r h g o (m ∷ ms) storage.to_items done j is run =
-    let M = master_seen g m in
-    let t = at (storage.acts (record M { items = record { number = j.0; owned = storage.declared o } ∷ M.items }) (chain g ms)) r in
-    one_more r t (at (chain h (m ∷ ms)) r) (joins_as j.0)
-    (by_running r (initializes o storage.to_items [] done (storage.acts M (chain g ms))) (joins_as j.0) storage.quiet t is run
-    (ap (λ (b : Bool). owns_by b j.0 (storage.declared o) M (chain g ms) r) j.1))
-    (stands_still t (at (chain h (m ∷ ms)) r) (ap (λ (k : storage.Control). at k r) j.2))
-joined_now r h g o (m ∷ ms) (storage.to_collection a c) done j is run =
-    let t = at (storage.joined a c o (chain g (m ∷ ms))) r in
-    one_more r t (at (chain h (m ∷ ms)) r) goes_on
-    (by_running r (initializes o (storage.to_collection a c) [] done (chain g (m ∷ ms))) goes_on storage.quiet t is run
-    (ap (λ (n : ℕ). joins_by n a c o (chain g (m ∷ ms)) r) j.0))
-    (stands_still t (at (chain h (m ∷ ms)) r) (ap (λ (k : storage.Control). at k r) j.1))
-
--- What is under way where an object is created.
-created_seen :
-    (types : List TypeDefinition) (h : Heap) (v : Value) (by : Birth) (tasks : List Task) (k : Control) (ms : List Master) (c : storage.Control)
-    → IsCreated by → IsInitialized types h v tasks k ms c → IsBegun types h v by tasks k ms c
-created_seen types h v Creation tasks k ms c created i = i
-created_seen types h v Copy tasks k ms c created i = i
-created_seen types h v (Adjustment n) tasks k ms c created i = absurd created
-
-pub seen_created :
-    (types : List TypeDefinition) (h : Heap) (v : Value) (by : Birth) (tasks : List Task) (k : Control) (ms : List Master) (c : storage.Control)
-    → IsCreated by → IsBegun types h v by tasks k ms c → IsInitialized types h v tasks k ms c
-seen_created types h v Creation tasks k ms c created i = i
-seen_created types h v Copy tasks k ms c created i = i
-seen_created types h v (Adjustment n) tasks k ms c created i = absurd created
+use Rattle.ada_following.proofs.Follows.{Facts, Arrived}
 
 pub creation_seen : (by : Birth) → IsCreated by → birth_seen by ≡ storage.creation
 creation_seen Creation created = refl
 creation_seen Copy created = refl
 creation_seen (Adjustment n) created = absurd created
 
-module _ (types : List TypeDefinition) where
+-- An object is listed, and without it it is not.
+gains_but : (o n : ℕ) (L : Listing) → L n o ≡ 1 → ((i : ℕ) → i ≢ n → L i o ≡ 0) → Gains o n (but o L) L
+gains_but o n L one off = record {
+  rest = λ i x ne. sym (but_other o L i x ne);
+  off = λ i ne. off i ne ∙ sym (but_here o L i);
+  on = one ∙ ap suc (sym (but_here o L n));
+}
+
+-- The items with the object.
+with_object :
+    (L : Listing) (o n t : ℕ) (is : List Item) (js : List storage.Item) → ((x : ℕ) → L n x ≡ same x o) → ((i : ℕ) → i ≢ n → L i o ≡ 0) → NotIn n is
+    → Items (but o L) (record { number = n; owned = record_object t } ∷ is) js → Items L (record { number = n; owned = record_object t } ∷ is) (record { number = n; owned = storage.declared o } ∷ js)
+with_object L o n t is js one off not (passed n2 what none zero more) =
+    let self = same_self o in
+    single n t o one (items_off o n L (gains_but o n L (one o ∙ self) off) not more)
+with_object L o n t is js one off not (single n2 t2 y count more) = absurd (elim (eqb_tells y o) [
+  | inl h ↦ (let a = but_here o L n in let b = ap (λ (z : ℕ). but o L n z) h.1 in let c = count y in let self = same_self y in omega (arith, a, b, c, self))
+  | inr h ↦ (let a = but_other o L n y h.1 in let b = one y in let d = same_other y o h.1 in let c = count y in let self = same_self y in omega (arith, a, b, c, d, self))
+])
+
+-- Storage comes to a state that is known.
+pub record Settles (types : List TypeDefinition) (acts : List (Activation Value)) (h : Heap) (ms : List Master) (n : ℕ) (k : Control) (r : storage.State) : Type 0 where
+  pub state : storage.State
+  pub steps : Silent r state
+  pub arrived : Arrived types acts h ms n Running k state
+
+pub facts_at : {types : List TypeDefinition} {h : Heap} {ms : List Master} {n : ℕ} {s : storage.State} (c : storage.Control) → Facts types h ms n s → Facts types h ms n (at c s)
+facts_at c f = record { out = f.out; shape = record { shape = f.shape.shape; alive = f.shape.alive; turn = f.shape.turn }; created = f.created; next = f.next; sound = f.sound }
+
+module _ (types : List TypeDefinition) (acts : List (Activation Value)) (h : Heap) (n : ℕ) (k : Control) where
+  -- The object joins.
+  joined_now :
+      (o : ℕ) (done : List ℕ) (ms : List Master) (M : storage.Master) (c : storage.Control) (joins : storage.Joins) (r : storage.State) → Joining (listing h) o ms joins
+      → r.control ≡ initializes o joins [] done (storage.acts M c) → r.mode ≡ storage.running → Facts types h ms n r → placed o (storage.acts M c) ≡ 0
+      → Reads types (static h) false (but o (listing h)) r.alive (older acts) k ms (storage.acts M c) → Settles types acts h ms n k r
+  joined_now o done _ M c _ r (as_item a i t is ms one off below not) is_r run f z reads =
+      let L = listing h in
+      let g = gains_but o i L (let self = same_self o in one o ∙ self) off in
+      let A = acting reads in
+      let ks = record { number = i; owned = storage.declared o } ∷ A.js in
+      let items = with_object L o i t is A.js one off (below_not_in i is below) A.items in
+      let above : is_above i A.js ≡ true = is_above_items A.items in
+      let t2 = at (storage.acts (record { number = suc a; items = ks }) c) r in
+      record {
+        state = t2;
+        steps =
+            one_more r t2 t2 (joins_as i)
+            (by_running r (initializes o storage.to_items [] done (storage.acts (record { number = suc a; items = A.js }) c)) (joins_as i) storage.quiet t2
+            (is_r ∙ ap (λ (N : storage.Master). initializes o storage.to_items [] done (storage.acts N c)) A.seen) run
+            (ap (λ (b : Bool). owns_by b i (storage.declared o) (record { number = suc a; items = A.js }) c r) above))
+            (stands_still t2 t2 refl);
+        arrived =
+            record {
+              control = t2.control;
+              moded = storage.running;
+              is_control = refl;
+              is_moded = run;
+              stands = codes (A.gain L o i g not (let y = z in omega (arith, y)) (record { number = i; owned = record_object t } ∷ is) ks items);
+              facts = facts_at t2.control f;
+            };
+      }
+    where
+      is_above_items : {js : List storage.Item} → Items (but o (listing h)) (record { number = i; owned = record_object t } ∷ is) js → is_above i js ≡ true
+      is_above_items (passed i2 what none zero more) = above_seen i more below
+      is_above_items (single i2 t2 y count more) =
+          absurd (elim (eqb_tells y o) [
+            | inl e ↦ (let a2 = but_here o (listing h) i in let b = ap (λ (x : ℕ). but o (listing h) i x) e.1 in let d = count y in let self = same_self y in omega (arith, a2, b, d, self))
+            | inr e ↦ (let a2 = but_other o (listing h) i y e.1 in let b = one y in let d = same_other y o e.1 in let u = count y in let self = same_self y in omega (arith, a2, b, d, u, self))
+          ])
+  joined_now o done ms M c _ r (as_member a i on off once) is_r run f z reads =
+      let L = listing h in
+      let t2 = at (storage.joined a i o (storage.acts M c)) r in
+      record {
+        state = t2;
+        steps =
+            one_more r t2 t2 goes_on
+            (by_running r (initializes o (storage.to_collection a i) [] done (storage.acts M c)) goes_on storage.quiet t2 is_r run
+            (ap (λ (j : ℕ). joins_by j a i o (storage.acts M c) r) (opens_once a i once reads)))
+            (stands_still t2 t2 refl);
+        arrived =
+            record {
+              control = t2.control;
+              moded = storage.running;
+              is_control = refl;
+              is_moded = run;
+              stands = codes (reads_join a i o L (gains_but o i L on off) (inl once) z reads);
+              facts = facts_at t2.control f;
+            };
+      }
+
+  acting_joins :
+      (o : ℕ) (done : List ℕ) (ms : List Master) (c : storage.Control) (joins : storage.Joins) (r : storage.State) → IsActing c → Joining (listing h) o ms joins
+      → r.control ≡ initializes o joins [] done c → r.mode ≡ storage.running → Facts types h ms n r → placed o c ≡ 0
+      → Reads types (static h) false (but o (listing h)) r.alive (older acts) k ms c → Settles types acts h ms n k r
+  acting_joins o done ms (storage.acts M c) joins r is j is_r run f z reads = joined_now o done ms M c joins r j is_r run f z reads
+  acting_joins o done ms c joins r is j is_r run f z reads = absurd is
+
   -- An initialization goes on, or it is done.
-  pub settles :
-      (s r : storage.State) (e : Event) (y : State) (h : Heap) (ms : List Master) (n : ℕ) (o : Id) (x : Object) (by : Birth) (jobs : List Job) (done : List ℕ) (tasks : List Task) (k : Control)
-      → IsCreated by → Goes (event_seen e) s r → r.control ≡ initializes o.0 (joins_seen (slice_get h o.0) ms) jobs done (chain (on_object parted h (Names o)) ms)
-      → Begins (shapes_of types) jobs tasks → Facts types h ms n r → slice_get h o.0 ≡ Some x → Inside k ms
-      → IsJoining h (on_object parted h (Names o)) o.0 ms (joins_seen (slice_get h o.0) ms)
-      → y.heap ≡ h → y.masters ≡ ms → y.next ≡ n → y.mode ≡ Running → y.control ≡ treating (Names o) (begins by) tasks k
-      → Follows types s e y
-  settles s r e y h ms n o x by jobs done [] k created goes is b f there inside j heap masters next mode control =
-      let g = on_object parted h (Names o) in
-      let J = joins_seen (slice_get h o.0) ms in
-      let r1 = at (initializes o.0 J [] done (chain g ms)) r in
-      let t = at (chain h ms) r in
-      lands_later types s r t e y h ms n Running k goes
-      (then_silent r r1 t (done_begins (shapes_of types) (are_table types) (at_creation J (chain g ms)) o.0 done (λ c js q. refl) r jobs is f.running b) (joined_now r1 h g o.0 ms J done j refl f.running))
-      (record {
-        control = code_under_way types h k ms (chain h ms) inside.1 (sym (chain_seen types h k ms inside.1));
-        moded = f.running;
-        out = f.out;
-        shape = f.shape;
-        created = f.created;
-        next = f.next;
-        stands = codes inside.1;
-        sound = f.sound;
-      })
-      heap masters next mode control
-  settles s r e y h ms n o x by jobs done (task ∷ tasks) k created goes is b f there inside j heap masters next mode control =
-      let g = on_object parted h (Names o) in
-      let J = joins_seen (slice_get h o.0) ms in
-      lands types s r e y h ms n Running (frame.Treats (Names o) (begins by) (task ∷ tasks) ∷ k) goes
-      (record {
-        control = created_seen types h (Names o) by (task ∷ tasks) k ms r.control created (jobs, done, b, is ∙ ap (λ (l : storage.Control). initializes o.0 J jobs done l) (sym (chain_seen types g k ms inside.1)));
-        moded = f.running;
-        out = f.out;
-        shape = f.shape;
-        created = f.created;
-        next = f.next;
-        stands = beginning o x by task tasks k created there inside j;
-        sound = f.sound;
-      })
-      heap masters next mode control
+  pub settles_made :
+      (ms : List Master) (o : Id) (x : Object) (by : Birth) (jobs : List Job) (done : List PartOf) (joins : storage.Joins) (c : storage.Control) (tasks : List Task) (r : storage.State)
+      → IsCreated by → slice_get h o.0 ≡ Some x → joins_seen (slice_get h o.0) ms ≡ joins → Joining (listing h) o.0 ms joins → IsActing c → placed o.0 c ≡ 0
+      → Reads types (static h) false (but o.0 (listing h)) r.alive (older acts) k ms c
+      → r.control ≡ initializes o.0 joins jobs (numbers done) c → r.mode ≡ storage.running → Begins (shapes_of types) jobs tasks → Facts types h ms n r
+      → Settles types acts h ms n (treating (Names o) (begins by done) tasks k) r
+  settles_made ms o x by jobs done joins c [] r created there is_joins j act z reads is run b f =
+      let r1 = at (initializes o.0 joins [] (numbers done) c) r in
+      let m = acting_joins o.0 (numbers done) ms c joins r1 act j refl run (facts_at r1.control f) z reads in
+      record {
+        state = m.state;
+        steps = then_silent r r1 m.state (done_begins (shapes_of types) (are_table types) (at_creation joins c) o.0 (numbers done) (λ c js q. refl) r jobs is run b) m.steps;
+        arrived = m.arrived;
+      }
+  settles_made ms o x by jobs done joins c (task ∷ tasks) r created there is_joins j act z reads is run b f = record {
+    state = r;
+    steps = stands_still r r refl;
+    arrived =
+        record {
+          control = initializes o.0 joins jobs (numbers done) c;
+          moded = storage.running;
+          is_control = is;
+          is_moded = run;
+          stands = beginning o x by done task tasks jobs joins created there b is_joins j act reads;
+          facts = f;
+        };
+  }
 
 -- A forest is alike to itself.
 alike_self : (f : Forest) → AreAlike f f

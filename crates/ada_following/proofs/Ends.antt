@@ -1,239 +1,326 @@
--- Each step at the end of an object is followed: it ceases to exist, and then its words go back.
+-- Each step of an object that is taken at a leaving, freed or undone: its values are finalized, it ceases to exist, and then its words go back.
 
-use Rattle.std.proofs.Common.{◌≡◌, ℕ, suc, ◌+◌, Bool, true, false, cond, if◌then◌else◌, List, [], ◌∷◌, Option, Some, None, refl, sym, ap, ◌∙◌, inl, inr, subst, arith}
-use Rattle.std.specs.Prelude.{◌==◌}
-use Rattle.std.proofs.lemmas.Bool.Decides.{eqb_tells}
+use Rattle.std.proofs.Common.{◌≡◌, ℕ, suc, ◌<◌, ◌≤◌, Bool, true, false, if◌then◌else◌, List, [], ◌∷◌, Option, Some, None, refl, sym, ap, ◌∙◌, subst, arith}
+use Rattle.std.specs.List.{slice_get}
 use Rattle.ada_program.specs.declared.program.TypeDefinition.{TypeDefinition}
 use Rattle.ada_program.specs.Controlled.{shapes_of}
-use Rattle.ada_meaning.proofs.Treatments.{are_table}
-use Rattle.ada_following.specs.Forests.{Ends}
-use Rattle.ada_following.proofs.Treating.{done_ends}
-use Rattle.ada_following.proofs.Finishing.{AllFollow, with_all}
-use Rattle.std.specs.List.{slice_get}
+use Rattle.ada_program.specs.ProgramForm.{BodyForm}
+use Rattle.ada_parts.specs.Task.{Task, next as task_next}
 use Rattle.ada_meaning.specs.declared.state.Id.{Id}
 use Rattle.ada_meaning.specs.declared.state.Value.{Value}
 use Rattle.ada_meaning.specs.declared.state.Value.TheVariants.{Names}
 use Rattle.ada_meaning.specs.declared.state.Mode.{Mode}
 use Rattle.ada_meaning.specs.declared.state.Mode.TheVariants.{Running}
 use Rattle.ada_meaning.specs.declared.state.Stage.TheVariants.{Gone}
+use Rattle.ada_meaning.specs.declared.event.Cause.{Cause}
 use Rattle.ada_meaning.specs.declared.event.Cause.TheVariants.{Leaving, Freeing}
 use Rattle.ada_meaning.specs.declared.event.Halt.TheVariants.{Erroneous}
 use Rattle.ada_meaning.specs.declared.event.Why.TheVariants.{GivesElsewhere}
-use Rattle.ada_meaning.specs.Frame as frame
 use Rattle.ada_meaning.specs.Event.{Back, Quiet}
-use Rattle.ada_meaning.specs.Heap.{Cell, Found, on_null, on_gone, on_other, finds}
+use Rattle.ada_meaning.specs.Frame.{ends}
+use Rattle.ada_meaning.specs.Frame as frame
+use Rattle.ada_meaning.specs.Heap.{PartState, Cell, Found, on_null, on_gone, on_other, finds}
 use Rattle.ada_meaning.specs.State.{Master}
-use Rattle.ada_meaning.specs.Step.{halts, same_pool, end_next, told_back, given_back, back_next}
-use Rattle.ada_meaning.specs.Named.{Object, State, named, look, on_object, changed, finished, returned}
-use Rattle.ada_storage.specs.State.{put, in_items, placed, bit, same}
+use Rattle.ada_meaning.specs.Step.{older, halts, treating, treats_next, end_next, back_next, told_back, given_back, same_pool}
+use Rattle.ada_meaning.specs.Named.{Object, State, named, look, on_object, treated, finished, returned, finalized_part}
+use Rattle.ada_meaning.proofs.Treatments.{are_table}
+use Rattle.ada_storage.specs.State.{Forest, put_part, in_forests, in_items, placed, bit}
 use Rattle.ada_storage.specs.State as storage
-use Rattle.ada_storage.specs.Step.{at, gone, at_leaving, at_free}
+use Rattle.ada_storage.specs.Step.{at, at_leaving, at_free, gone}
 use Rattle.ada_storage.proofs.Facts.{same_self, bit_le}
-use Rattle.ada_following.specs.Reading.{object_number, mode_seen, is_out, master_seen, items_seen}
-use Rattle.ada_following.proofs.Heaps.{Heap, set_here, unlists_finished, Returns, returns_returned}
-use Rattle.ada_following.proofs.PartTables.{Parts, parts_kept}
-use Rattle.ada_following.proofs.Frames.{Control, Code, Inside, leaving, ended, freed, codes, code_under_way, chain, chain_seen}
-use Rattle.ada_following.proofs.Places.{items_same, chain_same}
-use Rattle.ada_following.proofs.Partings.{items_away, chain_away}
-use Rattle.ada_following.proofs.Sound.{sound_unlists, sound_returns}
-use Rattle.ada_following.proofs.Goings.{goes_silent, taken_back, freed_back}
+use Rattle.ada_storage.proofs.Invariant.{Alive, Fits}
+use Rattle.ada_following.specs.Forests.{Ends}
+use Rattle.ada_following.specs.Reading.{mode_seen}
+use Rattle.ada_following.proofs.Heaps.{Heap, unlists_finished, returns_returned}
+use Rattle.ada_following.proofs.Places.{Listing, Items}
+use Rattle.ada_following.proofs.Frames.{Control, static, listing, taking, giving_up, IsActing, Reads, treats_behind, leaves_behind, frees}
+use Rattle.ada_following.proofs.Frames as frames
+use Rattle.ada_following.proofs.Stands.{codes, leaving, taken, taken_gone, freed, freed_gone}
+use Rattle.ada_following.proofs.Goings.{Holds, stands_still, goes_silent, taken_back, freed_back}
 use Rattle.ada_following.proofs.Heads.{looked}
-use Rattle.ada_following.proofs.Follows.{Follows, lands}
-use Rattle.ada_following.proofs.Leaving.{Seen}
+use Rattle.ada_following.proofs.Treating.{done_ends}
+use Rattle.ada_following.proofs.Treated.{AllFollow, with_all, has_part, static_treated, listing_treated}
+use Rattle.ada_following.proofs.Creating.{Settles, facts_at}
+use Rattle.ada_following.proofs.Finishing.{DiesIn, as_before, without_value, finishing_follows}
+use Rattle.ada_following.proofs.Passing.{now_gone, drops_listed, items_away, items_returned, reads_unlisted, reads_returned, reads_dies, facts_returned, facts_unlisted}
+use Rattle.ada_following.proofs.Follows.{Facts, Follows}
 
--- An object that has ceased to exist.
-now_gone : (h : Heap) (o : Id) (x : Object) → slice_get h o.0 ≡ Some x → slice_get (on_object finished h (Names o)) o.0 ≡ Some (finished x)
-now_gone h o x there = ap (λ (f : Option Object). slice_get (changed finished f h o) o.0) there ∙ set_here h o.0 x (finished x) there
+-- What goes back is told, or not.
+module _ (types : List TypeDefinition) (s : storage.State) (o : Id) (cause : Cause) (y : State) (each : (access number : ℕ) (from subpool : Option ℕ) → Follows types s (Back (Names o) access number from subpool cause) (record y { heap = on_object returned y.heap (Names o) })) where
+  told_follows :
+      (own : Option ℕ) (access number : ℕ) (from subpool : Option ℕ)
+      → AllFollow types s (told_back named own (Names o) (Back (Names o) access number from subpool cause) (record y { heap = on_object returned y.heap (Names o) }))
+  told_follows None access number from subpool = each access number from subpool
+  told_follows (Some p) access number from subpool = each access number from subpool
 
--- Words that are back.
-lives_gone : (b : Bool) (object : storage.Object) (other : storage.Object) → (cond b (record object { lives = false }) other).lives ≡ cond b false other.lives
-lives_gone true object other = refl
-lives_gone false object other = refl
+  given_follows : (fits : Bool) (cell : Cell Value) → AllFollow types s (if fits then given_back named (Names o) cause cell y else halts (Erroneous GivesElsewhere))
+  given_follows true cell = told_follows cell.home.pool cell.access cell.number cell.home.pool cell.home.subpool
+  given_follows false cell = λ e. e
 
-shape_gone : (T : ℕ → storage.Object) (o y : ℕ) → (put T o (record (T o) { lives = false }) y).shape ≡ (T y).shape
-shape_gone T o y = elim (eqb_tells y o) [ inl h ↦ (ap (λ (b : Bool). (cond b (record (T o) { lives = false }) (T y)).shape) h.0 ∙ ap (λ (z : ℕ). (T z).shape) (sym h.1)) | inr h ↦ ap (λ (b : Bool). (cond b (record (T o) { lives = false }) (T y)).shape) h.0 ]
+  pub back_follows : (pool : Option ℕ) (found : Found (Cell Value)) → AllFollow types s (back_next named (Names o) cause pool found y)
+  back_follows pool on_null = λ e. e
+  back_follows pool on_gone = λ e. e
+  back_follows pool on_other = λ e. e
+  back_follows pool (finds cell) = given_follows (same_pool pool cell.home.pool) cell
 
-parts_gone : (types : List TypeDefinition) (h g : Heap) (o : ℕ) (s : storage.State) → Returns o h g → Parts types h s.objects s.alive s.turn → Parts types g (put s.objects o (record (s.objects o) { lives = false })) s.alive s.turn
-parts_gone types h g o s u r =
-    let kept = parts_kept types h g s.objects s.alive s.turn u.access u.parts r in
-    record { shape = λ y. shape_gone s.objects o y ∙ kept.shape y; alive = kept.alive; turn = kept.turn }
-
-out_gone :
-    (s : storage.State) (h g : Heap) (o : ℕ) → ((y : ℕ) → (s.objects y).lives ≡ is_out (slice_get h y)) → Returns o h g → (y : ℕ)
-    → (put s.objects o (record (s.objects o) { lives = false }) y).lives ≡ is_out (slice_get g y)
-out_gone s h g o out u y = lives_gone (y == o) (s.objects o) (s.objects y) ∙ ap (λ (b : Bool). cond (y == o) false b) (out y) ∙ sym (u.out y)
+-- An object ceases to exist, if it is found.
+pub end_follows :
+    (types : List TypeDefinition) (s : storage.State) (h : Heap) (o : Id) (y : State)
+    → ((x : Object) → slice_get h o.0 ≡ Some x → Follows types s Quiet (record y { heap = on_object finished h (Names o) })) → y.heap ≡ h
+    → AllFollow types s (end_next named (Names o) (look h (Names o)) y)
+end_follows types s h o y each heap = go (look h (Names o)) refl
+  where
+    go : (found : Found (Cell Value)) → look h (Names o) ≡ found → AllFollow types s (end_next named (Names o) found y)
+    go on_null found = λ e. e
+    go on_gone found = λ e. e
+    go on_other found = λ e. e
+    go (finds cell) found =
+        let l = looked h (Names o) cell found in
+        let same_id : o ≡ l.o = cc in
+        subst (λ (g : Heap). Follows types s Quiet (record y { heap = on_object finished g (Names o) })) (sym heap)
+        (each l.x (ap (λ (i : Id). slice_get h i.0) same_id ∙ l.there))
 
 -- At a leaving.
-module _ (types : List TypeDefinition) (x : State) (s : storage.State) (h : Heap) (m : Master) (ms : List Master) (i : ℕ) (pool : Option ℕ) (mode : Mode) (k : Control) (c : Code k ms) (r : Seen types h (m ∷ ms) x.next s) where
-  -- It ceases to exist.
-  one_taken_ends :
-      (o : Id) (object : Object) (left : List storage.Forest) → slice_get h o.0 ≡ Some object → Ends (shapes_of types) left []
-      → s.control ≡ storage.finalizes (master_seen h m) i o.0 left (mode_seen mode) (chain h ms)
-      → Follows types s Quiet (with_all x (on_object finished h (Names o)) (m ∷ ms) Running (frame.GivesBack (Names o) (Leaving m.number i) pool ∷ frame.Leaves mode ∷ k))
-  one_taken_ends o object left there none e =
-      let g = on_object finished h (Names o) in
-      let u = unlists_finished h o object there in
-      let places : same o.0 o.0 + (in_items o.0 (items_seen h m.items) + placed o.0 (chain h ms)) ≡ bit (s.objects o.0).lives = ap (placed o.0) (sym e) ∙ r.holds.places o.0 in
-      let self = same_self o.0 in
-      let one = bit_le (s.objects o.0).lives in
-      let items : items_seen g m.items ≡ items_seen h m.items = items_away h g o.0 m.items u.listed (omega (arith, places, self, one)) in
-      let behind : chain g ms ≡ chain h ms = chain_away h g o.0 ms u.listed (omega (arith, places, self, one)) in
-      let count = u.count in
-      let created = r.created in
-      lands types s (at (storage.finalizes (master_seen h m) i o.0 [] (mode_seen mode) (chain h ms)) s) Quiet
-      (with_all x g (m ∷ ms) Running (frame.GivesBack (Names o) (Leaving m.number i) pool ∷ frame.Leaves mode ∷ k)) g (m ∷ ms) x.next Running
-      (frame.GivesBack (Names o) (Leaving m.number i) pool ∷ frame.Leaves mode ∷ k)
-      (goes_silent s (at (storage.finalizes (master_seen h m) i o.0 [] (mode_seen mode) (chain h ms)) s)
-      (done_ends (shapes_of types) (are_table types) (at_leaving (master_seen h m) i (mode_seen mode) (chain h ms)) o.0 (λ c fs t. refl) s left e r.running none))
-      (record {
-        control =
-            ap (λ (js : List storage.Item). storage.finalizes (record { number = suc m.number; items = js }) i o.0 [] (mode_seen mode) (chain h ms)) (sym items)
-            ∙ ap (λ (l : storage.Control). storage.finalizes (master_seen g m) i o.0 [] (mode_seen mode) l) (sym behind ∙ sym (chain_seen types g k ms c));
-        moded = r.running;
-        out = λ y. r.out y ∙ sym (u.out y);
-        shape = parts_kept types h g s.objects s.alive s.turn u.access u.parts r.shape;
-        created = omega (arith, count, created);
-        next = r.next;
-        stands = ended o (finished object) m.number i pool mode k (now_gone h o object there) refl refl c;
-        sound = sound_unlists h g o.0 (m ∷ ms) u r.sound;
-      })
-      refl refl refl refl refl
+module _
+    (types : List TypeDefinition) (bodies : List BodyForm) (x : State) (s : storage.State) (h : Heap) (o : Id) (i : ℕ) (pool : Option ℕ) (mode : Mode) (left : List Forest) (k : Control) (m : Master) (ms : List Master)
+    (js : List storage.Item) (c : storage.Control) (items : Items (listing h) m.items js) (reads : Reads types (static h) false (listing h) s.alive (older x.activations) k ms c)
+    (is : s.control ≡ storage.finalizes (record { number = suc m.number; items = js }) i o.0 left (mode_seen mode) c) (run : s.mode ≡ storage.running) (f : Facts types h (m ∷ ms) x.next s) (holds : Holds s)
+  where
+    M : storage.Master
+    M = record { number = suc m.number; items = js }
 
-  pub taken_object_ends :
-      (v : Value) (found : Found (Cell Value)) (left : List storage.Forest) → look h v ≡ found → Ends (shapes_of types) left []
-      → s.control ≡ storage.finalizes (master_seen h m) i (object_number v) left (mode_seen mode) (chain h ms)
-      → AllFollow types s (end_next named v found (with_all x h (m ∷ ms) Running (frame.GivesBack v (Leaving m.number i) pool ∷ frame.Leaves mode ∷ k)))
-  taken_object_ends v on_null left is none e = λ f. f
-  taken_object_ends v on_gone left is none e = λ f. f
-  taken_object_ends v on_other left is none e = λ f. f
-  taken_object_ends v (finds cell) left is none e =
-      let l = looked h v cell is in
-      subst (λ (u : Value). Follows types s Quiet (with_all x (on_object finished h u) (m ∷ ms) Running (frame.GivesBack u (Leaving m.number i) pool ∷ frame.Leaves mode ∷ k))) (sym l.names)
-      (one_taken_ends l.o l.x left l.there none
-      (e ∙ ap (λ (u : Value). storage.finalizes (master_seen h m) i (object_number u) left (mode_seen mode) (chain h ms)) l.names))
+    abbrev after_taking : Control
+    after_taking = taking o m.number i pool mode k
 
-  -- Its words go back.
-  module _ (o : Id) (object : Object) (there : slice_get h o.0 ≡ Some object) (is_gone : object.stage ≡ Gone) (e : s.control ≡ storage.finalizes (master_seen h m) i o.0 [] (mode_seen mode) (chain h ms)) where
-    one_taken_back :
-        (access number : ℕ) (from subpool : Option ℕ)
-        → Follows types s (Back (Names o) access number from subpool (Leaving m.number i)) (with_all x (on_object returned h (Names o)) (m ∷ ms) Running (frame.Leaves mode ∷ k))
-    one_taken_back access number from subpool =
-        let g = on_object returned h (Names o) in
-        let u = returns_returned h o object there is_gone r.sound.fine in
-        let count = u.count in
-        let created = r.created in
-        lands types s (at (storage.leaves (master_seen h m) (mode_seen mode) (chain h ms)) (gone o.0 s)) (Back (Names o) access number from subpool (Leaving m.number i))
-        (with_all x g (m ∷ ms) Running (frame.Leaves mode ∷ k)) g (m ∷ ms) x.next Running (frame.Leaves mode ∷ k)
-        (taken_back s (master_seen h m) i o.0 (mode_seen mode) (chain h ms) e r.running)
-        (record {
-          control =
-              ap (λ (js : List storage.Item). storage.leaves (record { number = suc m.number; items = js }) (mode_seen mode) (chain h ms)) (sym (items_same h g m.items u.listed))
-              ∙ ap (λ (l : storage.Control). storage.leaves (master_seen g m) (mode_seen mode) l) (sym (chain_same h g ms u.listed) ∙ sym (chain_seen types g k ms c));
-          moded = r.running;
-          out = out_gone s h g o.0 r.out u;
-          shape = parts_gone types h g o.0 s u r.shape;
-          created = omega (arith, count, created);
-          next = r.next;
-          stands = leaving mode k c;
-          sound = sound_returns h g o.0 (m ∷ ms) u r.sound;
-        })
-        refl refl refl refl refl
+    fits : Fits s.alive s.objects (storage.finalizes (record { number = suc m.number; items = js }) i o.0 left (mode_seen mode) c)
+    fits = subst (λ (d : storage.Control). Fits s.alive s.objects d) is holds.fits
 
-    told_taken_back :
-        (own : Option ℕ) (access number : ℕ) (from subpool : Option ℕ)
-        → AllFollow types s (told_back named own (Names o) (Back (Names o) access number from subpool (Leaving m.number i)) (with_all x (on_object returned h (Names o)) (m ∷ ms) Running (frame.Leaves mode ∷ k)))
-    told_taken_back None access number from subpool = one_taken_back access number from subpool
-    told_taken_back (Some p) access number from subpool = one_taken_back access number from subpool
+    once : (q : ℕ) → in_forests q left ≤ 1
+    once q = let b = fits.0.0 q in let one = bit_le (s.alive o.0 q) in omega (arith, b, one)
 
-    taken_given_back :
-        (fits : Bool) (cell : Cell Value)
-        → AllFollow types s (if fits then given_back named (Names o) (Leaving m.number i) cell (with_all x h (m ∷ ms) Running (frame.Leaves mode ∷ k)) else halts (Erroneous GivesElsewhere))
-    taken_given_back true cell = told_taken_back cell.home.pool cell.access cell.number cell.home.pool cell.home.subpool
-    taken_given_back false cell = λ e. e
+    no_item : in_items o.0 js ≡ 0
+    no_item = let p = ap (placed o.0) is in let q = holds.places o.0 in let self = same_self o.0 in let one = bit_le (s.objects o.0).lives in omega (arith, p, q, self, one)
 
-    pub taken_object_back : (found : Found (Cell Value)) → AllFollow types s (back_next named (Names o) (Leaving m.number i) pool found (with_all x h (m ∷ ms) Running (frame.Leaves mode ∷ k)))
-    taken_object_back on_null = λ e. e
-    taken_object_back on_gone = λ e. e
-    taken_object_back on_other = λ e. e
-    taken_object_back (finds cell) = taken_given_back (same_pool pool cell.home.pool) cell
+    no_place : placed o.0 c ≡ 0
+    no_place = let p = ap (placed o.0) is in let q = holds.places o.0 in let self = same_self o.0 in let one = bit_le (s.objects o.0).lives in omega (arith, p, q, self, one)
 
--- At a Free.
-module _ (types : List TypeDefinition) (x : State) (s : storage.State) (h : Heap) (ms : List Master) (n : ℕ) (pool : Option ℕ) (k : Control) (c : Inside k ms) (r : Seen types h ms x.next s) where
-  one_freed_ends :
-      (o : Id) (object : Object) (left : List storage.Forest) → slice_get h o.0 ≡ Some object → Ends (shapes_of types) left [] → s.control ≡ storage.frees (suc n) o.0 left (chain h ms)
-      → Follows types s Quiet (with_all x (on_object finished h (Names o)) ms Running (frame.GivesBack (Names o) (Freeing n) pool ∷ k))
-  one_freed_ends o object left there none e =
-      let g = on_object finished h (Names o) in
-      let u = unlists_finished h o object there in
-      let places : same o.0 o.0 + placed o.0 (chain h ms) ≡ bit (s.objects o.0).lives = ap (placed o.0) (sym e) ∙ r.holds.places o.0 in
-      let self = same_self o.0 in
-      let one = bit_le (s.objects o.0).lives in
-      let behind : chain g ms ≡ chain h ms = chain_away h g o.0 ms u.listed (omega (arith, places, self, one)) in
-      let count = u.count in
-      let created = r.created in
-      lands types s (at (storage.frees (suc n) o.0 [] (chain h ms)) s) Quiet
-      (with_all x g ms Running (frame.GivesBack (Names o) (Freeing n) pool ∷ k)) g ms x.next Running (frame.GivesBack (Names o) (Freeing n) pool ∷ k)
-      (goes_silent s (at (storage.frees (suc n) o.0 [] (chain h ms)) s)
-      (done_ends (shapes_of types) (are_table types) (at_free (suc n) (chain h ms)) o.0 (λ c fs t. refl) s left e r.running none))
-      (record {
-        control = ap (λ (l : storage.Control). storage.frees (suc n) o.0 [] l) (sym behind ∙ sym (chain_seen types g k ms c.1));
-        moded = r.running;
-        out = λ y. r.out y ∙ sym (u.out y);
-        shape = parts_kept types h g s.objects s.alive s.turn u.access u.parts r.shape;
-        created = omega (arith, count, created);
-        next = r.next;
-        stands = freed o (finished object) n pool k (now_gone h o object there) refl c;
-        sound = sound_unlists h g o.0 ms u r.sound;
-      })
-      refl refl refl refl refl
+    settles_by :
+        (g : Heap) (A : Alive) → DiesIn h s.alive o left g A → (tasks : List Task) (fs : List Forest) (r : storage.State) → Ends (shapes_of types) fs tasks
+        → r.alive ≡ A → r.control ≡ storage.finalizes (record { number = suc m.number; items = js }) i o.0 fs (mode_seen mode) c → r.mode ≡ storage.running → Facts types g (m ∷ ms) x.next r
+        → Settles types x.activations g (m ∷ ms) x.next (treating (Names o) (ends (Leaving m.number i)) tasks after_taking) r
+    settles_by _ _ as_before tasks fs r e alive is_r run_r facts = record {
+      state = r;
+      steps = stands_still r r refl;
+      arrived =
+          record {
+            control = storage.finalizes (record { number = suc m.number; items = js }) i o.0 fs (mode_seen mode) c;
+            moded = storage.running;
+            is_control = is_r;
+            is_moded = run_r;
+            stands = taken o i pool mode tasks fs m e items (subst (λ (A : Alive). Reads types (static h) false (listing h) A (older x.activations) k ms c) (sym alive) reads) refl;
+            facts = facts;
+          };
+    }
+    settles_by _ _ (without_value p object q there part_there some) tasks fs r e alive is_r run_r facts =
+        let g = on_object (treated finalized_part p) h (Names o) in
+        record {
+          state = r;
+          steps = stands_still r r refl;
+          arrived =
+              record {
+                control = storage.finalizes (record { number = suc m.number; items = js }) i o.0 fs (mode_seen mode) c;
+                moded = storage.running;
+                is_control = is_r;
+                is_moded = run_r;
+                stands =
+                    taken o i pool mode tasks fs m e (subst (λ (L : Listing). Items L m.items js) (sym (listing_treated types h ms x.next o p object q there part_there finalized_part)) items)
+                    (subst (λ (A : Alive). Reads types (static g) false (listing g) A (older x.activations) k ms c) (sym alive) (reads_dies s.objects h x.next o p object q there part_there fits.2.2 no_place reads)) refl;
+                facts = facts;
+              };
+        }
 
-  pub freed_object_ends :
-      (v : Value) (found : Found (Cell Value)) (left : List storage.Forest) → look h v ≡ found → Ends (shapes_of types) left [] → s.control ≡ storage.frees (suc n) (object_number v) left (chain h ms)
-      → AllFollow types s (end_next named v found (with_all x h ms Running (frame.GivesBack v (Freeing n) pool ∷ k)))
-  freed_object_ends v on_null left is none e = λ f. f
-  freed_object_ends v on_gone left is none e = λ f. f
-  freed_object_ends v on_other left is none e = λ f. f
-  freed_object_ends v (finds cell) left is none e =
-      let l = looked h v cell is in
-      subst (λ (u : Value). Follows types s Quiet (with_all x (on_object finished h u) ms Running (frame.GivesBack u (Freeing n) pool ∷ k))) (sym l.names)
-      (one_freed_ends l.o l.x left l.there none (e ∙ ap (λ (u : Value). storage.frees (suc n) (object_number u) left (chain h ms)) l.names))
+    waits_by :
+        (p : ℕ) (object : Object) (q : PartState) → slice_get h o.0 ≡ Some object → slice_get object.cell.parts p ≡ Some q → 0 < in_forests p left → (tasks : List Task) (fs : List Forest) → in_forests p fs ≡ 0 → Ends (shapes_of types) fs tasks
+        → Reads types (static (on_object (treated finalized_part p) h (Names o))) true (listing (on_object (treated finalized_part p) h (Names o))) (put_part s.alive o.0 p false) x.activations
+        (frame.Confines ∷ treating (Names o) (ends (Leaving m.number i)) tasks after_taking) (m ∷ ms) (storage.finalizes (record { number = suc m.number; items = js }) i o.0 fs (mode_seen mode) c)
+    waits_by p object q there part_there some tasks fs none e =
+        leaves_behind o i pool mode tasks fs p m
+        (ap (λ (S : frames.Static). S.holds o.0 p) (static_treated types h ms x.next o p object q there part_there finalized_part) ∙ has_part types h ms x.next o p object q there part_there) none e
+        (subst (λ (L : Listing). Items L m.items js) (sym (listing_treated types h ms x.next o p object q there part_there finalized_part)) items)
+        (reads_dies s.objects h x.next o p object q there part_there fits.2.2 no_place reads) refl
 
-  module _ (o : Id) (object : Object) (there : slice_get h o.0 ≡ Some object) (is_gone : object.stage ≡ Gone) (e : s.control ≡ storage.frees (suc n) o.0 [] (chain h ms)) where
-    one_freed_back :
-        (access number : ℕ) (from subpool : Option ℕ)
-        → Follows types s (Back (Names o) access number from subpool (Freeing n)) (with_all x (on_object returned h (Names o)) ms Running k)
-    one_freed_back access number from subpool =
-        let g = on_object returned h (Names o) in
-        let u = returns_returned h o object there is_gone r.sound.fine in
-        let count = u.count in
-        let created = r.created in
-        lands types s (at (chain h ms) (gone o.0 s)) (Back (Names o) access number from subpool (Freeing n))
-        (with_all x g ms Running k) g ms x.next Running k
-        (freed_back s (suc n) o.0 (chain h ms) e r.running)
-        (record {
-          control = code_under_way types g k ms (chain h ms) c.1 (sym (chain_same h g ms u.listed) ∙ sym (chain_seen types g k ms c.1));
-          moded = r.running;
-          out = out_gone s h g o.0 r.out u;
-          shape = parts_gone types h g o.0 s u r.shape;
-          created = omega (arith, count, created);
-          next = r.next;
-          stands = codes c.1;
-          sound = sound_returns h g o.0 ms u r.sound;
-        })
-        refl refl refl refl refl
+    -- Its values are finalized.
+    pub taken_finishes :
+        (task : Task) (rest : List Task) → Ends (shapes_of types) left (task ∷ rest)
+        → AllFollow types s (treats_next named types bodies (Names o) (ends (Leaving m.number i)) (task ∷ rest) (task_next (task ∷ rest)) (with_all x h (m ∷ ms) Running after_taking))
+    taken_finishes task rest e =
+        finishing_follows types bodies x s h (m ∷ ms) o (Leaving m.number i) after_taking (at_leaving (record { number = suc m.number; items = js }) i (mode_seen mode) c) (λ c fs t. refl) refl left once is run f settles_by waits_by task rest e
 
-    told_freed_back :
-        (own : Option ℕ) (access number : ℕ) (from subpool : Option ℕ)
-        → AllFollow types s (told_back named own (Names o) (Back (Names o) access number from subpool (Freeing n)) (with_all x (on_object returned h (Names o)) ms Running k))
-    told_freed_back None access number from subpool = one_freed_back access number from subpool
-    told_freed_back (Some p) access number from subpool = one_freed_back access number from subpool
+    -- It ceases to exist.
+    pub taken_ends : Ends (shapes_of types) left [] → AllFollow types s (end_next named (Names o) (look h (Names o)) (with_all x h (m ∷ ms) Running (frame.GivesBack (Names o) (Leaving m.number i) pool ∷ frame.Leaves mode ∷ k)))
+    taken_ends e = end_follows types s h o _ each refl
+      where
+        each : (object : Object) → slice_get h o.0 ≡ Some object → Follows types s Quiet (with_all x (on_object finished h (Names o)) (m ∷ ms) Running (frame.GivesBack (Names o) (Leaving m.number i) pool ∷ frame.Leaves mode ∷ k))
+        each object there =
+            let g = on_object finished h (Names o) in
+            let u = unlists_finished h o object there in
+            let t = at (storage.finalizes (record { number = suc m.number; items = js }) i o.0 [] (mode_seen mode) c) s in
+            record {
+              reached = t;
+              to = t;
+              goes = goes_silent s t (done_ends (shapes_of types) (are_table types) (at_leaving (record { number = suc m.number; items = js }) i (mode_seen mode) c) o.0 (λ c fs t. refl) s left is run e);
+              later = stands_still t t refl;
+              arrived =
+                  record {
+                    control = t.control;
+                    moded = storage.running;
+                    is_control = refl;
+                    is_moded = run;
+                    stands =
+                        taken_gone o (finished object) i pool mode m (now_gone h o object there) refl (items_away o.0 (listing g) (drops_listed o.0 h g u) no_item items) (reads_unlisted o.0 h g u no_place reads);
+                    facts = facts_at t.control (facts_unlisted types (m ∷ ms) x.next s h g o.0 u f);
+                  };
+            }
 
-    freed_given_back : (fits : Bool) (cell : Cell Value) → AllFollow types s (if fits then given_back named (Names o) (Freeing n) cell (with_all x h ms Running k) else halts (Erroneous GivesElsewhere))
-    freed_given_back true cell = told_freed_back cell.home.pool cell.access cell.number cell.home.pool cell.home.subpool
-    freed_given_back false cell = λ e. e
+    -- Its words go back.
+    pub taken_goes_back : (object : Object) → slice_get h o.0 ≡ Some object → object.stage ≡ Gone → left ≡ [] → (found : Found (Cell Value)) → AllFollow types s (back_next named (Names o) (Leaving m.number i) pool found (with_all x h (m ∷ ms) Running (frame.Leaves mode ∷ k)))
+    taken_goes_back object there is_gone none found = back_follows types s o (Leaving m.number i) (with_all x h (m ∷ ms) Running (frame.Leaves mode ∷ k)) each pool found
+      where
+        each : (access number : ℕ) (from subpool : Option ℕ) → Follows types s (Back (Names o) access number from subpool (Leaving m.number i)) (with_all x (on_object returned h (Names o)) (m ∷ ms) Running (frame.Leaves mode ∷ k))
+        each access number from subpool =
+            let g = on_object returned h (Names o) in
+            let u = returns_returned h o object there is_gone f.sound.fine in
+            let t = at (storage.leaves (record { number = suc m.number; items = js }) (mode_seen mode) c) (gone o.0 s) in
+            record {
+              reached = t;
+              to = t;
+              goes =
+                  taken_back s (record { number = suc m.number; items = js }) i o.0 (mode_seen mode) c
+                  (is ∙ ap (λ (fs : List Forest). storage.finalizes (record { number = suc m.number; items = js }) i o.0 fs (mode_seen mode) c) none) run;
+              later = stands_still t t refl;
+              arrived =
+                  record {
+                    control = t.control;
+                    moded = storage.running;
+                    is_control = refl;
+                    is_moded = run;
+                    stands = leaving mode m (items_returned o.0 h g u items) (reads_returned o.0 h g u reads);
+                    facts = facts_at t.control (facts_returned types (m ∷ ms) x.next s h g o.0 u f);
+                  };
+            }
 
-    pub freed_object_back : (found : Found (Cell Value)) → AllFollow types s (back_next named (Names o) (Freeing n) pool found (with_all x h ms Running k))
-    freed_object_back on_null = λ e. e
-    freed_object_back on_gone = λ e. e
-    freed_object_back on_other = λ e. e
-    freed_object_back (finds cell) = freed_given_back (same_pool pool cell.home.pool) cell
+-- By a Free.
+module _
+    (types : List TypeDefinition) (bodies : List BodyForm) (x : State) (s : storage.State) (h : Heap) (o : Id) (n : ℕ) (pool : Option ℕ) (left : List Forest) (k : Control) (ms : List Master)
+    (c : storage.Control) (acting : IsActing c) (reads : Reads types (static h) false (listing h) s.alive (older x.activations) k ms c)
+    (is : s.control ≡ storage.frees (suc n) o.0 left c) (run : s.mode ≡ storage.running) (f : Facts types h ms x.next s) (holds : Holds s)
+  where
+    abbrev after_freeing : Control
+    after_freeing = giving_up o n pool k
+
+    fits_freed : Fits s.alive s.objects (storage.frees (suc n) o.0 left c)
+    fits_freed = subst (λ (d : storage.Control). Fits s.alive s.objects d) is holds.fits
+
+    once_freed : (q : ℕ) → in_forests q left ≤ 1
+    once_freed q = let b = fits_freed.0.0 q in let one = bit_le (s.alive o.0 q) in omega (arith, b, one)
+
+    no_place_freed : placed o.0 c ≡ 0
+    no_place_freed = let p = ap (placed o.0) is in let q = holds.places o.0 in let self = same_self o.0 in let one = bit_le (s.objects o.0).lives in omega (arith, p, q, self, one)
+
+    settles_freed :
+        (g : Heap) (A : Alive) → DiesIn h s.alive o left g A → (tasks : List Task) (fs : List Forest) (r : storage.State) → Ends (shapes_of types) fs tasks
+        → r.alive ≡ A → r.control ≡ storage.frees (suc n) o.0 fs c → r.mode ≡ storage.running → Facts types g ms x.next r
+        → Settles types x.activations g ms x.next (treating (Names o) (ends (Freeing n)) tasks after_freeing) r
+    settles_freed _ _ as_before tasks fs r e alive is_r run_r facts = record {
+      state = r;
+      steps = stands_still r r refl;
+      arrived =
+          record {
+            control = storage.frees (suc n) o.0 fs c;
+            moded = storage.running;
+            is_control = is_r;
+            is_moded = run_r;
+            stands = freed o n pool tasks fs e acting (subst (λ (A : Alive). Reads types (static h) false (listing h) A (older x.activations) k ms c) (sym alive) reads) refl;
+            facts = facts;
+          };
+    }
+    settles_freed _ _ (without_value p object q there part_there some) tasks fs r e alive is_r run_r facts =
+        let g = on_object (treated finalized_part p) h (Names o) in
+        record {
+          state = r;
+          steps = stands_still r r refl;
+          arrived =
+              record {
+                control = storage.frees (suc n) o.0 fs c;
+                moded = storage.running;
+                is_control = is_r;
+                is_moded = run_r;
+                stands =
+                    freed o n pool tasks fs e acting
+                    (subst (λ (A : Alive). Reads types (static g) false (listing g) A (older x.activations) k ms c) (sym alive) (reads_dies s.objects h x.next o p object q there part_there fits_freed.2 no_place_freed reads)) refl;
+                facts = facts;
+              };
+        }
+
+    waits_freed :
+        (p : ℕ) (object : Object) (q : PartState) → slice_get h o.0 ≡ Some object → slice_get object.cell.parts p ≡ Some q → 0 < in_forests p left → (tasks : List Task) (fs : List Forest) → in_forests p fs ≡ 0 → Ends (shapes_of types) fs tasks
+        → Reads types (static (on_object (treated finalized_part p) h (Names o))) true (listing (on_object (treated finalized_part p) h (Names o))) (put_part s.alive o.0 p false) x.activations
+        (frame.Confines ∷ treating (Names o) (ends (Freeing n)) tasks after_freeing) ms (storage.frees (suc n) o.0 fs c)
+    waits_freed p object q there part_there some tasks fs none e =
+        treats_behind (frees (suc n) o.0 fs)
+        (frames.freed o n pool tasks fs p (ap (λ (S : frames.Static). S.holds o.0 p) (static_treated types h ms x.next o p object q there part_there finalized_part) ∙ has_part types h ms x.next o p object q there part_there) none e refl)
+        acting (reads_dies s.objects h x.next o p object q there part_there fits_freed.2 no_place_freed reads) refl
+
+    pub freed_finishes :
+        (task : Task) (rest : List Task) → Ends (shapes_of types) left (task ∷ rest)
+        → AllFollow types s (treats_next named types bodies (Names o) (ends (Freeing n)) (task ∷ rest) (task_next (task ∷ rest)) (with_all x h ms Running after_freeing))
+    freed_finishes task rest e =
+        finishing_follows types bodies x s h ms o (Freeing n) after_freeing (at_free (suc n) c) (λ c fs t. refl) refl left once_freed is run f settles_freed waits_freed task rest e
+
+    pub freed_ends : Ends (shapes_of types) left [] → AllFollow types s (end_next named (Names o) (look h (Names o)) (with_all x h ms Running (frame.GivesBack (Names o) (Freeing n) pool ∷ k)))
+    freed_ends e = end_follows types s h o _ each refl
+      where
+        each : (object : Object) → slice_get h o.0 ≡ Some object → Follows types s Quiet (with_all x (on_object finished h (Names o)) ms Running (frame.GivesBack (Names o) (Freeing n) pool ∷ k))
+        each object there =
+            let g = on_object finished h (Names o) in
+            let u = unlists_finished h o object there in
+            let t = at (storage.frees (suc n) o.0 [] c) s in
+            record {
+              reached = t;
+              to = t;
+              goes = goes_silent s t (done_ends (shapes_of types) (are_table types) (at_free (suc n) c) o.0 (λ c fs t. refl) s left is run e);
+              later = stands_still t t refl;
+              arrived =
+                  record {
+                    control = t.control;
+                    moded = storage.running;
+                    is_control = refl;
+                    is_moded = run;
+                    stands = freed_gone o (finished object) n pool (now_gone h o object there) refl acting (reads_unlisted o.0 h g u no_place_freed reads);
+                    facts = facts_at t.control (facts_unlisted types ms x.next s h g o.0 u f);
+                  };
+            }
+
+    pub freed_goes_back : (object : Object) → slice_get h o.0 ≡ Some object → object.stage ≡ Gone → left ≡ [] → (found : Found (Cell Value)) → AllFollow types s (back_next named (Names o) (Freeing n) pool found (with_all x h ms Running k))
+    freed_goes_back object there is_gone none found = back_follows types s o (Freeing n) (with_all x h ms Running k) each pool found
+      where
+        each : (access number : ℕ) (from subpool : Option ℕ) → Follows types s (Back (Names o) access number from subpool (Freeing n)) (with_all x (on_object returned h (Names o)) ms Running k)
+        each access number from subpool =
+            let g = on_object returned h (Names o) in
+            let u = returns_returned h o object there is_gone f.sound.fine in
+            let t = at c (gone o.0 s) in
+            record {
+              reached = t;
+              to = t;
+              goes = freed_back s (suc n) o.0 c (is ∙ ap (λ (fs : List Forest). storage.frees (suc n) o.0 fs c) none) run;
+              later = stands_still t t refl;
+              arrived =
+                  record {
+                    control = c;
+                    moded = storage.running;
+                    is_control = refl;
+                    is_moded = run;
+                    stands = codes (reads_returned o.0 h g u reads);
+                    facts = facts_at c (facts_returned types ms x.next s h g o.0 u f);
+                  };
+            }

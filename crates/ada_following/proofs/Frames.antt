@@ -1,43 +1,48 @@
--- What is left to do: code stands in masters that are entered, and storage sees only the masters.
+-- What is left to do, as storage sees it: code stands in masters that are entered, and behind the body of an operation the treatment waits that called it.
 
-use Rattle.std.proofs.Common.{◌≡◌, ℕ, suc, Bool, true, false, List, [], ◌∷◌, Option, Some, refl, sym, ap, ◌∙◌, inl, subst}
+use Rattle.std.proofs.Common.{◌≡◌, ◌≢◌, ℕ, suc, ◌+◌, ◌<◌, Bool, true, false, cond, List, [], ◌∷◌, map, Option, refl, arith}
+use Rattle.std.specs.Prelude.{◌==◌, is_some}
 use Rattle.std.specs.List.{slice_get}
 use Rattle.ada_program.specs.declared.program.TypeDefinition.{TypeDefinition}
 use Rattle.ada_program.specs.Controlled.{shapes_of}
 use Rattle.ada_program.specs.declared.program.Exception.{Exception}
-use Rattle.ada_program.specs.Form.{RecordPathForm}
+use Rattle.ada_program.specs.Form.{ActualForm}
+use Rattle.ada_parts.specs.Part.{Part as PartOf, numbers}
 use Rattle.ada_parts.specs.Task.{Task, performs, treats}
 use Rattle.ada_meaning.specs.declared.event.Birth.{Birth}
 use Rattle.ada_meaning.specs.declared.event.Birth.TheVariants.{Creation, Copy, Adjustment}
-use Rattle.ada_meaning.specs.declared.state.Place.{Place}
 use Rattle.ada_meaning.specs.declared.state.Id.{Id}
 use Rattle.ada_meaning.specs.declared.state.Value.{Value}
-use Rattle.ada_meaning.specs.declared.state.Value.TheVariants.{Null, Names, Scalar, Part}
+use Rattle.ada_meaning.specs.declared.state.Value.TheVariants.{Names}
 use Rattle.ada_meaning.specs.declared.state.Mode.{Mode}
-use Rattle.ada_meaning.specs.declared.state.Mode.TheVariants.{Running, Raising}
-use Rattle.ada_meaning.specs.declared.state.Stage.TheVariants.{Gone}
-use Rattle.ada_meaning.specs.declared.event.Cause.{Cause}
-use Rattle.ada_meaning.specs.declared.event.Cause.TheVariants.{Leaving, Freeing, Assigning}
+use Rattle.ada_meaning.specs.declared.state.Mode.TheVariants.{Raising}
+use Rattle.ada_meaning.specs.declared.event.Cause.TheVariants.{Leaving, Freeing, Assigning, Undoing}
 use Rattle.ada_meaning.specs.Frame.{begins, ends, Frame, is_master}
 use Rattle.ada_meaning.specs.Frame as frame
-use Rattle.ada_meaning.specs.State.{Master}
-use Rattle.ada_meaning.specs.Step.{treating}
-use Rattle.ada_meaning.specs.Named.{Object, on_object, parted}
+use Rattle.ada_meaning.specs.State.{Activation, record_object, Item, Master}
+use Rattle.ada_meaning.specs.Step.{older, operands_of, treating}
+use Rattle.ada_storage.specs.State.{Forest, Job, same, in_list, in_forest, in_forests, placed, listed, assigned, opens, parted, joined}
 use Rattle.ada_storage.specs.State as storage
-use Rattle.ada_storage.specs.Step.{is_above}
-use Rattle.ada_following.specs.Forests.{Ends}
-use Rattle.ada_following.specs.Reading.{is_out, acting_seen, items_seen, master_seen, frame_seen, control_seen, joins_seen, with_left, IsUnderWay}
+use Rattle.ada_storage.proofs.Invariant.{Alive, Objects, after, Fits}
+use Rattle.ada_following.specs.Forests.{forest_adjusted, Begins, Ends}
+use Rattle.ada_following.specs.Reading.{mode_seen, listed_in, part_of, joins_seen, IsToEnd}
+use Rattle.ada_following.proofs.PartsLeft.{beside}
 use Rattle.ada_following.proofs.Heaps.{Heap}
+use Rattle.ada_following.proofs.Places.{AllBelow, NotInMasters, MasterOnce, Listing, Items}
 
 abbrev pub Control : Type 0
 Control = List (Frame Value)
 
--- A frame that storage does not see; but for an assignment that waits for its references.
+-- A frame that storage does not see; but for an assignment that waits for its references, and the end of a body.
 abbrev pub IsCode : Frame Value → Type 0
 IsCode (frame.Elaborates ds fs hs) = ⊥
 IsCode frame.Closes = ⊥
 IsCode (frame.Leaves mode) = ⊥
+IsCode (frame.Returns actuals references) = ⊥
 IsCode (frame.Treats v treatment tasks) = ⊥
+IsCode (frame.Awaits v by done of part tasks) = ⊥
+IsCode frame.Confines = ⊥
+IsCode (frame.Resumes mode) = ⊥
 IsCode (frame.Ends v) = ⊥
 IsCode (frame.GivesBack v cause pool) = ⊥
 IsCode (frame.Assigns t) = ⊥
@@ -48,188 +53,131 @@ code_is_no_master (frame.Elaborates ds fs hs) is = absurd is
 code_is_no_master frame.Closes is = absurd is
 code_is_no_master f is = refl
 
-pub code_seen : (types : List TypeDefinition) (h : Heap) (f : Frame Value) (behind : List Master → storage.Control) (ms : List Master) → IsCode f → frame_seen types h f behind ms ≡ behind ms
-code_seen types h (frame.Elaborates ds fs hs) behind ms is = absurd is
-code_seen types h frame.Closes behind ms is = absurd is
-code_seen types h (frame.Leaves mode) behind ms is = absurd is
-code_seen types h (frame.Treats v treatment tasks) behind ms is = absurd is
-code_seen types h (frame.Ends v) behind ms is = absurd is
-code_seen types h (frame.GivesBack v cause pool) behind ms is = absurd is
-code_seen types h f behind ms is = refl
-
-pub acts_seen : (types : List TypeDefinition) (h : Heap) (f : Frame Value) (behind : List Master → storage.Control) (ms : List Master) → is_master f ≡ true → frame_seen types h f behind ms ≡ acting_seen h behind ms
-acts_seen types h (frame.Elaborates ds fs hs) behind ms is = refl
-acts_seen types h frame.Closes behind ms is = refl
-acts_seen types h f behind ms is = absurd (cc)
-
--- Code with the masters in which it stands.
-abbrev pub Under : Bool → Type 0 → List Master → (List Master → Type 0) → Type 0
-Under true P [] more = ⊥
-Under true P (m ∷ ms) more = more ms
-Under false P [] more = ⊥
-Under false P (m ∷ ms) more = P × more (m ∷ ms)
-
-abbrev pub IsEmpty : List Master → Type 0
-IsEmpty [] = Unit {0}
-IsEmpty (m ∷ ms) = ⊥
-
-abbrev pub Code : Control → List Master → Type 0
-Code [] ms = IsEmpty ms
-Code (f ∷ k) ms = Under (is_master f) (IsCode f) ms (λ ns. Code k ns)
-
-abbrev pub Entered : List Master → Type 0
-Entered [] = ⊥
-Entered (m ∷ ms) = Unit {0}
-
--- Code behind the innermost master.
-abbrev pub Behind : Control → List Master → Type 0
-Behind k [] = ⊥
-Behind k (m ∷ ms) = Code k ms
-
--- Code of a master that is entered.
-abbrev pub Inside : Control → List Master → Type 0
-Inside k ms = Entered ms × Code k ms
-
-code_go : (f : Frame Value) (k : Control) (ms : List Master) → Entered ms → IsCode f → Code k ms → Under false (IsCode f) ms (λ ns. Code k ns)
-code_go f k [] e is c = absurd e
-code_go f k (m ∷ ms) e is c = (is, c)
-
-pub code_more : (f : Frame Value) (k : Control) (ms : List Master) → IsCode f → Inside k ms → Code (f ∷ k) ms
-code_more f k ms is c = subst (λ (b : Bool). Under b (IsCode f) ms (λ ns. Code k ns)) (sym (code_is_no_master f is)) (code_go f k ms c.0 is c.1)
-
-under_go : (f : Frame Value) (k : Control) (ms : List Master) → Under false (IsCode f) ms (λ ns. Code k ns) → Inside k ms
-under_go f k [] c = absurd c
-under_go f k (m ∷ ms) c = (tt, c.1)
-
-pub code_less : (f : Frame Value) (k : Control) (ms : List Master) → IsCode f → Code (f ∷ k) ms → Inside k ms
-code_less f k ms is c = under_go f k ms (subst (λ (b : Bool). Under b (IsCode f) ms (λ ns. Code k ns)) (code_is_no_master f is) c)
-
-behind_go : (f : Frame Value) (k : Control) (ms : List Master) → Behind k ms → Under true (IsCode f) ms (λ ns. Code k ns)
-behind_go f k [] c = c
-behind_go f k (m ∷ ms) c = c
-
-pub behind_more : (f : Frame Value) (k : Control) (ms : List Master) → is_master f ≡ true → Behind k ms → Code (f ∷ k) ms
-behind_more f k ms is c = subst (λ (b : Bool). Under b (IsCode f) ms (λ ns. Code k ns)) (sym is) (behind_go f k ms c)
-
-behind_to : (f : Frame Value) (k : Control) (ms : List Master) → Under true (IsCode f) ms (λ ns. Code k ns) → Behind k ms
-behind_to f k [] c = c
-behind_to f k (m ∷ ms) c = c
-
-pub behind_less : (f : Frame Value) (k : Control) (ms : List Master) → is_master f ≡ true → Code (f ∷ k) ms → Behind k ms
-behind_less f k ms is c = behind_to f k ms (subst (λ (b : Bool). Under b (IsCode f) ms (λ ns. Code k ns)) is c)
-
--- The innermost master has this number.
-abbrev pub IsFirst : ℕ → List Master → Type 0
-IsFirst n [] = ⊥
-IsFirst n (m ∷ ms) = m.number ≡ n
-
-pub entered_behind : (k : Control) (ms : List Master) → Behind k ms → Entered ms
-entered_behind k [] c = c
-entered_behind k (m ∷ ms) c = tt
-
 -- Code in front of what is left to do; or a master's frame has become another one.
 pub data Over (b : Control) : Control → Type 0 where
-  same : Over b b
+  same_one : Over b b
   turned : (f g : Frame Value) (k : Control) → is_master f ≡ true → is_master g ≡ true → b ≡ f ∷ k → Over b (g ∷ k)
   more : {f : Frame Value} {l : Control} → IsCode f → Over b l → Over b (f ∷ l)
 
-pub over_seen : {b l : Control} (types : List TypeDefinition) (h : Heap) (ms : List Master) → Over b l → control_seen types h l ms ≡ control_seen types h b ms
-over_seen types h ms same = refl
-over_seen types h ms (turned f g k is becomes was) =
-    acts_seen types h g (control_seen types h k) ms becomes ∙ sym (acts_seen types h f (control_seen types h k) ms is) ∙ ap (λ (l : Control). control_seen types h l ms) (sym was)
-over_seen types h ms (more {f} {l} is over) = code_seen types h f (control_seen types h l) ms is ∙ over_seen types h ms over
+-- What never changes of an object: which controlled parts it has, and where it joins.
+pub record Static : Type 0 where
+  pub holds : (object part : ℕ) → Bool
+  pub joins : (object : ℕ) → List Master → storage.Joins
 
-pub over_code : {b l : Control} (ms : List Master) → Over b l → Inside b ms → Inside l ms
-over_code ms same c = c
-over_code ms (turned f g k is becomes was) c =
-    (c.0, behind_more g k ms becomes (behind_less f k ms is (subst (λ (l : Control). Code l ms) was c.1)))
-over_code ms (more {f} {l} is over) c = (c.0, code_more f l ms is (over_code ms over c))
+abbrev pub static : Heap → Static
+static h = record { holds = λ o p. is_some (part_of (slice_get h o) p); joins = λ o. joins_seen (slice_get h o) }
 
--- Code is for storage user code of each master that is entered.
-abbrev pub chain : Heap → List Master → storage.Control
-chain h [] = storage.stops
-chain h (m ∷ ms) = storage.acts (master_seen h m) (chain h ms)
+-- How often objects are listed, and without one of them.
+abbrev pub listing : Heap → Listing
+listing h n o = in_list o (listed_in h n)
 
-nothing_seen : (h : Heap) (ms : List Master) → IsEmpty ms → storage.stops ≡ chain h ms
-nothing_seen h [] c = refl
-nothing_seen h (m ∷ ms) c = absurd c
+abbrev pub but : ℕ → Listing → Listing
+but o L n x = cond (x == o) 0 (L n x)
 
-chain_by :
-    (types : List TypeDefinition) (h : Heap) (f : Frame Value) (k : Control) (ms : List Master) (b : Bool) → is_master f ≡ b → Under b (IsCode f) ms (λ ns. Code k ns)
-    → ((ns : List Master) → Code k ns → control_seen types h k ns ≡ chain h ns) → control_seen types h (f ∷ k) ms ≡ chain h ms
-chain_by types h f k [] true is c again = absurd c
-chain_by types h f k (m ∷ ms) true is c again = acts_seen types h f (control_seen types h k) (m ∷ ms) is ∙ ap (λ (l : storage.Control). storage.acts (master_seen h m) l) (again ms c)
-chain_by types h f k [] false is c again = absurd c
-chain_by types h f k (m ∷ ms) false is c again = code_seen types h f (control_seen types h k) (m ∷ ms) c.0 ∙ again (m ∷ ms) c.1
+-- A treatment in storage, but at a leaving.
+pub data Treating : Type 0 where
+  frees : (number object : ℕ) (left : List Forest) → Treating
+  initializes : (object : ℕ) (joins : storage.Joins) (jobs : List Job) (done : List ℕ) → Treating
+  undoes : (number object : ℕ) (done : List ℕ) → Treating
+  assigns : (number object : ℕ) (parts : Forest) (left : List Forest) → Treating
+  adjusts : (object : ℕ) (parts : Forest) (jobs : List Job) (done : List ℕ) → Treating
 
-pub chain_seen : (types : List TypeDefinition) (h : Heap) (k : Control) (ms : List Master) → Code k ms → control_seen types h k ms ≡ chain h ms
-chain_seen types h [] ms c = nothing_seen h ms c
-chain_seen types h (f ∷ k) ms c = chain_by types h f k ms (is_master f) refl c (λ ns d. chain_seen types h k ns d)
+abbrev pub before : Treating → storage.Control → storage.Control
+before (frees n o fs) k = storage.frees n o fs k
+before (initializes o joins js done) k = storage.initializes o joins js done k
+before (undoes n o done) k = storage.undoes n o done k
+before (assigns n o f fs) k = storage.assigns n o f fs k
+before (adjusts o f js done) k = storage.adjusts o f js done k
 
--- What is under way, where code is left to do.
-pub code_under_way : (types : List TypeDefinition) (h : Heap) (k : Control) (ms : List Master) (c : storage.Control) → Code k ms → c ≡ control_seen types h k ms → IsUnderWay types h k ms c
-code_under_way types h [] ms c code e = e
-code_under_way types h (frame.Treats v (begins by) tasks ∷ k) [] c code e = absurd code
-code_under_way types h (frame.Treats v (begins by) tasks ∷ k) (m ∷ ms) c code e = absurd code.0
-code_under_way types h (frame.Treats v (ends cause) tasks ∷ k) [] c code e = absurd code
-code_under_way types h (frame.Treats v (ends cause) tasks ∷ k) (m ∷ ms) c code e = absurd code.0
-code_under_way types h (frame.Ends v ∷ k) [] c code e = absurd code
-code_under_way types h (frame.Ends v ∷ k) (m ∷ ms) c code e = absurd code.0
-code_under_way types h (f ∷ k) ms c code e = e
+-- How often an object has its place there, and is assigned there; what lives behind it, and what is listed there.
+abbrev pub placed_in : ℕ → Treating → ℕ
+placed_in x (frees n o fs) = same x o
+placed_in x (initializes o joins js done) = same x o
+placed_in x (undoes n o done) = same x o
+placed_in x (assigns n o f fs) = 0
+placed_in x (adjusts o f js done) = 0
 
-pub under_way_code : (types : List TypeDefinition) (h : Heap) (k : Control) (ms : List Master) (c : storage.Control) → Code k ms → IsUnderWay types h k ms c → c ≡ control_seen types h k ms
-under_way_code types h [] ms c code e = e
-under_way_code types h (frame.Treats v (begins by) tasks ∷ k) [] c code e = absurd code
-under_way_code types h (frame.Treats v (begins by) tasks ∷ k) (m ∷ ms) c code e = absurd code.0
-under_way_code types h (frame.Treats v (ends cause) tasks ∷ k) [] c code e = absurd code
-under_way_code types h (frame.Treats v (ends cause) tasks ∷ k) (m ∷ ms) c code e = absurd code.0
-under_way_code types h (frame.Ends v ∷ k) [] c code e = absurd code
-under_way_code types h (frame.Ends v ∷ k) (m ∷ ms) c code e = absurd code.0
-under_way_code types h (f ∷ k) ms c code e = e
+abbrev pub assigned_in : ℕ → Treating → ℕ
+assigned_in x (frees n o fs) = 0
+assigned_in x (initializes o joins js done) = 0
+assigned_in x (undoes n o done) = 0
+assigned_in x (assigns n o f fs) = same x o
+assigned_in x (adjusts o f js done) = same x o
 
--- Where an object that is initialized joins: nothing else is seen of it.
-abbrev pub IsJoining : (h g : Heap) → (object : ℕ) → List Master → storage.Joins → Type 0
-IsJoining h g o [] joins = ⊥
-IsJoining h g o (m ∷ ms) storage.to_items =
-    (c : ℕ) × (is_above c (items_seen g m.items) ≡ true)
-    × (storage.acts (record { number = suc m.number; items = record { number = c; owned = storage.declared o } ∷ items_seen g m.items }) (chain g ms) ≡ chain h (m ∷ ms))
-IsJoining h g o (m ∷ ms) (storage.to_collection a c) =
-    (storage.opens a c (chain g (m ∷ ms)) ≡ 1) × (storage.joined a c o (chain g (m ∷ ms)) ≡ chain h (m ∷ ms))
+abbrev pub alive_behind : Alive → Treating → Alive
+alive_behind A (frees n o fs) = A
+alive_behind A (initializes o joins js done) = A
+alive_behind A (undoes n o done) = A
+alive_behind A (assigns n o f fs) = after A o f
+alive_behind A (adjusts o f js done) = after A o f
 
--- An operand that refers to a record refers to one of an object whose words are out.
-abbrev pub IsLive : Heap → Value → Type 0
-IsLive h Null = Unit {0}
-IsLive h (Names o) = Unit {0}
-IsLive h (Scalar v) = Unit {0}
-IsLive h (Part o place) = is_out (slice_get h o.0) ≡ true
+abbrev pub listing_behind : Listing → Treating → Listing
+listing_behind L (frees n o fs) = L
+listing_behind L (initializes o joins js done) = but o L
+listing_behind L (undoes n o done) = L
+listing_behind L (assigns n o f fs) = L
+listing_behind L (adjusts o f js done) = L
 
--- Where the target of an assignment has been found, it is the newest operand; or the one behind the newest.
-abbrev pub Kept : Heap → (has_target : Bool) → (operands : List Value) → Type 0
-Kept h false vs = Unit {0}
-Kept h true [] = Unit {0}
-Kept h true (v ∷ vs) = IsLive h v
+pub placed_before : (x : ℕ) (t : Treating) (k : storage.Control) → placed x (before t k) ≡ placed_in x t + placed x k
+placed_before x (frees n o fs) k = refl
+placed_before x (initializes o joins js done) k = refl
+placed_before x (undoes n o done) k = refl
+placed_before x (assigns n o f fs) k = omega arith
+placed_before x (adjusts o f js done) k = omega arith
 
-abbrev pub KeptBehind : Heap → (has_target : Bool) → (operands : List Value) → Type 0
-KeptBehind h has [] = Unit {0}
-KeptBehind h has (v ∷ vs) = Kept h has vs
+pub listed_before : (x : ℕ) (t : Treating) (k : storage.Control) → listed x (before t k) ≡ listed x k
+listed_before x (frees n o fs) k = refl
+listed_before x (initializes o joins js done) k = refl
+listed_before x (undoes n o done) k = refl
+listed_before x (assigns n o f fs) k = refl
+listed_before x (adjusts o f js done) k = refl
 
--- What is left to do then: the source is found, and the assignment comes.
-abbrev pub still_found : (has_target : Bool) → (source : RecordPathForm) → (record_type : ℕ) → Control → Control
-still_found false source t k = frame.Refers source ∷ frame.Assigns t ∷ k
-still_found true source t k = frame.Assigns t ∷ k
+pub assigned_before : (x : ℕ) (t : Treating) (k : storage.Control) → assigned x (before t k) ≡ assigned_in x t + assigned x k
+assigned_before x (frees n o fs) k = omega arith
+assigned_before x (initializes o joins js done) k = omega arith
+assigned_before x (undoes n o done) k = omega arith
+assigned_before x (assigns n o f fs) k = refl
+assigned_before x (adjusts o f js done) k = refl
 
--- A record is being found.
-pub data Path (vs : List Value) (h : Heap) (has : Bool) (rest : Control) : Control → Type 0 where
-  at_path : (p : RecordPathForm) → Kept h has vs → Path vs h has rest (frame.Refers p ∷ rest)
-  on_path : (cs : List ℕ) (place : Place) (t : ℕ) → KeptBehind h has vs → Path vs h has rest (frame.Follows cs ∷ frame.RefersIn place t ∷ rest)
-  off_path : (place : Place) (t : ℕ) → KeptBehind h has vs → Path vs h has rest (frame.RefersIn place t ∷ rest)
+pub opens_before : (a c : ℕ) (t : Treating) (k : storage.Control) → opens a c (before t k) ≡ opens a c k
+opens_before a c (frees n o fs) k = refl
+opens_before a c (initializes o joins js done) k = refl
+opens_before a c (undoes n o done) k = refl
+opens_before a c (assigns n o f fs) k = refl
+opens_before a c (adjusts o f js done) k = refl
 
--- An exception passes what is left of an assignment that has not begun.
-pub data Passed (k : Control) : Control → Type 0 where
-  passed : Passed k k
-  passes_path : (p : RecordPathForm) {l : Control} → Passed k l → Passed k (frame.Refers p ∷ l)
-  passes_record : (place : Place) (t : ℕ) {l : Control} → Passed k l → Passed k (frame.RefersIn place t ∷ l)
-  passes_assignment : (t : ℕ) {l : Control} → Passed k l → Passed k (frame.Assigns t ∷ l)
+pub parted_before : (x : ℕ) (t : Treating) (k : storage.Control) → parted x (before t k) ≡ before t (parted x k)
+parted_before x (frees n o fs) k = refl
+parted_before x (initializes o joins js done) k = refl
+parted_before x (undoes n o done) k = refl
+parted_before x (assigns n o f fs) k = refl
+parted_before x (adjusts o f js done) k = refl
+
+pub joined_before : (a c x : ℕ) (t : Treating) (k : storage.Control) → joined a c x (before t k) ≡ before t (joined a c x k)
+joined_before a c x (frees n o fs) k = refl
+joined_before a c x (initializes o joins js done) k = refl
+joined_before a c x (undoes n o done) k = refl
+joined_before a c x (assigns n o f fs) k = refl
+joined_before a c x (adjusts o f js done) k = refl
+
+pub fits_behind : (A : Alive) (T : Objects) (t : Treating) (k : storage.Control) → Fits A T (before t k) → Fits (alive_behind A t) T k
+fits_behind A T (frees n o fs) k f = f.2
+fits_behind A T (initializes o joins js done) k f = f.4
+fits_behind A T (undoes n o done) k f = f.2
+fits_behind A T (assigns n o f fs) k e = e.4
+fits_behind A T (adjusts o f js done) k e = e.4
+
+-- Where an object joins once it is initialized: its item is the newest one of the innermost master, or it goes to a collection.
+pub data Joining (L : Listing) (o : ℕ) : List Master → storage.Joins → Type 0 where
+  as_item :
+      (a n t : ℕ) (is : List Item) (ms : List Master) → ((x : ℕ) → L n x ≡ same x o) → ((i : ℕ) → i ≢ n → L i o ≡ 0) → AllBelow n is → NotInMasters n ms
+      → Joining L o (record { number = a; items = record { number = n; owned = record_object t } ∷ is } ∷ ms) storage.to_items
+  as_member : (a n : ℕ) {ms : List Master} → L n o ≡ 1 → ((i : ℕ) → i ≢ n → L i o ≡ 0) → MasterOnce a n ms → Joining L o ms (storage.to_collection a n)
+
+-- User code comes next.
+abbrev pub IsActing : storage.Control → Type 0
+IsActing (storage.acts m k) = Unit {0}
+IsActing k = ⊥
 
 -- An object is created: it is initialized, or adjusted as a copy.
 abbrev pub IsCreated : Birth → Type 0
@@ -251,93 +199,81 @@ IsRecord (performs t p ∷ rest) = rest ≡ []
 -- What an assignment does behind the finalization of its target.
 abbrev pub copying : Id → (base t first count n : ℕ) → Task → List Task → Control → Control
 copying o base t first count n task tasks k =
-    frame.Copies base t ∷ frame.StoresRecord (Names o) first count ∷ frame.Treats (Names o) (begins (Adjustment n)) (task ∷ tasks) ∷ k
+    frame.Copies base t ∷ frame.StoresRecord (Names o) first count ∷ frame.Treats (Names o) (begins (Adjustment n) []) (task ∷ tasks) ∷ k
 
--- What is left to do at a step's beginning and end: code; or the innermost master is being left; or an object of it is being ended, which is first of all, or
--- one that is freed; or a new one is initialized.
-pub data Stands (vs : List Value) (h : Heap) (ms : List Master) : Mode → Control → Type 0 where
-  codes : {mode : Mode} {k : Control} → Code k ms → Stands vs h ms mode k
-  leaving : (mode : Mode) (k : Control) → Behind k ms → Stands vs h ms Running (frame.Leaves mode ∷ k)
-  ending : (v : Value) (m i : ℕ) (pool : Option ℕ) (mode : Mode) (k : Control) → IsFirst m ms → Behind k ms → Stands vs h ms Running (frame.Ends v ∷ frame.GivesBack v (Leaving m i) pool ∷ frame.Leaves mode ∷ k)
-  ended : (o : Id) (x : Object) (m i : ℕ) (pool : Option ℕ) (mode : Mode) (k : Control) → slice_get h o.0 ≡ Some x → x.stage ≡ Gone → IsFirst m ms → Behind k ms → Stands vs h ms Running (frame.GivesBack (Names o) (Leaving m i) pool ∷ frame.Leaves mode ∷ k)
-  freeing : (v : Value) (n : ℕ) (pool : Option ℕ) (k : Control) → Inside k ms → Stands vs h ms Running (frame.Ends v ∷ frame.GivesBack v (Freeing n) pool ∷ k)
-  freed : (o : Id) (x : Object) (n : ℕ) (pool : Option ℕ) (k : Control) → slice_get h o.0 ≡ Some x → x.stage ≡ Gone → Inside k ms → Stands vs h ms Running (frame.GivesBack (Names o) (Freeing n) pool ∷ k)
-  beginning :
-      (o : Id) (x : Object) (by : Birth) (task : Task) (tasks : List Task) (k : Control) → IsCreated by → slice_get h o.0 ≡ Some x → Inside k ms
-      → IsJoining h (on_object parted h (Names o)) o.0 ms (joins_seen (slice_get h o.0) ms)
-      → Stands vs h ms Running (frame.Treats (Names o) (begins by) (task ∷ tasks) ∷ k)
-  finishing :
-      (task : Task) (tasks : List Task) (v : Value) (m i : ℕ) (pool : Option ℕ) (mode : Mode) (k : Control) → IsFirst m ms → Behind k ms
-      → Stands vs h ms Running (frame.Treats v (ends (Leaving m i)) (task ∷ tasks) ∷ frame.Ends v ∷ frame.GivesBack v (Leaving m i) pool ∷ frame.Leaves mode ∷ k)
-  finishing_freed :
-      (task : Task) (tasks : List Task) (v : Value) (n : ℕ) (pool : Option ℕ) (k : Control) → Inside k ms
-      → Stands vs h ms Running (frame.Treats v (ends (Freeing n)) (task ∷ tasks) ∷ frame.Ends v ∷ frame.GivesBack v (Freeing n) pool ∷ k)
-  finding : (has : Bool) (source : RecordPathForm) (t : ℕ) (k : Control) {l : Control} → Path vs h has (still_found has source t k) l → Inside k ms → Stands vs h ms Running l
-  records_found : (t : ℕ) (k : Control) → KeptBehind h true vs → Inside k ms → Stands vs h ms Running (frame.Assigns t ∷ k)
-  passing : (e : Exception) (k : Control) {l : Control} → Passed k l → Inside k ms → Stands vs h ms (Raising e) l
-  assigning :
-      (o p : Id) (us : List Value) (base t first count n : ℕ) (task : Task) (tasks : List Task) (last : Task) (lasts : List Task) (k : Control)
-      → vs ≡ Names p ∷ us → is_out (slice_get h o.0) ≡ true → IsRecord (last ∷ lasts) → Inside k ms
-      → Stands vs h ms Running (frame.Treats (Names o) (ends (Assigning n)) (task ∷ tasks) ∷ copying o base t first count n last lasts k)
-  copies :
-      (o p : Id) (us : List Value) (base t first count n : ℕ) (last : Task) (lasts : List Task) (k : Control)
-      → vs ≡ Names p ∷ us → is_out (slice_get h o.0) ≡ true → IsRecord (last ∷ lasts) → Inside k ms
-      → Stands vs h ms Running (copying o base t first count n last lasts k)
-  stores :
-      (o : Id) (first count n : ℕ) (last : Task) (lasts : List Task) (k : Control) → is_out (slice_get h o.0) ≡ true → IsRecord (last ∷ lasts) → Inside k ms
-      → Stands vs h ms Running (frame.StoresRecord (Names o) first count ∷ frame.Treats (Names o) (begins (Adjustment n)) (last ∷ lasts) ∷ k)
-  adjusting :
-      (o : Id) (n : ℕ) (task : Task) (tasks : List Task) (k : Control) → is_out (slice_get h o.0) ≡ true → Inside k ms
-      → Stands vs h ms Running (frame.Treats (Names o) (begins (Adjustment n)) (task ∷ tasks) ∷ k)
+-- What follows the finalization of an object that is left, freed or undone.
+abbrev pub taking : Id → (m i : ℕ) → (pool : Option ℕ) → Mode → Control → Control
+taking o m i pool mode k = frame.Ends (Names o) ∷ frame.GivesBack (Names o) (Leaving m i) pool ∷ frame.Leaves mode ∷ k
 
--- An object that is taken at a leaving, or freed, is treated first, if anything is to be done.
-pub finishes : (vs : List Value) (h : Heap) (ms : List Master) (tasks : List Task) (v : Value) (m i : ℕ) (pool : Option ℕ) (mode : Mode) (k : Control) → IsFirst m ms → Behind k ms → Stands vs h ms Running (treating v (ends (Leaving m i)) tasks (frame.Ends v ∷ frame.GivesBack v (Leaving m i) pool ∷ frame.Leaves mode ∷ k))
-finishes vs h ms [] v m i pool mode k first c = ending v m i pool mode k first c
-finishes vs h ms (task ∷ tasks) v m i pool mode k first c = finishing task tasks v m i pool mode k first c
+abbrev pub giving_up : Id → (n : ℕ) → (pool : Option ℕ) → Control → Control
+giving_up o n pool k = frame.Ends (Names o) ∷ frame.GivesBack (Names o) (Freeing n) pool ∷ k
 
-pub finishes_freed : (vs : List Value) (h : Heap) (ms : List Master) (tasks : List Task) (v : Value) (n : ℕ) (pool : Option ℕ) (k : Control) → Inside k ms → Stands vs h ms Running (treating v (ends (Freeing n)) tasks (frame.Ends v ∷ frame.GivesBack v (Freeing n) pool ∷ k))
-finishes_freed vs h ms [] v n pool k c = freeing v n pool k c
-finishes_freed vs h ms (task ∷ tasks) v n pool k c = finishing_freed task tasks v n pool k c
+abbrev pub undoing : Id → (n : ℕ) → (pool : Option ℕ) → Exception → Control → Control
+undoing o n pool e k = frame.Ends (Names o) ∷ frame.GivesBack (Names o) (Undoing n) pool ∷ frame.Resumes (Raising e) ∷ k
 
--- So it is read.
-pub treating_seen : (types : List TypeDefinition) (h : Heap) (ms : List Master) (tasks : List Task) (v w : Value) (cause : Cause) (k : Control) (left : List storage.Forest) (c : storage.Control) → Ends (shapes_of types) left tasks → c ≡ with_left left (control_seen types h k ms) → IsUnderWay types h (treating v (ends cause) tasks (frame.Ends w ∷ k)) ms c
-treating_seen types h ms [] v w cause k left c e is = (left, e, is)
-treating_seen types h ms (task ∷ tasks) v w cause k left c e is = inl (left, e, is)
+-- What is to be done for an object that is undone.
+abbrev pub performing : List PartOf → List Task
+performing done = map (λ p. performs p.of p.number) done
 
--- Nothing of a record that is found, or passed, is seen.
-pub path_seen : {vs : List Value} {has : Bool} {rest l : Control} (types : List TypeDefinition) (h : Heap) (ms : List Master) → Path vs h has rest l → control_seen types h l ms ≡ control_seen types h rest ms
-path_seen types h ms (at_path p kept) = refl
-path_seen types h ms (on_path cs place t kept) = refl
-path_seen types h ms (off_path place t kept) = refl
+-- Some part that is still to be finalized is not among these, but each is that has a value.
+pub record Lacks (types : List TypeDefinition) (A : Alive) (object : ℕ) (tasks : List Task) (left : List ℕ) : Type 0 where
+  pub dead : ℕ
+  pub to_end : IsToEnd types tasks dead
+  pub is_dead : in_list dead left ≡ 0
+  pub others : (p : ℕ) → IsToEnd types tasks p → A object p ≡ true → 0 < in_list p left
 
-pub rest_seen : (types : List TypeDefinition) (h : Heap) (ms : List Master) (has : Bool) (source : RecordPathForm) (t : ℕ) (k : Control) → control_seen types h (still_found has source t k) ms ≡ control_seen types h k ms
-rest_seen types h ms false source t k = refl
-rest_seen types h ms true source t k = refl
+-- A treatment waits behind the body of an operation: its object has a part that has no value.
+pub data Waits (types : List TypeDefinition) (S : Static) (L : Listing) (A : Alive) (acts : List (Activation Value)) (ms : List Master) (k : Control) : Control → Treating → Type 0 where
+  made :
+      (o : Id) (by : Birth) (done : List PartOf) (of part : ℕ) (tasks : List Task) (jobs : List Job) (joins : storage.Joins) → IsCreated by → S.holds o.0 part ≡ true
+      → Begins (shapes_of types) jobs tasks → S.joins o.0 ms ≡ joins → Joining L o.0 ms joins
+      → Waits types S L A acts ms k (frame.Awaits (Names o) by done of part tasks ∷ k) (initializes o.0 joins (storage.called part ∷ jobs) (numbers done))
+  adjusted :
+      (o : Id) (n : ℕ) (done : List PartOf) (of part : ℕ) (tasks : List Task) (f : Forest) (jobs : List Job) → S.holds o.0 part ≡ true → Begins (shapes_of types) jobs tasks
+      → Waits types S L A acts ms k (frame.Awaits (Names o) (Adjustment n) done of part tasks ∷ k) (adjusts o.0 f (storage.called part ∷ jobs) (numbers done))
+  freed :
+      (o : Id) (n : ℕ) (pool : Option ℕ) (tasks : List Task) (left : List Forest) (dead : ℕ) {l : Control} → S.holds o.0 dead ≡ true → in_forests dead left ≡ 0
+      → Ends (shapes_of types) left tasks → l ≡ treating (Names o) (ends (Freeing n)) tasks (giving_up o n pool k)
+      → Waits types S L A acts ms k (frame.Confines ∷ l) (frees (suc n) o.0 left)
+  undone :
+      (o : Id) (n : ℕ) (pool : Option ℕ) (e : Exception) (done : List PartOf) (dead : ℕ) {l : Control} → S.holds o.0 dead ≡ true → in_list dead (numbers done) ≡ 0
+      → l ≡ treating (Names o) (ends (Undoing n)) (performing done) (undoing o n pool e k)
+      → Waits types S L A acts ms k (frame.Confines ∷ l) (undoes (suc n) o.0 (numbers done))
+  assigned_to :
+      (o p : Id) (us : List Value) (base t first count n : ℕ) (last : Task) (lasts tasks : List Task) (left : List Forest) (dead : ℕ) {l : Control} → S.holds o.0 dead ≡ true
+      → 0 < in_forest dead (forest_adjusted (shapes_of types) (last ∷ lasts)) → in_forests dead left ≡ 0
+      → operands_of acts ≡ Names p ∷ us → IsRecord (last ∷ lasts) → Ends (shapes_of types) left tasks
+      → l ≡ treating (Names o) (ends (Assigning n)) tasks (copying o base t first count n last lasts k)
+      → Waits types S L A acts ms k (frame.Confines ∷ l) (assigns (suc n) o.0 (forest_adjusted (shapes_of types) (last ∷ lasts)) left)
+  failing :
+      (o p : Id) (us : List Value) (base t first count n : ℕ) (last : Task) (lasts tasks : List Task) (parts left : List ℕ) (dead : ℕ) {l : Control} → S.holds o.0 dead ≡ true
+      → 0 < in_forest dead (beside parts) → in_list dead left ≡ 0
+      → operands_of acts ≡ Names p ∷ us → IsRecord (last ∷ lasts) → Lacks types A o.0 tasks left
+      → l ≡ treating (Names o) (ends (Assigning n)) tasks (copying o base t first count n last lasts k)
+      → Waits types S L A acts ms k (frame.Confines ∷ l) (assigns (suc n) o.0 (beside parts) (storage.none ∷ beside left ∷ []))
 
-pub path_under_way : {vs : List Value} {has : Bool} {rest l : Control} (types : List TypeDefinition) (h : Heap) (ms : List Master) (c : storage.Control) → Path vs h has rest l → c ≡ control_seen types h rest ms → IsUnderWay types h l ms c
-path_under_way types h ms c (at_path p kept) e = e
-path_under_way types h ms c (on_path cs place t kept) e = e
-path_under_way types h ms c (off_path place t kept) e = e
-
-pub under_way_path : {vs : List Value} {has : Bool} {rest l : Control} (types : List TypeDefinition) (h : Heap) (ms : List Master) (c : storage.Control) → Path vs h has rest l → IsUnderWay types h l ms c → c ≡ control_seen types h rest ms
-under_way_path types h ms c (at_path p kept) e = e
-under_way_path types h ms c (on_path cs place t kept) e = e
-under_way_path types h ms c (off_path place t kept) e = e
-
-pub passed_seen : {k l : Control} (types : List TypeDefinition) (h : Heap) (ms : List Master) → Passed k l → control_seen types h l ms ≡ control_seen types h k ms
-passed_seen types h ms passed = refl
-passed_seen types h ms (passes_path p later) = passed_seen types h ms later
-passed_seen types h ms (passes_record place t later) = passed_seen types h ms later
-passed_seen types h ms (passes_assignment t later) = passed_seen types h ms later
-
-pub passed_under_way : {k l : Control} (types : List TypeDefinition) (h : Heap) (ms : List Master) (c : storage.Control) → Passed k l → Code k ms → c ≡ control_seen types h l ms → IsUnderWay types h l ms c
-passed_under_way {k} types h ms c passed code e = code_under_way types h k ms c code e
-passed_under_way types h ms c (passes_path p later) code e = e
-passed_under_way types h ms c (passes_record place t later) code e = e
-passed_under_way types h ms c (passes_assignment t later) code e = e
-
-pub under_way_passed : {k l : Control} (types : List TypeDefinition) (h : Heap) (ms : List Master) (c : storage.Control) → Passed k l → Code k ms → IsUnderWay types h l ms c → c ≡ control_seen types h l ms
-under_way_passed {k} types h ms c passed code e = under_way_code types h k ms c code e
-under_way_passed types h ms c (passes_path p later) code e = e
-under_way_passed types h ms c (passes_record place t later) code e = e
-under_way_passed types h ms c (passes_assignment t later) code e = e
+-- All that is left to do, with the masters that are entered, as this control of storage: code; or a treatment waits, with what is behind it.
+pub data Reads (types : List TypeDefinition) (S : Static) : (waits : Bool) → Listing → Alive → List (Activation Value) → Control → List Master → storage.Control → Type 0 where
+  nothing : {L : Listing} {A : Alive} {acts : List (Activation Value)} → Reads types S false L A acts [] [] storage.stops
+  code :
+      {L : Listing} {A : Alive} {acts : List (Activation Value)} {f : Frame Value} {k : Control} {ms : List Master} {M : storage.Master} {c : storage.Control} → IsCode f
+      → Reads types S false L A acts k ms (storage.acts M c) → Reads types S false L A acts (f ∷ k) ms (storage.acts M c)
+  calls :
+      {L : Listing} {A : Alive} {acts : List (Activation Value)} (actuals : List ActualForm) (references : List Value) {k : Control} {ms : List Master} {M : storage.Master}
+      {c : storage.Control} → Reads types S false L A (older acts) k ms (storage.acts M c) → Reads types S false L A acts (frame.Returns actuals references ∷ k) ms (storage.acts M c)
+  enters :
+      {L : Listing} {A : Alive} {acts : List (Activation Value)} (f : Frame Value) {k : Control} (m : Master) {ms : List Master} {js : List storage.Item} {c : storage.Control}
+      → is_master f ≡ true → Items L m.items js → Reads types S false L A acts k ms c
+      → Reads types S false L A acts (f ∷ k) (m ∷ ms) (storage.acts (record { number = suc m.number; items = js }) c)
+  operates :
+      {L : Listing} {A : Alive} {acts : List (Activation Value)} {k : Control} {ms : List Master} {c : storage.Control}
+      → Reads types S true L A acts k ms c → Reads types S false L A acts (frame.Returns [] [] ∷ k) ms c
+  treats_behind :
+      {L : Listing} {A : Alive} {acts : List (Activation Value)} {k l : Control} {ms : List Master} {c d : storage.Control} (t : Treating) → Waits types S L A acts ms k l t
+      → IsActing c → Reads types S false (listing_behind L t) (alive_behind A t) (older acts) k ms c → d ≡ before t c → Reads types S true L A acts l ms d
+  leaves_behind :
+      {L : Listing} {A : Alive} {acts : List (Activation Value)} {k l : Control} (o : Id) (i : ℕ) (pool : Option ℕ) (mode : Mode) (tasks : List Task) (left : List Forest)
+      (dead : ℕ) (m : Master) {ms : List Master} {js : List storage.Item} {c : storage.Control} → S.holds o.0 dead ≡ true → in_forests dead left ≡ 0
+      → Ends (shapes_of types) left tasks → Items L m.items js → Reads types S false L A (older acts) k ms c
+      → l ≡ treating (Names o) (ends (Leaving m.number i)) tasks (taking o m.number i pool mode k)
+      → Reads types S true L A acts (frame.Confines ∷ l) (m ∷ ms) (storage.finalizes (record { number = suc m.number; items = js }) i o.0 left (mode_seen mode) c)

@@ -14,7 +14,7 @@ pub by_running : (s : State) (k : Control) (c : Choice) (e : Event) (t : State) 
 unfolding step
 by_running s k c e t is r h = ap (λ (m : Mode). mode_step m c s) r ∙ ap (λ (l : Control). running_step c l s) is ∙ h
 
-by_raising : (s : State) (k : Control) (c : Choice) (e : Event) (t : State) → s.control ≡ k → s.mode ≡ raising → raising_step c k s ≡ goes e t → step c s ≡ goes e t
+pub by_raising : (s : State) (k : Control) (c : Choice) (e : Event) (t : State) → s.control ≡ k → s.mode ≡ raising → raising_step c k s ≡ goes e t → step c s ≡ goes e t
 unfolding step
 by_raising s k c e t is r h = ap (λ (m : Mode). mode_step m c s) r ∙ ap (λ (l : Control). raising_step c l s) is ∙ h
 

@@ -10,11 +10,13 @@ use Rattle.ada_meaning.specs.declared.state.Value.{Value}
 use Rattle.ada_meaning.specs.declared.state.Value.TheVariants.{Null, Names, Scalar, Part}
 use Rattle.ada_meaning.specs.declared.state.Stage.TheVariants.{Gone}
 use Rattle.ada_meaning.specs.Heap.{PartState}
+use Rattle.ada_meaning.specs.State.{Master}
 use Rattle.ada_meaning.specs.Step.{stored_from}
 use Rattle.ada_meaning.specs.Named.{Object, named, treated, changed, on_object, filled, finished, parted, returned, store, is_member, members_from}
 use Rattle.ada_storage.specs.State.{put, in_list, without}
 use Rattle.ada_storage.proofs.Facts.{eq_self, eq_not, same_other}
-use Rattle.ada_following.specs.Reading.{number, listed_in, is_out, part_of}
+use Rattle.ada_following.specs.Reading.{number, listed_in, is_out, joins_seen, part_of}
+use Rattle.ada_following.proofs.Places.{in_without}
 
 abbrev pub Heap : Type 0
 Heap = List Object
@@ -214,19 +216,21 @@ pub record Alike (xs ys : Heap) : Type 0 where
   pub listed : (n : ℕ) → listed_in ys n ≡ listed_in xs n
   pub out : (o : ℕ) → is_out (slice_get ys o) ≡ is_out (slice_get xs o)
   pub pool : (o : ℕ) → pool_of (slice_get ys o) ≡ pool_of (slice_get xs o)
+  pub joins : (o : ℕ) (ms : List Master) → joins_seen (slice_get ys o) ms ≡ joins_seen (slice_get xs o) ms
   pub access : (o : ℕ) → access_of (slice_get ys o) ≡ access_of (slice_get xs o)
   pub parts : (o p : ℕ) → part_of (slice_get ys o) p ≡ part_of (slice_get xs o) p
   pub fine : AreFine xs → AreFine ys
   pub count : length ys ≡ length xs
 
 pub alike_same : (xs : Heap) → Alike xs xs
-alike_same xs = record { listed = λ n. refl; out = λ o. refl; pool = λ o. refl; access = λ o. refl; parts = λ o p. refl; fine = λ f. f; count = refl }
+alike_same xs = record { listed = λ n. refl; out = λ o. refl; pool = λ o. refl; joins = λ o ms. refl; access = λ o. refl; parts = λ o p. refl; fine = λ f. f; count = refl }
 
 alike_later : (xs ys zs : Heap) → Alike xs ys → Alike ys zs → Alike xs zs
 alike_later xs ys zs a b = record {
   listed = λ n. b.listed n ∙ a.listed n;
   out = λ o. b.out o ∙ a.out o;
   pool = λ o. b.pool o ∙ a.pool o;
+  joins = λ o ms. b.joins o ms ∙ a.joins o ms;
   access = λ o. b.access o ∙ a.access o;
   parts = λ o p. b.parts o p ∙ a.parts o p;
   fine = λ f. b.fine (a.fine f);
@@ -239,6 +243,7 @@ alike_filled xs o c v (Some x) is = record {
   listed = λ n. from_set n 0 xs o.0 x (filled c v x) is refl;
   out = put_same is_out xs o.0 x (filled c v x) is refl;
   pool = put_same pool_of xs o.0 x (filled c v x) is refl;
+  joins = λ y ms. put_same (λ f. joins_seen f ms) xs o.0 x (filled c v x) is refl y;
   access = put_same access_of xs o.0 x (filled c v x) is refl;
   parts = λ y p. put_same (λ f. part_of f p) xs o.0 x (filled c v x) is refl y;
   fine = λ all. fine_set xs o.0 x (filled c v x) is (all o.0 x is) all;
@@ -261,6 +266,7 @@ pub record Unlists (o : ℕ) (xs ys : Heap) : Type 0 where
   pub listed : (n : ℕ) → listed_in ys n ≡ without o (listed_in xs n)
   pub out : (o : ℕ) → is_out (slice_get ys o) ≡ is_out (slice_get xs o)
   pub pool : (o : ℕ) → pool_of (slice_get ys o) ≡ pool_of (slice_get xs o)
+  pub joins : (o : ℕ) (ms : List Master) → joins_seen (slice_get ys o) ms ≡ joins_seen (slice_get xs o) ms
   pub access : (o : ℕ) → access_of (slice_get ys o) ≡ access_of (slice_get xs o)
   pub parts : (o p : ℕ) → part_of (slice_get ys o) p ≡ part_of (slice_get xs o) p
   pub fine : AreFine xs → AreFine ys
@@ -277,6 +283,7 @@ unlists_parted xs o x is = subst (Unlists o.0 xs) (sym (ap (λ f. changed parted
   listed = λ n. from_leaves n 0 xs o.0 x (parted x) is (member_off n (parted x) refl) ∙ zero_first o.0 (from n 0 xs);
   out = put_same is_out xs o.0 x (parted x) is refl;
   pool = put_same pool_of xs o.0 x (parted x) is refl;
+  joins = λ y ms. put_same (λ f. joins_seen f ms) xs o.0 x (parted x) is refl y;
   access = put_same access_of xs o.0 x (parted x) is refl;
   parts = λ y p. put_same (λ f. part_of f p) xs o.0 x (parted x) is refl y;
   fine = λ all. fine_set xs o.0 x (parted x) is ((all o.0 x is).0, λ b. absurd (cc b)) all;
@@ -288,6 +295,7 @@ unlists_finished xs o x is = subst (Unlists o.0 xs) (sym (ap (λ f. changed fini
   listed = λ n. from_leaves n 0 xs o.0 x (finished x) is (member_off n (finished x) refl) ∙ zero_first o.0 (from n 0 xs);
   out = put_same is_out xs o.0 x (finished x) is refl;
   pool = put_same pool_of xs o.0 x (finished x) is refl;
+  joins = λ y ms. put_same (λ f. joins_seen f ms) xs o.0 x (finished x) is refl y;
   access = put_same access_of xs o.0 x (finished x) is refl;
   parts = λ y p. put_same (λ f. part_of f p) xs o.0 x (finished x) is refl y;
   fine = λ all. fine_set xs o.0 x (finished x) is ((λ b. refl), λ b. absurd (cc b)) all;
@@ -299,6 +307,7 @@ pub record Returns (o : ℕ) (xs ys : Heap) : Type 0 where
   pub listed : (n : ℕ) → listed_in ys n ≡ listed_in xs n
   pub out : (x : ℕ) → is_out (slice_get ys x) ≡ put (λ j. is_out (slice_get xs j)) o false x
   pub pool : (o : ℕ) → pool_of (slice_get ys o) ≡ pool_of (slice_get xs o)
+  pub joins : (o : ℕ) (ms : List Master) → joins_seen (slice_get ys o) ms ≡ joins_seen (slice_get xs o) ms
   pub access : (o : ℕ) → access_of (slice_get ys o) ≡ access_of (slice_get xs o)
   pub parts : (o p : ℕ) → part_of (slice_get ys o) p ≡ part_of (slice_get xs o) p
   pub fine : AreFine ys
@@ -309,6 +318,7 @@ returns_returned xs o x is gone all = subst (Returns o.0 xs) (sym (ap (λ f. cha
   listed = λ n. from_set n 0 xs o.0 x (returned x) is refl;
   out = put_set is_out xs o.0 x (returned x) is;
   pool = put_same pool_of xs o.0 x (returned x) is refl;
+  joins = λ y ms. put_same (λ f. joins_seen f ms) xs o.0 x (returned x) is refl y;
   access = put_same access_of xs o.0 x (returned x) is refl;
   parts = λ y p. put_same (λ f. part_of f p) xs o.0 x (returned x) is refl y;
   fine = fine_set xs o.0 x (returned x) is ((λ b. gone), (all o.0 x is).1) all;
@@ -324,11 +334,33 @@ added_there xs x n on =
     let here : 0 + length xs ≡ length xs = omega arith in
     from_add n 0 xs x ∙ ap (λ (b : Bool). own b (0 + length xs) ++ from n 0 xs) on ∙ ap (λ (j : ℕ). j ∷ from n 0 xs) here
 
+-- It was not listed before.
+in_both_lists : (o : ℕ) (xs ys : List ℕ) → in_list o (xs ++ ys) ≡ in_list o xs + in_list o ys
+in_both_lists o [] ys = omega arith
+in_both_lists o (x ∷ xs) ys = let e = in_both_lists o xs ys in omega (arith, e)
+
+own_below : (o n : ℕ) (b : Bool) → n ≢ o → in_list o (own b n) ≡ 0
+own_below o n true ne = let e = same_other o n (λ d. ne (sym d)) in omega (arith, e)
+own_below o n false ne = refl
+
+from_below : (o item n : ℕ) (xs : Heap) → n + length xs ≤ o → in_list o (from item n xs) ≡ 0
+from_below o item n [] le = refl
+from_below o item n (x ∷ xs) le =
+    let a = ap (in_list o) (from_first item n x xs) in
+    let b = in_both_lists o (from item (suc n) xs) (own (is_member item x) n) in
+    let c = from_below o item (suc n) xs (omega (arith, le)) in
+    let d = own_below o n (is_member item x) (λ e. omega (arith, le, e)) in
+    omega (arith, a, b, c, d)
+
+pub not_listed : (xs : Heap) (item : ℕ) → in_list (length xs) (listed_in xs item) ≡ 0
+not_listed xs item = from_below (length xs) item 0 xs (omega arith)
+
 -- A part of an object changes.
 pub record Changes (o : ℕ) (xs ys : Heap) : Type 0 where
   pub listed : (n : ℕ) → listed_in ys n ≡ listed_in xs n
   pub out : (o : ℕ) → is_out (slice_get ys o) ≡ is_out (slice_get xs o)
   pub pool : (o : ℕ) → pool_of (slice_get ys o) ≡ pool_of (slice_get xs o)
+  pub joins : (o : ℕ) (ms : List Master) → joins_seen (slice_get ys o) ms ≡ joins_seen (slice_get xs o) ms
   pub access : (o : ℕ) → access_of (slice_get ys o) ≡ access_of (slice_get xs o)
   pub fine : AreFine xs → AreFine ys
   pub count : length ys ≡ length xs
@@ -338,6 +370,7 @@ changes_treated change xs o p x is = subst (Changes o.0 xs) (sym (ap (λ f. chan
   listed = λ n. from_set n 0 xs o.0 x (treated change p x) is refl;
   out = put_same is_out xs o.0 x (treated change p x) is refl;
   pool = put_same pool_of xs o.0 x (treated change p x) is refl;
+  joins = λ y ms. put_same (λ f. joins_seen f ms) xs o.0 x (treated change p x) is refl y;
   access = put_same access_of xs o.0 x (treated change p x) is refl;
   fine = λ all. fine_set xs o.0 x (treated change p x) is (all o.0 x is) all;
   count = length_set xs o.0 (treated change p x);
@@ -347,19 +380,6 @@ pub treated_there : (change : PartState → PartState) (xs : Heap) (o : Id) (p :
 treated_there change xs o p x is = ap (λ f. slice_get (changed (treated change p) f xs o) o.0) is ∙ set_here xs o.0 x (treated change p x) is
 
 -- A member of a collection is in it.
-in_without : (o : ℕ) (os : List ℕ) → in_list o (without o os) ≡ 0
-in_without o [] = refl
-in_without o (x ∷ os) = elim (eqb_tells x o) [ inl h ↦ here h.0 (in_without o os) | inr h ↦ there' h.0 h.1 (in_without o os) ]
-  where
-    here : (x == o) ≡ true → in_list o (without o os) ≡ 0 → in_list o (without o (x ∷ os)) ≡ 0
-    here b z = ap (λ (c : Bool). in_list o (cond c (without o os) (x ∷ without o os))) b ∙ z
-
-    there' : (x == o) ≡ false → x ≢ o → in_list o (without o os) ≡ 0 → in_list o (without o (x ∷ os)) ≡ 0
-    there' b ne z =
-        let apart = same_other o x (λ e. ne (sym e)) in
-        let e = ap (λ (c : Bool). in_list o (cond c (without o os) (x ∷ without o os))) b in
-        omega (arith, apart, z, e)
-
 pub member_listed : (xs : Heap) (n o i : ℕ) (x : Object) → slice_get xs o ≡ Some x → in_list o (listed_in xs n) ≡ suc i → x.listed ≡ true
 member_listed xs n o i x is some = go x.listed refl
   where

@@ -1,21 +1,13 @@
 -- forests of parts
 pub mod Forests
--- heaps that change
-pub mod Heaps
--- objects without controlled parts
-pub mod Plain
--- controlled parts in a heap, and in storage
-pub mod PartTables
--- code and masters in what is left to do
-pub mod Frames
--- what a step of code does
-pub mod Deeds
--- each step of code does so
-pub mod Works
 -- items, their numbers, and collections
 pub mod Places
--- an object leaves its place
-pub mod Partings
+-- heaps that change
+pub mod Heaps
+-- controlled parts in a heap, and in storage
+pub mod PartTables
+-- parts that are left to be finalized
+pub mod PartsLeft
 -- what each state keeps of masters and of the heap
 pub mod Sound
 -- what a step finds
@@ -26,41 +18,53 @@ pub mod Goings
 pub mod Groups
 -- its steps in storage
 pub mod Treating
+-- what is left to do, as storage sees it
+pub mod Frames
+-- how that changes where objects join, leave and end
+pub mod Readings
+-- what is left to do at a step's beginning and end
+pub mod Stands
+-- how that is read
+pub mod Seen
 -- a step that is followed
 pub mod Follows
+-- what a step of code does
+pub mod Deeds
+-- each step of code does so
+pub mod Works
 -- new objects
 pub mod Creating
--- steps of a finalization are followed
-pub mod Finishing
--- and those of an initialization
-pub mod Beginning
--- steps of code are followed
+-- steps of code are followed where no object is freed
 pub mod Coding
--- and so is a Free
-pub mod Freeing
--- parts that are left to be finalized
-pub mod PartsLeft
+-- a part of an object changes, and operations are called
+pub mod Treated
+-- a record that is assigned, in storage
+pub mod Assigning
+-- each step of an initialization, and of an adjustment, is followed
+pub mod Beginning
+-- and of a finalization
+pub mod Finishing
+-- what is read behind an object that ends
+pub mod Passing
+-- each step of an object that is left or freed is followed
+pub mod Ends
+-- and of one that is undone
+pub mod Undoing
+-- and of an assignment
+pub mod Assignments
+-- and of an assignment that fails
+pub mod Failing
 -- the records of an assignment are found
 pub mod Finding
--- a record is assigned
-pub mod Assigning
--- each step of that is followed
-pub mod Assignments
--- and of one that fails
-pub mod Failing
 -- it begins
 pub mod Assigned
--- each step at the leaving of a master is followed
+-- a Free, and each step of code
+pub mod Freeing
+-- each step at the leaving of a master
 pub mod Leaving
--- each step at the end of an object is followed
-pub mod Ends
--- each step is followed
+-- each step
 pub mod Steps
--- declared objects with controlled parts that are freed
-pub mod Straying
 -- whole runs
 pub mod Runs
--- safe programs
-pub mod Safety
 -- examples
 pub mod Example

@@ -1,6 +1,6 @@
 -- Controlled parts of objects in a heap that changes, and in the tables of storage.
 
-use Rattle.std.proofs.Common.{◌≡◌, ◌≢◌, ℕ, zero, suc, Bool, true, false, cond, List, [], ◌∷◌, ◌++◌, length, Option, Some, None, refl, sym, ap, ◌∙◌, inl, inr}
+use Rattle.std.proofs.Common.{◌≡◌, ◌≢◌, ℕ, zero, suc, Bool, true, false, cond, List, [], ◌∷◌, ◌++◌, length, map, Option, Some, None, refl, sym, ap, ◌∙◌, inl, inr}
 use Rattle.std.specs.Prelude.{◌==◌}
 use Rattle.std.specs.List.{slice_get, slice_set}
 use Rattle.std.proofs.lemmas.Bool.Decides.{eqb_tells}
@@ -9,7 +9,7 @@ use Rattle.ada_program.specs.Controlled.{number_reached, shapes_of}
 use Rattle.ada_meaning.specs.declared.state.Id.{Id}
 use Rattle.ada_meaning.specs.declared.state.Value.TheVariants.{Names}
 use Rattle.ada_meaning.specs.Heap.{PartState}
-use Rattle.ada_meaning.specs.Step.{new_parts}
+use Rattle.ada_meaning.specs.Step.{new_part}
 use Rattle.ada_meaning.specs.Named.{Object, with_part, treated, changed, on_object}
 use Rattle.ada_storage.specs.State.{put, put_part, in_list, without}
 use Rattle.ada_storage.specs.State as storage
@@ -75,15 +75,15 @@ parts_kept types xs ys T A U access parts r = record {
 }
 
 -- A new object.
-none_alive : (n p : ℕ) → is_alive (slice_get (new_parts n) p) ≡ false
-none_alive zero p = refl
-none_alive (suc n) zero = refl
-none_alive (suc n) (suc p) = none_alive n p
+none_alive : (firsts : List ℕ) (p : ℕ) → is_alive (slice_get (map new_part firsts) p) ≡ false
+none_alive [] p = refl
+none_alive (c ∷ firsts) zero = refl
+none_alive (c ∷ firsts) (suc p) = none_alive firsts p
 
-no_turn : (n p : ℕ) → turn_of (slice_get (new_parts n) p) ≡ 0
-no_turn zero p = refl
-no_turn (suc n) zero = refl
-no_turn (suc n) (suc p) = no_turn n p
+no_turn : (firsts : List ℕ) (p : ℕ) → turn_of (slice_get (map new_part firsts) p) ≡ 0
+no_turn [] p = refl
+no_turn (c ∷ firsts) zero = refl
+no_turn (c ∷ firsts) (suc p) = no_turn firsts p
 
 pub nothing_at_end : (xs : Heap) → slice_get xs (length xs) ≡ None
 nothing_at_end [] = refl
@@ -100,16 +100,16 @@ shape_cond true a c = refl
 shape_cond false a c = refl
 
 pub parts_added :
-    (types : List TypeDefinition) (xs : Heap) (x : Object) (count created : ℕ) (object : storage.Object) (T : ℕ → storage.Object) (A : ℕ → ℕ → Bool) (U : ℕ → ℕ → ℕ)
-    → x.cell.parts ≡ new_parts count → created ≡ length xs → object.shape ≡ forest_seen types (Some x)
+    (types : List TypeDefinition) (xs : Heap) (x : Object) (firsts : List ℕ) (created : ℕ) (object : storage.Object) (T : ℕ → storage.Object) (A : ℕ → ℕ → Bool) (U : ℕ → ℕ → ℕ)
+    → x.cell.parts ≡ map new_part firsts → created ≡ length xs → object.shape ≡ forest_seen types (Some x)
     → Parts types xs T A U → Parts types (xs ++ x ∷ []) (put T created object) A U
-parts_added types xs x count created object T A U new is shape r = record {
+parts_added types xs x firsts created object T A U new is shape r = record {
   shape = λ o.
       shape_cond (o == created) object (T o)
       ∙ ap (λ (f : storage.Forest). cond (o == created) f (T o).shape) shape
       ∙ ap (λ (f : storage.Forest). cond (o == created) (forest_seen types (Some x)) f) (r.shape o)
       ∙ ap (λ (c : ℕ). cond (o == c) (forest_seen types (Some x)) (forest_seen types (slice_get xs o))) is
       ∙ sym (put_add (forest_seen types) xs x o);
-  alive = λ o p. r.alive o p ∙ sym (added_same (λ f. is_alive (part_of f p)) xs x (ap (λ (ps : List PartState). is_alive (slice_get ps p)) new ∙ none_alive count p) o);
-  turn = λ o p. r.turn o p ∙ sym (added_same (λ f. turn_of (part_of f p)) xs x (ap (λ (ps : List PartState). turn_of (slice_get ps p)) new ∙ no_turn count p) o);
+  alive = λ o p. r.alive o p ∙ sym (added_same (λ f. is_alive (part_of f p)) xs x (ap (λ (ps : List PartState). is_alive (slice_get ps p)) new ∙ none_alive firsts p) o);
+  turn = λ o p. r.turn o p ∙ sym (added_same (λ f. turn_of (part_of f p)) xs x (ap (λ (ps : List PartState). turn_of (slice_get ps p)) new ∙ no_turn firsts p) o);
 }

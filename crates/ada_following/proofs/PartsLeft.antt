@@ -14,7 +14,7 @@ use Rattle.ada_parts.proofs.Runs.{left_append, left_treatment, left_operation}
 use Rattle.ada_storage.specs.State.{Forest, none, tree, bit, same, in_list, in_forest, is_top, kids_of, others_of}
 use Rattle.ada_storage.specs.Step.{all_alive}
 use Rattle.ada_storage.proofs.Facts.{same_self, same_other}
-use Rattle.ada_following.specs.Forests.{forest_at, forest_of, beside}
+use Rattle.ada_following.specs.Forests.{forest_at, forest_of}
 use Rattle.ada_following.proofs.Forests.{at_step, in_both, numbers_both, counts_all, around_counts, counted_at}
 
 module _ (shapes : List Shape) (table : IsTable shapes) where
@@ -63,7 +63,11 @@ module _ (shapes : List Shape) (table : IsTable shapes) where
       let l = numbers_both q (parts_in shapes cs) (parts_left shapes rest) in
       omega (arith, a, b, d, e, f, g, j, l)
 
--- Parts beside one another.
+-- Parts of which none lies in another one.
+abbrev pub beside : (parts : List ℕ) → Forest
+beside [] = none
+beside (p ∷ ps) = tree p none (beside ps)
+
 pub in_beside : (q : ℕ) (ps : List ℕ) → in_forest q (beside ps) ≡ in_list q ps
 in_beside q [] = refl
 in_beside q (p ∷ ps) = let e = in_beside q ps in omega (arith, e)
@@ -113,6 +117,20 @@ in_but_one q p (x ∷ ps) ne some = elim (eqb_tells p x) [ inl h ↦ here h.0 h.
         go zero z = omega (arith, z, some)
         go (suc n) z = let r = again (omega (arith, z)) in omega (arith, r)
 
+pub one_less : (q p : ℕ) (ps : List ℕ) → 0 < in_list p ps → in_list q ps ≡ same q p + in_list q (but_one p ps)
+one_less q p [] some = absurd (omega (arith, some))
+one_less q p (x ∷ ps) some = elim (eqb_tells p x) [ inl h ↦ here h.0 h.1 | inr h ↦ later h.0 (λ d. one_less q p ps d) ]
+  where
+    here : (p == x) ≡ true → p ≡ x → in_list q (x ∷ ps) ≡ same q p + in_list q (but_one p (x ∷ ps))
+    here b e = let c = ap (λ (d : Bool). in_list q (cond d ps (x ∷ but_one p ps))) b in let d = ap (same q) e in omega (arith, c, d)
+
+    later : (p == x) ≡ false → (0 < in_list p ps → in_list q ps ≡ same q p + in_list q (but_one p ps)) → in_list q (x ∷ ps) ≡ same q p + in_list q (but_one p (x ∷ ps))
+    later b again =
+        let z = ap bit b in
+        let r = again (omega (arith, z, some)) in
+        let c = ap (λ (d : Bool). in_list q (cond d ps (x ∷ but_one p ps))) b in
+        omega (arith, r, c)
+
 -- Those that have a value.
 abbrev pub alive_among : (ℕ → Bool) → List ℕ → List ℕ
 alive_among A [] = []
@@ -133,6 +151,14 @@ among_le A q (p ∷ ps) = go (A p) (among_le A q ps)
     go : (b : Bool) → in_list q (alive_among A ps) ≤ in_list q ps → in_list q (cond b (p ∷ alive_among A ps) (alive_among A ps)) ≤ in_list q (p ∷ ps)
     go true le = omega (arith, le)
     go false le = omega (arith, le)
+
+pub only_alive : (A : ℕ → Bool) (q : ℕ) (ps : List ℕ) → A q ≡ false → in_list q (alive_among A ps) ≡ 0
+only_alive A q [] dead = refl
+only_alive A q (p ∷ ps) dead = go (A p) refl (only_alive A q ps dead)
+  where
+    go : (b : Bool) → A p ≡ b → in_list q (alive_among A ps) ≡ 0 → in_list q (cond b (p ∷ alive_among A ps) (alive_among A ps)) ≡ 0
+    go true e z = let apart = same_other q p (λ d. let both : true ≡ false = sym e ∙ ap A (sym d) ∙ dead in absurd (cc both)) in omega (arith, apart, z)
+    go false e z = z
 
 pub is_among : (A : ℕ → Bool) (q : ℕ) (ps : List ℕ) → A q ≡ true → 0 < in_list q ps → 0 < in_list q (alive_among A ps)
 is_among A q [] lives some = some
@@ -170,3 +196,27 @@ pub has_dead : (A : ℕ → Bool) (f : Forest) → all_alive A f ≡ false → H
 has_dead A none e = absurd (cc e)
 has_dead A (tree p inside others) e =
     dead_by A p inside others (A p) (all_alive A inside) (all_alive A others) refl refl refl e (has_dead A inside) (has_dead A others)
+
+-- Where all have a value, each has.
+all_by :
+    (A : ℕ → Bool) (p : ℕ) (inside others : Forest) (a b c : Bool) → A p ≡ a → all_alive A inside ≡ b → all_alive A others ≡ c → cond a (cond b c false) false ≡ true
+    → (all_alive A inside ≡ true → (q : ℕ) → 0 < in_forest q inside → A q ≡ true) → (all_alive A others ≡ true → (q : ℕ) → 0 < in_forest q others → A q ≡ true) → (q : ℕ) → 0 < in_forest q (tree p inside others) → A q ≡ true
+all_by A p inside others false b c x y z e i j q some = absurd (cc e)
+all_by A p inside others true false c x y z e i j q some = absurd (cc e)
+all_by A p inside others true true false x y z e i j q some = absurd (cc e)
+all_by A p inside others true true true x y z e i j q some = elim (eqb_tells q p) [
+  | inl h ↦ (ap A h.1 ∙ x)
+  | inr h ↦ within (let d = same_other q p h.1 in omega (arith, d, some))
+]
+  where
+    within : 0 < in_forest q inside + in_forest q others → A q ≡ true
+    within lt = go (in_forest q inside) refl
+      where
+        go : (n : ℕ) → in_forest q inside ≡ n → A q ≡ true
+        go zero there = j z q (omega (arith, lt, there))
+        go (suc n) there = i y q (omega (arith, there))
+
+pub all_have : (A : ℕ → Bool) (f : Forest) → all_alive A f ≡ true → (q : ℕ) → 0 < in_forest q f → A q ≡ true
+all_have A none e q some = absurd (omega (arith, some))
+all_have A (tree p inside others) e q some =
+    all_by A p inside others (A p) (all_alive A inside) (all_alive A others) refl refl refl e (all_have A inside) (all_have A others) q some

@@ -1,16 +1,15 @@
--- Items and their numbers, and what storage sees of them where an object leaves its place, or joins a collection.
+-- Items and their numbers, and what storage sees of them: also where an object leaves its place, or joins a collection.
 
-use Rattle.std.proofs.Common.{◌≡◌, ◌≢◌, ℕ, suc, ◌+◌, ◌<◌, ◌≤◌, Bool, true, false, cond, List, [], ◌∷◌, length, map, Option, Some, None, refl, sym, ap, ◌∙◌, ◌⊎◌, inl, inr, arith}
+use Rattle.std.proofs.Common.{◌≡◌, ◌≢◌, ℕ, suc, ◌+◌, ◌<◌, ◌≤◌, Bool, true, false, cond, List, [], ◌∷◌, length, map, Option, Some, None, refl, sym, ap, ◌∙◌, ◌⊎◌, inl, inr, subst, arith}
 use Rattle.std.specs.Prelude.{◌==◌, ◌||◌, if◌then◌else◌}
 use Rattle.std.proofs.lemmas.Bool.{lt-ltb}
+use Rattle.std.proofs.lemmas.Bool.Decides.{eqb_tells}
 use Rattle.ada_meaning.specs.State.{Owned, declared, collection, record_object, storage_pool, Item, Master, Destination, destination, height, collection_in, home_among, home_of}
-use Rattle.ada_storage.specs.State.{bit, same, in_list, in_owned, of_members, in_items, in_members, placed, listed, assigned, owned_open, items_open, opens, without, parted_owned, parted_item, parted, joined_item, joined_master, joined}
+use Rattle.ada_storage.specs.State.{bit, same, in_list, in_owned, of_members, in_items, in_members, placed, listed, items_open, without, parted_owned, parted_item, parted_master, parted, joined_item}
 use Rattle.ada_storage.specs.State as storage
 use Rattle.ada_storage.specs.Step.{is_above}
-use Rattle.ada_storage.proofs.Facts.{eq_self, eq_not}
-use Rattle.ada_following.specs.Reading.{listed_in, object_seen, item_seen, items_seen, master_seen, has_item, master_with}
-use Rattle.ada_following.proofs.Heaps.{Heap}
-use Rattle.ada_following.proofs.Frames.{chain}
+use Rattle.ada_storage.proofs.Facts.{eq_self, eq_not, same_self, same_other}
+use Rattle.ada_following.specs.Reading.{has_item, master_with}
 
 -- An item's number says how many are below it.
 abbrev pub ItemsCounted : (below : ℕ) → List Item → Type 0
@@ -38,7 +37,7 @@ pub counted_below : (n c : ℕ) (is : List Item) → length is + n ≤ c → Ite
 counted_below n c [] le k = tt
 counted_below n c (i ∷ is) le k = let e = k.0 in (omega (arith, le, e), counted_below n c is (omega (arith, le)) k.1)
 
-below_not_in : (c : ℕ) (is : List Item) → AllBelow c is → NotIn c is
+pub below_not_in : (c : ℕ) (is : List Item) → AllBelow c is → NotIn c is
 below_not_in c [] a = tt
 below_not_in c (i ∷ is) a = let lt = a.0 in ((λ e. omega (arith, lt, e)), below_not_in c is a.1)
 
@@ -133,184 +132,273 @@ home_found access (m ∷ ms) home k e = go (items_found access (height ms) m.ite
         let most = f.most in
         record { master = f.master; once = inr (above_not_in (height ms) home.item m.items most k.0, f.once); most = omega (arith, most) }
 
+-- How often objects are listed under items.
+abbrev pub Listing : Type 0
+Listing = ℕ → ℕ → ℕ
+
+-- What is no collection.
+abbrev pub IsNoCollection : Owned → Type 0
+IsNoCollection (declared x) = Unit {0}
+IsNoCollection (collection access pool) = ⊥
+IsNoCollection (record_object t) = Unit {0}
+IsNoCollection (storage_pool declaration number) = Unit {0}
+
+-- Items of a master as storage sees them: collections and record objects that are there.
+pub data Items (L : Listing) : List Item → List storage.Item → Type 0 where
+  no_items : Items L [] []
+  passed :
+      (n : ℕ) (what : Owned) {is : List Item} {js : List storage.Item} → IsNoCollection what → ((o : ℕ) → L n o ≡ 0) → Items L is js
+      → Items L (record { number = n; owned = what } ∷ is) js
+  collected :
+      (n access : ℕ) (pool : Option ℕ) (os : List ℕ) {is : List Item} {js : List storage.Item} → ((o : ℕ) → in_list o os ≡ L n o) → Items L is js
+      → Items L (record { number = n; owned = collection access pool } ∷ is) (record { number = n; owned = storage.collection os } ∷ js)
+  single :
+      (n t o : ℕ) {is : List Item} {js : List storage.Item} → ((x : ℕ) → L n x ≡ same x o) → Items L is js
+      → Items L (record { number = n; owned = record_object t } ∷ is) (record { number = n; owned = storage.declared o } ∷ js)
+
 -- What storage sees of items whose numbers are below a new one.
-above_object : (n c : ℕ) (os : List ℕ) (older : List storage.Item) → n < c → is_above c older ≡ true → is_above c (object_seen n os older) ≡ true
-above_object n c [] older lt e = e
-above_object n c (o ∷ os) older lt e = lt-ltb n c lt
+pub above_seen : {L : Listing} {is : List Item} {js : List storage.Item} (c : ℕ) → Items L is js → AllBelow c is → is_above c js ≡ true
+above_seen c no_items a = refl
+above_seen c (passed n what none zero more) a = above_seen c more a.1
+above_seen c (collected n access pool os count more) a = lt-ltb n c a.0
+above_seen c (single n t o count more) a = lt-ltb n c a.0
 
-above_item : (n c : ℕ) (os : List ℕ) (what : Owned) (older : List storage.Item) → n < c → is_above c older ≡ true → is_above c (item_seen n os what older) ≡ true
-above_item n c os (declared x) older lt e = e
-above_item n c os (collection access pool) older lt e = lt-ltb n c lt
-above_item n c os (record_object t) older lt e = above_object n c os older lt e
-above_item n c os (storage_pool d p) older lt e = e
+-- Members have places.
+owned_le : (o : ℕ) (what : storage.Owned) → of_members o what ≤ in_owned o what
+owned_le o (storage.declared x) = omega arith
+owned_le o (storage.collection os) = omega arith
 
-pub above_seen : (h : Heap) (c : ℕ) (is : List Item) → AllBelow c is → is_above c (items_seen h is) ≡ true
-above_seen h c [] a = refl
-above_seen h c (i ∷ is) a = above_item i.number c (listed_in h i.number) i.owned (items_seen h is) a.0 (above_seen h c is a.1)
+pub members_le : (o : ℕ) (is : List storage.Item) → in_members o is ≤ in_items o is
+members_le o [] = omega arith
+members_le o (i ∷ is) = let a = owned_le o i.owned in let b = members_le o is in omega (arith, a, b)
 
--- The collections of all items are as before.
-pub items_same : (g h : Heap) (is : List Item) → ((n : ℕ) → listed_in h n ≡ listed_in g n) → items_seen h is ≡ items_seen g is
-items_same g h [] l = refl
-items_same g h (i ∷ is) l =
-    ap (λ (os : List ℕ). item_seen i.number os i.owned (items_seen h is)) (l i.number)
-    ∙ ap (λ (older : List storage.Item). item_seen i.number (listed_in g i.number) i.owned older) (items_same g h is l)
+pub listed_le : (o : ℕ) (k : storage.Control) → listed o k ≤ placed o k
+listed_le o storage.stops = omega arith
+listed_le o (storage.acts m k) = let a = members_le o m.items in let b = listed_le o k in omega (arith, a, b)
+listed_le o (storage.leaves m mode k) = let a = members_le o m.items in let b = listed_le o k in omega (arith, a, b)
+listed_le o (storage.finalizes m i x fs mode k) = let a = members_le o m.items in let b = listed_le o k in omega (arith, a, b)
+listed_le o (storage.frees n x fs k) = let b = listed_le o k in omega (arith, b)
+listed_le o (storage.initializes x joins js done k) = let b = listed_le o k in omega (arith, b)
+listed_le o (storage.undoes n x done k) = let b = listed_le o k in omega (arith, b)
+listed_le o (storage.assigns n x f fs k) = listed_le o k
+listed_le o (storage.adjusts x f js done k) = listed_le o k
 
-pub chain_same : (g h : Heap) (ms : List Master) → ((n : ℕ) → listed_in h n ≡ listed_in g n) → chain h ms ≡ chain g ms
-chain_same g h [] l = refl
-chain_same g h (m ∷ ms) l =
-    ap (λ (is : List storage.Item). storage.acts (record { number = suc m.number; items = is }) (chain h ms)) (items_same g h m.items l)
-    ∙ ap (λ (k : storage.Control). storage.acts (master_seen g m) k) (chain_same g h ms l)
+-- An object is listed no more.
+pub record Drops (o : ℕ) (L K : Listing) : Type 0 where
+  pub rest : (i x : ℕ) → x ≢ o → K i x ≡ L i x
+  pub none : (i : ℕ) → K i o ≡ 0
 
--- All but those under a number are.
-pub items_but : (g h : Heap) (c : ℕ) (is : List Item) → ((n : ℕ) → n ≢ c → listed_in h n ≡ listed_in g n) → NotIn c is → items_seen h is ≡ items_seen g is
-items_but g h c [] l a = refl
-items_but g h c (i ∷ is) l a =
-    ap (λ (os : List ℕ). item_seen i.number os i.owned (items_seen h is)) (l i.number a.0)
-    ∙ ap (λ (older : List storage.Item). item_seen i.number (listed_in g i.number) i.owned older) (items_but g h c is l a.1)
+-- One is listed once more, under the item of this number.
+pub record Gains (o n : ℕ) (L K : Listing) : Type 0 where
+  pub rest : (i x : ℕ) → x ≢ o → K i x ≡ L i x
+  pub off : (i : ℕ) → i ≢ n → K i o ≡ L i o
+  pub on : K n o ≡ suc (L n o)
 
-pub chain_but : (g h : Heap) (c : ℕ) (ms : List Master) → ((n : ℕ) → n ≢ c → listed_in h n ≡ listed_in g n) → NotInMasters c ms → chain h ms ≡ chain g ms
-chain_but g h c [] l a = refl
-chain_but g h c (m ∷ ms) l a =
-    ap (λ (is : List storage.Item). storage.acts (record { number = suc m.number; items = is }) (chain h ms)) (items_but g h c m.items l a.0)
-    ∙ ap (λ (k : storage.Control). storage.acts (master_seen g m) k) (chain_but g h c ms l a.1)
+pub gains_off : (o n : ℕ) (L K : Listing) → Gains o n L K → (i : ℕ) → i ≢ n → (x : ℕ) → K i x ≡ L i x
+gains_off o n L K g i ne x = elim (eqb_tells x o) [ inl h ↦ (ap (K i) h.1 ∙ g.off i ne ∙ ap (L i) (sym h.1)) | inr h ↦ g.rest i x h.1 ]
 
--- An object joins the collection under a number.
-object_unjoined : (c o n : ℕ) (os : List ℕ) (older : List storage.Item) → n ≢ c → map (joined_item c o) (object_seen n os older) ≡ object_seen n os (map (joined_item c o) older)
-object_unjoined c o n [] older ne = refl
-object_unjoined c o n (x ∷ os) older ne = ap (λ (b : Bool). record { number = n; owned = cond b (storage.declared x) (storage.declared x) } ∷ map (joined_item c o) older) (eq_not n c ne)
+drops_none : (o : ℕ) (L K : Listing) → Drops o L K → (i : ℕ) → ((x : ℕ) → L i x ≡ 0) → (x : ℕ) → K i x ≡ 0
+drops_none o L K d i z x = elim (eqb_tells x o) [ inl h ↦ (ap (K i) h.1 ∙ d.none i) | inr h ↦ (d.rest i x h.1 ∙ z x) ]
 
-item_unjoined : (c o n : ℕ) (os : List ℕ) (what : Owned) (older : List storage.Item) → n ≢ c → map (joined_item c o) (item_seen n os what older) ≡ item_seen n os what (map (joined_item c o) older)
-item_unjoined c o n os (declared x) older ne = refl
-item_unjoined c o n os (collection access pool) older ne =
-    ap (λ (b : Bool). record { number = n; owned = cond b (storage.collection (o ∷ os)) (storage.collection os) } ∷ map (joined_item c o) older) (eq_not n c ne)
-item_unjoined c o n os (record_object t) older ne = object_unjoined c o n os older ne
-item_unjoined c o n os (storage_pool d p) older ne = refl
+pub drops_single : (o : ℕ) (L K : Listing) → Drops o L K → (i y : ℕ) → y ≢ o → ((x : ℕ) → L i x ≡ same x y) → (x : ℕ) → K i x ≡ same x y
+drops_single o L K d i y ne one x = elim (eqb_tells x o) [
+  | inl h ↦ (ap (K i) h.1 ∙ d.none i ∙ sym (same_other o y (λ e. ne (sym e))) ∙ ap (λ (z : ℕ). same z y) (sym h.1))
+  | inr h ↦ (d.rest i x h.1 ∙ one x)
+]
 
-items_unjoined : (h : Heap) (c o : ℕ) (is : List Item) → NotIn c is → map (joined_item c o) (items_seen h is) ≡ items_seen h is
-items_unjoined h c o [] a = refl
-items_unjoined h c o (i ∷ is) a =
-    item_unjoined c o i.number (listed_in h i.number) i.owned (items_seen h is) a.0
-    ∙ ap (λ (older : List storage.Item). item_seen i.number (listed_in h i.number) i.owned older) (items_unjoined h c o is a.1)
+-- Members without one of them.
+pub in_without : (o : ℕ) (os : List ℕ) → in_list o (without o os) ≡ 0
+in_without o [] = refl
+in_without o (x ∷ os) = elim (eqb_tells x o) [ inl h ↦ here h.0 (in_without o os) | inr h ↦ there' h.0 h.1 (in_without o os) ]
+  where
+    here : (x == o) ≡ true → in_list o (without o os) ≡ 0 → in_list o (without o (x ∷ os)) ≡ 0
+    here b z = ap (λ (c : Bool). in_list o (cond c (without o os) (x ∷ without o os))) b ∙ z
 
-item_joined : (c o n : ℕ) (os : List ℕ) (what : Owned) (older : List storage.Item) → IsCollection what → n ≡ c → map (joined_item c o) older ≡ older → map (joined_item c o) (item_seen n os what older) ≡ item_seen n (o ∷ os) what older
-item_joined c o n os (declared x) older is e same' = absurd is
-item_joined c o n os (collection access pool) older is e same' =
-    let there : (n == c) ≡ true = ap (λ (x : ℕ). n == x) (sym e) ∙ eq_self n in
-    ap (λ (b : Bool). record { number = n; owned = cond b (storage.collection (o ∷ os)) (storage.collection os) } ∷ map (joined_item c o) older) there
-    ∙ ap (λ (rest : List storage.Item). record { number = n; owned = storage.collection (o ∷ os) } ∷ rest) same'
-item_joined c o n os (record_object t) older is e same' = absurd is
-item_joined c o n os (storage_pool d p) older is e same' = absurd is
+    there' : (x == o) ≡ false → x ≢ o → in_list o (without o os) ≡ 0 → in_list o (without o (x ∷ os)) ≡ 0
+    there' b ne z =
+        let apart = same_other o x (λ e. ne (sym e)) in
+        let e = ap (λ (c : Bool). in_list o (cond c (without o os) (x ∷ without o os))) b in
+        omega (arith, apart, z, e)
 
--- What has changed in the collection under the number c: the object o is its newest member.
-pub record Joins (c o : ℕ) (g h : Heap) : Type 0 where
-  pub there : listed_in h c ≡ o ∷ listed_in g c
-  pub elsewhere : (n : ℕ) → n ≢ c → listed_in h n ≡ listed_in g n
+pub in_others : (o y : ℕ) (os : List ℕ) → y ≢ o → in_list y (without o os) ≡ in_list y os
+in_others o y [] ne = refl
+in_others o y (x ∷ os) ne = elim (eqb_tells x o) [ inl h ↦ here h.0 h.1 (in_others o y os ne) | inr h ↦ there' h.0 (in_others o y os ne) ]
+  where
+    here : (x == o) ≡ true → x ≡ o → in_list y (without o os) ≡ in_list y os → in_list y (without o (x ∷ os)) ≡ in_list y (x ∷ os)
+    here b e z =
+        let apart = same_other y x (λ d. ne (d ∙ e)) in
+        let c = ap (λ (c : Bool). in_list y (cond c (without o os) (x ∷ without o os))) b in
+        omega (arith, apart, z, c)
 
-items_joined : (g h : Heap) (c o : ℕ) (is : List Item) → Joins c o g h → ItemOnce c is → items_seen h is ≡ map (joined_item c o) (items_seen g is)
-items_joined g h c o [] j a = absurd a
-items_joined g h c o (i ∷ is) j (inl a) =
-    let there : listed_in h i.number ≡ o ∷ listed_in g i.number =
-    ap (λ (n : ℕ). listed_in h n) a.0 ∙ j.there ∙ ap (λ (n : ℕ). o ∷ listed_in g n) (sym a.0) in
-    ap (λ (os : List ℕ). item_seen i.number os i.owned (items_seen h is)) there
-    ∙ ap (λ (older : List storage.Item). item_seen i.number (o ∷ listed_in g i.number) i.owned older) (items_but g h c is j.elsewhere a.2)
-    ∙ sym (item_joined c o i.number (listed_in g i.number) i.owned (items_seen g is) a.1 a.0 (items_unjoined g c o is a.2))
-items_joined g h c o (i ∷ is) j (inr a) =
-    ap (λ (os : List ℕ). item_seen i.number os i.owned (items_seen h is)) (j.elsewhere i.number a.0)
-    ∙ ap (λ (older : List storage.Item). item_seen i.number (listed_in g i.number) i.owned older) (items_joined g h c o is j a.1)
-    ∙ sym (item_unjoined c o i.number (listed_in g i.number) i.owned (items_seen g is) a.0)
+    there' : (x == o) ≡ false → in_list y (without o os) ≡ in_list y os → in_list y (without o (x ∷ os)) ≡ in_list y (x ∷ os)
+    there' b z =
+        let c = ap (λ (c : Bool). in_list y (cond c (without o os) (x ∷ without o os))) b in
+        omega (arith, z, c)
 
-cond_same : (b : Bool) (xs ys : List storage.Item) → xs ≡ ys → cond b xs ys ≡ ys
-cond_same true xs ys e = e
-cond_same false xs ys e = refl
+-- It leaves its collection, and has no other place.
+pub items_drop :
+    {L : Listing} {is : List Item} {js : List storage.Item} (o : ℕ) (K : Listing) → Drops o L K → Items L is js → in_items o js ≡ in_members o js
+    → Items K is (map (parted_item o) js)
+items_drop o K d no_items e = no_items
+items_drop {L} o K d (passed n what none zero more) e = passed n what none (drops_none o L K d n zero) (items_drop o K d more e)
+items_drop {L} o K d (collected n access pool os count more) e = collected n access pool (without o os) counts (items_drop o K d more (omega (arith, e)))
+  where
+    counts : (x : ℕ) → in_list x (without o os) ≡ K n x
+    counts x = elim (eqb_tells x o) [
+      | inl h ↦ (ap (λ (y : ℕ). in_list y (without o os)) h.1 ∙ in_without o os ∙ sym (d.none n) ∙ ap (K n) (sym h.1))
+      | inr h ↦ (in_others o x os h.1 ∙ count x ∙ sym (d.rest n x h.1))
+    ]
+items_drop {L} o K d (single n t y {is} {js} count more) e =
+    let le = members_le o js in
+    let away : same o y ≡ 0 = omega (arith, le, e) in
+    single n t y (drops_single o L K d n y (λ same_one. let self = same_self o in let one = ap (same o) same_one in omega (arith, away, self, one)) count)
+    (items_drop o K d more (omega (arith, le, e)))
 
-master_unjoined : (h : Heap) (a c o : ℕ) (m : Master) → NotIn c m.items → joined_master a c o (master_seen h m) ≡ master_seen h m
-master_unjoined h a c o m not =
-    ap (λ (is : List storage.Item). record { number = suc m.number; items = is })
-    (cond_same (suc m.number == a) (map (joined_item c o) (items_seen h m.items)) (items_seen h m.items) (items_unjoined h c o m.items not))
+-- What is not there does not leave.
+absent_go : (o x : ℕ) (os : List ℕ) → same o x + in_list o os ≡ 0 → (in_list o os ≡ 0 → without o os ≡ os) → without o (x ∷ os) ≡ x ∷ os
+absent_go o x os z again = elim (eqb_tells x o) [ inl h ↦ absurd (here h.1) | inr h ↦ (ap (λ (b : Bool). cond b (without o os) (x ∷ without o os)) h.0 ∙ ap (λ (ys : List ℕ). x ∷ ys) (again (omega (arith, z)))) ]
+  where
+    here : x ≡ o → ⊥
+    here e = let self = same_self o in let one = ap (same o) e in omega (arith, z, one, self)
 
-chain_unjoined : (h : Heap) (a c o : ℕ) (ms : List Master) → NotInMasters c ms → joined a c o (chain h ms) ≡ chain h ms
-chain_unjoined h a c o [] not = refl
-chain_unjoined h a c o (m ∷ ms) not =
-    ap (λ (x : storage.Master). storage.acts x (joined a c o (chain h ms))) (master_unjoined h a c o m not.0)
-    ∙ ap (λ (k : storage.Control). storage.acts (master_seen h m) k) (chain_unjoined h a c o ms not.1)
+pub without_absent : (o : ℕ) (os : List ℕ) → in_list o os ≡ 0 → without o os ≡ os
+without_absent o [] z = refl
+without_absent o (x ∷ os) z = absent_go o x os z (λ e. without_absent o os e)
 
-master_joined : (h : Heap) (a c o : ℕ) (m : Master) → suc m.number ≡ a → joined_master a c o (master_seen h m) ≡ record { number = suc m.number; items = map (joined_item c o) (items_seen h m.items) }
-master_joined h a c o m e =
-    let there : (suc m.number == a) ≡ true = ap (λ (x : ℕ). suc m.number == x) (sym e) ∙ eq_self (suc m.number) in
-    ap (λ (b : Bool). record { number = suc m.number; items = cond b (map (joined_item c o) (items_seen h m.items)) (items_seen h m.items) }) there
+owned_absent : (o : ℕ) (what : storage.Owned) → of_members o what ≡ 0 → parted_owned o what ≡ what
+owned_absent o (storage.declared x) z = refl
+owned_absent o (storage.collection os) z = ap storage.collection (without_absent o os z)
 
-pub chain_joined : (g h : Heap) (a c o : ℕ) (ms : List Master) → Joins c o g h → MasterOnce a c ms → chain h ms ≡ joined a c o (chain g ms)
-chain_joined g h a c o [] j once = absurd once
-chain_joined g h a c o (m ∷ ms) j (inl once) =
-    ap (λ (is : List storage.Item). storage.acts (record { number = suc m.number; items = is }) (chain h ms)) (items_joined g h c o m.items j once.1)
-    ∙ ap (λ (x : storage.Master). storage.acts x (chain h ms)) (sym (master_joined g a c o m once.0))
-    ∙ ap (λ (k : storage.Control). storage.acts (joined_master a c o (master_seen g m)) k) (chain_but g h c ms j.elsewhere once.2 ∙ sym (chain_unjoined g a c o ms once.2))
-chain_joined g h a c o (m ∷ ms) j (inr once) =
-    ap (λ (is : List storage.Item). storage.acts (record { number = suc m.number; items = is }) (chain h ms)) (items_but g h c m.items j.elsewhere once.0)
-    ∙ ap (λ (x : storage.Master). storage.acts x (chain h ms)) (sym (master_unjoined g a c o m once.0))
-    ∙ ap (λ (k : storage.Control). storage.acts (joined_master a c o (master_seen g m)) k) (chain_joined g h a c o ms j once.1)
+pub items_absent : (o : ℕ) (is : List storage.Item) → in_members o is ≡ 0 → map (parted_item o) is ≡ is
+items_absent o [] z = refl
+items_absent o (i ∷ is) z =
+    ap (λ (what : storage.Owned). record i { owned = what } ∷ map (parted_item o) is) (owned_absent o i.owned (omega (arith, z)))
+    ∙ ap (λ (js : List storage.Item). i ∷ js) (items_absent o is (omega (arith, z)))
+
+master_absent : (o : ℕ) (m : storage.Master) → in_members o m.items ≡ 0 → parted_master o m ≡ m
+master_absent o m z = ap (λ (is : List storage.Item). record m { items = is }) (items_absent o m.items z)
+
+pub absent : (o : ℕ) (k : storage.Control) → listed o k ≡ 0 → parted o k ≡ k
+absent o storage.stops z = refl
+absent o (storage.acts m k) z =
+    ap (λ (n : storage.Master). storage.acts n (parted o k)) (master_absent o m (omega (arith, z))) ∙ ap (λ (l : storage.Control). storage.acts m l) (absent o k (omega (arith, z)))
+absent o (storage.leaves m mode k) z =
+    ap (λ (n : storage.Master). storage.leaves n mode (parted o k)) (master_absent o m (omega (arith, z)))
+    ∙ ap (λ (l : storage.Control). storage.leaves m mode l) (absent o k (omega (arith, z)))
+absent o (storage.finalizes m i x fs mode k) z =
+    ap (λ (n : storage.Master). storage.finalizes n i x fs mode (parted o k)) (master_absent o m (omega (arith, z)))
+    ∙ ap (λ (l : storage.Control). storage.finalizes m i x fs mode l) (absent o k (omega (arith, z)))
+absent o (storage.frees n x fs k) z = ap (λ (l : storage.Control). storage.frees n x fs l) (absent o k z)
+absent o (storage.initializes x joins js done k) z = ap (λ (l : storage.Control). storage.initializes x joins js done l) (absent o k z)
+absent o (storage.undoes n x done k) z = ap (λ (l : storage.Control). storage.undoes n x done l) (absent o k z)
+absent o (storage.assigns n x f fs k) z = ap (λ (l : storage.Control). storage.assigns n x f fs l) (absent o k z)
+absent o (storage.adjusts x f js done k) z = ap (λ (l : storage.Control). storage.adjusts x f js done l) (absent o k z)
+
+-- An object is listed once more elsewhere.
+pub items_off : {L : Listing} {is : List Item} {js : List storage.Item} (o n : ℕ) (K : Listing) → Gains o n L K → NotIn n is → Items L is js → Items K is js
+items_off o n K g a no_items = no_items
+items_off {L} o n K g a (passed i what none zero more) = passed i what none (λ x. gains_off o n L K g i a.0 x ∙ zero x) (items_off o n K g a.1 more)
+items_off {L} o n K g a (collected i access pool os count more) = collected i access pool os (λ x. count x ∙ sym (gains_off o n L K g i a.0 x)) (items_off o n K g a.1 more)
+items_off {L} o n K g a (single i t y count more) = single i t y (λ x. gains_off o n L K g i a.0 x ∙ count x) (items_off o n K g a.1 more)
+
+pub items_unjoined : {L : Listing} {is : List Item} {js : List storage.Item} (c o : ℕ) → NotIn c is → Items L is js → map (joined_item c o) js ≡ js
+items_unjoined c o a no_items = refl
+items_unjoined c o a (passed i what none zero more) = items_unjoined c o a.1 more
+items_unjoined c o a (collected n access pool os {is} {js} count more) =
+    ap (λ (b : Bool). record { number = n; owned = cond b (storage.collection (o ∷ os)) (storage.collection os) } ∷ map (joined_item c o) js) (eq_not n c a.0)
+    ∙ ap (λ (rest : List storage.Item). record { number = n; owned = storage.collection os } ∷ rest) (items_unjoined c o a.1 more)
+items_unjoined c o a (single n t y {is} {js} count more) =
+    ap (λ (b : Bool). record { number = n; owned = cond b (storage.declared y) (storage.declared y) } ∷ map (joined_item c o) js) (eq_not n c a.0)
+    ∙ ap (λ (rest : List storage.Item). record { number = n; owned = storage.declared y } ∷ rest) (items_unjoined c o a.1 more)
+
+-- It joins the collection of that number.
+pub items_gain :
+    {L : Listing} {is : List Item} {js : List storage.Item} (o n : ℕ) (K : Listing) → Gains o n L K → ItemOnce n is → Items L is js → Items K is (map (joined_item n o) js)
+items_gain o n K g once no_items = absurd once
+items_gain {L} o n K g (inl once) (passed i what none zero more) = absurd (never what once.1 none)
+  where
+    never : (what : Owned) → IsCollection what → IsNoCollection what → ⊥
+    never (declared x) is not = is
+    never (collection access pool) is not = not
+    never (record_object t) is not = is
+    never (storage_pool d p) is not = is
+items_gain {L} o n K g (inr once) (passed i what none zero more) = passed i what none (λ x. gains_off o n L K g i once.0 x ∙ zero x) (items_gain o n K g once.1 more)
+items_gain {L} o n K g (inl once) (collected i access pool os {is} {js} count more) =
+    let there : (i == n) ≡ true = ap (λ (x : ℕ). i == x) (sym once.0) ∙ eq_self i in
+    let first : record { number = i; owned = cond (i == n) (storage.collection (o ∷ os)) (storage.collection os) } ∷ map (joined_item n o) js ≡ record { number = i; owned = storage.collection (o ∷ os) } ∷ js =
+    ap (λ (b : Bool). record { number = i; owned = cond b (storage.collection (o ∷ os)) (storage.collection os) } ∷ map (joined_item n o) js) there
+    ∙ ap (λ (rest : List storage.Item). record { number = i; owned = storage.collection (o ∷ os) } ∷ rest) (items_unjoined n o once.2 more) in
+    subst (λ (ks : List storage.Item). Items K (record { number = i; owned = collection access pool } ∷ is) ks) (sym first)
+    (collected i access pool (o ∷ os) counts (items_off o n K g once.2 more))
+  where
+    counts : (x : ℕ) → in_list x (o ∷ os) ≡ K i x
+    counts x = elim (eqb_tells x o) [
+      | inl h ↦ here h.1
+      | inr h ↦ (let apart = same_other x o h.1 in let c = count x in let e = g.rest i x h.1 in omega (arith, apart, c, e))
+    ]
+      where
+        here : x ≡ o → in_list x (o ∷ os) ≡ K i x
+        here e =
+            let self = same_self o in
+            let one = ap (λ (y : ℕ). same y o) e in
+            let c = count x in
+            let d = ap (L i) e in
+            let f = ap (λ (j : ℕ). L j o) once.0 in
+            let on = g.on in
+            let at_i = ap (λ (j : ℕ). K j o) once.0 in
+            let at_x = ap (K i) e in
+            omega (arith, self, one, c, d, f, on, at_i, at_x)
+items_gain {L} o n K g (inr once) (collected i access pool os {is} {js} count more) =
+    let first : record { number = i; owned = cond (i == n) (storage.collection (o ∷ os)) (storage.collection os) } ∷ map (joined_item n o) js ≡ record { number = i; owned = storage.collection os } ∷ map (joined_item n o) js =
+    ap (λ (b : Bool). record { number = i; owned = cond b (storage.collection (o ∷ os)) (storage.collection os) } ∷ map (joined_item n o) js) (eq_not i n once.0) in
+    subst (λ (ks : List storage.Item). Items K (record { number = i; owned = collection access pool } ∷ is) ks) (sym first)
+    (collected i access pool os (λ x. count x ∙ sym (gains_off o n L K g i once.0 x)) (items_gain o n K g once.1 more))
+items_gain {L} o n K g (inl once) (single i t y count more) = absurd once.1
+items_gain {L} o n K g (inr once) (single i t y {is} {js} count more) =
+    let first : record { number = i; owned = cond (i == n) (storage.declared y) (storage.declared y) } ∷ map (joined_item n o) js ≡ record { number = i; owned = storage.declared y } ∷ map (joined_item n o) js =
+    ap (λ (b : Bool). record { number = i; owned = cond b (storage.declared y) (storage.declared y) } ∷ map (joined_item n o) js) (eq_not i n once.0) in
+    subst (λ (ks : List storage.Item). Items K (record { number = i; owned = record_object t } ∷ is) ks) (sym first)
+    (single i t y (λ x. gains_off o n L K g i once.0 x ∙ count x) (items_gain o n K g once.1 more))
 
 -- How many collections are open under a number.
 never_open : (b : Bool) → cond {A = ℕ} b 0 0 ≡ 0
 never_open true = refl
 never_open false = refl
 
-open_object : (c n : ℕ) (os : List ℕ) (older : List storage.Item) → items_open c (object_seen n os older) ≡ items_open c older
-open_object c n [] older = refl
-open_object c n (x ∷ os) older = let e = never_open (n == c) in omega (arith, e)
+pub open_not : {L : Listing} {is : List Item} {js : List storage.Item} (c : ℕ) → NotIn c is → Items L is js → items_open c js ≡ 0
+open_not c a no_items = refl
+open_not c a (passed n what none zero more) = open_not c a.1 more
+open_not c a (collected n access pool os count more) =
+    let e = ap {B = ℕ} (λ (b : Bool). cond b 1 0) (eq_not n c a.0) in let r = open_not c a.1 more in omega (arith, e, r)
+open_not c a (single n t y count more) = let e = never_open (n == c) in let r = open_not c a.1 more in omega (arith, e, r)
 
-open_other : (c n : ℕ) (os : List ℕ) (what : Owned) (older : List storage.Item) → n ≢ c → items_open c (item_seen n os what older) ≡ items_open c older
-open_other c n os (declared x) older ne = refl
-open_other c n os (collection access pool) older ne = let e = ap {B = ℕ} (λ (b : Bool). cond b 1 0) (eq_not n c ne) in omega (arith, e)
-open_other c n os (record_object t) older ne = open_object c n os older
-open_other c n os (storage_pool d p) older ne = refl
-
-open_here : (c n : ℕ) (os : List ℕ) (what : Owned) (older : List storage.Item) → IsCollection what → n ≡ c → items_open c older ≡ 0 → items_open c (item_seen n os what older) ≡ 1
-open_here c n os (declared x) older is e rest = absurd is
-open_here c n os (collection access pool) older is e rest =
-    let there : (n == c) ≡ true = ap (λ (x : ℕ). n == x) (sym e) ∙ eq_self n in
+pub open_once : {L : Listing} {is : List Item} {js : List storage.Item} (c : ℕ) → ItemOnce c is → Items L is js → items_open c js ≡ 1
+open_once c once no_items = absurd once
+open_once c (inl once) (passed n what none zero more) = absurd (never what once.1 none)
+  where
+    never : (what : Owned) → IsCollection what → IsNoCollection what → ⊥
+    never (declared x) is not = is
+    never (collection access pool) is not = not
+    never (record_object t) is not = is
+    never (storage_pool d p) is not = is
+open_once c (inr once) (passed n what none zero more) = open_once c once.1 more
+open_once c (inl once) (collected n access pool os count more) =
+    let there : (n == c) ≡ true = ap (λ (x : ℕ). n == x) (sym once.0) ∙ eq_self n in
     let one = ap {B = ℕ} (λ (b : Bool). cond b 1 0) there in
+    let rest = open_not c once.2 more in
     omega (arith, one, rest)
-open_here c n os (record_object t) older is e rest = absurd is
-open_here c n os (storage_pool d p) older is e rest = absurd is
+open_once c (inr once) (collected n access pool os count more) =
+    let e = ap {B = ℕ} (λ (b : Bool). cond b 1 0) (eq_not n c once.0) in let r = open_once c once.1 more in omega (arith, e, r)
+open_once c (inl once) (single n t y count more) = absurd once.1
+open_once c (inr once) (single n t y count more) = let e = never_open (n == c) in let r = open_once c once.1 more in omega (arith, e, r)
 
-open_not : (h : Heap) (c : ℕ) (is : List Item) → NotIn c is → items_open c (items_seen h is) ≡ 0
-open_not h c [] a = refl
-open_not h c (i ∷ is) a = open_other c i.number (listed_in h i.number) i.owned (items_seen h is) a.0 ∙ open_not h c is a.1
-
-open_once : (h : Heap) (c : ℕ) (is : List Item) → ItemOnce c is → items_open c (items_seen h is) ≡ 1
-open_once h c [] a = absurd a
-open_once h c (i ∷ is) (inl a) = open_here c i.number (listed_in h i.number) i.owned (items_seen h is) a.1 a.0 (open_not h c is a.2)
-open_once h c (i ∷ is) (inr a) = open_other c i.number (listed_in h i.number) i.owned (items_seen h is) a.0 ∙ open_once h c is a.1
-
-cond_none : (b : Bool) (n : ℕ) → n ≡ 0 → cond b n 0 ≡ 0
+pub cond_none : (b : Bool) (n : ℕ) → n ≡ 0 → cond b n 0 ≡ 0
 cond_none true n e = e
 cond_none false n e = refl
 
-opens_not : (h : Heap) (a c : ℕ) (ms : List Master) → NotInMasters c ms → opens a c (chain h ms) ≡ 0
-opens_not h a c [] not = refl
-opens_not h a c (m ∷ ms) not =
-    let here = cond_none (suc m.number == a) (items_open c (items_seen h m.items)) (open_not h c m.items not.0) in
-    let rest = opens_not h a c ms not.1 in
-    omega (arith, here, rest)
-
-pub opens_once : (h : Heap) (a c : ℕ) (ms : List Master) → MasterOnce a c ms → opens a c (chain h ms) ≡ 1
-opens_once h a c [] once = absurd once
-opens_once h a c (m ∷ ms) (inl once) =
-    let there : (suc m.number == a) ≡ true = ap (λ (x : ℕ). suc m.number == x) (sym once.0) ∙ eq_self (suc m.number) in
-    let here : cond (suc m.number == a) (items_open c (items_seen h m.items)) 0 ≡ 1 =
-    ap (λ (b : Bool). cond b (items_open c (items_seen h m.items)) 0) there ∙ open_once h c m.items once.1 in
-    let rest = opens_not h a c ms once.2 in
-    omega (arith, here, rest)
-opens_once h a c (m ∷ ms) (inr once) =
-    let here = cond_none (suc m.number == a) (items_open c (items_seen h m.items)) (open_not h c m.items once.0) in
-    let rest = opens_once h a c ms once.1 in
-    omega (arith, here, rest)
-
--- No assignment is under way.
-pub none_assigned : (h : Heap) (o : ℕ) (ms : List Master) → assigned o (chain h ms) ≡ 0
-none_assigned h o [] = refl
-none_assigned h o (m ∷ ms) = none_assigned h o ms
+pub cond_same : (b : Bool) (xs ys : List storage.Item) → xs ≡ ys → cond b xs ys ≡ ys
+cond_same true xs ys e = e
+cond_same false xs ys e = refl
 
 -- The master of a collection is found by the collection's number.
 has_once : (c : ℕ) (is : List Item) → ItemOnce c is → has_item c is ≡ true

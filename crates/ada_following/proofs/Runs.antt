@@ -1,6 +1,6 @@
 -- Whole runs are followed, and so the laws of storage are those of programs.
 
-use Rattle.std.proofs.Common.{◌≡◌, ℕ, ℤ, suc, true, false, List, [], ◌∷◌, ◌++◌, map, Some, refl, sym, ap, ◌∙◌, ◌⊎◌, inl, inr, subst}
+use Rattle.std.proofs.Common.{◌≡◌, ℕ, ℤ, suc, Bool, true, false, List, [], ◌∷◌, ◌++◌, map, Some, refl, sym, ap, ◌∙◌, ◌⊎◌, inl, inr, subst}
 use Rattle.std.specs.List.{slice_get, All, AllByRecursion}
 use Rattle.std.proofs.lemmas.List.Elements.{All-from_recursion}
 use Rattle.ada_program.specs.declared.program.Program.{Program}
@@ -8,10 +8,14 @@ use Rattle.ada_program.specs.declared.program.TypeDefinition.{TypeDefinition}
 use Rattle.ada_program.specs.ProgramForm.{body_forms}
 use Rattle.ada_meaning.specs.declared.state.Mode.{Mode}
 use Rattle.ada_meaning.specs.declared.state.Value.{Value}
-use Rattle.ada_meaning.specs.declared.state.Mode.TheVariants.{Running, Raising}
 use Rattle.ada_meaning.specs.declared.event.Halt.{Halt}
-use Rattle.ada_meaning.specs.State.{Master}
-use Rattle.ada_meaning.specs.Step.{operands}
+use Rattle.ada_meaning.specs.declared.state.Value.TheVariants.{Names}
+use Rattle.ada_meaning.specs.declared.event.Cause.TheVariants.{Leaving, Freeing, Assigning, Undoing}
+use Rattle.ada_meaning.specs.Frame.{Treatment, ends as ends_by, Frame}
+use Rattle.ada_meaning.specs.Frame as frame
+use Rattle.ada_meaning.specs.State.{Activation, Master}
+use Rattle.ada_parts.specs.Task.{Task}
+use Rattle.ada_meaning.specs.Step.{treating}
 use Rattle.ada_meaning.specs.Named.{Object, State, next}
 use Rattle.ada_meaning.specs.Run.{Event, Run, Halts, here, there, first_state}
 use Rattle.ada_meaning.specs.Law.{IsBack, HasEnded}
@@ -27,15 +31,17 @@ use Rattle.ada_storage.proofs.Joining.{items_home}
 use Rattle.ada_storage.proofs.Runs as runs
 use Rattle.ada_storage.proofs.Ends as ends
 use Rattle.ada_storage.proofs.Following as carried
-use Rattle.ada_following.specs.Reading.{event_seen, is_out, IsUnderWay, IsSeenAs, IsFreeingDeclared, IsFreeingControlled}
+use Rattle.ada_following.specs.Reading.{event_seen, is_out, IsUnderWay, IsSeenAs}
 use Rattle.ada_following.specs.Law.{AreAtHome, Going, IsFollowed, IsShown}
-use Rattle.ada_following.proofs.Frames.{Control, IsEmpty, Code, Stands, codes, leaving, ending, ended, freeing, freed, beginning, finishing, finishing_freed, at_path, on_path, off_path, passed, passes_path, passes_record, passes_assignment, finding, records_found, passing, assigning, copies, stores, adjusting}
 use Rattle.ada_following.proofs.Heaps.{Heap}
-use Rattle.ada_following.proofs.Deeds.{or_ends, led, ends_only, never_ends}
-use Rattle.ada_following.proofs.Goings.{Silent, stands_still, then_goes, goes_silent, silent_holds, silent_behind, run_both, Holds, by_none, goes_holds}
-use Rattle.ada_following.proofs.Straying.{controlled_stays}
-use Rattle.ada_following.proofs.Follows.{Follows, goes_on, strays, strays_showing}
-use Rattle.ada_following.proofs.Steps.{Joint, joint_follows, Strays, declared_strays}
+use Rattle.ada_following.proofs.Places.{Listing, no_items}
+use Rattle.ada_following.proofs.Frames.{Control, Static, Treating, performing, Waits, Reads, nothing, enters, treats_behind}
+use Rattle.ada_following.proofs.Stands.{passed, Stands, codes, waits, taken, freed, undone, assigning, failing, finding, passing}
+use Rattle.ada_following.proofs.Seen.{stands_seen, stands_mode}
+use Rattle.ada_following.proofs.Deeds.{led, ends_only}
+use Rattle.ada_following.proofs.Goings.{Silent, stands_still, then_goes, goes_silent, silent_holds, silent_behind, run_both, Holds, goes_holds}
+use Rattle.ada_following.proofs.Follows.{Follows}
+use Rattle.ada_following.proofs.Steps.{Joint, joint_follows}
 
 -- Where a run comes to in storage.
 pub record Comes (types : List TypeDefinition) (s : storage.State) (events : List Event) (last : State) : Type 0 where
@@ -43,61 +49,36 @@ pub record Comes (types : List TypeDefinition) (s : storage.State) (events : Lis
   pub steps : RunOf Going s (map event_seen events) reached
   pub to : storage.State
   pub rest : Silent reached to
-  pub joint : Joint types last to ⊎ IsFreeingDeclared last
+  pub joint : Joint types last to
 
--- Where a declared object is being freed nothing more is done to storage.
-stays_there : {program : Program} {x last : State} {events : List Event} (s : storage.State) → Run program x events last → IsFreeingDeclared x → Comes program.types.items s events last
-stays_there s here g = record { reached = s; steps = following.here; to = s; rest = stands_still s s refl; joint = inr g }
-stays_there {program} {x} s (there {event = e} choice mid step run) g =
-    let d = led x.control Strays (next program.types.items (body_forms program) x) choice e mid
-    (or_ends x.control Strays (next program.types.items (body_forms program) x) (declared_strays program.types.items (body_forms program) x g)) step in
-    let more = stays_there s run d.1 in
-    record {
-      reached = more.reached;
-      steps = following.there s (subst (λ f. Goes f s s) (sym d.0) (by_none s s refl)) more.steps;
-      to = more.to;
-      rest = more.rest;
-      joint = more.joint;
-    }
-
--- If that has controlled parts, it stays so.
-stays_controlled : {program : Program} {x last : State} {events : List Event} → Run program x events last → IsFreeingControlled program.types.items x → IsFreeingControlled program.types.items last
-stays_controlled here g = g
-stays_controlled {program} {x} (there {event = e} choice mid step run) g =
-    stays_controlled run
-    (led x.control (λ e y. IsFreeingControlled program.types.items y) (next program.types.items (body_forms program) x) choice e mid
-    (or_ends x.control (λ e y. IsFreeingControlled program.types.items y) (next program.types.items (body_forms program) x) (controlled_stays program.types.items (body_forms program) x g)) step)
-
-after_step :
-    {program : Program} {last mid : State} {events : List Event} (s0 s : storage.State) (e : Event) → Silent s0 s → Holds s → Run program mid events last → Follows program.types.items s e mid
-    → ((r t : storage.State) → Silent r t → Joint program.types.items mid t → Comes program.types.items r events last ⊎ IsFreeingControlled program.types.items last)
-    → Comes program.types.items s0 (e ∷ events) last ⊎ IsFreeingControlled program.types.items last
-after_step {program} {last} {mid} {events} s0 s e before holds run (goes_on r t goes later seen stands sound) again =
-    go (again r t later (record { seen = seen; holds = silent_holds r t (goes_holds s r (event_seen e) holds goes) later; stands = stands; sound = sound }))
-  where
-    go : Comes program.types.items r events last ⊎ IsFreeingControlled program.types.items last → Comes program.types.items s0 (e ∷ events) last ⊎ IsFreeingControlled program.types.items last
-    go (inl more) = inl (record { reached = more.reached; steps = following.there r (then_goes s0 s r (event_seen e) before goes) more.steps; to = more.to; rest = more.rest; joint = more.joint })
-    go (inr g) = inr g
-after_step s0 s e before holds run (strays q g) again =
-    let more = stays_there s0 run g in
-    inl (record { reached = more.reached; steps = following.there s0 (subst (λ f. Goes f s0 s0) (sym q) (by_none s0 s0 refl)) more.steps; to = more.to; rest = more.rest; joint = more.joint })
-after_step s0 s e before holds run (strays_showing g) again = inr (stays_controlled run g)
-
-run_comes :
-    {program : Program} {x last : State} {events : List Event} (s0 s : storage.State) → Silent s0 s → Run program x events last → Joint program.types.items x s
-    → Comes program.types.items s0 events last ⊎ IsFreeingControlled program.types.items last
-run_comes s0 s before here j = inl (record { reached = s0; steps = following.here; to = s; rest = before; joint = inl j })
+run_comes : {program : Program} {x last : State} {events : List Event} (s0 s : storage.State) → Silent s0 s → Run program x events last → Joint program.types.items x s → Comes program.types.items s0 events last
+run_comes s0 s before here j = record { reached = s0; steps = following.here; to = s; rest = before; joint = j }
 run_comes {program} {x} s0 s before (there {event = e} choice mid step run) j =
-    after_step s0 s e before j.holds run
-    (led x.control (Follows program.types.items s) (next program.types.items (body_forms program) x) choice e mid (joint_follows program.types.items (body_forms program) x s j) step)
-    (λ r t later k. run_comes r t later run k)
+    let f = led x.control (Follows program.types.items s) (next program.types.items (body_forms program) x) choice e mid (joint_follows program.types.items (body_forms program) x s j) step in
+    let more =
+    run_comes f.reached f.to f.later run
+    (record { arrived = f.arrived; holds = silent_holds f.reached f.to (goes_holds s f.reached (event_seen e) j.holds f.goes) f.later }) in
+    record { reached = more.reached; steps = following.there f.reached (then_goes s0 s f.reached (event_seen e) before f.goes) more.steps; to = more.to; rest = more.rest; joint = more.joint }
 
 first_joint : (program : Program) (input : List ℤ) → Joint program.types.items (first_state program input) storage_law.first_state
 first_joint program input = record {
-  seen = record { control = refl; mode = refl; out = λ o. refl; shape = λ o. refl; alive = λ o p. refl; turn = λ o p. refl; created = refl; next = refl };
+  arrived =
+      record {
+        control = storage.acts (record { number = 1; items = [] }) storage.stops;
+        moded = storage.running;
+        is_control = refl;
+        is_moded = refl;
+        stands = codes (enters _ (record { number = 0; items = [] }) refl no_items nothing);
+        facts =
+            record {
+              out = λ o. refl;
+              shape = record { shape = λ o. refl; alive = λ o p. refl; turn = λ o p. refl };
+              created = refl;
+              next = refl;
+              sound = record { counted = (tt, tt); fit = (tt, tt); beyond = λ n le. refl; fine = λ o x is. absurd (cc is) };
+            };
+      };
   holds = runs.first_inv;
-  stands = codes tt;
-  sound = record { counted = (tt, tt); fit = (tt, tt); beyond = λ n le. refl; fine = λ o x is. absurd (cc is) };
 }
 
 -- What happened was seen, and the other way round.
@@ -138,193 +119,140 @@ homes A T (storage.undoes n o done k) f = homes A T k f.2
 homes A T (storage.assigns n o parts fs k) f = homes (after A o parts) T k f.4
 homes A T (storage.adjusts o parts js done k) f = homes (after A o parts) T k f.4
 
--- Where nothing is left to do no master is entered.
-none_inside : (ms : List Master) → IsEmpty ms → ms ≡ []
-none_inside [] c = refl
-none_inside (m ∷ ms) c = absurd c
+-- Where nothing is left to do no master is entered, and storage stops.
+record IsDone (ms : List Master) (c : storage.Control) : Type 0 where
+  none : ms ≡ []
+  stops : c ≡ storage.stops
 
-no_master : (vs : List Value) (h : Heap) (ms : List Master) (mode : Mode) (k : Control) → Stands vs h ms mode k → k ≡ [] → ms ≡ []
-no_master vs h ms mode k (codes c) is = none_inside ms (subst (λ (l : Control). Code l ms) is c)
-no_master vs h ms Running _ (leaving mode k c) is = absurd (cc is)
-no_master vs h ms Running _ (ending v a i pool mode k first c) is = absurd (cc is)
-no_master vs h ms Running _ (ended o object a i pool mode k at_o gone first c) is = absurd (cc is)
-no_master vs h ms Running _ (freeing v n pool k c) is = absurd (cc is)
-no_master vs h ms Running _ (freed o object n pool k at_o gone c) is = absurd (cc is)
-no_master vs h ms Running _ (beginning o x by task tasks k created at_o inside joining) is = absurd (cc is)
-no_master vs h ms Running _ (finishing task tasks v a i pool mode k first c) is = absurd (cc is)
-no_master vs h ms Running _ (finishing_freed task tasks v n pool k c) is = absurd (cc is)
-no_master vs h ms Running _ (finding false source t k (at_path p kept) c) is = absurd (cc is)
-no_master vs h ms Running _ (finding false source t k (on_path cs place u kept) c) is = absurd (cc is)
-no_master vs h ms Running _ (finding false source t k (off_path place u kept) c) is = absurd (cc is)
-no_master vs h ms Running _ (finding true source t k (at_path p kept) c) is = absurd (cc is)
-no_master vs h ms Running _ (finding true source t k (on_path cs place u kept) c) is = absurd (cc is)
-no_master vs h ms Running _ (finding true source t k (off_path place u kept) c) is = absurd (cc is)
-no_master vs h ms Running _ (records_found t k kept c) is = absurd (cc is)
-no_master vs h ms (Raising e) _ (passing _ k passed c) is = none_inside ms (subst (λ (l : Control). Code l ms) is c.1)
-no_master vs h ms (Raising e) _ (passing _ k (passes_path p over) c) is = absurd (cc is)
-no_master vs h ms (Raising e) _ (passing _ k (passes_record place t over) c) is = absurd (cc is)
-no_master vs h ms (Raising e) _ (passing _ k (passes_assignment t over) c) is = absurd (cc is)
-no_master vs h ms Running _ (assigning o p us base t first count n task tasks last lasts k newest out record_is c) is = absurd (cc is)
-no_master vs h ms Running _ (copies o p us base t first count n last lasts k newest out record_is c) is = absurd (cc is)
-no_master vs h ms Running _ (stores o first count n last lasts k out record_is c) is = absurd (cc is)
-no_master vs h ms Running _ (adjusting o n task tasks k out c) is = absurd (cc is)
+never_empty : {A : Type 0} (v : Value) (treatment : Treatment) (tasks : List Task) (f : Frame Value) (k : Control) → [] ≡ treating v treatment tasks (f ∷ k) → A
+never_empty v treatment [] f k e = absurd (cc e)
+never_empty v treatment (t ∷ ts) f k e = absurd (cc e)
+
+waits_some : {types : List TypeDefinition} {S : Static} {L : Listing} {A : Alive} {acts : List (Activation Value)} {ms : List Master} {k : Control} {t : Treating} → Waits types S L A acts ms k [] t → ⊥
+waits_some w = elim w [ ]
+
+reads_none : {types : List TypeDefinition} {S : Static} {w : Bool} {L : Listing} {A : Alive} {acts : List (Activation Value)} {ms : List Master} {c : storage.Control} → Reads types S w L A acts [] ms c → IsDone ms c
+reads_none nothing = record { none = refl; stops = refl }
+reads_none (treats_behind t waiting acting rest is) = absurd (waits_some waiting)
+
+nothing_left : {types : List TypeDefinition} {h : Heap} {A : Alive} {acts : List (Activation Value)} {ms : List Master} {mode : Mode} {c : storage.Control} {md : storage.Mode} → Stands types h A acts ms mode [] c md → IsDone ms c
+nothing_left (codes rest) = reads_none rest
+nothing_left (waits rest) = reads_none rest
+nothing_left (taken o i pool mode tasks left m e items rest is) = never_empty (Names o) (ends_by (Leaving m.number i)) tasks (frame.Ends (Names o)) _ is
+nothing_left (freed o n pool tasks left e acting rest is) = never_empty (Names o) (ends_by (Freeing n)) tasks (frame.Ends (Names o)) _ is
+nothing_left (undone o n pool e done acting rest is) = never_empty (Names o) (ends_by (Undoing n)) (performing done) (frame.Ends (Names o)) _ is
+nothing_left (assigning o p us base t first count n last lasts tasks left newest rec e acting rest is) = never_empty (Names o) (ends_by (Assigning n)) tasks (frame.Copies base t) _ is
+nothing_left (failing o p us base t first count n last lasts tasks parts qs left newest rec lacks are acting rest is) = never_empty (Names o) (ends_by (Assigning n)) tasks (frame.Copies base t) _ is
+nothing_left (finding false source t path rest) = elim path [ ]
+nothing_left (finding true source t path rest) = elim path [ ]
+nothing_left (passing e passed rest) = reads_none rest
 
 each_back : (xs : Heap) → ((o : ℕ) (x : Object) → slice_get xs o ≡ Some x → x.out ≡ false) → AllByRecursion IsBack xs
 each_back [] all = tt
 each_back (x ∷ xs) all = (all 0 x refl, each_back xs (λ o y at_o. all (suc o) y at_o))
 
 module _ (program : Program) (input : List ℤ) (events : List Event) (last : State) (run : Run program (first_state program input) events last) where
-  comes_or_frees : Comes program.types.items storage_law.first_state events last ⊎ IsFreeingControlled program.types.items last
-  comes_or_frees = run_comes storage_law.first_state storage_law.first_state (stands_still storage_law.first_state storage_law.first_state refl) run (first_joint program input)
+  comes : Comes program.types.items storage_law.first_state events last
+  comes = run_comes storage_law.first_state storage_law.first_state (stands_still storage_law.first_state storage_law.first_state refl) run (first_joint program input)
 
   follows : FollowsOf Going (λ s. s)
   follows s t e g = g
 
-  module _ (comes : Comes program.types.items storage_law.first_state events last) where
-    -- the run of storage
-    shows : carried.RunAlike storage_law.first_state comes.reached (map event_seen events)
-    shows = carried.from_first Going (λ s. s) follows storage_law.first_state refl comes.steps
+  -- the run of storage
+  shows : carried.RunAlike storage_law.first_state comes.reached (map event_seen events)
+  shows = carried.from_first Going (λ s. s) follows storage_law.first_state refl comes.steps
 
-    -- and to where it is read
-    whole_run : storage_law.Run storage_law.first_state (shows.shown ++ comes.rest.unseen) comes.to
-    whole_run = run_both shows.run comes.rest.run
+  -- and to where it is read
+  whole_run : storage_law.Run storage_law.first_state (shows.shown ++ comes.rest.unseen) comes.to
+  whole_run = run_both shows.run comes.rest.run
 
-    alike : seen (shows.shown ++ comes.rest.unseen) ≡ seen (map event_seen events)
-    alike = silent_behind shows.shown comes.rest.unseen comes.rest.silent ∙ shows.alike
+  alike : seen (shows.shown ++ comes.rest.unseen) ≡ seen (map event_seen events)
+  alike = silent_behind shows.shown comes.rest.unseen comes.rest.silent ∙ shows.alike
 
-    invariant : Holds comes.to
-    invariant = runs.inv_run whole_run runs.first_inv
+  invariant : Holds comes.to
+  invariant = runs.inv_run whole_run runs.first_inv
 
-    reads : IsSeenAs program.types.items last comes.to ⊎ IsFreeingDeclared last
-    reads = go comes.joint
-      where
-        go : Joint program.types.items last comes.to ⊎ IsFreeingDeclared last → IsSeenAs program.types.items last comes.to ⊎ IsFreeingDeclared last
-        go (inl j) = inl j.seen
-        go (inr g) = inr g
+  -- what is read there
+  reads : IsSeenAs program.types.items last comes.to
+  reads =
+      let a = comes.joint.arrived in
+      record {
+        control =
+            subst (λ (c : storage.Control). IsUnderWay program.types.items last.heap last.control last.masters c) (sym a.is_control)
+            (stands_seen program.types.items last.heap comes.to.alive last.activations a.facts.shape.alive a.stands);
+        mode = a.is_moded ∙ stands_mode a.stands;
+        out = a.facts.out;
+        shape = a.facts.shape.shape;
+        alive = a.facts.shape.alive;
+        turn = a.facts.shape.turn;
+        created = a.facts.created;
+        next = a.facts.next;
+      }
 
-    -- Laws of states.
-    nothing_left : IsFreeingDeclared last → (halt : Halt) → Halts program last halt → HasEnded halt → ⊥
-    nothing_left g halt is end =
-        never_ends Strays (next program.types.items (body_forms program) last) halt (declared_strays program.types.items (body_forms program) last g) is end
+  pub runs_follow_storage : IsFollowed program.types.items events last
+  runs_follow_storage = record {
+    reached = comes.reached;
+    steps = comes.steps;
+    to = comes.to;
+    rest = goes_silent comes.reached comes.to comes.rest;
+    homes = homes comes.to.alive comes.to.objects comes.to.control invariant.fits;
+    reads = reads;
+  }
 
-    back_by : (o : ℕ) (x : Object) → last.masters ≡ [] → last.control ≡ [] → IsSeenAs program.types.items last comes.to → slice_get last.heap o ≡ Some x → x.out ≡ false
-    back_by o x none is seen at_o =
-        sym (ap is_out at_o) ∙ sym (seen.out o)
-        ∙ ends.all_back comes.to (shows.shown ++ comes.rest.unseen) whole_run
-        (subst (λ (k : Control). IsUnderWay program.types.items last.heap k last.masters comes.to.control) is seen.control) o
+  pub runs_are_shown : IsShown program.types.items events last
+  runs_are_shown = record { shown = shows.shown ++ comes.rest.unseen; to = comes.to; run = whole_run; alike = alike; reads = reads }
 
-    all_back_by : (halt : Halt) → Halts program last halt → HasEnded halt → (last.masters ≡ []) × All IsBack last.heap
-    all_back_by halt stops end = go comes.joint
-      where
-        go : Joint program.types.items last comes.to ⊎ IsFreeingDeclared last → (last.masters ≡ []) × All IsBack last.heap
-        go (inr g) = absurd (nothing_left g halt stops end)
-        go (inl j) =
-            let is = ends_only last.control (Follows program.types.items comes.to) (next program.types.items (body_forms program) last) halt (joint_follows program.types.items (body_forms program) last comes.to j) stops end in
-            let none = no_master (operands last) last.heap last.masters last.mode last.control j.stands is in
-            (none, All-from_recursion IsBack last.heap (each_back last.heap (λ o x at_o. back_by o x none is j.seen at_o)))
+  -- Laws of events.
+  pub nothing_after_back : EachTwo BeforeBack (map event_seen events)
+  nothing_after_back = carried.nothing_after_back Going (λ s. s) follows storage_law.first_state refl comes.reached (map event_seen events) comes.steps
 
-    one_place : IsFreeingDeclared last ⊎ ((c : storage.Control) × IsUnderWay program.types.items last.heap last.control last.masters c × ((o : ℕ) → placed o c ≡ bit (is_out (slice_get last.heap o))))
-    one_place = go reads
-      where
-        go : IsSeenAs program.types.items last comes.to ⊎ IsFreeingDeclared last → IsFreeingDeclared last ⊎ ((c : storage.Control) × IsUnderWay program.types.items last.heap last.control last.masters c × ((o : ℕ) → placed o c ≡ bit (is_out (slice_get last.heap o))))
-        go (inr g) = inl g
-        go (inl seen) = inr (comes.to.control, seen.control, λ o. invariant.places o ∙ ap bit (seen.out o))
+  pub in_reverse : EachTwo InReverse (map event_seen events)
+  in_reverse = carried.in_reverse Going (λ s. s) follows storage_law.first_state refl comes.reached (map event_seen events) comes.steps
 
-    fall : IsFreeingDeclared last ⊎ ((c : storage.Control) × IsUnderWay program.types.items last.heap last.control last.masters c × Falling c)
-    fall = go reads
-      where
-        go : IsSeenAs program.types.items last comes.to ⊎ IsFreeingDeclared last → IsFreeingDeclared last ⊎ ((c : storage.Control) × IsUnderWay program.types.items last.heap last.control last.masters c × Falling c)
-        go (inr g) = inl g
-        go (inl seen) = inr (comes.to.control, seen.control, ends.masters_fall comes.to (shows.shown ++ comes.rest.unseen) whole_run)
+  pub once : EachTwo Once (map event_seen events)
+  once = carried.once Going (λ s. s) follows storage_law.first_state refl comes.reached (map event_seen events) comes.steps
 
-    -- Each value that came to exist is finalized, or its object's words are out.
-    value_ends : (v : storage.Value) → Happened (IsBorn v) (map event_seen events) → (comes.to.objects v.object).lives ≡ false → Happened (IsFinalized v) (map event_seen events)
-    value_ends v is_born gone =
-        let es = shows.shown ++ comes.rest.unseen in
-        let born_there = happened_of_seen (IsBorn v) es (subst (λ (fs : List storage.Event). Happened (IsBorn v) fs) (sym alike) (happened_seen (IsBorn v) (λ h. h) (map event_seen events) is_born)) in
-        go (runs.born_run v whole_run born_there)
-      where
-        go : Happened (IsFinalized v) (shows.shown ++ comes.rest.unseen) ⊎ (comes.to.alive v.object v.part ≡ true) → Happened (IsFinalized v) (map event_seen events)
-        go (inl h) =
-            happened_of_seen (IsFinalized v) (map event_seen events)
-            (subst (λ (fs : List storage.Event). Happened (IsFinalized v) fs) alike (happened_seen (IsFinalized v) (λ h. h) (shows.shown ++ comes.rest.unseen) h))
-        go (inr lives) = let never : true ≡ false = sym lives ∙ invariant.dead v.object gone v.part in absurd (cc never)
+  pub born_before : AfterBirth (λ v. ⊥) (map event_seen events)
+  born_before = carried.born_before Going (λ s. s) follows storage_law.first_state refl comes.reached (map event_seen events) comes.steps
 
-    by_back : IsFreeingDeclared last ⊎ ((v : storage.Value) → Happened (IsBorn v) (map event_seen events) → is_out (slice_get last.heap v.object) ≡ false → Happened (IsFinalized v) (map event_seen events))
-    by_back = go reads
-      where
-        go : IsSeenAs program.types.items last comes.to ⊎ IsFreeingDeclared last → IsFreeingDeclared last ⊎ ((v : storage.Value) → Happened (IsBorn v) (map event_seen events) → is_out (slice_get last.heap v.object) ≡ false → Happened (IsFinalized v) (map event_seen events))
-        go (inr g) = inl g
-        go (inl seen) = inr (λ v is_born back. value_ends v is_born (seen.out v.object ∙ back))
+  -- Laws of states.
+  pub has_one_place : (c : storage.Control) × IsUnderWay program.types.items last.heap last.control last.masters c × ((o : ℕ) → placed o c ≡ bit (is_out (slice_get last.heap o)))
+  has_one_place = (comes.to.control, reads.control, λ o. invariant.places o ∙ ap bit (reads.out o))
 
-    all_finalized_by : (halt : Halt) → Halts program last halt → HasEnded halt → (v : storage.Value) → Happened (IsBorn v) (map event_seen events) → Happened (IsFinalized v) (map event_seen events)
-    all_finalized_by halt stops end v is_born = go comes.joint
-      where
-        go : Joint program.types.items last comes.to ⊎ IsFreeingDeclared last → Happened (IsFinalized v) (map event_seen events)
-        go (inr g) = absurd (nothing_left g halt stops end)
-        go (inl j) =
-            let is = ends_only last.control (Follows program.types.items comes.to) (next program.types.items (body_forms program) last) halt (joint_follows program.types.items (body_forms program) last comes.to j) stops end in
-            value_ends v is_born
-            (ends.all_back comes.to (shows.shown ++ comes.rest.unseen) whole_run
-            (subst (λ (k : Control). IsUnderWay program.types.items last.heap k last.masters comes.to.control) is j.seen.control) v.object)
+  pub masters_fall : (c : storage.Control) × IsUnderWay program.types.items last.heap last.control last.masters c × Falling c
+  masters_fall = (comes.to.control, reads.control, ends.masters_fall comes.to (shows.shown ++ comes.rest.unseen) whole_run)
 
-  nothing_controlled : IsFreeingControlled program.types.items last → (halt : Halt) → Halts program last halt → HasEnded halt → ⊥
-  nothing_controlled g halt is end =
-      never_ends (λ e y. IsFreeingControlled program.types.items y) (next program.types.items (body_forms program) last) halt (controlled_stays program.types.items (body_forms program) last g) is end
-
-  pub all_back : (halt : Halt) → Halts program last halt → HasEnded halt → (last.masters ≡ []) × All IsBack last.heap
-  all_back halt stops end = go comes_or_frees
+  -- Each value that came to exist is finalized, or its object's words are out.
+  value_ends : (v : storage.Value) → Happened (IsBorn v) (map event_seen events) → (comes.to.objects v.object).lives ≡ false → Happened (IsFinalized v) (map event_seen events)
+  value_ends v is_born gone =
+      let es = shows.shown ++ comes.rest.unseen in
+      let born_there = happened_of_seen (IsBorn v) es (subst (λ (fs : List storage.Event). Happened (IsBorn v) fs) (sym alike) (happened_seen (IsBorn v) (λ h. h) (map event_seen events) is_born)) in
+      go (runs.born_run v whole_run born_there)
     where
-      go : Comes program.types.items storage_law.first_state events last ⊎ IsFreeingControlled program.types.items last → (last.masters ≡ []) × All IsBack last.heap
-      go (inl comes) = all_back_by comes halt stops end
-      go (inr g) = absurd (nothing_controlled g halt stops end)
+      go : Happened (IsFinalized v) (shows.shown ++ comes.rest.unseen) ⊎ (comes.to.alive v.object v.part ≡ true) → Happened (IsFinalized v) (map event_seen events)
+      go (inl h) =
+          happened_of_seen (IsFinalized v) (map event_seen events)
+          (subst (λ (fs : List storage.Event). Happened (IsFinalized v) fs) alike (happened_seen (IsFinalized v) (λ h. h) (shows.shown ++ comes.rest.unseen) h))
+      go (inr lives) = let never : true ≡ false = sym lives ∙ invariant.dead v.object gone v.part in absurd (cc never)
 
-  pub all_finalized : (halt : Halt) → Halts program last halt → HasEnded halt → (v : storage.Value) → Happened (IsBorn v) (map event_seen events) → Happened (IsFinalized v) (map event_seen events)
-  all_finalized halt stops end v is_born = go comes_or_frees
-    where
-      go : Comes program.types.items storage_law.first_state events last ⊎ IsFreeingControlled program.types.items last → Happened (IsFinalized v) (map event_seen events)
-      go (inl comes) = all_finalized_by comes halt stops end v is_born
-      go (inr g) = absurd (nothing_controlled g halt stops end)
+  pub finalized_by_back : (v : storage.Value) → Happened (IsBorn v) (map event_seen events) → is_out (slice_get last.heap v.object) ≡ false → Happened (IsFinalized v) (map event_seen events)
+  finalized_by_back v is_born back = value_ends v is_born (reads.out v.object ∙ back)
 
-  module _ (never : IsFreeingControlled program.types.items last → ⊥) where
-    comes : Comes program.types.items storage_law.first_state events last
-    comes = go comes_or_frees
-      where
-        go : Comes program.types.items storage_law.first_state events last ⊎ IsFreeingControlled program.types.items last → Comes program.types.items storage_law.first_state events last
-        go (inl c) = c
-        go (inr g) = absurd (never g)
+  -- Where a run has come to its end.
+  module _ (halt : Halt) (stops : Halts program last halt) (end : HasEnded halt) where
+    no_control : last.control ≡ []
+    no_control = ends_only last.control (Follows program.types.items comes.to) (next program.types.items (body_forms program) last) halt (joint_follows program.types.items (body_forms program) last comes.to comes.joint) stops end
 
-    pub runs_follow_storage : IsFollowed program.types.items events last
-    runs_follow_storage = record {
-      reached = comes.reached;
-      steps = comes.steps;
-      to = comes.to;
-      rest = goes_silent comes.reached comes.to comes.rest;
-      homes = homes comes.to.alive comes.to.objects comes.to.control (invariant comes).fits;
-      reads = reads comes;
-    }
+    done : IsDone last.masters comes.joint.arrived.control
+    done =
+        nothing_left
+        (subst (λ (k : Control). Stands program.types.items last.heap comes.to.alive last.activations last.masters last.mode k comes.joint.arrived.control comes.joint.arrived.moded) no_control comes.joint.arrived.stands)
 
-    pub runs_are_shown : IsShown program.types.items events last
-    runs_are_shown = record { shown = (shows comes).shown ++ comes.rest.unseen; to = comes.to; run = whole_run comes; alike = alike comes; reads = reads comes }
+    all_gone : (o : ℕ) → (comes.to.objects o).lives ≡ false
+    all_gone o = ends.all_back comes.to (shows.shown ++ comes.rest.unseen) whole_run (comes.joint.arrived.is_control ∙ done.stops) o
 
-    -- Laws of events.
-    pub nothing_after_back : EachTwo BeforeBack (map event_seen events)
-    nothing_after_back = carried.nothing_after_back Going (λ s. s) follows storage_law.first_state refl comes.reached (map event_seen events) comes.steps
+    pub all_back : (last.masters ≡ []) × All IsBack last.heap
+    all_back = (done.none, All-from_recursion IsBack last.heap (each_back last.heap (λ o x at_o. sym (ap is_out at_o) ∙ sym (reads.out o) ∙ all_gone o)))
 
-    pub in_reverse : EachTwo InReverse (map event_seen events)
-    in_reverse = carried.in_reverse Going (λ s. s) follows storage_law.first_state refl comes.reached (map event_seen events) comes.steps
-
-    pub once : EachTwo Once (map event_seen events)
-    once = carried.once Going (λ s. s) follows storage_law.first_state refl comes.reached (map event_seen events) comes.steps
-
-    pub born_before : AfterBirth (λ v. ⊥) (map event_seen events)
-    born_before = carried.born_before Going (λ s. s) follows storage_law.first_state refl comes.reached (map event_seen events) comes.steps
-
-    pub has_one_place : IsFreeingDeclared last ⊎ ((c : storage.Control) × IsUnderWay program.types.items last.heap last.control last.masters c × ((o : ℕ) → placed o c ≡ bit (is_out (slice_get last.heap o))))
-    has_one_place = one_place comes
-
-    pub masters_fall : IsFreeingDeclared last ⊎ ((c : storage.Control) × IsUnderWay program.types.items last.heap last.control last.masters c × Falling c)
-    masters_fall = fall comes
-
-    pub finalized_by_back : IsFreeingDeclared last ⊎ ((v : storage.Value) → Happened (IsBorn v) (map event_seen events) → is_out (slice_get last.heap v.object) ≡ false → Happened (IsFinalized v) (map event_seen events))
-    finalized_by_back = by_back comes
+    pub all_finalized : (v : storage.Value) → Happened (IsBorn v) (map event_seen events) → Happened (IsFinalized v) (map event_seen events)
+    all_finalized v is_born = value_ends v is_born (all_gone v.object)

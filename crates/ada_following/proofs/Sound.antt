@@ -3,21 +3,29 @@
 use Rattle.std.proofs.Common.{◌≡◌, ◌≢◌, ℕ, ◌<◌, ◌≤◌, Bool, true, false, cond, List, [], ◌∷◌, ◌++◌, length, None, refl, sym, ap, ◌∙◌, ◌⊎◌, inl, inr, subst, arith, length-append}
 use Rattle.std.specs.Prelude.{◌==◌}
 use Rattle.std.specs.List.{slice_get}
-use Rattle.std.proofs.lemmas.Bool.Decides.{eqb_tells, leb_tells}
-use Rattle.std.proofs.Math.Dec.{leb}
+use Rattle.std.proofs.lemmas.Bool.Decides.{eqb_tells}
 use Rattle.ada_meaning.specs.declared.state.Value.{Value}
 use Rattle.ada_meaning.specs.Heap.{Cell}
 use Rattle.ada_meaning.specs.State.{Owned, declared, collection, record_object, storage_pool, Item, Master, height}
 use Rattle.ada_meaning.specs.Step.{owning}
 use Rattle.ada_meaning.specs.Named.{new_object}
-use Rattle.ada_storage.specs.State.{in_items, in_members, placed, listed, same, without}
-use Rattle.ada_storage.specs.State as storage
+use Rattle.ada_storage.specs.State.{without}
 use Rattle.ada_storage.proofs.Facts.{eq_self, eq_not}
-use Rattle.ada_following.specs.Reading.{listed_in, object_seen, item_seen, items_seen}
+use Rattle.ada_following.specs.Reading.{listed_in}
 use Rattle.ada_following.proofs.Heaps.{Heap, pool_of, AreFine, fine_add, add_here, add_there, Alike, Changes, Unlists, Returns, added_elsewhere, added_there}
-use Rattle.ada_following.proofs.Frames.{chain}
-use Rattle.ada_following.proofs.Places.{Counted, NotIn, NotInMasters, IsCollection, ItemOnce, MasterOnce, Joins, height_not_in}
-use Rattle.ada_following.proofs.Deeds.{IsBare}
+use Rattle.ada_following.proofs.Places.{Counted, NotIn, NotInMasters, IsCollection, ItemOnce, MasterOnce, height_not_in}
+
+-- No object comes with such an item.
+abbrev pub IsBare : Owned → Type 0
+IsBare (declared x) = Unit {0}
+IsBare (collection access pool) = Unit {0}
+IsBare (record_object t) = ⊥
+IsBare (storage_pool declaration number) = Unit {0}
+
+-- What has changed in the collection under the number c: the object o is its newest member.
+pub record Joins (c o : ℕ) (g h : Heap) : Type 0 where
+  pub there : listed_in h c ≡ o ∷ listed_in g c
+  pub elsewhere : (n : ℕ) → n ≢ c → listed_in h n ≡ listed_in g n
 
 -- A record object is the only one whose home its item is, and it is from no pool.
 abbrev pub IsSingle : Heap → List ℕ → Type 0
@@ -227,29 +235,3 @@ sound_makes g cell t m ms at_c from_none s =
       beyond = λ n le. added_elsewhere g (new_object cell) n (off c n cell at_c (λ e. omega (arith, le, e))) ∙ s.beyond n (omega (arith, le));
       fine = fine_add g (new_object cell) ((λ b. absurd (cc b)), λ b gone. absurd (cc gone)) s.fine;
     }
-
--- An object of which a place is seen that is no collection is from no pool.
-object_pool : (h : Heap) (o n : ℕ) (os : List ℕ) (older : List storage.Item) → in_members o (object_seen n os older) < in_items o (object_seen n os older) → IsSingle h os → (in_members o older < in_items o older → pool_of (slice_get h o) ≡ None) → pool_of (slice_get h o) ≡ None
-object_pool h o n [] older lt s again = again lt
-object_pool h o n (x ∷ os) older lt s again = elim (eqb_tells o x) [ inl e ↦ (ap (λ (j : ℕ). pool_of (slice_get h j)) e.1 ∙ s.0) | inr e ↦ again (let z = ap storage.bit e.0 in omega (arith, lt, z)) ]
-
-item_pool : (h : Heap) (o n : ℕ) (os : List ℕ) (what : Owned) (older : List storage.Item) → in_members o (item_seen n os what older) < in_items o (item_seen n os what older) → Fits h os what → (in_members o older < in_items o older → pool_of (slice_get h o) ≡ None) → pool_of (slice_get h o) ≡ None
-item_pool h o n os (declared x) older lt f again = again lt
-item_pool h o n os (collection access pool) older lt f again = again (omega (arith, lt))
-item_pool h o n os (record_object t) older lt f again = object_pool h o n os older lt f again
-item_pool h o n os (storage_pool d p) older lt f again = again lt
-
-items_pool : (h : Heap) (o : ℕ) (is : List Item) → in_members o (items_seen h is) < in_items o (items_seen h is) → ItemsFit h is → pool_of (slice_get h o) ≡ None
-items_pool h o [] lt f = absurd (omega (arith, lt))
-items_pool h o (i ∷ is) lt f = item_pool h o i.number (listed_in h i.number) i.owned (items_seen h is) lt f.0 (λ l. items_pool h o is l f.1)
-
-pub declared_pool : (h : Heap) (o : ℕ) (ms : List Master) → listed o (chain h ms) < placed o (chain h ms) → MastersFit h ms → pool_of (slice_get h o) ≡ None
-declared_pool h o [] lt f = absurd (omega (arith, lt))
-declared_pool h o (m ∷ ms) lt f = go (leb_tells (in_items o (items_seen h m.items)) (in_members o (items_seen h m.items))) (λ l. declared_pool h o ms l f.1)
-  where
-    go :
-        ((leb (in_items o (items_seen h m.items)) (in_members o (items_seen h m.items)) ≡ true) × (in_items o (items_seen h m.items) ≤ in_members o (items_seen h m.items)))
-        ⊎ ((leb (in_items o (items_seen h m.items)) (in_members o (items_seen h m.items)) ≡ false) × (in_members o (items_seen h m.items) < in_items o (items_seen h m.items)))
-        → (listed o (chain h ms) < placed o (chain h ms) → pool_of (slice_get h o) ≡ None) → pool_of (slice_get h o) ≡ None
-    go (inl l) again = again (let le = l.1 in omega (arith, lt, le))
-    go (inr l) again = items_pool h o m.items l.1 f.0

@@ -1,6 +1,6 @@
 -- What storage does where a component is picked, or an operation is called, up to the step that shows it.
 
-use Rattle.std.proofs.Common.{◌≡◌, ℕ, ◌≤◌, Bool, true, false, if◌then◌else◌, List, [], ◌∷◌, ◌++◌, Some, refl, sym, ap, ◌∙◌, ◌⊎◌, inl, inr, subst, arith}
+use Rattle.std.proofs.Common.{◌≡◌, ℕ, ◌+◌, ◌≤◌, Bool, true, false, if◌then◌else◌, List, [], ◌∷◌, ◌++◌, Some, refl, sym, ap, ◌∙◌, ◌⊎◌, inl, inr, subst, arith}
 use Rattle.std.specs.List.{remove, slice_get}
 use Rattle.std.proofs.lemmas.List.{append_assoc}
 use Rattle.ada_parts.specs.declared.tasks.Component.{Component}
@@ -8,7 +8,7 @@ use Rattle.ada_parts.specs.declared.tasks.Direction.TheVariants.{PartsFirst, Who
 use Rattle.ada_parts.specs.Shape.{Shape, IsTable, shape_of}
 use Rattle.ada_parts.specs.Part.{components_of}
 use Rattle.ada_parts.specs.Task.{Task, performs, treats, treatment_of, opened}
-use Rattle.ada_storage.specs.State.{Forest, none, tree, quiet, Job, all_in, call, called, running, Control, State, in_forest, in_forests, in_jobs, kids_of, others_of, is_top}
+use Rattle.ada_storage.specs.State.{Forest, none, tree, quiet, same, Job, all_in, call, called, running, Control, State, in_forest, in_forests, in_jobs, kids_of, others_of, is_top}
 use Rattle.ada_storage.specs.Step.{Choice, goes_on, takes, goes, at, Ending, frame, ends, ends_part, Beginning, frame_of, begins, begins_part, running_step}
 use Rattle.ada_following.specs.Forests.{forest_at, forest_of, tops, grouped, AreNext, Begins, IsWhole, Ends}
 use Rattle.ada_following.proofs.Forests.{at_step, tops_le, top_is}
@@ -275,22 +275,29 @@ module _ (shapes : List Shape) (table : IsTable shapes) where
           go (inr w) again = let e = w.first in absurd (cc e)
 
     -- An operation is called.
-    pub record CallsEnd (r : State) (p : ℕ) (tasks : List Task) : Type 0 where
+    pub record CallsEnd (r : State) (before : List Forest) (p : ℕ) (tasks : List Task) : Type 0 where
       pub inside : Forest
       pub forests : List Forest
       pub steps : Silent r (leaving (tree p inside none ∷ forests) r)
       pub left : Ends shapes (inside ∷ forests) tasks
+      pub counts : (q : ℕ) → in_forests q before ≡ same q p + in_forests q (inside ∷ forests)
 
     pub call_ends :
         (r : State) (t p : ℕ) (tasks : List Task) (fs : List Forest) → r.control ≡ frame ending o fs → r.mode ≡ running → Ends shapes fs (performs t p ∷ tasks)
-        → CallsEnd r p tasks
+        → CallsEnd r fs p tasks
     call_ends r t p tasks [] is run b = absurd (cc b)
     call_ends r t p tasks (f ∷ fs) is run b = go b.1 (λ d. call_ends (leaving fs r) t p tasks fs refl run d)
       where
-        drops_first : (f ≡ none) → CallsEnd (leaving fs r) p tasks → CallsEnd r p tasks
-        drops_first e m = record { inside = m.inside; forests = m.forests; steps = then_silent r (leaving fs r) (leaving (tree p m.inside none ∷ m.forests) r) (lets_go r f fs is run e) m.steps; left = m.left }
+        drops_first : (f ≡ none) → CallsEnd (leaving fs r) fs p tasks → CallsEnd r (f ∷ fs) p tasks
+        drops_first e m = record {
+          inside = m.inside;
+          forests = m.forests;
+          steps = then_silent r (leaving fs r) (leaving (tree p m.inside none ∷ m.forests) r) (lets_go r f fs is run e) m.steps;
+          left = m.left;
+          counts = λ q. let a = ap (in_forest q) e in let c = m.counts q in omega (arith, a, c);
+        }
 
-        go : AreNext shapes f (performs t p ∷ tasks) b.0 ⊎ IsWhole shapes f (performs t p ∷ tasks) b.0 → (Ends shapes fs (performs t p ∷ tasks) → CallsEnd (leaving fs r) p tasks) → CallsEnd r p tasks
+        go : AreNext shapes f (performs t p ∷ tasks) b.0 ⊎ IsWhole shapes f (performs t p ∷ tasks) b.0 → (Ends shapes fs (performs t p ∷ tasks) → CallsEnd (leaving fs r) fs p tasks) → CallsEnd r (f ∷ fs) p tasks
         go (inl a) again = let n = call_next shapes f t p tasks b.0 a in drops_first n.0 (again (subst (Ends shapes fs) n.1 b.2))
         go (inr w) again =
             let e = w.first in
@@ -301,6 +308,7 @@ module _ (shapes : List Shape) (table : IsTable shapes) where
               forests = fs;
               steps = is_at r (frame ending o (tree p w.inside none ∷ fs)) (is ∙ ap (λ (g : Forest). frame ending o (g ∷ fs)) (w.is ∙ ap (λ (x : ℕ). tree x w.inside none) same_part));
               left = (b.0, inl (subst (λ (ts : List Task). AreNext shapes w.inside ts b.0) same_rest w.components), b.2);
+              counts = λ q. let a = ap (in_forest q) w.is in let d = ap (same q) same_part in omega (arith, a, d);
             }
 
     -- Nothing is left.

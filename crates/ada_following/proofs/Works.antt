@@ -1,6 +1,6 @@
 -- Each step of code does so.
 
-use Rattle.std.proofs.Common.{◌≡◌, ℕ, ◌+◌, ℤ, Bool, true, false, List, [], ◌∷◌, Option, Some, None, Result, Ok, Err, refl}
+use Rattle.std.proofs.Common.{◌≡◌, ℕ, ◌+◌, ℤ, Bool, true, false, List, [], ◌∷◌, Option, Some, None, Result, Ok, Err, refl, sym, ap, ◌∙◌}
 use Rattle.std.specs.Prelude.{int_le}
 use Rattle.std.specs.List.{slice_get}
 use Rattle.ada_program.specs.declared.program.TypeDefinition.{TypeDefinition}
@@ -8,6 +8,7 @@ use Rattle.ada_program.specs.Form.{RecordPathForm, ActualForm, in_value, in_null
 use Rattle.ada_program.specs.Form as form
 use Rattle.ada_program.specs.ProgramForm.{BodyForm}
 use Rattle.ada_program.specs.Typed.{words_of, width_of, pool_named}
+use Rattle.ada_program.specs.Controlled.{number_reached, part_firsts}
 use Rattle.ada_values.specs.declared.operator.BinaryOperator.{BinaryOperator}
 use Rattle.ada_values.specs.declared.fault.OperatorFault.{OperatorFault}
 use Rattle.ada_values.specs.declared.fault.OperatorFault.TheVariants.{Overflow, DivisionByZero, WrongType}
@@ -15,18 +16,19 @@ use Rattle.ada_meaning.specs.declared.event.Birth.TheVariants.{Creation, Copy}
 use Rattle.ada_meaning.specs.declared.state.Place.{Place}
 use Rattle.ada_meaning.specs.declared.state.Value.{Value}
 use Rattle.ada_meaning.specs.declared.state.Value.TheVariants.{Null}
-use Rattle.ada_meaning.specs.Event.{Quiet}
-use Rattle.ada_meaning.specs.Frame.{Frame, is_master, Landing, passes_on, goes_behind, goes_in, landing}
+use Rattle.ada_meaning.specs.Event.{Followed, Quiet}
+use Rattle.ada_meaning.specs.Frame.{Frame}
 use Rattle.ada_meaning.specs.Frame as frame
-use Rattle.ada_meaning.specs.State.{declared, collection, storage_pool, Destination, home_of, pools_in, pool_for}
+use Rattle.ada_meaning.specs.State.{declared, collection, storage_pool, Destination, home_of, pools_in, pool_for, pool_freed_to}
 use Rattle.ada_meaning.specs.Heap.{Cell, Found, on_null, on_gone, on_other, finds}
-use Rattle.ada_meaning.specs.Step.{has_parts, copy_next, record_assign_next, parts_held, new_cell, record_in, newest_ones, without_newest, copied_next, copies_next, record_target_next, record_stored_next, store_record_next, record_next, at, popped, held, newest, reading, component_next, follow_next, path_next, selected, named_next, holder_next, place_in, record_holder_next, referred_next, refers_next, open_next, opened_next, opens_next, expression_next, null_test_next, is_decided, link_next, links_next, outcome_next, item_next, items_next, answered, new_next, right_next, free_next, before_last, last_of, assign_next, target_next, stored_next, store_next, received_next, receive_next, frees_next, freed_next, free_component_next, free_in_next, branches_next, decided_next, turn_next, repeats_next, turned_next, count_turn_next, counts_next, ranges_next, gets_next, exit_next, exited_next, call_next, stmt_next, stmts_next, line_next, declaration_next, declarations_next, frame_next}
-use Rattle.ada_meaning.specs.Named.{State, an_integer, Next, named, whole, inside, look, reads_boolean, reads_null, reads_integer, unary_given, binary_given}
+use Rattle.ada_meaning.specs.Step.{has_parts, copy_next, record_assign_next, same_pool, freeing_next, new_cell, record_in, newest_ones, without_newest, copied_next, copies_next, record_target_next, record_stored_next, store_record_next, record_next, at, popped, held, newest, reading, component_next, follow_next, path_next, selected, named_next, holder_next, place_in, record_holder_next, referred_next, refers_next, open_next, opened_next, opens_next, expression_next, null_test_next, is_decided, link_next, links_next, outcome_next, item_next, items_next, answered, new_next, right_next, free_next, before_last, last_of, assign_next, target_next, stored_next, store_next, received_next, receive_next, frees_next, freed_next, free_component_next, free_in_next, branches_next, decided_next, turn_next, repeats_next, turned_next, count_turn_next, counts_next, ranges_next, gets_next, exit_next, exited_next, call_next, stmt_next, stmts_next, line_next, declaration_next, declarations_next, frame_next}
+use Rattle.ada_meaning.specs.Named.{State, an_integer, Next, named, whole, inside, look, standing, reads_boolean, reads_null, reads_integer, unary_given, binary_given}
 use Rattle.ada_meaning.specs.Run.{Event}
+use Rattle.ada_meaning.proofs.Kept.{IsWithin}
 use Rattle.ada_storage.specs.State as storage
 use Rattle.ada_following.specs.Reading.{event_seen}
 use Rattle.ada_following.proofs.Frames.{Control, IsCode, Over, turned, more}
-use Rattle.ada_following.proofs.Deeds.{Work, stays, fills, owns, makes, creates, enters, gives_up, seeks, Does, computing_over, storing_over}
+use Rattle.ada_following.proofs.Deeds.{Work, stays, fills, owns, makes, creates, enters, gives_up, seeks, Does, computing_over}
 
 module _ (types : List TypeDefinition) (b : Control) where
   -- A step of code from this state.
@@ -120,7 +122,7 @@ module _ (types : List TypeDefinition) (b : Control) where
       (access count words : ℕ) (home : Destination) (s : State) (granted : Bool) → home_of access s.masters ≡ Some home → Over b s.control
       → Work types b s.masters s.next s.heap s.mode Quiet (answered named types access count words home s granted)
   answered_works access count words home s true is p =
-      creates access (new_cell named types access count home s) home s.control (parts_held types access) is refl refl refl refl refl p refl refl refl refl
+      creates access (new_cell named types access count home s) home s.control (part_firsts types (number_reached types access)) is refl refl refl refl refl p refl refl refl refl
   answered_works access count words home s false is p = stays refl p refl refl refl
 
   new_works : (access count words : ℕ) (home : Option Destination) (s : State) → home_of access s.masters ≡ home → Over b s.control → Works s (new_next named types access count words home s)
@@ -135,11 +137,19 @@ module _ (types : List TypeDefinition) (b : Control) where
   right_works (computes e) s p = stays refl (more tt p) refl refl refl
 
   -- Free, and what it leads to.
-  free_works : (access x : ℕ) (v : Value) (found : Found (Cell Value)) (s : State) → look s.heap v ≡ found → Over b s.control → Works s (free_next named types access x v found s)
+  -- The object is of the pool of the access type, or the run halts.
+  freeing_works :
+      (access : ℕ) (v : Value) (cell : Cell Value) (clears : Frame Value) (e : Event) (s : State) (pool : ℕ) → pool ≡ pool_freed_to (home_of access s.masters) → (same_one : Bool) → same_pool (Some pool) cell.home.pool ≡ same_one
+      → IsCode clears → event_seen e ≡ storage.quiet → standing s.heap v ≡ finds cell → Over b s.control → Works s (freeing_next named types access v cell clears e s)
+  freeing_works access v cell clears e s pool is true same_one plain quiet found p =
+      rw (ap (λ (n : ℕ). same_pool (Some n) cell.home.pool) (sym is) ∙ same_one) (gives_up v (pool_freed_to (home_of access s.masters)) cell (clears ∷ s.control) found (ap (λ (n : ℕ). same_pool (Some n) cell.home.pool) (sym is) ∙ same_one) quiet refl (more plain p) refl refl refl refl)
+  freeing_works access v cell clears e s pool is false same_one plain quiet found p = rw (ap (λ (n : ℕ). same_pool (Some n) cell.home.pool) (sym is) ∙ same_one) (λ d. d)
+
+  free_works : (access x : ℕ) (v : Value) (found : Found (Cell Value)) (s : State) → standing s.heap v ≡ found → Over b s.control → Works s (free_next named types access x v found s)
   free_works access x v on_null s is p = stays refl p refl refl refl
   free_works access x v on_gone s is p = λ e. e
   free_works access x v on_other s is p = λ e. e
-  free_works access x v (finds cell) s is p = gives_up v _ cell (frame.Clears x ∷ s.control) is refl refl (more tt p) refl refl refl refl
+  free_works access x v (finds cell) s is p = freeing_works access v cell (frame.Clears x) Quiet s (pool_freed_to (home_of access s.masters)) refl (same_pool (Some (pool_freed_to (home_of access s.masters))) cell.home.pool) refl tt refl is p
 
   -- Statements and declarations.
   assign_works : (cs : List ℕ) (x : ℕ) (right : RightForm) (s : State) → Over b s.control → Works s (assign_next named cs x right s)
@@ -181,18 +191,18 @@ module _ (types : List TypeDefinition) (b : Control) where
       record_stored_works o first (newest_ones named count s) (record_in cell.values first count) (without_newest named count s) p
 
   frees_work : (cs : List ℕ) (access x : ℕ) (s : State) → Over b s.control → Works s (frees_next named types cs access x s)
-  frees_work [] access x s p = free_works access x (held named s x) (look s.heap (held named s x)) s refl p
+  frees_work [] access x s p = free_works access x (held named s x) (standing s.heap (held named s x)) s refl p
   frees_work (c ∷ cs) access x s p = holder_works c cs x (λ last. frame.FreesIn access last) s (λ n. tt) p
 
-  freed_works : (access : ℕ) (o : Value) (c : ℕ) (v : Value) (found : Found (Cell Value)) (s : State) → look s.heap v ≡ found → Over b s.control → Works s (freed_next named types access o c v found s)
+  freed_works : (access : ℕ) (o : Value) (c : ℕ) (v : Value) (found : Found (Cell Value)) (s : State) → standing s.heap v ≡ found → Over b s.control → Works s (freed_next named types access o c v found s)
   freed_works access o c v on_null s is p = stays refl p refl refl refl
   freed_works access o c v on_gone s is p = λ e. e
   freed_works access o c v on_other s is p = λ e. e
-  freed_works access o c v (finds cell) s is p = gives_up v _ cell (frame.ClearsIn o c ∷ s.control) is refl refl (more tt p) refl refl refl refl
+  freed_works access o c v (finds cell) s is p = freeing_works access v cell (frame.ClearsIn o c) (Followed o) s (pool_freed_to (home_of access s.masters)) refl (same_pool (Some (pool_freed_to (home_of access s.masters))) cell.home.pool) refl tt refl is p
 
   free_component_works : (access : ℕ) (o : Value) (c : ℕ) (before : Option Value) (s : State) → Over b s.control → Works s (free_component_next named types access o c before s)
   free_component_works access o c None s p = λ e. e
-  free_component_works access o c (Some v) s p = freed_works access o c v (look s.heap v) s refl p
+  free_component_works access o c (Some v) s p = freed_works access o c v (standing s.heap v) s refl p
 
   free_in_works : (access : ℕ) (o : Value) (c : ℕ) (found : Found (Cell Value)) (s : State) → Over b s.control → Works s (free_in_next named types access o c found s)
   free_in_works access o c on_null s p = stays refl p refl refl refl
@@ -333,7 +343,7 @@ module _ (types : List TypeDefinition) (b : Control) where
   line_works (Some i) s p = stays refl p refl refl refl
 
   record_works : (x t : ℕ) (initial : Option (List ItemForm)) (s : State) → Over b s.control → Works s (record_next named types x t initial s)
-  record_works x t None s p = makes t Creation _ s.control (parts_held types t) tt refl refl refl p refl refl refl refl refl refl
+  record_works x t None s p = makes t Creation _ s.control (part_firsts types (number_reached types t)) tt refl refl refl p refl refl refl refl refl refl
   record_works x t (Some items) s p = stays refl (more tt (more tt p)) refl refl refl
 
   declaration_works : (d : DeclarationForm) (s : State) → Over b s.control → Works s (declaration_next named types d s)
@@ -348,49 +358,52 @@ module _ (types : List TypeDefinition) (b : Control) where
       declaration_works d (at (frame.Elaborates ds fs hs ∷ s.control) s) (turned frame.Closes (frame.Elaborates ds fs hs) s.control refl refl is)
 
   -- Each frame of code that is taken off.
-  pub frame_works : (bodies : List BodyForm) (f : Frame Value) (s : State) → IsCode f → Over b s.control → Works s (frame_next named types bodies f s)
-  frame_works bodies (frame.Elaborates ds fs hs) s is p = absurd is
-  frame_works bodies (frame.Does fs) s is p = stmts_work bodies fs s p
-  frame_works bodies (frame.Decides fs branches) s is p = decided_works fs branches (reads_boolean (newest named s)) (popped s) p
-  frame_works bodies (frame.Repeats condition fs) s is p = repeats_work condition fs s p
-  frame_works bodies (frame.Turns condition fs) s is p = turned_works condition fs (reads_boolean (newest named s)) (popped s) p
-  frame_works bodies (frame.Ranges x fs) s is p = ranges_work x fs (reads_integer (newest named (popped s))) (reads_integer (newest named s)) (popped (popped s)) p
-  frame_works bodies (frame.Counts x value last fs) s is p = counts_work x value last fs s p
-  frame_works bodies frame.Exits s is p = exited_works (reads_boolean (newest named s)) (popped s) p
-  frame_works bodies (frame.Handles hs) s is p = stays refl p refl refl refl
-  frame_works bodies frame.Closes s is p = absurd is
-  frame_works bodies (frame.Leaves mode) s is p = absurd is
-  frame_works bodies (frame.Calls procedure c actuals) s is p = enters c.declarations c.statements c.handlers _ refl refl (more tt p) refl refl refl refl
-  frame_works bodies (frame.Returns actuals references) s is p = stays refl (storing_over references s.control p) refl refl refl
-  frame_works bodies (frame.Evaluates right) s is p = right_works right s p
-  frame_works bodies (frame.Computes e) s is p = expression_works e s p
-  frame_works bodies (frame.Follows cs) s is p = path_works cs (newest named s) (popped s) p
-  frame_works bodies (frame.TestsNull equal) s is p = null_test_works equal (reads_null (newest named s)) (popped s) p
-  frame_works bodies (frame.Refers r) s is p = record_holder_works r (λ place. frame.RefersIn place r.record_type) s (λ n. tt) p
-  frame_works bodies (frame.RefersIn place t) s is p =
+  pub frame_works : (bodies : List BodyForm) (f : Frame Value) (s : State) → IsCode f → IsWithin f → Over b s.control → Works s (frame_next named types bodies f s)
+  frame_works bodies (frame.Elaborates ds fs hs) s is within p = absurd is
+  frame_works bodies (frame.Does fs) s is within p = stmts_work bodies fs s p
+  frame_works bodies (frame.Decides fs branches) s is within p = decided_works fs branches (reads_boolean (newest named s)) (popped s) p
+  frame_works bodies (frame.Repeats condition fs) s is within p = repeats_work condition fs s p
+  frame_works bodies (frame.Turns condition fs) s is within p = turned_works condition fs (reads_boolean (newest named s)) (popped s) p
+  frame_works bodies (frame.Ranges x fs) s is within p = ranges_work x fs (reads_integer (newest named (popped s))) (reads_integer (newest named s)) (popped (popped s)) p
+  frame_works bodies (frame.Counts x value last fs) s is within p = counts_work x value last fs s p
+  frame_works bodies frame.Exits s is within p = exited_works (reads_boolean (newest named s)) (popped s) p
+  frame_works bodies (frame.Handles hs) s is within p = stays refl p refl refl refl
+  frame_works bodies frame.Closes s is within p = absurd is
+  frame_works bodies (frame.Leaves mode) s is within p = absurd is
+  frame_works bodies (frame.Calls procedure c actuals) s is within p = absurd within
+  frame_works bodies (frame.Returns actuals references) s is within p = absurd is
+  frame_works bodies (frame.Evaluates right) s is within p = right_works right s p
+  frame_works bodies (frame.Computes e) s is within p = expression_works e s p
+  frame_works bodies (frame.Follows cs) s is within p = path_works cs (newest named s) (popped s) p
+  frame_works bodies (frame.TestsNull equal) s is within p = null_test_works equal (reads_null (newest named s)) (popped s) p
+  frame_works bodies (frame.Refers r) s is within p = record_holder_works r (λ place. frame.RefersIn place r.record_type) s (λ n. tt) p
+  frame_works bodies (frame.RefersIn place t) s is within p =
       refers_work (newest named s) place (width_of types t) (look s.heap (newest named s)) (popped s) p
-  frame_works bodies (frame.Opens path) s is p = open_works path.selectors path.root s p
-  frame_works bodies (frame.OpensIn c) s is p = opens_work (newest named s) c (look s.heap (newest named s)) (popped s) p
-  frame_works bodies (frame.Continues links) s is p = links_work links s p
-  frame_works bodies (frame.Applies operator) s is p = outcome_works (binary_given operator (newest named (popped s)) (newest named s)) (popped (popped s)) p
-  frame_works bodies (frame.AppliesAlone operator) s is p = outcome_works (unary_given operator (newest named s)) (popped s) p
-  frame_works bodies (frame.Fills items) s is p = items_work items s p
-  frame_works bodies (frame.Copies first t) s is p = copies_work (newest named s) first (width_of types t) (look s.heap (newest named s)) (popped s) p
-  frame_works bodies (frame.Creates access count) s is p = new_works access count (words_of types access) (home_of access s.masters) s refl p
-  frame_works bodies (frame.Stores x) s is p = stays refl p refl refl refl
-  frame_works bodies (frame.Targets c right) s is p = target_works (newest named s) c right (look s.heap (newest named s)) (popped s) p
-  frame_works bodies (frame.StoresIn object c) s is p = store_works object c (newest named s) (look s.heap object) (popped s) p
-  frame_works bodies (frame.TargetsRecord first t items) s is p =
+  frame_works bodies (frame.Opens path) s is within p = open_works path.selectors path.root s p
+  frame_works bodies (frame.OpensIn c) s is within p = opens_work (newest named s) c (look s.heap (newest named s)) (popped s) p
+  frame_works bodies (frame.Continues links) s is within p = links_work links s p
+  frame_works bodies (frame.Applies operator) s is within p = outcome_works (binary_given operator (newest named (popped s)) (newest named s)) (popped (popped s)) p
+  frame_works bodies (frame.AppliesAlone operator) s is within p = outcome_works (unary_given operator (newest named s)) (popped s) p
+  frame_works bodies (frame.Fills items) s is within p = items_work items s p
+  frame_works bodies (frame.Copies first t) s is within p = copies_work (newest named s) first (width_of types t) (look s.heap (newest named s)) (popped s) p
+  frame_works bodies (frame.Creates access count) s is within p = new_works access count (words_of types access) (home_of access s.masters) s refl p
+  frame_works bodies (frame.Stores x) s is within p = stays refl p refl refl refl
+  frame_works bodies (frame.Targets c right) s is within p = target_works (newest named s) c right (look s.heap (newest named s)) (popped s) p
+  frame_works bodies (frame.StoresIn object c) s is within p = store_works object c (newest named s) (look s.heap object) (popped s) p
+  frame_works bodies (frame.TargetsRecord first t items) s is within p =
       record_target_works (newest named s) first (width_of types t) items (look s.heap (newest named s)) (popped s) p
-  frame_works bodies (frame.StoresRecord object first count) s is p = store_record_works object first count (look s.heap object) s p
-  frame_works bodies (frame.Assigns t) s is p = absurd is
-  frame_works bodies (frame.Receives c) s is p = receive_works (newest named s) c (look s.heap (newest named s)) (popped s) p
-  frame_works bodies (frame.FreesIn access c) s is p = free_in_works access (newest named s) c (look s.heap (newest named s)) (popped s) p
-  frame_works bodies (frame.Declares x) s is p = owns (declared x) tt refl p refl refl refl refl
-  frame_works bodies (frame.DeclaresRecord x t) s is p = makes t Copy _ s.control (parts_held types t) tt refl refl refl p refl refl refl refl refl refl
-  frame_works bodies (frame.Treats v treatment tasks) s is p = absurd is
-  frame_works bodies frame.Writes s is p = line_works (reads_integer (newest named s)) (popped s) p
-  frame_works bodies (frame.Ends v) s is p = absurd is
-  frame_works bodies (frame.GivesBack v cause pool) s is p = absurd is
-  frame_works bodies (frame.Clears x) s is p = stays refl p refl refl refl
-  frame_works bodies (frame.ClearsIn object c) s is p = store_works object c Null (look s.heap object) s p
+  frame_works bodies (frame.StoresRecord object first count) s is within p = store_record_works object first count (look s.heap object) s p
+  frame_works bodies (frame.Assigns t) s is within p = absurd is
+  frame_works bodies (frame.Receives c) s is within p = receive_works (newest named s) c (look s.heap (newest named s)) (popped s) p
+  frame_works bodies (frame.FreesIn access c) s is within p = free_in_works access (newest named s) c (look s.heap (newest named s)) (popped s) p
+  frame_works bodies (frame.Declares x) s is within p = owns (declared x) tt refl p refl refl refl refl
+  frame_works bodies (frame.DeclaresRecord x t) s is within p = makes t Copy _ s.control (part_firsts types (number_reached types t)) tt refl refl refl p refl refl refl refl refl refl
+  frame_works bodies (frame.Treats v treatment tasks) s is within p = absurd is
+  frame_works bodies (frame.Awaits v by done of part tasks) s is within p = absurd is
+  frame_works bodies frame.Confines s is within p = absurd is
+  frame_works bodies (frame.Resumes mode) s is within p = absurd is
+  frame_works bodies frame.Writes s is within p = line_works (reads_integer (newest named s)) (popped s) p
+  frame_works bodies (frame.Ends v) s is within p = absurd is
+  frame_works bodies (frame.GivesBack v cause pool) s is within p = absurd is
+  frame_works bodies (frame.Clears x) s is within p = stays refl p refl refl refl
+  frame_works bodies (frame.ClearsIn object c) s is within p = store_works object c Null (look s.heap object) s p

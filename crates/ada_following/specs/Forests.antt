@@ -106,8 +106,3 @@ abbrev pub forest_adjusted : List Shape → List Task → Forest
 forest_adjusted shapes [] = none
 forest_adjusted shapes (treats cs ∷ rest) = over_inside (forest_of shapes cs) rest
 forest_adjusted shapes (performs of part ∷ rest) = tree part none none
-
--- Parts of which none lies in another one.
-abbrev pub beside : (parts : List ℕ) → Forest
-beside [] = none
-beside (p ∷ ps) = tree p none (beside ps)

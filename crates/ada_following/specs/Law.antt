@@ -1,37 +1,26 @@
 -- The runs of every program follow storage, and so the laws of storage are theirs. No rule of flow is needed for it.
 
-use Rattle.std.specs.Prelude.{◌≡◌, ◌⊎◌, ℕ, ◌<◌, ℤ, false, List, [], map, All}
+use Rattle.std.specs.Prelude.{◌≡◌, ℕ, ◌<◌, ℤ, false, List, [], map, All}
 use Rattle.std.specs.List.{slice_get}
 use Rattle.ada_program.specs.declared.program.Program.{Program}
 use Rattle.ada_program.specs.declared.program.TypeDefinition.{TypeDefinition}
 use Rattle.ada_meaning.specs.declared.event.Halt.{Halt}
-use Rattle.ada_meaning.specs.Step.{parts_held}
 use Rattle.ada_meaning.specs.Named.{State}
 use Rattle.ada_meaning.specs.Run.{Event, Run, Halts, first_state}
 use Rattle.ada_meaning.specs.Law.{IsBack, HasEnded}
-use Rattle.ada_meaning.specs.Safe.{Safe}
 use Rattle.ada_storage.specs.State as storage
 use Rattle.ada_storage.specs.State.{bit, in_items, placed}
 use Rattle.ada_storage.specs.Law as storage_law
 use Rattle.ada_storage.specs.Law.{EachTwo, Happened, IsBorn, IsFinalized, AfterBirth, Once, BeforeBack, InReverse, Falling}
 use Rattle.ada_storage.specs.Example.{seen}
 use Rattle.ada_storage.specs.Following.{Goes, RunOf}
-use Rattle.ada_following.specs.Reading.{event_seen, is_out, IsUnderWay, IsSeenAs, IsFreeingDeclared, IsFreeingControlled}
+use Rattle.ada_following.specs.Reading.{event_seen, is_out, IsUnderWay, IsSeenAs}
 
--- Of the events of each run of each program, and the state that it comes to; unless a declared object with controlled parts is being freed there, which is
--- erroneous, so that the run is about to end.
+-- Of the events of each run of each program, and the state that it comes to.
 abbrev pub InEveryRun : (List TypeDefinition → List Event → State → Type 0) → Type 0
 InEveryRun P =
     (program : Program) (input : List ℤ) (events : List Event) (last : State)
-    → Run program (first_state program input) events last → (IsFreeingControlled program.types.items last → ⊥) → P program.types.items events last
-
--- No object of a program has controlled parts (7.6).
-abbrev pub HasNoParts : Program → Type 0
-HasNoParts program = (access : ℕ) → parts_held program.types.items access ≡ 0
-
--- No such object is freed in a program without them.
-abbrev pub NoneIsFreed : Type 0
-NoneIsFreed = (program : Program) → HasNoParts program → (s : State) → IsFreeingControlled program.types.items s → ⊥
+    → Run program (first_state program input) events last → P program.types.items events last
 
 -- Steps of storage that show one event, as a machine.
 abbrev pub Going : storage.State → storage.Event → storage.State → Type 0
@@ -53,18 +42,17 @@ AreAtHome objects (storage.undoes n o done k) = AreAtHome objects k
 AreAtHome objects (storage.assigns n o parts fs k) = AreAtHome objects k
 AreAtHome objects (storage.adjusts o parts js done k) = AreAtHome objects k
 
--- Event by event storage goes from its first state to one from which some steps that show nothing lead to what the last state is for storage; unless a
--- declared object is being freed, so that the run is about to end. A program keeps the number of the item that an object goes with, and storage that of the
--- item's master.
+-- Event by event storage goes from its first state to one from which some steps that show nothing lead to what the last state is for storage. A program keeps
+-- the number of the item that an object goes with, and storage that of the item's master.
 pub record IsFollowed (types : List TypeDefinition) (events : List Event) (last : State) : Type 0 where
   pub reached : storage.State
   pub steps : RunOf Going storage_law.first_state (map event_seen events) reached
   pub to : storage.State
   pub rest : Going reached storage.quiet to
   pub homes : AreAtHome to.objects to.control
-  pub reads : IsSeenAs types last to ⊎ IsFreeingDeclared last
+  pub reads : IsSeenAs types last to
 
--- Every run of every program follows storage, with that one exception.
+-- Every run of every program follows storage.
 abbrev pub RunsFollowStorage : Type 0
 RunsFollowStorage = InEveryRun IsFollowed
 
@@ -74,17 +62,11 @@ pub record IsShown (types : List TypeDefinition) (events : List Event) (last : S
   pub to : storage.State
   pub run : storage_law.Run storage_law.first_state shown to
   pub alike : seen shown ≡ seen (map event_seen events)
-  pub reads : IsSeenAs types last to ⊎ IsFreeingDeclared last
+  pub reads : IsSeenAs types last to
 
 -- So it is for every run.
 abbrev pub RunsAreShown : Type 0
 RunsAreShown = InEveryRun IsShown
-
--- In the runs of a safe program no declared object without controlled parts is freed: so each state of them is read, but where one with such parts is.
-abbrev pub SafeRunsAreRead : Type 0
-SafeRunsAreRead =
-    (program : Program) → Safe program → (input : List ℤ) (events : List Event) (last : State)
-    → Run program (first_state program input) events last → IsFreeingDeclared last → ⊥
 
 -- After the words of an object went back nothing of it comes to exist, nothing of it is finalized, and its words do not go back again (13.11.2).
 abbrev pub NothingAfterBack : Type 0
@@ -111,9 +93,8 @@ AllBack =
 -- Each controlled value that came to exist has been finalized where the words of its object are back (7.6.1, 13.11.2).
 abbrev pub FinalizedByBack : Type 0
 FinalizedByBack = InEveryRun (λ types events last.
-    IsFreeingDeclared last
-    ⊎ ((v : storage.Value) → Happened (IsBorn v) (map event_seen events) → is_out (slice_get last.heap v.object) ≡ false
-    → Happened (IsFinalized v) (map event_seen events)))
+    (v : storage.Value) → Happened (IsBorn v) (map event_seen events) → is_out (slice_get last.heap v.object) ≡ false
+    → Happened (IsFinalized v) (map event_seen events))
 
 -- Where a run has come to its end, each controlled value that came to exist has been finalized (7.6.1).
 abbrev pub AllFinalized : Type 0
@@ -122,9 +103,9 @@ AllFinalized =
     → Run program (first_state program input) events last → Halts program last halt → HasEnded halt
     → (v : storage.Value) → Happened (IsBorn v) (map event_seen events) → Happened (IsFinalized v) (map event_seen events)
 
--- Of each state of a run, unless a declared object is being freed.
+-- Of each state of a run.
 abbrev pub InEveryState : (List TypeDefinition → State → Type 0) → Type 0
-InEveryState P = InEveryRun (λ types events last. IsFreeingDeclared last ⊎ P types last)
+InEveryState P = InEveryRun (λ types events last. P types last)
 
 -- An object whose words are out has one place: it is an item of a master that is entered, or a member of a collection of one, or it is being initialized or
 -- ended; and an object whose words are back has none.

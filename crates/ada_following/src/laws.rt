@@ -1,29 +1,17 @@
 //! The runs of programs follow storage. Each function does nothing, and its contract is the theorem.
 
-ghost use Rattle.ada_following.specs.Example.{AControlledObjectIsFollowed, ADeclaredObjectIsFreed, AnAssignmentIsFollowed};
-ghost use Rattle.ada_following.specs.Example.{BlocksAreFollowed};
-ghost use Rattle.ada_following.specs.Law.{RunsFollowStorage, RunsAreShown, SafeRunsAreRead, NoneIsFreed};
+ghost use Rattle.ada_following.specs.Example.{AControlledObjectIsFollowed, AnAssignmentIsFollowed};
+ghost use Rattle.ada_following.specs.Example.{AnUndoneObjectIsFollowed, BlocksAreFollowed};
+ghost use Rattle.ada_following.specs.Law.{RunsFollowStorage, RunsAreShown};
 ghost use Rattle.ada_following.specs.Law.{NothingAfterBack, LeavesInReverse, FinalizedOnce, BornBefore};
 ghost use Rattle.ada_following.specs.Law.{FinalizedByBack, AllFinalized};
 ghost use Rattle.ada_following.specs.Law.{AllBack, HasOnePlace, MastersFall};
 
 /// Every run of every program is followed by storage: each of its steps is some steps of storage that show nothing, and then at
-/// most one that shows the same event. One exception: where a declared object with controlled parts is being freed, which is
-/// erroneous, nothing is said.
+/// most one that shows the same event.
 pub fn runs_follow_storage()
     ensures follow { RunsFollowStorage }
     ensures shown { RunsAreShown }
-{}
-
-/// Where no type has controlled parts, no object with controlled parts is freed: so each run of such a program is followed to its
-/// end.
-pub fn none_is_freed()
-    ensures { NoneIsFreed }
-{}
-
-/// In the runs of a safe program no declared object without controlled parts is freed.
-pub fn safe_runs_are_read()
-    ensures { SafeRunsAreRead }
 {}
 
 /// The words of an object go back once, and nothing of it comes after that (13.11.2).
@@ -77,7 +65,8 @@ pub fn an_assignment_is_followed()
     ensures { AnAssignmentIsFollowed }
 {}
 
-/// One exception is needed: there is a program that frees an object that it declares.
-pub fn a_declared_object_is_freed()
-    ensures { ADeclaredObjectIsFreed }
+/// Nor are those of operations: a run of a program is followed in which an Initialize raises an exception, so that its object is
+/// undone.
+pub fn an_undone_object_is_followed()
+    ensures { AnUndoneObjectIsFollowed }
 {}

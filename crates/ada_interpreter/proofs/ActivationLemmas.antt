@@ -1,6 +1,6 @@
 -- Activations with the places of all of them behind one another.
 
-use Rattle.std.proofs.Common.{◌≡◌, ◌⊎◌, inl, inr, ℕ, ◌+◌, ◌-◌, ◌≤◌, List, [], ◌∷◌, ◌++◌, drop, take, length, map, Some, None, Result, Ok, Err, OnOk, OnErr, zero, suc, refl, sym, ap, ◌∙◌, append_assoc, arith}
+use Rattle.std.proofs.Common.{◌≡◌, ◌⊎◌, inl, inr, Bool, ℕ, ◌+◌, ◌-◌, ◌≤◌, List, [], ◌∷◌, ◌++◌, drop, take, length, map, Some, None, Result, Ok, Err, OnOk, OnErr, zero, suc, refl, sym, ap, ◌∙◌, append_assoc, arith}
 use Rattle.std.specs.List.{slice_get}
 use Rattle.std.proofs.lemmas.List.{length-append}
 use Rattle.ada_program.specs.declared.program.Actual.{Actual}
@@ -11,7 +11,7 @@ use Rattle.ada_meaning.specs.declared.state.Value.{Value}
 use Rattle.ada_meaning.specs.Step.{blanks, given_places, copied_back, older, places_of, operands_of, with_places, with_operands}
 use Rattle.ada_meaning.specs.Named.{named}
 use Rattle.ada_interpreter.specs.declared.activations.Begun.{Begun}
-use Rattle.ada_interpreter.specs.Activations.{activations_of, AreAwaited}
+use Rattle.ada_interpreter.specs.Activations.{activations_of, kept_by, waiting_behind, AreAwaited}
 
 -- fewer operands are awaited where more were
 pub awaited_after : {X E : Type 0} (left : List Value → List Value) (begun : List Begun) (before after : List Value) (r : Result X E) → left [] ≡ [] → OnOk r (after ≡ left before) → OnErr r (after ≡ before) → AreAwaited begun before → AreAwaited begun after
@@ -54,22 +54,22 @@ no_more_gives actuals formals places (inl none) = rw none refl
 no_more_gives actuals formals places (inr none) = rw none (sym (none_gives (map actual_form actuals) places))
 
 -- the caller of the running activation gets back what its places get
-pub caller_gets : (begun : List Begun) (places later operands : List Value) (running caller : Begun) (actuals : List ActualForm) → Some running ≡ slice_get begun 0 → Some caller ≡ slice_get begun 1 → drop caller.base (take running.base later) ≡ copied_back actuals (drop running.base places) (drop caller.base (take running.base places)) → take caller.base (take running.base later) ≡ take caller.base (take running.base places) → older (activations_of begun later operands) ≡ with_places (copied_back actuals (places_of (activations_of begun places operands)) (places_of (older (activations_of begun places operands)))) (older (activations_of begun places operands))
-caller_gets [] places later operands running caller actuals first second given before = refl
-caller_gets (b ∷ []) places later operands running caller actuals first second given before = refl
-caller_gets (b ∷ c ∷ bs) places later operands running caller actuals first second given before =
+pub caller_gets : (begun : List Begun) (places later operands : List Value) (waiting : List (List Value)) (running caller : Begun) (actuals : List ActualForm) → Some running ≡ slice_get begun 0 → Some caller ≡ slice_get begun 1 → drop caller.base (take running.base later) ≡ copied_back actuals (drop running.base places) (drop caller.base (take running.base places)) → take caller.base (take running.base later) ≡ take caller.base (take running.base places) → older (activations_of begun later operands waiting) ≡ with_places (copied_back actuals (places_of (activations_of begun places operands waiting)) (places_of (older (activations_of begun places operands waiting)))) (older (activations_of begun places operands waiting))
+caller_gets [] places later operands waiting running caller actuals first second given before = refl
+caller_gets (b ∷ []) places later operands waiting running caller actuals first second given before = refl
+caller_gets (b ∷ c ∷ bs) places later operands waiting running caller actuals first second given before =
     grind (arith, first, second, given, before)
 
 -- where none waits for the running activation, none gets anything
-pub no_caller : (begun : List Begun) (places operands gets : List Value) → None ≡ slice_get begun 1 → older (activations_of begun places operands) ≡ with_places gets (older (activations_of begun places operands))
-no_caller [] places operands gets none = refl
-no_caller (b ∷ []) places operands gets none = refl
-no_caller (b ∷ c ∷ bs) places operands gets none = grind (arith, none)
+pub no_caller : (begun : List Begun) (places operands gets : List Value) (waiting : List (List Value)) → None ≡ slice_get begun 1 → older (activations_of begun places operands waiting) ≡ with_places gets (older (activations_of begun places operands waiting))
+no_caller [] places operands gets waiting none = refl
+no_caller (b ∷ []) places operands gets waiting none = refl
+no_caller (b ∷ c ∷ bs) places operands gets waiting none = grind (arith, none)
 
 -- the running activation keeps what its places keep
-pub running_keeps : (begun : List Begun) (places later operands : List Value) (running : Begun) → Some running ≡ slice_get begun 0 → drop running.base later ≡ drop running.base places → places_of (activations_of begun later operands) ≡ places_of (activations_of begun places operands)
-running_keeps [] places later operands running first kept = refl
-running_keeps (b ∷ bs) places later operands running first kept = grind (arith, first, kept)
+pub running_keeps : (begun : List Begun) (places later operands : List Value) (waiting : List (List Value)) (running : Begun) → Some running ≡ slice_get begun 0 → drop running.base later ≡ drop running.base places → places_of (activations_of begun later operands waiting) ≡ places_of (activations_of begun places operands waiting)
+running_keeps [] places later operands waiting running first kept = refl
+running_keeps (b ∷ bs) places later operands waiting running first kept = grind (arith, first, kept)
 
 -- how many places were laid behind others
 pub count_laid : (before after values : List Value) (n m : ℕ) → after ≡ before ++ values → n ≡ length after → m ≡ length before → n - m ≡ length values
@@ -77,9 +77,15 @@ count_laid before after values n m is all base =
     let size : length after ≡ length before + length values = ap (λ (xs : List Value). length xs) is ∙ length-append before values in
     omega (arith, all, base, size)
 
--- where the running activation ends, its caller goes on with what is put onto its operands
-pub ended : (back : List Value → List Value) (begun : List Begun) (places before after : List Value) (running : Begun) → Some running ≡ slice_get begun 0 → (length begun ≤ 1) ⊎ (after ≡ back (drop running.base places) ++ []) → activations_of (older begun) (take running.base places) after ≡ with_operands (back (places_of (activations_of begun places before)) ++ operands_of (older (activations_of begun places before))) (older (activations_of begun places before))
-ended back [] places before after running first puts = refl
-ended back (b ∷ []) places before after running first puts = refl
-ended back (b ∷ c ∷ bs) places before after running first (inl few) = absurd (omega (arith, few))
-ended back (b ∷ c ∷ bs) places before after running first (inr is) = grind (arith, first, is)
+-- where the running activation ends, its caller goes on with what is put onto the operands that it keeps
+pub ended : (back : List Value → List Value) (begun : List Begun) (places before after : List Value) (waiting left : List (List Value)) (keeps : Bool) (running : Begun)
+    → Some running ≡ slice_get begun 0 → left ≡ waiting_behind keeps waiting
+    → (length begun ≤ 1) ⊎ ((keeps ≡ running.keeps) × (after ≡ back (drop running.base places) ++ kept_by keeps waiting))
+    → activations_of (older begun) (take running.base places) after left
+    ≡ with_operands (back (places_of (activations_of begun places before waiting)) ++ operands_of (older (activations_of begun places before waiting)))
+    (older (activations_of begun places before waiting))
+ended back [] places before after waiting left keeps running first behind puts = refl
+ended back (b ∷ []) places before after waiting left keeps running first behind puts = refl
+ended back (b ∷ c ∷ bs) places before after waiting left keeps running first behind (inl few) = absurd (omega (arith, few))
+ended back (b ∷ c ∷ bs) places before after waiting left keeps running first behind (inr is) =
+    let same = is.0 in let puts = is.1 in grind (arith, first, behind, same, puts)

@@ -22,6 +22,7 @@ use Rattle.ada_meaning.specs.declared.state.Mode.TheVariants.{Running}
 use Rattle.ada_meaning.specs.Frame.{Frame, begins_by}
 use Rattle.ada_meaning.specs.Frame as frame
 use Rattle.ada_meaning.specs.Event.{Quiet}
+use Rattle.ada_meaning.specs.Ending.{frame_calls, calls_among, calls_operation}
 use Rattle.ada_meaning.specs.State.{Activation, begins, begins_in, begins_among}
 use Rattle.ada_meaning.specs.Step.{moves, is_decided, named_next, null_test_next, outcome_next, link_next, assign_next, branches_next, decided_next, repeats_next, turned_next, turn_next, exit_next, exited_next, frame_next, running_next, mode_next, at, first_or, older, places_of, operands_of, with_operands, places, newest, computed, popped, put, stmt_next, counts_next}
 use Rattle.ada_meaning.specs.Named.{State, next, named, boolean_in, reads_boolean, reads_null, as_value, whole, an_integer}
@@ -54,8 +55,8 @@ module _ (program : Program) (s : State) (a : Activation Value) (suspended : Lis
   ContinuesTo links (Some v) (Some w) = (k : List (Frame Value)) (operands : List Value) → GoesWithin program (doing (frame.Continues links ∷ k) (Scalar v ∷ operands)) (doing k (Scalar w ∷ operands))
 
   -- one step
-  one : (mid last : State) → begins mid ≡ false → next program.types.items (body_forms program) mid ≡ moves Quiet last → GoesWithin program mid last
-  one mid last starts is = one_within program mid last starts is
+  one : (mid last : State) → begins mid ≡ false → calls_operation program.types.items mid ≡ false → next program.types.items (body_forms program) mid ≡ moves Quiet last → GoesWithin program mid last
+  one mid last starts calls is = one_within program mid last starts calls is
 
   -- What the steps of expressions are, form by form.
   reads_step : (path : PathForm) (k : List (Frame Value)) (operands : List Value) → next program.types.items (body_forms program) (doing (frame.Computes (reads path) ∷ k) operands) ≡ named_next named path.selectors path.root (doing k operands)
@@ -110,13 +111,13 @@ module _ (program : Program) (s : State) (a : Activation Value) (suspended : Lis
   variable path [] is (Part o first) held = tt
   variable path [] is (Scalar v) held =
       λ (k : List (Frame Value)) (operands : List Value).
-      one (doing (frame.Computes (reads path) ∷ k) operands) (doing k (Scalar v ∷ operands)) refl
+      one (doing (frame.Computes (reads path) ∷ k) operands) (doing k (Scalar v ∷ operands)) refl refl
       (reads_step path k operands ∙ (ap (λ (cs : List ℕ). named_next named cs path.root (doing k operands)) is ∙ ap (λ (x : Value). moves Quiet (doing k (whole x ∷ operands))) held))
 
   -- A test against null.
   at_test : (equal : Bool) (path : PathForm) → path.selectors ≡ [] → (v : Value) → slice_index_or a.places path.root Null ≡ v → (k : List (Frame Value)) (operands : List Value) → GoesWithin program (doing (frame.Computes (is_null equal path) ∷ k) operands) (doing (frame.TestsNull equal ∷ k) (whole v ∷ operands))
   at_test equal path is v held k operands =
-      one (doing (frame.Computes (is_null equal path) ∷ k) operands) (doing (frame.TestsNull equal ∷ k) (whole v ∷ operands)) refl
+      one (doing (frame.Computes (is_null equal path) ∷ k) operands) (doing (frame.TestsNull equal ∷ k) (whole v ∷ operands)) refl refl
       (tests_step equal path k operands ∙ (ap (λ (cs : List ℕ). named_next named cs path.root (doing (frame.TestsNull equal ∷ k) operands)) is ∙ ap (λ (x : Value). moves Quiet (doing (frame.TestsNull equal ∷ k) (whole x ∷ operands))) held))
 
   tested : (equal : Bool) (path : PathForm) → path.selectors ≡ [] → (v : Value) → slice_index_or a.places path.root Null ≡ v → (null : Option Bool) → reads_null (whole v) ≡ null → ComputesTo (is_null equal path) (test_of equal null)
@@ -124,12 +125,12 @@ module _ (program : Program) (s : State) (a : Activation Value) (suspended : Lis
   tested true path is v held (Some null) known =
       λ (k : List (Frame Value)) (operands : List Value).
       joined (at_test true path is v held k operands)
-      (one (doing (frame.TestsNull true ∷ k) (whole v ∷ operands)) (doing k (Scalar (scalar.Boolean null) ∷ operands)) refl
+      (one (doing (frame.TestsNull true ∷ k) (whole v ∷ operands)) (doing k (Scalar (scalar.Boolean null) ∷ operands)) refl refl
       (tested_step true (whole v) k operands ∙ ap (λ (n : Option Bool). null_test_next named true n (doing k operands)) known))
   tested false path is v held (Some null) known =
       λ (k : List (Frame Value)) (operands : List Value).
       joined (at_test false path is v held k operands)
-      (one (doing (frame.TestsNull false ∷ k) (whole v ∷ operands)) (doing k (Scalar (scalar.Boolean (not null)) ∷ operands)) refl
+      (one (doing (frame.TestsNull false ∷ k) (whole v ∷ operands)) (doing k (Scalar (scalar.Boolean (not null)) ∷ operands)) refl refl
       (tested_step false (whole v) k operands ∙ ap (λ (n : Option Bool). null_test_next named false n (doing k operands)) known))
 
   test : (equal : Bool) (path : PathForm) (cs : List ℕ) → path.selectors ≡ cs → ComputesTo (is_null equal path) (test_at_once cs equal (slice_index_or a.places path.root Null))
@@ -141,9 +142,9 @@ module _ (program : Program) (s : State) (a : Activation Value) (suspended : Lis
   alone_by operator e v to (Err fault) is = tt
   alone_by operator e v to (Ok w) is =
       λ (k : List (Frame Value)) (operands : List Value).
-      joined (one (doing (frame.Computes (applied_to operator e) ∷ k) operands) (doing (frame.Computes e ∷ frame.AppliesAlone operator ∷ k) operands) refl (applies_step operator e k operands))
+      joined (one (doing (frame.Computes (applied_to operator e) ∷ k) operands) (doing (frame.Computes e ∷ frame.AppliesAlone operator ∷ k) operands) refl refl (applies_step operator e k operands))
       (joined (to (frame.AppliesAlone operator ∷ k) operands)
-      (one (doing (frame.AppliesAlone operator ∷ k) (Scalar v ∷ operands)) (doing k (Scalar w ∷ operands)) refl
+      (one (doing (frame.AppliesAlone operator ∷ k) (Scalar v ∷ operands)) (doing k (Scalar w ∷ operands)) refl refl
       (applied_step operator v k operands ∙ ap (λ (r : Result ScalarValue OperatorFault). outcome_next named (as_value r) (doing k operands)) is)))
 
   alone : (operator : UnaryOperator) (e : ExpressionForm) (operand : Option ScalarValue) → ComputesTo e operand → ComputesTo (applied_to operator e) (applied_at_once operator operand)
@@ -155,7 +156,7 @@ module _ (program : Program) (s : State) (a : Activation Value) (suspended : Lis
   chain_by e links v to None on = tt
   chain_by e links v to (Some w) on =
       λ (k : List (Frame Value)) (operands : List Value).
-      joined (one (doing (frame.Computes (chained e links) ∷ k) operands) (doing (frame.Computes e ∷ frame.Continues links ∷ k) operands) refl (chained_step e links k operands))
+      joined (one (doing (frame.Computes (chained e links) ∷ k) operands) (doing (frame.Computes e ∷ frame.Continues links ∷ k) operands) refl refl (chained_step e links k operands))
       (joined (to (frame.Continues links ∷ k) operands) (on k operands))
 
   chain : (e : ExpressionForm) (links : LinksForm) (left : Option ScalarValue) → ComputesTo e left → ContinuesTo links left (links_at_once a.places left links) → ComputesTo (chained e links) (links_at_once a.places left links)
@@ -167,7 +168,7 @@ module _ (program : Program) (s : State) (a : Activation Value) (suspended : Lis
   decided operator e links v is None on = tt
   decided operator e links v is (Some w) on =
       λ (k : List (Frame Value)) (operands : List Value).
-      joined (one (doing (frame.Continues (a_link operator e links) ∷ k) (Scalar v ∷ operands)) (doing (frame.Continues links ∷ k) (Scalar v ∷ operands)) refl
+      joined (one (doing (frame.Continues (a_link operator e links) ∷ k) (Scalar v ∷ operands)) (doing (frame.Continues links ∷ k) (Scalar v ∷ operands)) refl refl
       (link_step operator e links v k operands ∙ ap (λ (d : Bool). link_next named d operator e links (doing k (Scalar v ∷ operands))) is))
       (on k operands)
 
@@ -175,10 +176,10 @@ module _ (program : Program) (s : State) (a : Activation Value) (suspended : Lis
   applied_by operator e links v u x is to gives None on = tt
   applied_by operator e links v u x is to gives (Some w) on =
       λ (k : List (Frame Value)) (operands : List Value).
-      joined (one (doing (frame.Continues (a_link operator e links) ∷ k) (Scalar v ∷ operands)) (doing (frame.Computes e ∷ frame.Applies operator ∷ frame.Continues links ∷ k) (Scalar v ∷ operands)) refl
+      joined (one (doing (frame.Continues (a_link operator e links) ∷ k) (Scalar v ∷ operands)) (doing (frame.Computes e ∷ frame.Applies operator ∷ frame.Continues links ∷ k) (Scalar v ∷ operands)) refl refl
       (link_step operator e links v k operands ∙ ap (λ (d : Bool). link_next named d operator e links (doing k (Scalar v ∷ operands))) is))
       (joined (to (frame.Applies operator ∷ frame.Continues links ∷ k) (Scalar v ∷ operands))
-      (joined (one (doing (frame.Applies operator ∷ frame.Continues links ∷ k) (Scalar u ∷ Scalar v ∷ operands)) (doing (frame.Continues links ∷ k) (Scalar x ∷ operands)) refl
+      (joined (one (doing (frame.Applies operator ∷ frame.Continues links ∷ k) (Scalar u ∷ Scalar v ∷ operands)) (doing (frame.Continues links ∷ k) (Scalar x ∷ operands)) refl refl
       (both_step operator v u (frame.Continues links ∷ k) operands ∙ ap (λ (r : Result ScalarValue OperatorFault). outcome_next named (as_value r) (doing (frame.Continues links ∷ k) operands)) gives))
       (on k operands)))
 
@@ -197,8 +198,8 @@ module _ (program : Program) (s : State) (a : Activation Value) (suspended : Lis
   mutual
     -- Quiet steps within the statement lead from an expression to the value that it has at once.
     computing : (e : ExpressionForm) → ComputesTo e (value_at_once a.places e)
-    computing (integer i) = λ (k : List (Frame Value)) (operands : List Value). one (doing (frame.Computes (integer i) ∷ k) operands) (doing k (Scalar (scalar.Integer i) ∷ operands)) refl (integer_step i k operands)
-    computing (boolean b) = λ (k : List (Frame Value)) (operands : List Value). one (doing (frame.Computes (boolean b) ∷ k) operands) (doing k (Scalar (scalar.Boolean b) ∷ operands)) refl (boolean_step b k operands)
+    computing (integer i) = λ (k : List (Frame Value)) (operands : List Value). one (doing (frame.Computes (integer i) ∷ k) operands) (doing k (Scalar (scalar.Integer i) ∷ operands)) refl refl (integer_step i k operands)
+    computing (boolean b) = λ (k : List (Frame Value)) (operands : List Value). one (doing (frame.Computes (boolean b) ∷ k) operands) (doing k (Scalar (scalar.Boolean b) ∷ operands)) refl refl (boolean_step b k operands)
     computing (reads path) = variable path path.selectors refl (slice_index_or a.places path.root Null) refl
     computing (is_null equal path) = test equal path path.selectors refl
     computing (applied_to operator e) = alone operator e (value_at_once a.places e) (computing e)
@@ -206,7 +207,7 @@ module _ (program : Program) (s : State) (a : Activation Value) (suspended : Lis
 
     continues : (left : Option ScalarValue) (links : LinksForm) → ContinuesTo links left (links_at_once a.places left links)
     continues None links = tt
-    continues (Some v) no_more_links = λ (k : List (Frame Value)) (operands : List Value). one (doing (frame.Continues no_more_links ∷ k) (Scalar v ∷ operands)) (doing k (Scalar v ∷ operands)) refl (last_step v k operands)
+    continues (Some v) no_more_links = λ (k : List (Frame Value)) (operands : List Value). one (doing (frame.Continues no_more_links ∷ k) (Scalar v ∷ operands)) (doing k (Scalar v ∷ operands)) refl refl (last_step v k operands)
     continues (Some v) (a_link operator e links) =
         link operator e links v (is_decided named operator (boolean_in v)) refl (value_at_once a.places e) (computing e)
         (continues (link_at_once (is_decided named operator (boolean_in v)) operator v (value_at_once a.places e)) links)
@@ -223,7 +224,7 @@ module _ (program : Program) (s : State) (a : Activation Value) (suspended : Lis
   ranged_to e f low high x statements k first last up some =
       joined (computes_to e (scalar.Integer low) first (frame.Computes f ∷ frame.Ranges x (stmts_form statements) ∷ k) a.operands)
       (joined (computes_to f (scalar.Integer high) last (frame.Ranges x (stmts_form statements) ∷ k) (an_integer low ∷ a.operands))
-      (one (doing (frame.Ranges x (stmts_form statements) ∷ k) (an_integer high ∷ an_integer low ∷ a.operands)) (counting x low high (stmts_form statements) (doing k a.operands)) refl
+      (one (doing (frame.Ranges x (stmts_form statements) ∷ k) (an_integer high ∷ an_integer low ∷ a.operands)) (counting x low high (stmts_form statements) (doing k a.operands)) refl refl
       (ranges_step x (stmts_form statements) low high k a.operands ∙ counts_turn x low high statements (doing k a.operands) up some)))
 
 -- An expression that has a value at once leads to it, in any state that runs.
@@ -279,16 +280,16 @@ some_left (f ∷ fs) k some = refl
 -- statements of which none is left are passed
 pub done_within : (program : Program) (fs : StmtsForm) (k : List (Frame Value)) (s : State) → s.mode ≡ Running → GoesWithin program (at (frame.Does fs ∷ k) s) (at (statements_left fs k) s)
 done_within program no_stmts k s runs =
-    one_within program (at (frame.Does no_stmts ∷ k) s) (at k s) (none_begins (at (frame.Does no_stmts ∷ k) s) (frame.Does no_stmts) k runs refl refl)
+    one_within program (at (frame.Does no_stmts ∷ k) s) (at k s) (none_begins (at (frame.Does no_stmts ∷ k) s) (frame.Does no_stmts) k runs refl refl) refl
     (frame_comes program (at (frame.Does no_stmts ∷ k) s) (frame.Does no_stmts) k runs refl)
 done_within program (a_stmt f fs) k s runs = stays_within
 
 module _ (program : Program) (s : State) (e : ExpressionForm) (v : ScalarValue) (runs : s.mode ≡ Running) (some : s.activations ≢ []) (is : value_at_once (places s) e ≡ Some v) where
   -- The value is there, and then a frame makes its step.
-  value_then : (f : Frame Value) (k : List (Frame Value)) (last : State) → begins_by f ≡ false → frame_next named program.types.items (body_forms program) f (computed (Scalar v) (at k s)) ≡ moves Quiet last → GoesWithin program (at (frame.Computes e ∷ f ∷ k) s) last
-  value_then f k last starts comes =
+  value_then : (f : Frame Value) (k : List (Frame Value)) (last : State) → begins_by f ≡ false → frame_calls program.types.items f ≡ false → frame_next named program.types.items (body_forms program) f (computed (Scalar v) (at k s)) ≡ moves Quiet last → GoesWithin program (at (frame.Computes e ∷ f ∷ k) s) last
+  value_then f k last starts calls comes =
       joined (goes_to_value program s e v (f ∷ k) runs some is)
-      (one_within program (computed (Scalar v) (at (f ∷ k) s)) last (none_begins (computed (Scalar v) (at (f ∷ k) s)) f k runs refl starts)
+      (one_within program (computed (Scalar v) (at (f ∷ k) s)) last (none_begins (computed (Scalar v) (at (f ∷ k) s)) f k runs refl starts) calls
       (frame_comes program (computed (Scalar v) (at (f ∷ k) s)) f k runs refl ∙ comes))
 
   -- A variable gets it (5.2).
@@ -299,9 +300,9 @@ module _ (program : Program) (s : State) (e : ExpressionForm) (v : ScalarValue) 
     behind =
         joined
         (one_within program (at (frame.Evaluates (computes e) ∷ frame.Stores x ∷ s.control) s) (at (frame.Computes e ∷ frame.Stores x ∷ s.control) s)
-        (none_begins (at (frame.Evaluates (computes e) ∷ frame.Stores x ∷ s.control) s) (frame.Evaluates (computes e)) (frame.Stores x ∷ s.control) runs refl refl)
+        (none_begins (at (frame.Evaluates (computes e) ∷ frame.Stores x ∷ s.control) s) (frame.Evaluates (computes e)) (frame.Stores x ∷ s.control) runs refl refl) refl
         (frame_comes program (at (frame.Evaluates (computes e) ∷ frame.Stores x ∷ s.control) s) (frame.Evaluates (computes e)) (frame.Stores x ∷ s.control) runs refl))
-        (value_then (frame.Stores x) s.control (put x (Scalar v) s) refl
+        (value_then (frame.Stores x) s.control (put x (Scalar v) s) refl refl
         (ap (λ (w : Value). moves Quiet (put x w (popped (computed (Scalar v) s)))) (newest_computed (Scalar v) s some) ∙ ap (λ (t : State). moves Quiet (put x (Scalar v) t)) (popped_computed (Scalar v) s)));
   }
 
@@ -326,7 +327,7 @@ module _ (program : Program) (s : State) (e : ExpressionForm) (b : Bool) (runs :
     comes = refl;
     behind =
         joined
-        (value_then program s e (scalar.Boolean b) runs some is (frame.Decides fs branches) s.control on.mid refl
+        (value_then program s e (scalar.Boolean b) runs some is (frame.Decides fs branches) s.control on.mid refl refl
         (by_condition (decided_next named fs branches) ∙ on.comes))
         on.behind;
   }
@@ -337,7 +338,7 @@ module _ (program : Program) (s : State) (e : ExpressionForm) (b : Bool) (runs :
     mid = at (frame.Computes e ∷ frame.Turns e fs ∷ s.control) s;
     comes = refl;
     behind =
-        value_then program s e (scalar.Boolean b) runs some is (frame.Turns e fs) s.control last refl
+        value_then program s e (scalar.Boolean b) runs some is (frame.Turns e fs) s.control last refl refl
         (by_condition (turned_next named e fs) ∙ comes);
   }
 
@@ -347,7 +348,7 @@ module _ (program : Program) (s : State) (e : ExpressionForm) (b : Bool) (runs :
     mid = at (frame.Computes e ∷ frame.Exits ∷ s.control) s;
     comes = refl;
     behind =
-        value_then program s e (scalar.Boolean b) runs some is frame.Exits s.control last refl
+        value_then program s e (scalar.Boolean b) runs some is frame.Exits s.control last refl refl
         (by_condition (exited_next named) ∙ comes);
   }
 
@@ -374,9 +375,10 @@ pub behind_done : (program : Program) (first t : State) (fs : StmtsForm) (k : Li
 behind_done program first t fs k statements runs so_far = quietly_within so_far (done_within program fs k t runs)
 
 -- a frame that begins no statement goes on
-pub comes_to : (program : Program) (s : State) (f : Frame Value) (k : List (Frame Value)) → s.mode ≡ Running → s.control ≡ f ∷ k → begins_by f ≡ false → (last : State) → GoesOn program (frame_next named program.types.items (body_forms program) f (at k s)) last → ComesTo program s last
-comes_to program s f k runs first starts last on = (
+pub comes_to : (program : Program) (s : State) (f : Frame Value) (k : List (Frame Value)) → s.mode ≡ Running → s.control ≡ f ∷ k → begins_by f ≡ false → frame_calls program.types.items f ≡ false → (last : State) → GoesOn program (frame_next named program.types.items (body_forms program) f (at k s)) last → ComesTo program s last
+comes_to program s f k runs first starts calls last on = (
   none_begins s f k runs first starts,
+  ap (λ (c : List (Frame Value)). calls_among program.types.items c) first ∙ calls,
   record {
     mid = on.mid;
     comes = ap (λ (c : List (Frame Value)). running_next named program.types.items (body_forms program) c s) first ∙ on.comes;
@@ -388,7 +390,7 @@ comes_to program s f k runs first starts last on = (
 pub comes_within : (program : Program) (s last : State) → s.mode ≡ Running → ComesTo program s last → GoesWithin program s last
 unfolding next
 comes_within program s last runs to =
-    joined (one_within program s to.1.mid to.0 (ap (λ (m : Mode). mode_next named program.types.items (body_forms program) m s) runs ∙ to.1.comes)) to.1.behind
+    joined (one_within program s to.2.mid to.0 to.1 (ap (λ (m : Mode). mode_next named program.types.items (body_forms program) m s) runs ∙ to.2.comes)) to.2.behind
 
 -- the first statement begins, with steps behind it
 pub first_begun : (program : Program) (s last : State) (statements : List Stmt) (f : Stmt) (fs : List Stmt) (limit : ℕ) → s.mode ≡ Running → s.control ≡ frame.Does (stmts_form statements) ∷ older s.control → statements ≡ f ∷ fs → GoesOn program (stmt_next named program.types.items (body_forms program) (stmt_form f) (at (frame.Does (stmts_form fs) ∷ older s.control) s)) last → 0 < limit → GoesQuietly program s (limit - (limit - 1)) last

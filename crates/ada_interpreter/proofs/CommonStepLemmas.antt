@@ -14,32 +14,33 @@ use Rattle.ada_meaning.specs.Step.{moves}
 use Rattle.ada_meaning.specs.Named.{State, Next, next}
 use Rattle.ada_meaning.specs.Run.{settled, Leads}
 use Rattle.ada_meaning.specs.Chosen.{begun_with}
-use Rattle.ada_meaning.specs.Ending.{weight, StepsMakeLighter}
+use Rattle.ada_meaning.specs.Ending.{weight, calls_operation, StepsMakeLighter}
 use Rattle.ada_interpreter.specs.declared.frame.Frame.{Frame as HeldFrame}
 use Rattle.ada_interpreter.specs.declared.process.Process.{Process}
-use Rattle.ada_interpreter.specs.CommonSteps.{MayMove, GoesQuietly, stays, goes_on, GoesWithin, stays_within, goes_within, GoesOn, MayGoOn, counted_to, newest_counted_to}
+use Rattle.ada_interpreter.specs.CommonSteps.{MayMove, GoesQuietly, stays, goes_on, GoesWithin, stays_within, goes_within, GoesOn, MayGoOn, CallsNone, counted_to, newest_counted_to}
+use Rattle.ada_interpreter.specs.Process.{state_of}
 use Rattle.ada_interpreter.proofs.StackLemmas.{set_newest}
 
 -- Steps within a statement, one after another.
 
 pub joined : {program : Program} {first mid last : State} → GoesWithin program first mid → GoesWithin program mid last → GoesWithin program first last
 joined first stays_within = first
-joined first (goes_within before more starts is) = goes_within before (joined first more) starts is
+joined first (goes_within before more starts calls is) = goes_within before (joined first more) starts calls is
 
-pub one_within : (program : Program) (mid last : State) → begins mid ≡ false → next program.types.items (body_forms program) mid ≡ moves Quiet last → GoesWithin program mid last
-one_within program mid last starts is = goes_within mid stays_within starts is
+pub one_within : (program : Program) (mid last : State) → begins mid ≡ false → calls_operation program.types.items mid ≡ false → next program.types.items (body_forms program) mid ≡ moves Quiet last → GoesWithin program mid last
+one_within program mid last starts calls is = goes_within mid stays_within starts calls is
 
 -- they begin no statement
 pub quietly_within : {program : Program} {first mid last : State} {statements : ℕ} → GoesQuietly program first statements mid → GoesWithin program mid last → GoesQuietly program first statements last
 quietly_within so_far stays_within = so_far
-quietly_within {program} {first} {mid} {last} {statements} so_far (goes_within before more starts is) =
+quietly_within {program} {first} {mid} {last} {statements} so_far (goes_within before more starts calls is) =
     goes_on statements before (quietly_within so_far more) is (sym (ap (λ (b : Bool). begun_with b statements) starts))
 
 -- and make the state no heavier
 pub no_heavier : StepsMakeLighter → {program : Program} {first last : State} → GoesWithin program first last → weight program.types.items last ≤ weight program.types.items first
 no_heavier lightens stays_within = omega arith
-no_heavier lightens {program} {first} {last} (goes_within mid more starts is) =
-    let less : weight program.types.items last < weight program.types.items mid = lightens program mid settled Quiet last starts (subst (λ (coming : Next). Leads coming settled Quiet last) (sym is) (refl, refl)) in
+no_heavier lightens {program} {first} {last} (goes_within mid more starts calls is) =
+    let less : weight program.types.items last < weight program.types.items mid = lightens program mid settled Quiet last starts calls (subst (λ (coming : Next). Leads coming settled Quiet last) (sym is) (refl, refl)) in
     let so_far : weight program.types.items mid ≤ weight program.types.items first = no_heavier lightens more in
     omega (arith, less, so_far)
 
@@ -56,6 +57,12 @@ pub may_once : (program : Program) (coming : Next) (before : Process) (made : Re
 may_once program coming before (Ok true) after is = goes_once is
 may_once program coming before (Ok false) after is = is
 may_once program coming before (Err fault) after is = tt
+
+-- whatever is made where no operation would be called
+pub calls_none : (program : Program) (before : Process) (made : Result Bool AllocError) → calls_operation program.types.items (state_of before) ≡ false → CallsNone program before made
+calls_none program before (Ok true) none = none
+calls_none program before (Ok false) none = tt
+calls_none program before (Err e) none = tt
 
 -- Common steps within a limit of statements.
 
@@ -75,9 +82,9 @@ one_statement_more {program} {first} {mid} {last} limit left so_far on starts so
     let begun : begun_with true (limit - left) ≡ begun_with (begins mid) (limit - left) = sym (ap (λ (b : Bool). begun_with b (limit - left)) starts) in
     quietly_within (goes_on (limit - left) mid so_far on.comes (rw count begun)) on.behind
 
-pub lighter_behind : StepsMakeLighter → (program : Program) (mid last : State) → GoesOn program (next program.types.items (body_forms program) mid) last → begins mid ≡ false → weight program.types.items last < weight program.types.items mid
-lighter_behind lightens program mid last on starts =
-    let less : weight program.types.items on.mid < weight program.types.items mid = lightens program mid settled Quiet on.mid starts (subst (λ (coming : Next). Leads coming settled Quiet on.mid) (sym on.comes) (refl, refl)) in
+pub lighter_behind : StepsMakeLighter → (program : Program) (mid last : State) → GoesOn program (next program.types.items (body_forms program) mid) last → begins mid ≡ false → calls_operation program.types.items mid ≡ false → weight program.types.items last < weight program.types.items mid
+lighter_behind lightens program mid last on starts calls =
+    let less : weight program.types.items on.mid < weight program.types.items mid = lightens program mid settled Quiet on.mid starts calls (subst (λ (coming : Next). Leads coming settled Quiet on.mid) (sym on.comes) (refl, refl)) in
     let so_far : weight program.types.items last ≤ weight program.types.items on.mid = no_heavier lightens on.behind in
     omega (arith, less, so_far)
 

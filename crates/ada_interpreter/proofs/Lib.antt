@@ -24,3 +24,5 @@ pub mod OperandLemmas
 pub mod AtOnceLemmas
 -- what operators give of two numbers
 pub mod NumberLemmas
+-- where controlled parts lie
+pub mod LayoutLemmas

@@ -1,11 +1,12 @@
 -- Turns that leave nothing open, and treatments that go on.
 
-use Rattle.std.proofs.Common.{◌≡◌, ℕ, suc, true, false, List, [], ◌∷◌, length, Option, Some, None, Result, Ok, Err, refl, sym, ap, ◌∙◌, inl, inr}
+use Rattle.std.proofs.Common.{◌≡◌, ℕ, suc, true, false, List, [], ◌∷◌, ◌++◌, length, map, reverse, Option, Some, None, Result, Ok, Err, refl, sym, ap, ◌∙◌, inl, inr}
 use Rattle.std.proofs.Math.ListN.{set}
 use Rattle.std.specs.Prelude.{◌==◌}
 use Rattle.std.specs.List.{slice_get}
 use Rattle.std.specs.declared.alloc.AllocError.{AllocError}
 use Rattle.std.proofs.lemmas.Bool.Decides.{eqb_tells}
+use Rattle.std.proofs.lemmas.List.{map-append, reverse-append}
 use Rattle.ada_parts.specs.Task.{Task}
 use Rattle.ada_program.specs.declared.program.TypeDefinition.{TypeDefinition}
 use Rattle.ada_meaning.specs.declared.state.Id.{Id}
@@ -19,7 +20,9 @@ use Rattle.ada_meaning.specs.Step.{treating}
 use Rattle.ada_meaning.specs.Named.{State, Next, Object, object_at, changed, existing, seen, with_part, treated}
 use Rattle.ada_interpreter.specs.declared.turn.Turn.{Turn}
 use Rattle.ada_interpreter.specs.declared.turn.Turn.TheVariants.{Halts, Moves, Tells, Asks, Picks, PicksComponent}
+use Rattle.ada_interpreter.specs.declared.treatment.Done.{Done}
 use Rattle.ada_interpreter.specs.Objects.{part_in, part_at, with_part_state}
+use Rattle.ada_interpreter.specs.Treatment.{done_part, done_parts}
 use Rattle.ada_interpreter.specs.Process.{shown, Shows, Turns, TurnsOf}
 
 -- a turn that leaves nothing open is one, whatever the types are
@@ -43,6 +46,10 @@ treating_none v treatment (task ∷ tasks) k is = elim (eqb_tells (suc (length t
 pub treating_some : (v : Value) (treatment : Treatment) (tasks : List Task) (k : List (Frame Value)) → (length tasks == 0) ≡ false → treating v treatment tasks k ≡ frame.Treats v treatment tasks ∷ k
 treating_some v treatment [] k is = elim (eqb_tells 0 0) [ inl h ↦ absurd (cc (sym is ∙ h.0)) | inr h ↦ absurd (h.1 refl) ]
 treating_some v treatment (task ∷ tasks) k is = refl
+
+-- a part more has come to have its value, the newest
+pub one_done : (done : List Done) (d : Done) → done_parts (done ++ d ∷ []) ≡ done_part d ∷ done_parts done
+one_done done d = ap reverse (map-append done_part done (d ∷ [])) ∙ reverse-append (map done_part done) (done_part d ∷ [])
 
 -- that part of an object that is found is its own
 part_of : (x : Object) (stage : Stage) (part : ℕ) (p : PartState) → part_in (existing x stage) part ≡ Some p → slice_get x.cell.parts part ≡ Some p

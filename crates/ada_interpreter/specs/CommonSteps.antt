@@ -15,6 +15,7 @@ use Rattle.ada_meaning.specs.State.{begins}
 use Rattle.ada_meaning.specs.Step.{moves, at, older, put, stmt_next, running_next}
 use Rattle.ada_meaning.specs.Named.{State, Next, next, named, an_integer}
 use Rattle.ada_meaning.specs.Chosen.{begun_with}
+use Rattle.ada_meaning.specs.Ending.{calls_operation}
 use Rattle.ada_interpreter.specs.declared.frame.Frame.{Frame as HeldFrame}
 use Rattle.ada_interpreter.specs.declared.frame.Frame.TheVariants as held
 use Rattle.ada_interpreter.specs.declared.process.Process.{Process}
@@ -36,10 +37,10 @@ pub data GoesQuietly (program : Program) (first : State) : (statements : ℕ) �
   stays : GoesQuietly program first 0 first
   goes_on : {statements : ℕ} {last : State} (before_it : ℕ) (mid : State) → GoesQuietly program first before_it mid → next program.types.items (body_forms program) mid ≡ moves Quiet last → statements ≡ begun_with (begins mid) before_it → GoesQuietly program first statements last
 
--- Quiet steps one after another that leave nothing open, and in which no statement begins.
+-- Quiet steps one after another that leave nothing open, and in which no statement begins and no operation is called.
 pub data GoesWithin (program : Program) (first : State) : State → Type 0 where
   stays_within : GoesWithin program first first
-  goes_within : {last : State} (mid : State) → GoesWithin program first mid → begins mid ≡ false → next program.types.items (body_forms program) mid ≡ moves Quiet last → GoesWithin program first last
+  goes_within : {last : State} (mid : State) → GoesWithin program first mid → begins mid ≡ false → calls_operation program.types.items mid ≡ false → next program.types.items (body_forms program) mid ≡ moves Quiet last → GoesWithin program first last
 
 -- What comes is a quiet step, and from there such steps lead on to a state.
 pub record GoesOn (program : Program) (coming : Next) (last : State) : Type 0 where
@@ -58,10 +59,16 @@ MayGoOn program coming before (Ok true) after = GoesOn program coming (state_of 
 MayGoOn program coming before (Ok false) after = after ≡ before
 MayGoOn program coming before (Err e) after = Unit {0}
 
--- What is first of what is left to do begins no statement, and its step comes, with steps behind it.
+-- What is first of what is left to do begins no statement and calls no operation, and its step comes, with steps behind it.
 abbrev pub ComesTo : (program : Program) → (first last : State) → Type 0
 ComesTo program first last =
-    (begins first ≡ false) × GoesOn program (running_next named program.types.items (body_forms program) first.control first) last
+    (begins first ≡ false) × (calls_operation program.types.items first ≡ false) × GoesOn program (running_next named program.types.items (body_forms program) first.control first) last
+
+-- A step that is made calls no operation.
+abbrev pub CallsNone : (program : Program) → (before : Process) → (made : Result Bool AllocError) → Type 0
+CallsNone program before (Ok true) = calls_operation program.types.items (state_of before) ≡ false
+CallsNone program before (Ok false) = Unit {0}
+CallsNone program before (Err e) = Unit {0}
 
 -- A statement is done, with all of its steps, whatever comes behind it; or nothing changes.
 abbrev pub IsDone : StmtForm → (before : Process) → (done : Bool) → (after : Process) → Type 0

@@ -1,6 +1,6 @@
 -- A run in progress: the state that it stands for, and what a turn of it does.
 
-use Rattle.std.specs.Prelude.{◌≡◌, ℕ, Bool, true, false, pos, ◌+ℤ◌, List, [], ◌∷◌, map, Option, Some, Result, Ok, Err}
+use Rattle.std.specs.Prelude.{◌≡◌, ◌⊎◌, ℕ, Bool, true, false, pos, ◌+ℤ◌, List, [], ◌∷◌, map, Option, Some, Result, Ok, Err}
 use Rattle.std.specs.Option.{option_copied}
 use Rattle.std.specs.declared.alloc.AllocError.{AllocError}
 use Rattle.ada_program.specs.Form.{component_number, path_form, record_path_form, reads, value_of, actual_form, expression_form, links_form, item_form, right_form, initial_form, condition_form, stmts_form, branches_form, handlers_form, declaration_form}
@@ -12,15 +12,18 @@ use Rattle.ada_meaning.specs.declared.state.Value.{Value as ValueOf}
 use Rattle.ada_meaning.specs.declared.state.Value.TheVariants.{Names}
 use Rattle.ada_meaning.specs.declared.event.Cause.{Cause}
 use Rattle.ada_meaning.specs.declared.event.Halt.{Halt}
+use Rattle.ada_meaning.specs.declared.event.Halt.TheVariants.{Erroneous}
+use Rattle.ada_meaning.specs.declared.event.Why.TheVariants.{GivesElsewhere}
 use Rattle.ada_meaning.specs.declared.event.Cause.TheVariants.{Leaving as leaving, Freeing as freeing}
-use Rattle.ada_meaning.specs.Frame.{Frame, Landing, passes_on, goes_behind, goes_in}
+use Rattle.ada_meaning.specs.Frame.{Frame, ends, Landing, passes_on, goes_behind, goes_in}
 use Rattle.ada_meaning.specs.Frame as frame
 use Rattle.ada_meaning.specs.Event.{Quiet, Followed, Allocate, event_of, request_of}
 use Rattle.ada_meaning.specs.Heap.{Cell, Found, on_null, on_gone, on_other, finds}
-use Rattle.ada_meaning.specs.State.{home_of, pool_freed_to}
-use Rattle.ada_meaning.specs.Step.{halts, moves, tells, asks, picks, at, older, computed, raised, numbered, answered, taken, taken_out, finalizing, treated_on, direction_of, picked_task}
-use Rattle.ada_meaning.specs.Named.{State, Next, named, look, members}
+use Rattle.ada_meaning.specs.State.{Master, home_of, pool_freed_to}
+use Rattle.ada_meaning.specs.Step.{halts, moves, tells, asks, picks, at, older, computed, raised, numbered, answered, taken, taken_out, finalizing, treating, all_tasks, treated_on, direction_of, picked_task, same_pool, ends_again}
+use Rattle.ada_meaning.specs.Named.{State, Next, named, look, members, on_object, parted}
 use Rattle.ada_interpreter.specs.declared.frame.Frame.{Frame as HeldFrame}
+use Rattle.ada_interpreter.specs.declared.frees.Freed.{Freed}
 use Rattle.ada_interpreter.specs.declared.frame.Frame.TheVariants as held
 use Rattle.ada_interpreter.specs.declared.handling.Landing.{Landing as HeldLanding}
 use Rattle.ada_interpreter.specs.declared.handling.Landing.TheVariants as landing
@@ -29,8 +32,9 @@ use Rattle.ada_interpreter.specs.declared.expressions.Outcome.TheVariants.{Value
 use Rattle.ada_interpreter.specs.declared.turn.Turn.{Turn}
 use Rattle.ada_interpreter.specs.declared.turn.Turn.TheVariants.{Halts, Moves, Tells, Asks, Picks, PicksComponent}
 use Rattle.ada_interpreter.specs.declared.process.Process.{Process}
+use Rattle.ada_parts.specs.declared.tasks.Direction.TheVariants.{WholeFirst}
 use Rattle.ada_interpreter.specs.Masters.{destination_of}
-use Rattle.ada_interpreter.specs.Treatment.{treatment_form}
+use Rattle.ada_interpreter.specs.Treatment.{done_parts, treated_form}
 
 -- One thing that is left to do. Behind a turn of a `for` loop, the next one comes with the next value.
 abbrev pub frame_of : HeldFrame → Frame ValueOf
@@ -76,7 +80,11 @@ frame_of (held.FreesIn access component) = frame.FreesIn access.0 component.0
 frame_of (held.Declares variable) = frame.Declares variable.0
 frame_of (held.DeclaresRecord variable object) = frame.DeclaresRecord variable.0 object.0
 frame_of (held.Treats treated) =
-    frame.Treats (Names treated.value.object) (treatment_form treated.value.treatment) treated.value.tasks
+    frame.Treats (Names treated.value.object) (treated_form treated.value) treated.value.tasks
+frame_of (held.Awaits by treated of part) =
+    frame.Awaits (Names treated.value.object) by (done_parts treated.value.done.items) of part treated.value.tasks
+frame_of held.Confines = frame.Confines
+frame_of (held.Resumes mode) = frame.Resumes mode
 frame_of held.Writes = frame.Writes
 frame_of (held.Ends object) = frame.Ends object
 frame_of (held.GivesBack object cause pool) = frame.GivesBack object cause pool
@@ -84,7 +92,7 @@ frame_of (held.Clears variable) = frame.Clears variable.0
 frame_of (held.ClearsIn object component) = frame.ClearsIn object component.0
 
 -- Where a jump lands.
-abbrev pub landing_of : HeldLanding → Landing
+abbrev pub landing_of : HeldLanding → Landing ValueOf
 landing_of landing.PassesOn = passes_on
 landing_of landing.GoesBehind = goes_behind
 landing_of (landing.GoesIn statements) = goes_in (stmts_form statements.now)
@@ -217,6 +225,30 @@ finalized_first types v cause on_gone s = s
 finalized_first types v cause on_other s = s
 finalized_first types v cause (finds cell) s = at (finalizing types v cell cause s.control) s
 
--- An object begins to end by a Free: a number is used up for it, and its words are to go back to the pool of the access type (13.11.2).
-abbrev pub releasing : List TypeDefinition → (access : ℕ) → ValueOf → State → State
-releasing types access v s = numbered (ending types v (freeing s.next) (Some (pool_freed_to (home_of access s.masters))) s)
+-- A Free ends what is found (13.11.2): it stands, is known by this type, and is of the pool of the access type, to which its words go back.
+pub record Frees (access : ℕ) (masters : List Master) (found : Found (Cell ValueOf)) (freed : Freed) : Type 0 where
+  pub cell : Cell ValueOf
+  pub stands : found ≡ finds cell
+  pub known_by : freed.known_by.0 ≡ cell.access
+  pub pool : freed.pool ≡ pool_freed_to (home_of access masters)
+  pub own : same_pool (Some (pool_freed_to (home_of access masters))) cell.home.pool ≡ true
+
+-- It is of another pool.
+pub record IsElsewhere (access : ℕ) (masters : List Master) (found : Found (Cell ValueOf)) : Type 0 where
+  pub cell : Cell ValueOf
+  pub stands : found ≡ finds cell
+  pub other : same_pool (Some (pool_freed_to (home_of access masters))) cell.home.pool ≡ false
+
+-- How a Free ends what is found, or how the run ends where the Free is erroneous.
+abbrev pub IsFreed : List TypeDefinition → (access : ℕ) → List Master → (found : Found (Cell ValueOf)) → Result Freed Halt → Type 0
+IsFreed types access masters found (Ok freed) = Frees access masters found freed
+IsFreed types access masters found (Err halt) =
+    ((halt ≡ Erroneous (ends_again named types access)) × (found ≡ on_gone)) ⊎ ((halt ≡ Erroneous GivesElsewhere) × IsElsewhere access masters found)
+
+-- An object begins to end by a Free (13.11.2): it leaves its collection, a number is used up for it, and its words are to go back to this pool. Its controlled
+-- parts are finalized first, by the type that it is known by.
+abbrev pub releasing : List TypeDefinition → (access pool : ℕ) → ValueOf → State → State
+releasing types access pool v s = numbered (record s {
+  heap = on_object parted s.heap v;
+  control = treating v (ends (freeing s.next)) (all_tasks types access WholeFirst) (frame.Ends v ∷ frame.GivesBack v (freeing s.next) (Some pool) ∷ s.control);
+})

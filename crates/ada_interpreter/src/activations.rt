@@ -6,9 +6,11 @@ ghost use Rattle.ada_program.specs.Form.{actual_form};
 ghost use Rattle.ada_program.specs.ProgramForm.{variable_form};
 ghost use Rattle.ada_meaning.specs.Step.{first_or, older, places_of, operands_of, with_places, with_operands, in_front, blanks, given_places, copied_back, stored_back, operand_count, given_values, references_in};
 ghost use Rattle.ada_meaning.specs.Named.{named};
+ghost use Rattle.ada_interpreter.specs.Activations.{kept_by, waiting_behind};
 
 use crate::given::{
-    copy_back_behind, lay_blanks, lay_places, operand_count, push_references, push_stored,
+    copy_back_behind, lay_blanks, lay_parameter, lay_places, operand_count, push_references,
+    push_stored,
 };
 use crate::stack::Stack;
 use crate::values::{set_value_behind, value_at, values_behind};
@@ -17,6 +19,7 @@ use ada_program::VariableNo;
 use ada_program::program::{Actual, ProcedureNo, Variable};
 use std::alloc::{AllocError, Global};
 use std::marker::Model;
+use std::mem;
 
 /// An activation that has begun: its places are those from `base` on, up to where those of the next one begin.
 #[derive(Clone, Copy)]
@@ -24,10 +27,12 @@ struct Begun {
     /// None for the main body.
     procedure: Option<ProcedureNo>,
     base: usize,
+    /// Whether its caller keeps operands meanwhile: the newest of those that wait.
+    keeps: bool,
 }
 
 /// The activations that have begun (6.4), seen as the list of them, the running one first. Once the stacks have grown,
-/// a call takes no memory.
+/// a call takes no memory; that of an operation does where its caller keeps operands.
 #[derive(Drop)]
 pub(crate) struct Activations {
     alloc: Global,
@@ -35,9 +40,11 @@ pub(crate) struct Activations {
     begun: Stack<Begun>,
     /// What the variables of all of them hold: each one's places lie behind those of its caller.
     places: Vec<Value>,
-    /// What pending forms of the running one have computed. A call is a statement: no form of its caller waits for a
-    /// value.
+    /// What pending forms of the running one have computed.
     operands: Stack<Value>,
+    /// What pending forms of callers have computed. A call is a statement, and no form of its caller waits for a value; but
+    /// an operation of a controlled type is called in the middle of such forms.
+    waiting: Stack<Stack<Value>>,
     /// Vectors that calls which have ended no longer use, whatever lies in them: the next calls take them.
     spare: Vec<Vec<Value>>,
 }
@@ -51,7 +58,7 @@ impl Model for Activations {
 
     ghost use Rattle.ada_interpreter.specs.Activations.{activations_of, AreAwaited};
 
-    ghost view = { λ s. activations_of s.begun s.places.items s.operands };
+    ghost view = { λ s. activations_of s.begun s.places.items s.operands s.waiting };
 
     ghost invariant = { λ s. AreAwaited s.begun s.operands };
 }
@@ -67,6 +74,7 @@ impl Activations {
         begun.push(Begun {
             procedure: None,
             base: 0,
+            keeps: false,
         })?;
         let mut places = Vec::new(alloc);
         lay_blanks(&mut places, variables)?;
@@ -75,6 +83,7 @@ impl Activations {
             begun,
             places,
             operands: Stack::new(alloc),
+            waiting: Stack::new(alloc),
             spare: Vec::new(alloc),
         })
     }
@@ -219,9 +228,36 @@ impl Activations {
         self.begun.push(Begun {
             procedure: Some(procedure),
             base,
+            keeps: false,
         })?;
         self.operands.clear();
         Ok(references)
+    }
+
+    /// An activation of the body of an operation begins (7.6, 6.4): its one formal parameter is this reference. Its caller
+    /// keeps its operands.
+    pub(crate) fn begin_operation(
+        &mut self,
+        procedure: ProcedureNo,
+        variables: &[Variable],
+        reference: Value,
+    ) -> Result<(), AllocError>
+        ensures { let places = given_places named (reference ∷ []) (map variable_form variables.now) in
+            OnOk result
+            (self.new ≡ record { procedure = Some procedure.0; places = places; operands = [] } ∷ self.old) }
+    {
+        let base = self.places.len();
+        lay_parameter(&mut self.places, reference, variables)?;
+        let keeps = self.operands.len() > 0;
+        if keeps {
+            let operands = mem::replace(&mut self.operands, Stack::new(self.alloc));
+            self.waiting.push(operands)?;
+        }
+        self.begun.push(Begun {
+            procedure: Some(procedure),
+            base,
+            keeps,
+        })
     }
 
     /// What referred to components is no longer used: its vector waits for a later call, if it has room for anything. Where
@@ -271,8 +307,13 @@ impl Activations {
             OnOk result (self.new ≡ with_operands (stored ++ operands_of caller) caller) }
     {
         if let Some(running) = self.begun.at(0) {
-            self.operands.clear();
-            if self.begun.len() > 1 {
+            let waits = self.begun.len() > 1;
+            take_up(
+                &mut self.operands,
+                &mut self.waiting,
+                waits && running.keeps,
+            );
+            if waits {
                 let formals = values_behind(self.places.as_slice(), running.base);
                 push_stored(&mut self.operands, formals, actuals)?;
             }
@@ -287,9 +328,27 @@ impl Activations {
         ensures { self.new ≡ older self.old }
     {
         if let Some(running) = self.begun.at(0) {
-            self.operands.clear();
+            let waits = self.begun.len() > 1;
+            take_up(
+                &mut self.operands,
+                &mut self.waiting,
+                waits && running.keeps,
+            );
             self.places.truncate(running.base);
             self.begun.shorten();
+        }
+    }
+}
+
+/// The operands become those of the caller of the running activation, where it keeps some: the newest that wait.
+fn take_up(operands: &mut Stack<Value>, waiting: &mut Stack<Stack<Value>>, keeps: bool)
+    ensures kept { operands.new ≡ kept_by keeps waiting.old }
+    ensures left { waiting.new ≡ waiting_behind keeps waiting.old }
+{
+    operands.clear();
+    if keeps {
+        if let Some(held) = waiting.pop() {
+            *operands = held;
         }
     }
 }

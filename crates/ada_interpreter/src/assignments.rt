@@ -8,8 +8,9 @@ ghost use Rattle.ada_meaning.specs.Named.{named, same};
 ghost use Rattle.ada_interpreter.specs.Process.{frame_of, state_of, passed, replaced, Turns};
 
 use crate::frame::Frame;
-use crate::loaded::{Loaded, has_parts};
+use crate::loaded::Loaded;
 use crate::process::Process;
+use crate::tables::has_parts;
 use crate::treatment::Treatment;
 use crate::turn::{QUIET, Turn};
 use ada_meaning::{Birth, Cause, Halt, Id, Place, Value};

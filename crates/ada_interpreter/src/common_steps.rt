@@ -8,7 +8,7 @@ ghost use Rattle.ada_program.specs.Form.{right_form, stmt_form, stmts_form};
 ghost use Rattle.ada_meaning.specs.Frame as frame;
 ghost use Rattle.ada_meaning.specs.Step as step;
 ghost use Rattle.ada_meaning.specs.Named.{next, named};
-ghost use Rattle.ada_interpreter.specs.CommonSteps.{MayMove, MayGoOn, MayBegin, GoesQuietly, statements_left};
+ghost use Rattle.ada_interpreter.specs.CommonSteps.{MayMove, MayGoOn, CallsNone, MayBegin, GoesQuietly, statements_left};
 ghost use Rattle.ada_interpreter.specs.Process.{state_of, passed, replaced};
 
 use crate::frame::Frame;
@@ -53,8 +53,9 @@ impl<'a> Process<'a> {
     /// Makes the next step, if it is a common one that begins no statement; else nothing changes.
     #[tactic(auto, unfolding(ada_meaning::specs::Named::next))]
     fn make_common_step(&mut self) -> Result<bool, AllocError>
-        ensures { (program : Program) →
+        ensures steps { (program : Program) →
             MayGoOn program (next program.types.items (body_forms program) (state_of self.old)) self.old result self.new }
+        ensures calls { (program : Program) → CallsNone program self.old result }
     {
         match self.mode {
             Mode::Running => self.go_on_commonly(),
@@ -94,9 +95,10 @@ impl<'a> Process<'a> {
 
     /// Makes the step of the first of what is left to do. Where a condition is known at once, what it decides is done, too.
     fn go_on_commonly(&mut self) -> Result<bool, AllocError>
-        ensures { let s = state_of self.old in (program : Program) → s.mode ≡ Mode.Running →
+        ensures steps { let s = state_of self.old in (program : Program) → s.mode ≡ Mode.Running →
             MayGoOn program (step.running_next named program.types.items (body_forms program) s.control s)
             self.old result self.new }
+        ensures calls { (program : Program) → (state_of self.old).mode ≡ Mode.Running → CallsNone program self.old result }
     {
         match self.turn_at_once() {
             NextTurn::Begins(statements) => {
@@ -109,10 +111,12 @@ impl<'a> Process<'a> {
     }
 
     /// Makes the step of the first of what is left to do, where that is no turn of a loop that is known at once.
+    #[tactic(auto, using(crate::proofs::CommonStepLemmas::calls_none))]
     fn decide_or_go_on(&mut self) -> Result<bool, AllocError>
-        ensures { let s = state_of self.old in (program : Program) → s.mode ≡ Mode.Running →
+        ensures steps { let s = state_of self.old in (program : Program) → s.mode ≡ Mode.Running →
             MayGoOn program (step.running_next named program.types.items (body_forms program) s.control s)
             self.old result self.new }
+        ensures calls { (program : Program) → CallsNone program self.old result }
     {
         match self.frames.top() {
             Some(
@@ -132,9 +136,11 @@ impl<'a> Process<'a> {
     }
 
     /// Makes the step of the first of what is left to do.
+    #[tactic(auto, using(crate::proofs::CommonStepLemmas::calls_none))]
     fn go_on_by_one(&mut self) -> Result<bool, AllocError>
-        ensures { let s = state_of self.old in (types : List TypeDefinition) (bodies : List BodyForm) →
+        ensures steps { let s = state_of self.old in (types : List TypeDefinition) (bodies : List BodyForm) →
             MayMove (step.running_next named types bodies s.control s) self.old result self.new }
+        ensures calls { (program : Program) → CallsNone program self.old result }
     {
         match self.frames.top() {
             None => Ok(false),

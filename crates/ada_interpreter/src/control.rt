@@ -1,13 +1,12 @@
-//! Turns: what the first of what is left to do does, and how a jump passes it.
+//! Turns: what the first of what is left to do does.
 
 ghost use Rattle.std.specs.Prelude.{◌≡◌, true, false};
 ghost use Rattle.ada_program.specs.ProgramForm.{body_forms};
-ghost use Rattle.ada_meaning.specs.Step.{running_next, jump_next, pass_next, landed, end_of};
+ghost use Rattle.ada_meaning.specs.Step.{running_next};
 ghost use Rattle.ada_meaning.specs.Named.{next, named};
-ghost use Rattle.ada_interpreter.specs.Process.{frame_of, landing_of, state_of, passed, asks_first, Turns, TurnsOf};
+ghost use Rattle.ada_interpreter.specs.Process.{state_of, asks_first, Turns, TurnsOf};
 
 use crate::frame::Frame;
-use crate::handling::Landing;
 use crate::loaded::Loaded;
 use crate::process::Process;
 use crate::turn::{QUIET, Turn};
@@ -24,7 +23,7 @@ impl<'a> Process<'a> {
         match self.mode {
             Mode::Running => self.run(loaded),
             // One temporary for all jumps, and a running process doesn't pay for it.
-            mode => Ok(self.unwind(mode)?),
+            mode => Ok(self.unwind(loaded.alloc, mode)?),
         }
     }
 
@@ -67,7 +66,7 @@ impl<'a> Process<'a> {
                     let Some(Frame::Treats(treated)) = self.frames.pop() else {
                         unreachable!()
                     };
-                    self.treat(treated)
+                    self.treat(loaded, treated)
                 }
                 _ => unreachable!(),
             },
@@ -192,6 +191,34 @@ impl<'a> Process<'a> {
                     self.declare_record(loaded, variable, object)
                 }
                 Frame::Treats(_) => unreachable!(),
+                Frame::Awaits {
+                    by: _,
+                    treated: _,
+                    of: _,
+                    part: _,
+                } => {
+                    let Some(
+                        Frame::Awaits {
+                            by,
+                            treated,
+                            of,
+                            part,
+                        },
+                    ) = self.frames.pop()
+                    else {
+                        unreachable!()
+                    };
+                    self.bear_awaited(by, treated, of, part)
+                }
+                Frame::Confines => {
+                    self.pass();
+                    Ok(QUIET)
+                }
+                Frame::Resumes(mode) => {
+                    self.pass();
+                    self.mode = mode;
+                    Ok(QUIET)
+                }
                 Frame::Writes => Ok(self.write()),
                 Frame::Ends(object) => Ok(self.end(object)),
                 Frame::GivesBack {
@@ -203,95 +230,5 @@ impl<'a> Process<'a> {
                 Frame::ClearsIn { object, component } => Ok(self.clear_in(object, component)),
             },
         }
-    }
-
-    /// What comes next while a jump is on its way (5.7, 6.5, 11.4).
-    fn unwind(&mut self, mode: Mode) -> Result<Turn, AllocError>
-        ensures { let s = state_of self.old in
-            Turns (jump_next named mode s.control s) s result (state_of self.new) }
-    {
-        match self.frames.top() {
-            None => Ok(Turn::Halts(end_of(mode))),
-            Some(
-                Frame::Returns {
-                    actuals: _,
-                    references: _,
-                },
-            ) => {
-                let Some(
-                    Frame::Returns {
-                        actuals,
-                        references,
-                    },
-                ) = self.frames.pop()
-                else {
-                    unreachable!()
-                };
-                self.leave_body(mode, actuals, references.as_slice())?;
-                self.activations.put_by(references);
-                Ok(QUIET)
-            }
-            Some(frame) => {
-                let is_master = frame.is_master();
-                let landing = frame.landing(mode);
-                self.discard(mode, is_master, landing)
-            }
-        }
-    }
-
-    /// A jump discards pending work, up to where it lands. Only a master interrupts it: that is left first.
-    fn discard(
-        &mut self,
-        mode: Mode,
-        is_master: bool,
-        landing: Landing<'a>,
-    ) -> Result<Turn, AllocError>
-        ensures { let s = state_of self.old in
-            Turns (pass_next named is_master (landing_of landing.entry) mode (passed s)) s result (state_of self.new) }
-    {
-        if is_master {
-            self.replace(Frame::Leaves(mode))?;
-            self.mode = Mode::Running;
-            Ok(QUIET)
-        } else {
-            self.land(landing)
-        }
-    }
-
-    /// A jump passes, or lands: behind the first of what is left to do, or in the statements of a handler.
-    fn land(&mut self, landing: Landing<'a>) -> Result<Turn, AllocError>
-        ensures { let s = state_of self.old in
-            Turns (landed named (landing_of landing.entry) (passed s)) s result (state_of self.new) }
-    {
-        match landing {
-            Landing::PassesOn => {
-                self.pass();
-                Ok(QUIET)
-            }
-            Landing::GoesBehind => {
-                self.pass();
-                self.mode = Mode::Running;
-                Ok(QUIET)
-            }
-            Landing::GoesIn(statements) => match statements.first() {
-                None => Ok(Turn::Halts(Halt::Stuck)),
-                Some(_) => {
-                    self.replace(Frame::Does(statements))?;
-                    self.mode = Mode::Running;
-                    Ok(QUIET)
-                }
-            },
-        }
-    }
-}
-
-/// How a run ends where nothing is left to do, or to pass: an exit always has a loop.
-fn end_of(mode: Mode) -> Halt
-    ensures { result ≡ end_of mode }
-{
-    match mode {
-        Mode::Running | Mode::Returning => Halt::Finished,
-        Mode::Raising(exception) => Halt::Unhandled(exception),
-        Mode::Exiting => Halt::Stuck,
     }
 }

@@ -211,7 +211,7 @@ impl<'a> Process<'a> {
 }
 
 /// Are these one pool, or none?
-fn same_pool(pool: Option<usize>, other: Option<usize>) -> bool
+pub(crate) fn same_pool(pool: Option<usize>, other: Option<usize>) -> bool
     ensures { result ≡ step.same_pool pool other }
 {
     match pool {

@@ -3,13 +3,13 @@
 ghost use Rattle.std.specs.Prelude.{◌≡◌};
 ghost use Rattle.ada_program.specs.Form.{actual_form};
 ghost use Rattle.ada_meaning.specs.Frame as frame;
-ghost use Rattle.ada_meaning.specs.Frame.{is_master, is_return, exit_landing, return_landing, exception_landing, landing, begins_by};
+ghost use Rattle.ada_meaning.specs.Frame.{is_master, is_return, passes_on, operation_landing, exit_landing, return_landing, exception_landing, landing, begins_by};
 ghost use Rattle.ada_interpreter.specs.CommonSteps.{counted_to};
 ghost use Rattle.ada_interpreter.specs.Process.{frame_of, landing_of, asks_by};
 
 use crate::handling::{Landing, landing_among};
 use crate::treatment::Treated;
-use ada_meaning::{Cause, Exception, Mode, Place, Value};
+use ada_meaning::{Birth, Cause, Exception, Mode, Place, Value};
 use ada_program::program::{
     Actual, Branch, ComponentNo, Declaration, Expression, Handler, Item, Link, Procedure,
     ProcedureNo, RecordPath, Right,
@@ -169,6 +169,18 @@ pub(crate) enum Frame<'a> {
     },
     /// The controlled parts of an object are initialized, or finalized (7.6, 7.6.1).
     Treats(Box<Treated>),
+    /// The body of the operation that begins a part of an object is in front of this: then the part, which is of this type,
+    /// has its value, and the treatment goes on (7.6).
+    Awaits {
+        by: Birth,
+        treated: Box<Treated>,
+        of: usize,
+        part: usize,
+    },
+    /// The body of a Finalize is in front of this: no exception leaves it (7.6.1).
+    Confines,
+    /// What a jump had to wait for is done: it goes on.
+    Resumes(Mode),
     /// The newest operand is to be written (A.10.7).
     Writes,
     /// An object ceases to exist (13.11.2).
@@ -272,8 +284,9 @@ impl<'a> Frame<'a> {
         }
     }
 
-    /// Where a jump lands that comes to this frame.
+    /// Where a jump lands that comes to this frame, which waits for no operation of a part.
     pub(crate) fn landing(&self, mode: Mode) -> Landing<'a>
+        requires { operation_landing (frame_of self.now) ≡ passes_on }
         ensures { landing_of result ≡ landing mode (frame_of self.now) }
     {
         match mode {
@@ -286,6 +299,7 @@ impl<'a> Frame<'a> {
 
     /// An exit goes on behind the innermost loop (5.7).
     fn exit_landing(&self) -> Landing<'a>
+        requires { operation_landing (frame_of self.now) ≡ passes_on }
         ensures { landing_of result ≡ exit_landing (frame_of self.now) }
     {
         match self {
@@ -305,6 +319,7 @@ impl<'a> Frame<'a> {
 
     /// A return goes on behind the call of its body (6.5).
     fn return_landing(&self) -> Landing<'a>
+        requires { operation_landing (frame_of self.now) ≡ passes_on }
         ensures { landing_of result ≡ return_landing (frame_of self.now) }
     {
         if self.is_return() {
@@ -316,6 +331,7 @@ impl<'a> Frame<'a> {
 
     /// An exception goes on in the first handler that takes it (11.4).
     fn exception_landing(&self, exception: Exception) -> Landing<'a>
+        requires { operation_landing (frame_of self.now) ≡ passes_on }
         ensures { landing_of result ≡ exception_landing exception (frame_of self.now) }
     {
         match self {

@@ -4,17 +4,26 @@ ghost use Rattle.std.specs.Prelude.{◌≡◌, ℕ, OnOk};
 ghost use Rattle.ada_program.specs.Form.{path_form};
 ghost use Rattle.ada_meaning.specs.Event.{Quiet};
 ghost use Rattle.ada_meaning.specs.Step as step;
-ghost use Rattle.ada_meaning.specs.Named.{named, look};
-ghost use Rattle.ada_interpreter.specs.Process.{frame_of, state_of, passed, replaced, Turns, IsTurn, releasing};
+ghost use Rattle.ada_meaning.specs.Named.{named, look, standing};
+ghost use Rattle.ada_interpreter.specs.Process.{frame_of, state_of, passed, replaced, Turns, IsTurn, IsFreed, releasing};
 
+use crate::endings::same_pool;
 use crate::frame::Frame;
 use crate::loaded::Loaded;
 use crate::process::Process;
+use crate::treatment::Treatment;
 use crate::turn::{QUIET, Turn};
 use ada_meaning::{Cause, Event, Exception, Halt, Id, Value, Why};
 use ada_program::program::ComponentNo;
 use ada_program::{Path, TypeNo, VariableNo};
 use std::alloc::AllocError;
+
+/// How a Free ends an object: by the type that it is known by, and its words go back to a pool.
+#[derive(Clone, Copy)]
+struct Freed {
+    known_by: TypeNo,
+    pool: usize,
+}
 
 impl<'a> Process<'a> {
     /// A Free: of a variable, or of a component, whose object is found first.
@@ -54,7 +63,7 @@ impl<'a> Process<'a> {
     ) -> Result<Turn, AllocError>
         ensures { let s = replaced (frame_of rest.entry) (state_of self.old) in
             let v = step.held named s variable.0 in
-            Turns (step.free_next named loaded.now.program.now.types.items access.0 variable.0 v (look s.heap v) s)
+            Turns (step.free_next named loaded.now.program.now.types.items access.0 variable.0 v (standing s.heap v) s)
             (state_of self.old) result (state_of self.new) }
     {
         match self.held(variable) {
@@ -71,7 +80,7 @@ impl<'a> Process<'a> {
         }
     }
 
-    /// The object that a variable names is to end, and the variable is to become null; twice is erroneous.
+    /// The object that a variable names is to end, and the variable is to become null.
     fn free_object(
         &mut self,
         loaded: &Loaded<'a>,
@@ -82,18 +91,17 @@ impl<'a> Process<'a> {
     ) -> Result<Turn, AllocError>
         ensures { let s = replaced (frame_of rest.entry) (state_of self.old) in
             let v = Value.Names object in
-            Turns (step.free_next named loaded.now.program.now.types.items access.0 variable.0 v (look s.heap v) s)
+            Turns (step.free_next named loaded.now.program.now.types.items access.0 variable.0 v (standing s.heap v) s)
             (state_of self.old) result (state_of self.new) }
     {
-        match self.objects.existing(object) {
-            None => Ok(Turn::Halts(Halt::Erroneous(Why::EndsTwice))),
-            Some(_) => {
-                self.replace(rest)?;
-                self.push(Frame::Clears(variable))?;
-                self.release(loaded, access, Value::Names(object))?;
-                Ok(QUIET)
-            }
-        }
+        let freed = match self.freed(loaded, access, object) {
+            Ok(freed) => freed,
+            Err(halt) => return Ok(Turn::Halts(halt)),
+        };
+        self.replace(rest)?;
+        self.push(Frame::Clears(variable))?;
+        self.release(loaded, object, freed)?;
+        Ok(QUIET)
     }
 
     /// Free (P.C): the newest operand gives access to the object of the component. Null raises Constraint_Error.
@@ -159,7 +167,7 @@ impl<'a> Process<'a> {
     ) -> Result<Turn, AllocError>
         ensures { let s = step.popped (passed (state_of self.old)) in
             let o = Value.Names holder in
-            let found = look s.heap value in
+            let found = standing s.heap value in
             Turns (step.freed_next named loaded.now.program.now.types.items access.0 o component.0 value found s)
             (state_of self.old) result (state_of self.new) }
     {
@@ -180,7 +188,7 @@ impl<'a> Process<'a> {
         }
     }
 
-    /// The object that a component names is to end, and the component is to become null; twice is erroneous.
+    /// The object that a component names is to end, and the component is to become null.
     fn free_component_object(
         &mut self,
         loaded: &Loaded<'a>,
@@ -192,11 +200,12 @@ impl<'a> Process<'a> {
         ensures { let s = step.popped (passed (state_of self.old)) in
             let o = Value.Names holder in
             let v = Value.Names object in
-            Turns (step.freed_next named loaded.now.program.now.types.items access.0 o component.0 v (look s.heap v) s)
+            Turns (step.freed_next named loaded.now.program.now.types.items access.0 o component.0 v (standing s.heap v) s)
             (state_of self.old) result (state_of self.new) }
     {
-        let Some(_) = self.objects.existing(object) else {
-            return Ok(Turn::Halts(Halt::Erroneous(Why::EndsTwice)));
+        let freed = match self.freed(loaded, access, object) {
+            Ok(freed) => freed,
+            Err(halt) => return Ok(Turn::Halts(halt)),
         };
         let clears = Frame::ClearsIn {
             object: Value::Names(holder),
@@ -204,25 +213,50 @@ impl<'a> Process<'a> {
         };
         self.pop();
         self.replace(clears)?;
-        self.release(loaded, access, Value::Names(object))?;
+        self.release(loaded, object, freed)?;
         Ok(Turn::Moves(Event::Followed { object: holder }))
     }
 
-    /// An object is to end by a Free, and its words are to go back to the pool of the access type (13.11.2).
-    fn release(
-        &mut self,
-        loaded: &Loaded<'a>,
-        access: TypeNo,
-        value: Value,
-    ) -> Result<(), AllocError>
-        ensures { OnOk result (state_of self.new ≡ releasing loaded.now.program.now.types.items access.0 value (state_of self.old)) }
+    /// How a Free ends the object of a name. Where it is erroneous, how the run ends: the object doesn't stand any more, or is of
+    /// another pool than the access type's objects (7.6.1, 13.11.2).
+    fn freed(&self, loaded: &Loaded<'a>, access: TypeNo, object: Id) -> Result<Freed, Halt>
+        ensures { let s = state_of self.now in
+            let found = standing s.heap (Value.Names object) in
+            IsFreed loaded.now.program.now.types.items access.0 s.masters found result }
+    {
+        let Some(cell) = self.objects.standing(object) else {
+            return Err(Halt::Erroneous(loaded.ends_again(access)));
+        };
+        let pool = self.masters.pool_freed_to(access);
+        if !same_pool(Some(pool), cell.home.pool) {
+            return Err(Halt::Erroneous(Why::GivesElsewhere));
+        }
+        Ok(Freed {
+            known_by: cell.access,
+            pool,
+        })
+    }
+
+    /// The object of a name is to end by a Free: it leaves its collection, its controlled parts are finalized, and its words are
+    /// to go back (13.11.2).
+    fn release(&mut self, loaded: &Loaded<'a>, object: Id, freed: Freed) -> Result<(), AllocError>
+        ensures { let types = loaded.now.program.now.types.items in
+            let v = Value.Names object in
+            OnOk result (state_of self.new ≡ releasing types freed.known_by.0 freed.pool v (state_of self.old)) }
     {
         let number = self.next;
         let Some(next) = number.checked_add(1) else {
             return Err(AllocError);
         };
-        let pool = self.masters.pool_freed_to(access);
-        self.dispose(loaded, value, Cause::Freeing { number }, Some(pool))?;
+        let cause = Cause::Freeing { number };
+        self.push(Frame::GivesBack {
+            object: Value::Names(object),
+            cause,
+            pool: Some(freed.pool),
+        })?;
+        self.push(Frame::Ends(Value::Names(object)))?;
+        self.begin_treatment(loaded, object, freed.known_by, Treatment::Ends(cause))?;
+        self.objects.part(object);
         self.next = next;
         Ok(())
     }

@@ -1,6 +1,6 @@
 //! Actual parameters: which values and references they are, what they give to formal ones, and what these give back.
 
-ghost use Rattle.std.specs.Prelude.{◌≡◌, ◌++◌, take, drop, map, OnOk};
+ghost use Rattle.std.specs.Prelude.{◌≡◌, [], ◌∷◌, ◌++◌, take, drop, map, OnOk};
 ghost use Rattle.ada_program.specs.Form.{actual_form};
 ghost use Rattle.ada_program.specs.ProgramForm.{variable_form};
 ghost use Rattle.ada_meaning.specs.Step.{blank, blanks, given_places, copied_back, stored_back, operand_count, given_values, references_in};
@@ -101,6 +101,20 @@ pub(crate) fn lay_places(
     lay_values(places, actuals, computed)?;
     let formals = places.len() - base;
     lay_blanks(places, variables_behind(variables, formals))
+}
+
+/// The places of the variables of an operation's body are laid behind others (7.6): the first one holds what stands for its
+/// formal parameter.
+pub(crate) fn lay_parameter(
+    places: &mut Vec<Value>,
+    reference: Value,
+    variables: &[Variable],
+) -> Result<(), AllocError>
+    ensures { let all = given_places named (reference ∷ []) (map variable_form variables.now) in
+        OnOk result (places.new.items ≡ places.old.items ++ all) }
+{
+    places.push(reference)?;
+    lay_blanks(places, variables_behind(variables, 1))
 }
 
 /// The values of actual parameters are laid behind other places, in order: that of a component stands behind what refers to

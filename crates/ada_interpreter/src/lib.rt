@@ -5,13 +5,15 @@
 //! one request at most, and takes the newest member; [`Listed`] follows a list of answers.
 //!
 //! A step costs constant time, whatever the program has allocated and entered: a collection knows its members and its
-//! pool, an object its collection, an access type its newest open collection, a declaration of a pool the newest pool of it,
-//! and a table the record types that have controlled parts. An exception looks at the handlers that it comes to,
-//! the step that copies or fills a record costs as much as the record is long, the step that creates an object as much as it
-//! has controlled parts, the step that begins a treatment of controlled parts as much as the record has components that have
-//! some, the steps in which a call begins cost
-//! as much as it has actual parameters and its procedure has variables, and the step in which it ends costs as much as
-//! it has actual parameters. Once the machine's stacks have grown, a call takes no memory.
+//! pool, an object its collection, an access type its newest open collection, a declaration of a pool the newest pool of
+//! it, and a table the record types that have controlled parts. An exception looks at the handlers that it comes to, the
+//! step that copies or fills a record costs as much as the record is long, the step that creates an object as much as
+//! records with controlled parts lie in it at any depth, the step in which a Free begins as much as its object has
+//! controlled parts, the step in which an exception leaves an Initialize as much as its object has parts that have values,
+//! the step that begins a treatment of controlled parts as much as the record has components that have some, the steps in
+//! which a call begins cost as much as it has actual parameters and its procedure has variables, and the step in which it
+//! ends costs as much as it has actual parameters. Once the machine's stacks have grown, a call takes no memory; that of
+//! an operation does where operands of its caller wait.
 #![tactic(auto)]
 
 mod activations;
@@ -35,6 +37,8 @@ mod frees;
 mod given;
 mod handling;
 mod input;
+mod jumps;
+mod layouts;
 mod listed;
 mod loaded;
 mod machine;
@@ -42,6 +46,7 @@ mod masters;
 mod newest;
 mod numbers;
 mod objects;
+mod operations;
 mod operators;
 mod parameters;
 mod pools;
@@ -51,6 +56,7 @@ mod rights;
 mod shelves;
 mod stack;
 mod steps;
+mod tables;
 mod treatment;
 mod treats;
 mod turn;

@@ -4,7 +4,7 @@ ghost use Rattle.std.specs.Prelude.{◌≡◌, ℕ, [], ◌∷◌, ◌++◌, len
 ghost use Rattle.std.specs.List.{slice_index_or};
 ghost use Rattle.ada_meaning.specs.Heap.{on_gone, finds};
 ghost use Rattle.ada_meaning.specs.Step.{initial_value, stored_from};
-ghost use Rattle.ada_meaning.specs.Named.{named, object_at, seen, lent_by, new_object, changed, parted, finished, returned, filled, born_part, finalized_part, treated, members};
+ghost use Rattle.ada_meaning.specs.Named.{named, object_at, seen, lent_by, standing_by, all_alive, new_object, changed, parted, finished, returned, filled, born_part, finalized_part, treated, members};
 ghost use Rattle.ada_interpreter.specs.Objects.{cell_of, declared_cell, object_of, kept_of, kept_at, listed_home, gone, filled_from, part_at, with_part_state, is_member_at, members_among, Trims, IsTidied};
 ghost use Rattle.ada_interpreter.specs.Treatment.{part_form};
 
@@ -105,6 +105,19 @@ impl Objects {
     {
         let object = self.objects.get(o.0)?;
         if object.out { Some(&object.cell) } else { None }
+    }
+
+    /// What lies in the object of a name, as long as it is in its collection, and each of its controlled parts has a value.
+    pub(crate) fn standing(&self, o: Id) -> Option<&Cell>
+        ensures { let found = standing_by (object_at self.now o) in
+            MatchOption result (found ≡ on_gone) (λ cell. found ≡ finds (cell_of cell.now)) }
+    {
+        let object = self.objects.get(o.0)?;
+        if object.listed && all_alive(object.cell.parts.as_slice()) {
+            Some(&object.cell)
+        } else {
+            None
+        }
     }
 
     /// The name that the next object has: no other ever had it.
@@ -264,6 +277,18 @@ impl Objects {
         let objects = self.objects.as_slice();
         member_at(objects, item, entries_at(self.shelves.as_slice(), item), i)
     }
+}
+
+/// Has each of these controlled parts a value (7.6)?
+fn all_alive(parts: &[PartState]) -> bool
+    ensures { result ≡ all_alive (map part_form parts.now) }
+{
+    for part in parts {
+        if !part.alive {
+            return false;
+        }
+    }
+    true
 }
 
 /// The object of a name leaves its collection: tells which, if it was in it.

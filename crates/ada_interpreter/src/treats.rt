@@ -1,19 +1,19 @@
 //! Treatments of objects (7.6, 7.6.1): their controlled parts are initialized, or finalized.
 
-ghost use Rattle.std.specs.Prelude.{◌≡◌, List, OnOk};
+ghost use Rattle.std.specs.Prelude.{◌≡◌, [], OnOk};
 ghost use Rattle.ada_parts.specs.Task.{next as task_next, performed};
-ghost use Rattle.ada_program.specs.declared.program.TypeDefinition.{TypeDefinition};
-ghost use Rattle.ada_program.specs.Controlled.{shapes_of};
+ghost use Rattle.ada_program.specs.Controlled.{operations_of, procedure_number};
+ghost use Rattle.ada_program.specs.ProgramForm.{body_forms};
 ghost use Rattle.ada_meaning.specs.Frame as frame;
 ghost use Rattle.ada_meaning.specs.Step as step;
 ghost use Rattle.ada_meaning.specs.Named.{named, look};
 ghost use Rattle.ada_interpreter.specs.Objects.{part_at};
-ghost use Rattle.ada_interpreter.specs.Treatment.{treatment_form};
+ghost use Rattle.ada_interpreter.specs.Treatment.{done_parts, treatment_form, treated_form};
 ghost use Rattle.ada_interpreter.specs.Process.{state_of, pushed, picked, Turns, TurnsOf};
 
-use crate::allocators::counted;
 use crate::frame::Frame;
 use crate::loaded::Loaded;
+use crate::operations::{beginning, part_reference};
 use crate::process::Process;
 use crate::treatment::{Treated, Treatment};
 use crate::turn::{Open, QUIET, Turn};
@@ -31,7 +31,7 @@ impl<'a> Process<'a> {
         access: TypeNo,
         treatment: Treatment,
     ) -> Result<(), AllocError>
-        ensures { let s = state_of self.old in let form = treatment_form treatment in
+        ensures { let s = state_of self.old in let form = treatment_form treatment [] in
             let tasks = step.all_tasks loaded.now.program.now.types.items access.0 (step.direction_of form) in
             OnOk result (state_of self.new ≡ step.treated_on named (Value.Names object) form tasks s) }
     {
@@ -48,7 +48,7 @@ impl<'a> Process<'a> {
         first: usize,
         treatment: Treatment,
     ) -> Result<(), AllocError>
-        ensures { let s = state_of self.old in let form = treatment_form treatment in
+        ensures { let s = state_of self.old in let form = treatment_form treatment [] in
             let types = loaded.now.program.now.types.items in
             let tasks = step.record_tasks types record_type.0 (step.direction_of form) first in
             OnOk result (state_of self.new ≡ step.treated_on named (Value.Names object) form tasks s) }
@@ -66,7 +66,7 @@ impl<'a> Process<'a> {
         treatment: Treatment,
         tasks: Tasks,
     ) -> Result<(), AllocError>
-        ensures { let s = state_of self.old in let form = treatment_form treatment in
+        ensures { let s = state_of self.old in let form = treatment_form treatment [] in
             OnOk result (state_of self.new ≡ step.treated_on named (Value.Names object) form tasks s) }
     {
         if tasks.is_empty() {
@@ -75,6 +75,7 @@ impl<'a> Process<'a> {
         let treated = Treated {
             object,
             treatment,
+            done: Vec::new(alloc),
             tasks,
         };
         self.push(Frame::Treats(Box::new(alloc, treated)?))
@@ -82,10 +83,10 @@ impl<'a> Process<'a> {
 
     /// What is left of a treatment goes on, if anything is.
     #[tactic(auto, using(crate::proofs::TurnLemmas::treating_none, crate::proofs::TurnLemmas::treating_some))]
-    fn treat_on(&mut self, treated: Box<Treated>) -> Result<(), AllocError>
+    pub(crate) fn treat_on(&mut self, treated: Box<Treated>) -> Result<(), AllocError>
         ensures { let t = treated.value in let v = Value.Names t.object in
             OnOk result
-            (state_of self.new ≡ step.treated_on named v (treatment_form t.treatment) t.tasks (state_of self.old)) }
+            (state_of self.new ≡ step.treated_on named v (treated_form t) t.tasks (state_of self.old)) }
     {
         if treated.tasks.is_empty() {
             return Ok(());
@@ -94,12 +95,17 @@ impl<'a> Process<'a> {
     }
 
     /// The next step of a treatment, which has been taken off.
-    pub(crate) fn treat(&mut self, treated: Box<Treated>) -> Result<Turn, AllocError>
+    pub(crate) fn treat(
+        &mut self,
+        loaded: &Loaded<'a>,
+        treated: Box<Treated>,
+    ) -> Result<Turn, AllocError>
         ensures { let t = treated.value in let v = Value.Names t.object in
             let s = state_of self.old in
-            let form = treatment_form t.treatment in
-            (types : List TypeDefinition) →
-            TurnsOf types (step.treats_next named (shapes_of types) v form t.tasks (task_next t.tasks) s)
+            let form = treated_form t in
+            let types = loaded.now.program.now.types.items in
+            let bodies = body_forms loaded.now.program.now in
+            TurnsOf types (step.treats_next named types bodies v form t.tasks (task_next t.tasks) s)
             (pushed (frame.Treats v form t.tasks) s) result (state_of self.new) }
     {
         match treated.tasks.next() {
@@ -111,16 +117,24 @@ impl<'a> Process<'a> {
                 }
                 Ok(Turn::PicksComponent(Open { count }))
             }
-            Next::Perform { of, part } => self.perform(treated, of, part),
+            Next::Perform { of, part } => self.perform(loaded, treated, of, part),
         }
     }
 
-    /// The operation of a part is called (7.6, 7.6.1). To finalize a part of an object that is gone is erroneous.
-    fn perform(&mut self, treated: Box<Treated>, of: usize, part: usize) -> Result<Turn, AllocError>
+    /// The operation of a part is called (7.6, 7.6.1). To treat a part of an object that is gone is erroneous.
+    fn perform(
+        &mut self,
+        loaded: &Loaded<'a>,
+        treated: Box<Treated>,
+        of: usize,
+        part: usize,
+    ) -> Result<Turn, AllocError>
         ensures { let t = treated.value in let v = Value.Names t.object in
             let s = state_of self.old in
-            let form = treatment_form t.treatment in
-            Turns (step.performed_next named v form of part (look s.heap v) (step.treated_on named v form (performed t.tasks) s))
+            let form = treated_form t in
+            let types = loaded.now.program.now.types.items in
+            let bodies = body_forms loaded.now.program.now in
+            Turns (step.performed_next named types bodies v form of part (performed t.tasks) (look s.heap v) s)
             (pushed (frame.Treats v form t.tasks) s) result (state_of self.new) }
     {
         if self.objects.existing(treated.object).is_none() {
@@ -128,14 +142,15 @@ impl<'a> Process<'a> {
             return Ok(Turn::Halts(Halt::Erroneous(Why::FinalizesTwice)));
         }
         match treated.treatment {
-            Treatment::Begins(by) => self.bear(treated, of, part, by),
-            Treatment::Ends(cause) => self.finalize(treated, of, part, cause),
+            Treatment::Begins(by) => self.begin_part(loaded, treated, of, part, by),
+            Treatment::Ends(cause) => self.end_part(loaded, treated, of, part, cause),
         }
     }
 
-    /// A part comes to have a value (7.6): its operation does nothing.
-    fn bear(
+    /// The operation that begins a part is called (7.6). Where the type doesn't override it, the part has its value at once.
+    fn begin_part(
         &mut self,
+        loaded: &Loaded<'a>,
         treated: Box<Treated>,
         of: usize,
         part: usize,
@@ -143,46 +158,63 @@ impl<'a> Process<'a> {
     ) -> Result<Turn, AllocError>
         ensures { let t = treated.value in let v = Value.Names t.object in
             let s = state_of self.old in
-            let form = treatment_form t.treatment in
+            let bodies = body_forms loaded.now.program.now in
+            let operation = step.beginning by (operations_of loaded.now.program.now.types.items of) in
             let now = part_at s.heap t.object part in
-            Turns (step.born_next named v of part by now (step.treated_on named v form (performed t.tasks) s))
-            (pushed (frame.Treats v form t.tasks) s) result (state_of self.new) }
+            let done = done_parts t.done.items in
+            Turns (step.begun_next named bodies v by done of part (performed t.tasks) operation now s)
+            (pushed (frame.Treats v (treated_form t) t.tasks) s) result (state_of self.new) }
     {
-        let object = treated.object;
-        let Some(state) = self.objects.part_state(object, part) else {
+        let Some(state) = self.objects.part_state(treated.object, part) else {
             self.push(Frame::Treats(treated))?;
             return Ok(Turn::Halts(Halt::Stuck));
         };
-        let number = counted(self.born);
-        self.objects.bear(object, part, state, number);
-        self.born = number;
-        self.perform_next(treated)?;
-        Ok(Turn::Moves(Event::Born {
-            value: Controlled {
-                object,
-                part,
-                turn: state.turn,
+        match beginning(by, loaded.operations(of)) {
+            None => {
+                let mut treated = treated;
+                treated.tasks.performed();
+                Ok(Turn::Moves(self.bear(treated, by, of, part, state)?))
+            }
+            Some(procedure) => match loaded.program.procedures.get(procedure.0) {
+                None => {
+                    self.push(Frame::Treats(treated))?;
+                    Ok(Turn::Halts(Halt::Stuck))
+                }
+                Some(body) => {
+                    let reference = part_reference(treated.object, part, state);
+                    let mut treated = treated;
+                    treated.tasks.performed();
+                    self.push(Frame::Awaits {
+                        by,
+                        treated,
+                        of,
+                        part,
+                    })?;
+                    self.operate(loaded.alloc, procedure, body, reference)?;
+                    Ok(QUIET)
+                }
             },
-            record: RecordNo(of),
-            number,
-            by,
-        }))
+        }
     }
 
-    /// The value of a part is finalized (7.6.1): to finalize one that does not exist is erroneous.
-    fn finalize(
+    /// Finalize of a part is called (7.6.1): to finalize one that has no value is erroneous. Where the type doesn't override
+    /// it, what is left of the treatment goes on.
+    fn end_part(
         &mut self,
+        loaded: &Loaded<'a>,
         treated: Box<Treated>,
         of: usize,
         part: usize,
         cause: Cause,
     ) -> Result<Turn, AllocError>
+        requires { treated.value.treatment ≡ Treatment.Ends cause }
         ensures { let t = treated.value in let v = Value.Names t.object in
             let s = state_of self.old in
-            let form = treatment_form t.treatment in
+            let bodies = body_forms loaded.now.program.now in
+            let operation = procedure_number (operations_of loaded.now.program.now.types.items of).finalize in
             let now = part_at s.heap t.object part in
-            Turns (step.finalized_next named v of part cause now (step.treated_on named v form (performed t.tasks) s))
-            (pushed (frame.Treats v form t.tasks) s) result (state_of self.new) }
+            Turns (step.finalized_next named bodies v cause of part (performed t.tasks) operation now s)
+            (pushed (frame.Treats v (treated_form t) t.tasks) s) result (state_of self.new) }
     {
         let object = treated.object;
         let Some(state) = self.objects.part_state(object, part) else {
@@ -193,9 +225,7 @@ impl<'a> Process<'a> {
             self.push(Frame::Treats(treated))?;
             return Ok(Turn::Halts(Halt::Erroneous(Why::FinalizesTwice)));
         }
-        self.objects.finalize(object, part, state)?;
-        self.perform_next(treated)?;
-        Ok(Turn::Moves(Event::Finalized {
+        let event = Event::Finalized {
             value: Controlled {
                 object,
                 part,
@@ -204,14 +234,35 @@ impl<'a> Process<'a> {
             record: RecordNo(of),
             number: state.number,
             cause,
-        }))
+        };
+        match loaded.operations(of).finalize {
+            None => {
+                self.objects.finalize(object, part, state)?;
+                self.perform_next(treated)?;
+                Ok(Turn::Moves(event))
+            }
+            Some(procedure) => match loaded.program.procedures.get(procedure.0) {
+                None => {
+                    self.push(Frame::Treats(treated))?;
+                    Ok(Turn::Halts(Halt::Stuck))
+                }
+                Some(body) => {
+                    self.objects.finalize(object, part, state)?;
+                    self.perform_next(treated)?;
+                    self.push(Frame::Confines)?;
+                    let reference = part_reference(object, part, state);
+                    self.operate(loaded.alloc, procedure, body, reference)?;
+                    Ok(Turn::Moves(event))
+                }
+            },
+        }
     }
 
     /// The operation that was due has been called, and what is left of the treatment goes on.
     fn perform_next(&mut self, treated: Box<Treated>) -> Result<(), AllocError>
         ensures { let t = treated.value in let v = Value.Names t.object in
             OnOk result
-            (state_of self.new ≡ step.treated_on named v (treatment_form t.treatment) (performed t.tasks) (state_of self.old)) }
+            (state_of self.new ≡ step.treated_on named v (treated_form t) (performed t.tasks) (state_of self.old)) }
     {
         let mut treated = treated;
         treated.tasks.performed();

@@ -1,12 +1,15 @@
 -- Steps of expressions, allocators and Free keep the activations behind the running one, and its procedure and the number of its variables.
 
-use Rattle.std.proofs.Common.{◌≡◌, ℕ, zero, suc, Bool, true, false, ◌==◌, if◌then◌else◌, List, [], ◌∷◌, length, Option, Some, None, Result, Ok, Err, refl, ap, ◌∙◌}
+use Rattle.std.proofs.Common.{◌≡◌, ◌≢◌, ℕ, zero, suc, Bool, true, false, ◌==◌, if◌then◌else◌, List, [], ◌∷◌, length, Option, Some, None, is_some, Result, Ok, Err, refl, ap, ◌∙◌}
 use Rattle.std.specs.List.{slice_get, slice_set}
+use Rattle.ada_program.specs.declared.program.ProcedureNo.{ProcedureNo}
 use Rattle.ada_program.specs.declared.program.TypeDefinition.{TypeDefinition}
+use Rattle.ada_program.specs.Controlled.{shapes_of, operations_of, procedure_number}
+use Rattle.ada_program.specs.ProgramForm.{BodyForm}
 use Rattle.ada_program.specs.Form.{RecordPathForm, ExpressionForm, integer, boolean, reads, is_null, applied_to, chained, LinksForm, no_more_links, a_link, ItemForm, null_item, item_of_path, item_of_value, item_of_record, RightForm, nothing, value_of, allocates, allocates_default, computes}
 use Rattle.ada_parts.specs.declared.tasks.Next.{Next as Follows}
 use Rattle.ada_parts.specs.declared.tasks.Next.TheVariants.{Done, Pick, Perform}
-use Rattle.ada_parts.specs.Shape.{Shape as TypeShape}
+use Rattle.ada_parts.specs.Part.{Part}
 use Rattle.ada_parts.specs.Task.{Task, performed}
 use Rattle.ada_values.specs.declared.operator.BinaryOperator.{BinaryOperator}
 use Rattle.ada_values.specs.declared.fault.OperatorFault.{OperatorFault}
@@ -14,17 +17,18 @@ use Rattle.ada_values.specs.declared.fault.OperatorFault.TheVariants.{Overflow, 
 use Rattle.ada_meaning.specs.declared.state.Place.{Place}
 use Rattle.ada_meaning.specs.declared.state.Value.{Value}
 use Rattle.ada_meaning.specs.declared.event.Cause.{Cause}
-use Rattle.ada_meaning.specs.declared.event.Halt.TheVariants.{Erroneous, Stuck}
+use Rattle.ada_meaning.specs.declared.event.Halt.TheVariants.{Erroneous, Memory, Stuck}
 use Rattle.ada_meaning.specs.declared.event.Birth.{Birth}
 use Rattle.ada_meaning.specs.declared.event.Why.TheVariants.{GivesElsewhere, FinalizesTwice}
-use Rattle.ada_meaning.specs.Event.{Back, Finalized}
+use Rattle.ada_meaning.specs.Event.{Back, Finalized, Quiet}
 use Rattle.ada_meaning.specs.Frame.{Treatment, Frame, is_master, Landing, passes_on, goes_behind, goes_in, landing}
 use Rattle.ada_meaning.specs.Frame as frame
-use Rattle.ada_meaning.specs.State.{Activation, Destination}
+use Rattle.ada_meaning.specs.State.{Activation, Destination, home_of, pool_freed_to}
 use Rattle.ada_meaning.specs.Heap.{PartState, Cell, Found, on_null, on_gone, on_other, finds}
-use Rattle.ada_meaning.specs.Step.{direction_of, picked_task, treated_on, born_next, finalized_next, performed_next, treats_next, same_pool, told_back, record_in, copied_next, copies_next, halts, moves, tells, asks, picks, at, older, places_of, operands, with_places, with_operands, set_operands, popped, put, held, newest, reading, component_next, follow_next, path_next, selected, named_next, holder_next, place_in, record_holder_next, before_last, last_of, expression_next, null_test_next, is_decided, link_next, links_next, outcome_next, item_next, items_next, answered, new_next, right_next, free_next, end_next, given_back, back_next}
+use Rattle.ada_meaning.specs.Step.{direction_of, picked_task, treating, treated_on, operation_next, part_reference, beginning, born_next, begun_next, awaited_next, ended_next, finalized_next, performed_next, treats_next, same_pool, freeing, freeing_next, told_back, record_in, copied_next, copies_next, halts, moves, tells, asks, picks, at, older, places_of, operands, with_places, with_operands, set_operands, popped, put, held, newest, reading, component_next, follow_next, path_next, selected, named_next, holder_next, place_in, record_holder_next, before_last, last_of, expression_next, null_test_next, is_decided, link_next, links_next, outcome_next, item_next, items_next, answered, new_next, right_next, free_next, end_next, given_back, back_next}
 use Rattle.ada_meaning.specs.Named.{State, Next, named, whole, inside, look, reads_boolean, on_object, returned, finalize}
 use Rattle.ada_meaning.specs.Run.{Event}
+use Rattle.ada_meaning.specs.Ending.{task_calls}
 
 -- What a body that runs on keeps: the activations behind its own, its procedure, and how many variables it has.
 pub record Kept : Type 0 where
@@ -185,13 +189,22 @@ right_keeps types (allocates_default access) s h = operands_kept _ s h
 right_keeps types (computes e) s h = h
 
 -- Free, and what it leads to.
+pub freeing_keeps :
+    {w : Shape} (types : List TypeDefinition) (access : ℕ) (v : Value) (cell : Cell Value) (clears : Frame Value) (event : Event) (s : State)
+    → shape s.activations ≡ w → Keeps w (freeing_next named types access v cell clears event s)
+freeing_keeps {w} types access v cell clears event s h = by_pool (same_pool (Some (pool_freed_to (home_of access s.masters))) cell.home.pool)
+  where
+    by_pool : (own : Bool) → Keeps w (if own then moves event (freeing named types access v cell clears s) else halts (Erroneous GivesElsewhere))
+    by_pool true = h
+    by_pool false = tt
+
 pub free_keeps :
     {w : Shape} (types : List TypeDefinition) (access x : ℕ) (v : Value) (found : Found (Cell Value)) (s : State)
     → shape s.activations ≡ w → Keeps w (free_next named types access x v found s)
 free_keeps types access x v on_null s h = h
 free_keeps types access x v on_gone s h = tt
 free_keeps types access x v on_other s h = tt
-free_keeps types access x v (finds cell) s h = h
+free_keeps types access x v (finds cell) s h = freeing_keeps types access v cell (frame.Clears x) Quiet s h
 
 pub end_keeps : {w : Shape} (v : Value) (found : Found (Cell Value)) (s : State) → shape s.activations ≡ w → Keeps w (end_next named v found s)
 end_keeps v on_null s h = tt
@@ -219,34 +232,72 @@ back_keeps v cause pool on_other s h = tt
 back_keeps v cause pool (finds cell) s h = given_back_keeps (same_pool pool cell.home.pool) v cause cell s h
 
 -- The treatment of an object.
-pub born_keeps :
-    {w : Shape} (v : Value) (of part : ℕ) (by : Birth) (state : Option PartState) (s : State) → shape s.activations ≡ w
-    → Keeps w (born_next named v of part by state s)
-born_keeps v of part by None s h = tt
-born_keeps v of part by (Some p) s h = h
+born_keeps :
+    {w : Shape} (v : Value) (by : Birth) (done : List Part) (of part : ℕ) (tasks : List Task) (state : Option PartState) (s : State)
+    → shape s.activations ≡ w → Keeps w (born_next named v by done of part tasks state s)
+born_keeps v by done of part tasks None s h = tt
+born_keeps v by done of part tasks (Some p) s h = h
 
-pub finalized_keeps :
-    {w : Shape} (v : Value) (of part : ℕ) (cause : Cause) (state : Option PartState) (s : State) → shape s.activations ≡ w
-    → Keeps w (finalized_next named v of part cause state s)
-finalized_keeps v of part cause None s h = tt
-finalized_keeps {w} v of part cause (Some p) s h = by_life p.alive
+begun_keeps :
+    {w : Shape} (bodies : List BodyForm) (v : Value) (by : Birth) (done : List Part) (of part : ℕ) (tasks : List Task) (operation : Option ℕ)
+    (state : Option PartState) (s : State) → is_some operation ≡ false → shape s.activations ≡ w
+    → Keeps w (begun_next named bodies v by done of part tasks operation state s)
+begun_keeps bodies v by done of part tasks operation None s none h = tt
+begun_keeps bodies v by done of part tasks None (Some p) s none h = born_keeps v by done of part tasks (Some p) s h
+begun_keeps bodies v by done of part tasks (Some procedure) (Some p) s none h = absurd (cc)
+
+pub awaited_keeps :
+    {w : Shape} (v : Value) (by : Birth) (done : List Part) (of part : ℕ) (tasks : List Task) (found : Found (Cell Value)) (s : State)
+    → shape s.activations ≡ w → Keeps w (awaited_next named v by done of part tasks found s)
+awaited_keeps v by done of part tasks on_null s h = tt
+awaited_keeps v by done of part tasks on_gone s h = tt
+awaited_keeps v by done of part tasks on_other s h = tt
+awaited_keeps v by done of part tasks (finds cell) s h = born_keeps v by done of part tasks (slice_get cell.parts part) s h
+
+ended_keeps :
+    {w : Shape} (bodies : List BodyForm) (v : Value) (part : ℕ) (p : PartState) (behind : List (Frame Value)) (operation : Option ℕ) (event : Event) (s : State)
+    → is_some operation ≡ false → shape s.activations ≡ w → Keeps w (ended_next named bodies v part p behind operation event s)
+ended_keeps bodies v part p behind None event s none h = h
+ended_keeps bodies v part p behind (Some procedure) event s none h = absurd (cc)
+
+finalized_keeps :
+    {w : Shape} (bodies : List BodyForm) (v : Value) (cause : Cause) (of part : ℕ) (tasks : List Task) (operation : Option ℕ)
+    (state : Option PartState) (s : State) → is_some operation ≡ false → shape s.activations ≡ w
+    → Keeps w (finalized_next named bodies v cause of part tasks operation state s)
+finalized_keeps bodies v cause of part tasks operation None s none h = tt
+finalized_keeps {w} bodies v cause of part tasks operation (Some p) s none h = by_life p.alive
   where
+    behind : List (Frame Value)
+    behind = treating v (frame.ends cause) tasks s.control
+
+    event : Event
+    event = Finalized v part p.turn of p.number cause
+
     by_life :
         (alive : Bool)
         → Keeps w
-        (if alive then moves (Finalized v part p.turn of p.number cause) (record s { heap = finalize s.heap v part })
+        (if alive then ended_next named bodies v part p behind operation event (record s { heap = finalize s.heap v part })
         else halts (Erroneous FinalizesTwice))
-    by_life true = h
+    by_life true = ended_keeps bodies v part p behind operation event (record s { heap = finalize s.heap v part }) none h
     by_life false = tt
 
-pub performed_keeps :
-    {w : Shape} (v : Value) (treatment : Treatment) (of part : ℕ) (found : Found (Cell Value)) (s : State) → shape s.activations ≡ w
-    → Keeps w (performed_next named v treatment of part found s)
-performed_keeps v treatment of part on_null s h = tt
-performed_keeps v treatment of part on_gone s h = tt
-performed_keeps v treatment of part on_other s h = tt
-performed_keeps v (frame.begins by) of part (finds cell) s h = born_keeps v of part by (slice_get cell.parts part) s h
-performed_keeps v (frame.ends cause) of part (finds cell) s h = finalized_keeps v of part cause (slice_get cell.parts part) s h
+-- A procedure that overrides an operation has a number.
+pub number_there : (procedure : Option ProcedureNo) → is_some (procedure_number procedure) ≡ is_some procedure
+number_there None = refl
+number_there (Some procedure) = refl
+
+performed_keeps :
+    {w : Shape} (types : List TypeDefinition) (bodies : List BodyForm) (v : Value) (treatment : Treatment) (of part : ℕ) (tasks : List Task)
+    (found : Found (Cell Value)) (s : State) → task_calls types treatment (Perform of part) ≡ false → shape s.activations ≡ w
+    → Keeps w (performed_next named types bodies v treatment of part tasks found s)
+performed_keeps types bodies v treatment of part tasks on_null s none h = tt
+performed_keeps types bodies v treatment of part tasks on_gone s none h = tt
+performed_keeps types bodies v treatment of part tasks on_other s none h = tt
+performed_keeps types bodies v (frame.begins by done) of part tasks (finds cell) s none h =
+    begun_keeps bodies v by done of part tasks (beginning by (operations_of types of)) (slice_get cell.parts part) s none h
+performed_keeps types bodies v (frame.ends cause) of part tasks (finds cell) s none h =
+    let operation = (operations_of types of).finalize in
+    finalized_keeps bodies v cause of part tasks (procedure_number operation) (slice_get cell.parts part) s (number_there operation ∙ none) h
 
 picked_keeps :
     {w : Shape} (none : Bool) (count : ℕ) (taking : ℕ → State) → ((i : ℕ) → shape (taking i).activations ≡ w)
@@ -255,10 +306,81 @@ picked_keeps true count taking h = tt
 picked_keeps false count taking h = h
 
 pub treats_keep :
-    {w : Shape} (shapes : List TypeShape) (v : Value) (treatment : Treatment) (tasks : List Task) (follows : Follows) (s : State) → shape s.activations ≡ w
-    → Keeps w (treats_next named shapes v treatment tasks follows s)
-treats_keep shapes v treatment tasks Done s h = h
-treats_keep shapes v treatment tasks (Pick count) s h =
-    picked_keeps (count == 0) count (λ i. treated_on named v treatment (picked_task shapes (direction_of treatment) tasks i) s) (λ i. h)
-treats_keep shapes v treatment tasks (Perform of part) s h =
-    performed_keeps v treatment of part (look s.heap v) (treated_on named v treatment (performed tasks) s) h
+    {w : Shape} (types : List TypeDefinition) (bodies : List BodyForm) (v : Value) (treatment : Treatment) (tasks : List Task) (follows : Follows) (s : State)
+    → task_calls types treatment follows ≡ false → shape s.activations ≡ w → Keeps w (treats_next named types bodies v treatment tasks follows s)
+treats_keep types bodies v treatment tasks Done s none h = h
+treats_keep types bodies v treatment tasks (Pick count) s none h =
+    picked_keeps (count == 0) count (λ i. treated_on named v treatment (picked_task (shapes_of types) (direction_of treatment) tasks i) s) (λ i. h)
+treats_keep types bodies v treatment tasks (Perform of part) s none h =
+    performed_keeps types bodies v treatment of part (performed tasks) (look s.heap v) s none h
+
+-- Where a type overrides an operation, its body begins in front of these activations, or the run ends, and not for want of memory.
+abbrev pub Operates : List (Activation Value) → Next → Type 0
+Operates xs (halts halt) = halt ≢ Memory
+Operates xs (moves e s) = (callee : Activation Value) × (s.activations ≡ callee ∷ xs)
+Operates xs (tells request e s) = ⊥
+Operates xs (asks request answers) = ⊥
+Operates xs (picks n taking) = ⊥
+
+operation_operates :
+    (procedure : ℕ) (b : Option BodyForm) (reference : Value) (behind : List (Frame Value)) (event : Event) (s : State)
+    → Operates s.activations (operation_next named procedure b reference behind event s)
+operation_operates procedure None reference behind event s = λ memory. cc
+operation_operates procedure (Some b) reference behind event s = (_, refl)
+
+begun_operates :
+    (bodies : List BodyForm) (v : Value) (by : Birth) (done : List Part) (of part : ℕ) (tasks : List Task) (operation : Option ℕ)
+    (state : Option PartState) (s : State) → is_some operation ≡ true
+    → Operates s.activations (begun_next named bodies v by done of part tasks operation state s)
+begun_operates bodies v by done of part tasks operation None s some = λ memory. cc
+begun_operates bodies v by done of part tasks None (Some p) s some = absurd (cc)
+begun_operates bodies v by done of part tasks (Some procedure) (Some p) s some =
+    operation_operates procedure (slice_get bodies procedure) (part_reference named v part p) (frame.Awaits v by done of part tasks ∷ s.control) Quiet s
+
+ended_operates :
+    (bodies : List BodyForm) (v : Value) (part : ℕ) (p : PartState) (behind : List (Frame Value)) (operation : Option ℕ) (event : Event) (s : State)
+    → is_some operation ≡ true → Operates s.activations (ended_next named bodies v part p behind operation event s)
+ended_operates bodies v part p behind None event s some = absurd (cc)
+ended_operates bodies v part p behind (Some procedure) event s some =
+    operation_operates procedure (slice_get bodies procedure) (part_reference named v part p) (frame.Confines ∷ behind) event s
+
+finalized_operates :
+    (bodies : List BodyForm) (v : Value) (cause : Cause) (of part : ℕ) (tasks : List Task) (operation : Option ℕ) (state : Option PartState) (s : State)
+    → is_some operation ≡ true → Operates s.activations (finalized_next named bodies v cause of part tasks operation state s)
+finalized_operates bodies v cause of part tasks operation None s some = λ memory. cc
+finalized_operates bodies v cause of part tasks operation (Some p) s some = by_life p.alive
+  where
+    behind : List (Frame Value)
+    behind = treating v (frame.ends cause) tasks s.control
+
+    event : Event
+    event = Finalized v part p.turn of p.number cause
+
+    by_life :
+        (alive : Bool)
+        → Operates s.activations
+        (if alive then ended_next named bodies v part p behind operation event (record s { heap = finalize s.heap v part })
+        else halts (Erroneous FinalizesTwice))
+    by_life true = ended_operates bodies v part p behind operation event (record s { heap = finalize s.heap v part }) some
+    by_life false = λ memory. cc
+
+performed_operates :
+    (types : List TypeDefinition) (bodies : List BodyForm) (v : Value) (treatment : Treatment) (of part : ℕ) (tasks : List Task)
+    (found : Found (Cell Value)) (s : State) → task_calls types treatment (Perform of part) ≡ true
+    → Operates s.activations (performed_next named types bodies v treatment of part tasks found s)
+performed_operates types bodies v treatment of part tasks on_null s some = λ memory. cc
+performed_operates types bodies v treatment of part tasks on_gone s some = λ memory. cc
+performed_operates types bodies v treatment of part tasks on_other s some = λ memory. cc
+performed_operates types bodies v (frame.begins by done) of part tasks (finds cell) s some =
+    begun_operates bodies v by done of part tasks (beginning by (operations_of types of)) (slice_get cell.parts part) s some
+performed_operates types bodies v (frame.ends cause) of part tasks (finds cell) s some =
+    let operation = (operations_of types of).finalize in
+    finalized_operates bodies v cause of part tasks (procedure_number operation) (slice_get cell.parts part) s (number_there operation ∙ some)
+
+pub treats_operate :
+    (types : List TypeDefinition) (bodies : List BodyForm) (v : Value) (treatment : Treatment) (tasks : List Task) (follows : Follows) (s : State)
+    → task_calls types treatment follows ≡ true → Operates s.activations (treats_next named types bodies v treatment tasks follows s)
+treats_operate types bodies v treatment tasks Done s some = absurd (cc)
+treats_operate types bodies v treatment tasks (Pick count) s some = absurd (cc)
+treats_operate types bodies v treatment tasks (Perform of part) s some =
+    performed_operates types bodies v treatment of part (performed tasks) (look s.heap v) s some

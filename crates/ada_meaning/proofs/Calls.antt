@@ -148,7 +148,7 @@ is_of_kind variable.Boolean = (false, refl)
 is_of_kind (variable.Access access) = refl
 is_of_kind (variable.Record object) = refl
 
-are_of_kinds : (n : ℕ) (xs : List VariableForm) → AreOfKinds (drop n xs) (drop n (blanks named xs))
+pub are_of_kinds : (n : ℕ) (xs : List VariableForm) → AreOfKinds (drop n xs) (drop n (blanks named xs))
 are_of_kinds zero [] = tt
 are_of_kinds zero (x ∷ xs) = (is_of_kind x.kind, are_of_kinds zero xs)
 are_of_kinds (suc n) [] = tt

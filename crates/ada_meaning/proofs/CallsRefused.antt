@@ -1,24 +1,27 @@
 -- What the laws of calls refuse, and what they let pass.
 
-use Rattle.std.proofs.Common.{◌≡◌, ◌≢◌, ◌⊎◌, ℕ, Bool, false, List, [], ◌∷◌, ◌++◌, length, take, drop, Some, None, arith, refl, ap, sym, ◌∙◌, inl, inr, subst}
+use Rattle.std.proofs.Common.{◌≡◌, ◌≢◌, ◌⊎◌, ℕ, Bool, true, false, List, [], ◌∷◌, ◌++◌, length, take, drop, Some, None, arith, refl, ap, sym, ◌∙◌, inl, inr, subst}
 use Rattle.ada_text.specs.declared.spot.Spot.{Spot}
 use Rattle.ada_values.specs.declared.value.Value.TheVariants as scalar
 use Rattle.ada_program.specs.declared.program.Exception.{Exception}
+use Rattle.ada_program.specs.declared.program.TypeDefinition.{TypeDefinition}
 use Rattle.ada_program.specs.declared.program.VariableKind.{VariableKind}
 use Rattle.ada_program.specs.declared.program.VariableKind.TheVariants as variable
 use Rattle.ada_program.specs.Form.{PathForm, RecordPathForm, ActualForm, in_value, in_access, in_out_path, in_out_access, in_out_component, in_out_record, ExpressionForm, nothing, value_of, StmtsForm}
 use Rattle.ada_program.specs.ProgramForm.{VariableForm, BodyForm}
+use Rattle.ada_parts.specs.Task.{Task, next as task_next}
 use Rattle.ada_meaning.specs.declared.state.Id.{Id}
 use Rattle.ada_meaning.specs.declared.state.Mode.{Mode}
 use Rattle.ada_meaning.specs.declared.state.Mode.TheVariants.{Running, Raising, Exiting, Returning}
 use Rattle.ada_meaning.specs.declared.state.Place.{Place}
 use Rattle.ada_meaning.specs.declared.state.Value.{Value}
 use Rattle.ada_meaning.specs.declared.state.Value.TheVariants.{Names, Scalar, Part}
-use Rattle.ada_meaning.specs.Frame.{Frame}
+use Rattle.ada_meaning.specs.Frame.{Treatment, Frame}
 use Rattle.ada_meaning.specs.Frame as frame
 use Rattle.ada_meaning.specs.State.{Activation}
 use Rattle.ada_meaning.specs.Named.{State}
-use Rattle.ada_meaning.specs.Calls.{callers_in, waiting, EndsBody, EndsNormally, EndsAbruptly, variable_given, IsGiven, GoBack, none, skips, takes, GetsBack, ComesBack, CallersStay, goes_on, calls_one, ends, breaks_off, EvaluatesActuals, IsOfKind, AreOfKinds, AreGiven, HasBegun, AreStoredIn, HasReturned}
+use Rattle.ada_meaning.specs.Calls.{callers_in, waiting, EndsBody, EndsNormally, EndsAbruptly, variable_given, IsGiven, GoBack, none, skips, takes, GetsBack, ComesBack, BeginsCall, BeginsOperation, CallersStay, goes_on, calls_one, operates, ends, breaks_off, EvaluatesActuals, IsOfKind, AreOfKinds, AreGiven, HasBegun, AreStoredIn, HasReturned}
+use Rattle.ada_meaning.specs.Ending.{task_calls}
 use Rattle.ada_meaning.proofs.CopiedBack.{comes_back}
 use Rattle.ada_meaning.proofs.Calls.{values_given, references_given}
 
@@ -46,34 +49,34 @@ abbrev first_given : Spot → List ActualForm
 first_given spot = in_out_path (to_first spot) ∷ []
 
 -- A body ends whose formal parameter holds one value; the variable of its caller held another one, and holds a third one behind the call.
-abbrev EndsWith : (callee caller : Activation Value) (formal before after : Value) → State → Type 0
-EndsWith a b u v w s = CallersStay (active (holding (u ∷ []) a ∷ holding (v ∷ []) b ∷ []) s) (active (holding (w ∷ []) b ∷ []) s)
+abbrev EndsWith : List TypeDefinition → (callee caller : Activation Value) (formal before after : Value) → State → Type 0
+EndsWith types a b u v w s = CallersStay types (active (holding (u ∷ []) a ∷ holding (v ∷ []) b ∷ []) s) (active (holding (w ∷ []) b ∷ []) s)
 
 -- A running body that assigns to its variable; one that ends before two others; one whose formal parameter gives back what it holds, or an access value;
 -- and one that an exception passes.
 assignment_passes :
-    (s : State) (a b : Activation Value) (u v : Value) → CallersStay (active (holding (u ∷ []) a ∷ b ∷ []) s) (active (holding (v ∷ []) a ∷ b ∷ []) s)
+    {types : List TypeDefinition} (s : State) (a b : Activation Value) (u v : Value) → CallersStay types (active (holding (u ∷ []) a ∷ b ∷ []) s) (active (holding (v ∷ []) a ∷ b ∷ []) s)
 assignment_passes s a b u v = goes_on (refl, refl, refl)
 
 end_passes :
-    (s : State) (a b c : Activation Value) → s.mode ≡ Running → Ending [] s → CallersStay (active (a ∷ b ∷ c ∷ []) s) (active (b ∷ c ∷ []) s)
+    {types : List TypeDefinition} (s : State) (a b c : Activation Value) → s.mode ≡ Running → Ending [] s → CallersStay types (active (a ∷ b ∷ c ∷ []) s) (active (b ∷ c ∷ []) s)
 end_passes s a b c runs is = ends (record { actuals = []; references = is.0; outer = is.1; first = is.2 }) (inl runs) (comes_back [] (a ∷ b ∷ c ∷ []))
 
 giving_back_passes :
-    (s : State) (a b : Activation Value) (spot : Spot) (u v : Value) → s.mode ≡ Returning → Ending (first_given spot) s → EndsWith a b u v u s
+    {types : List TypeDefinition} (s : State) (a b : Activation Value) (spot : Spot) (u v : Value) → s.mode ≡ Returning → Ending (first_given spot) s → EndsWith types a b u v u s
 giving_back_passes s a b spot u v returns is =
     ends (record { actuals = first_given spot; references = is.0; outer = is.1; first = is.2 }) (inr returns)
     (comes_back (first_given spot) (holding (u ∷ []) a ∷ holding (v ∷ []) b ∷ []))
 
 access_back_passes :
-    (s : State) (a b : Activation Value) (spot : Spot) (u v : Value) → s.mode ≡ Running → Ending (in_out_access (to_first spot) ∷ []) s → EndsWith a b u v u s
+    {types : List TypeDefinition} (s : State) (a b : Activation Value) (spot : Spot) (u v : Value) → s.mode ≡ Running → Ending (in_out_access (to_first spot) ∷ []) s → EndsWith types a b u v u s
 access_back_passes s a b spot u v runs is =
     ends (record { actuals = in_out_access (to_first spot) ∷ []; references = is.0; outer = is.1; first = is.2 }) (inl runs)
     (comes_back (in_out_access (to_first spot) ∷ []) (holding (u ∷ []) a ∷ holding (v ∷ []) b ∷ []))
 
 raise_passes :
-    (s : State) (a b : Activation Value) (actuals : List ActualForm) (u v : Value) (e : Exception) → s.mode ≡ Raising e → Ending actuals s
-    → EndsWith a b u v v s
+    {types : List TypeDefinition} (s : State) (a b : Activation Value) (actuals : List ActualForm) (u v : Value) (e : Exception) → s.mode ≡ Raising e → Ending actuals s
+    → EndsWith types a b u v v s
 raise_passes s a b actuals u v e raises is =
     breaks_off (record { actuals = actuals; references = is.0; outer = is.1; first = is.2 }) (subst EndsAbruptly (sym raises) tt) refl
 
@@ -85,29 +88,36 @@ head_of : (x y : Activation Value) (xs ys : Actives) → (x ∷ xs) ≡ (y ∷ y
 head_of x y xs ys is = cc
 
 -- Two activations dropped at once.
-two_dropped_refused : (s : State) (a b c : Activation Value) → CallersStay (active (a ∷ b ∷ c ∷ []) s) (active (c ∷ []) s) → ⊥
+two_dropped_refused : {types : List TypeDefinition} (s : State) (a b c : Activation Value) → CallersStay types (active (a ∷ b ∷ c ∷ []) s) (active (c ∷ []) s) → ⊥
 two_dropped_refused s a b c (goes_on runs) = unlike [] (b ∷ c ∷ []) (λ is. absurd (omega (arith, is))) runs.0
 two_dropped_refused s a b c (calls_one begins callee called) =
     unlike (c ∷ []) (callee ∷ waiting (a ∷ b ∷ c ∷ [])) (λ is. absurd (omega (arith, is))) called
+two_dropped_refused s a b c (operates begins callee called) =
+    unlike (c ∷ []) (callee ∷ a ∷ b ∷ c ∷ []) (λ is. absurd (omega (arith, is))) called
 two_dropped_refused s a b c (ends body normal back) = unlike [] (c ∷ []) (λ is. absurd (omega (arith, is))) back.0
 two_dropped_refused s a b c (breaks_off body abrupt left) = unlike (c ∷ []) (b ∷ c ∷ []) (λ is. absurd (omega (arith, is))) left
 
 -- A caller's variables changed while its callee runs.
-caller_changed_refused : (s : State) (a b c : Activation Value) → b ≢ c → CallersStay (active (a ∷ b ∷ []) s) (active (a ∷ c ∷ []) s) → ⊥
+caller_changed_refused : {types : List TypeDefinition} (s : State) (a b c : Activation Value) → b ≢ c → CallersStay types (active (a ∷ b ∷ []) s) (active (a ∷ c ∷ []) s) → ⊥
 caller_changed_refused s a b c apart (goes_on runs) = apart (sym (head_of c b [] [] runs.0))
 caller_changed_refused s a b c apart (calls_one begins callee called) =
     unlike (a ∷ c ∷ []) (callee ∷ waiting (a ∷ b ∷ [])) (λ is. absurd (omega (arith, is))) called
+caller_changed_refused s a b c apart (operates begins callee called) =
+    unlike (a ∷ c ∷ []) (callee ∷ a ∷ b ∷ []) (λ is. absurd (omega (arith, is))) called
 caller_changed_refused s a b c apart (ends body normal back) = unlike (c ∷ []) [] (λ is. absurd (omega (arith, is))) back.0
 caller_changed_refused s a b c apart (breaks_off body abrupt left) = unlike (a ∷ c ∷ []) (b ∷ []) (λ is. absurd (omega (arith, is))) left
 
 -- A caller's variables changed where the call begins.
 calling_changes_refused :
-    (s : State) (a b : Activation Value) (vs : List Value) → vs ≢ a.places
-    → CallersStay (active (a ∷ []) s) (active (b ∷ record a { places = vs; operands = [] } ∷ []) s) → ⊥
+    {types : List TypeDefinition} (s : State) (a b : Activation Value) (vs : List Value) → vs ≢ a.places
+    → CallersStay types (active (a ∷ []) s) (active (b ∷ record a { places = vs; operands = [] } ∷ []) s) → ⊥
 calling_changes_refused s a b vs apart (goes_on runs) = unlike (record a { places = vs; operands = [] } ∷ []) [] (λ is. absurd (omega (arith, is))) runs.0
 calling_changes_refused s a b vs apart (calls_one begins callee called) =
     let behind : (record a { places = vs; operands = [] } ∷ []) ≡ (record a { operands = [] } ∷ []) = ap callers_in called in
     apart (ap (λ (x : Activation Value). x.places) (head_of (record a { places = vs; operands = [] }) (record a { operands = [] }) [] [] behind))
+calling_changes_refused s a b vs apart (operates begins callee called) =
+    let behind : (record a { places = vs; operands = [] } ∷ []) ≡ (a ∷ []) = ap callers_in called in
+    apart (ap (λ (x : Activation Value). x.places) (head_of (record a { places = vs; operands = [] }) a [] [] behind))
 calling_changes_refused s a b vs apart (ends body normal back) =
     unlike (b ∷ record a { places = vs; operands = [] } ∷ []) [] (λ is. absurd (omega (arith, is))) back
 calling_changes_refused s a b vs apart (breaks_off body abrupt left) =
@@ -117,11 +127,69 @@ calling_changes_refused s a b vs apart (breaks_off body abrupt left) =
 never_ends : (s : State) → s.control ≡ frame.Exits ∷ [] → EndsBody s → ⊥
 never_ends s is body = let never : frame.Exits ∷ [] ≡ frame.Returns body.actuals body.references ∷ body.outer = sym is ∙ body.first in absurd (cc)
 
-early_end_refused : (s : State) (a b : Activation Value) → s.control ≡ frame.Exits ∷ [] → CallersStay (active (a ∷ b ∷ []) s) (active (b ∷ []) s) → ⊥
+early_end_refused : {types : List TypeDefinition} (s : State) (a b : Activation Value) → s.control ≡ frame.Exits ∷ [] → CallersStay types (active (a ∷ b ∷ []) s) (active (b ∷ []) s) → ⊥
 early_end_refused s a b is (goes_on runs) = unlike [] (b ∷ []) (λ same. absurd (omega (arith, same))) runs.0
 early_end_refused s a b is (calls_one begins callee called) = unlike (b ∷ []) (callee ∷ waiting (a ∷ b ∷ [])) (λ same. absurd (omega (arith, same))) called
+early_end_refused s a b is (operates begins callee called) = unlike (b ∷ []) (callee ∷ a ∷ b ∷ []) (λ same. absurd (omega (arith, same))) called
 early_end_refused s a b is (ends body normal back) = never_ends (active (a ∷ b ∷ []) s) is body
 early_end_refused s a b is (breaks_off body abrupt left) = never_ends (active (a ∷ b ∷ []) s) is body
+
+-- An operation of a controlled type is called: what the body that was running has computed waits, too.
+operation_passes :
+    (types : List TypeDefinition) (s : State) (a b : Activation Value) (v : Value) (treatment : Treatment) (tasks : List Task) (k : List (Frame Value))
+    → s.mode ≡ Running → s.control ≡ frame.Treats v treatment tasks ∷ k → task_calls types treatment (task_next tasks) ≡ true
+    → CallersStay types (active (a ∷ []) s) (active (b ∷ a ∷ []) s)
+operation_passes types s a b v treatment tasks k runs is called =
+    operates (record { object = v; treatment = treatment; tasks = tasks; outer = k; runs = runs; first = is; called = called }) b refl
+
+-- One that is called where its type doesn't override it; one that drops what was computed.
+no_operation_begins :
+    {types : List TypeDefinition} (s : State) (v : Value) (treatment : Treatment) (tasks : List Task) (k : List (Frame Value))
+    → s.control ≡ frame.Treats v treatment tasks ∷ k → task_calls types treatment (task_next tasks) ≡ false → BeginsOperation types s → ⊥
+no_operation_begins {types} s v treatment tasks k is inherits begins =
+    let same : frame.Treats v treatment tasks ∷ k ≡ frame.Treats begins.object begins.treatment begins.tasks ∷ begins.outer = sym is ∙ begins.first in
+    let treats : treatment ≡ begins.treatment = cc in
+    let left : tasks ≡ begins.tasks = cc in
+    let never : false ≡ true =
+    sym inherits ∙ ap (λ (t : Treatment). task_calls types t (task_next tasks)) treats
+    ∙ ap (λ (ts : List Task). task_calls types begins.treatment (task_next ts)) left ∙ begins.called in
+    absurd (cc)
+
+no_call_begins :
+    (s : State) (v : Value) (treatment : Treatment) (tasks : List Task) (k : List (Frame Value)) → s.control ≡ frame.Treats v treatment tasks ∷ k
+    → BeginsCall s → ⊥
+no_call_begins s v treatment tasks k is begins =
+    let never : frame.Treats v treatment tasks ∷ k ≡ frame.Calls begins.procedure begins.body begins.actuals ∷ begins.outer = sym is ∙ begins.first in
+    absurd (cc)
+
+inherited_call_refused :
+    {types : List TypeDefinition} (s : State) (a b : Activation Value) (v : Value) (treatment : Treatment) (tasks : List Task) (k : List (Frame Value))
+    → s.control ≡ frame.Treats v treatment tasks ∷ k → task_calls types treatment (task_next tasks) ≡ false
+    → CallersStay types (active (a ∷ []) s) (active (b ∷ a ∷ []) s) → ⊥
+inherited_call_refused s a b v treatment tasks k is inherits (goes_on runs) = unlike (a ∷ []) [] (λ same. absurd (omega (arith, same))) runs.0
+inherited_call_refused s a b v treatment tasks k is inherits (calls_one begins callee called) =
+    no_call_begins (active (a ∷ []) s) v treatment tasks k is begins
+inherited_call_refused s a b v treatment tasks k is inherits (operates begins callee called) =
+    no_operation_begins (active (a ∷ []) s) v treatment tasks k is inherits begins
+inherited_call_refused s a b v treatment tasks k is inherits (ends body normal back) = unlike (b ∷ a ∷ []) [] (λ same. absurd (omega (arith, same))) back
+inherited_call_refused s a b v treatment tasks k is inherits (breaks_off body abrupt left) =
+    unlike (b ∷ a ∷ []) [] (λ same. absurd (omega (arith, same))) left
+
+dropped_operands_refused :
+    {types : List TypeDefinition} (s : State) (a b : Activation Value) (v : Value) (treatment : Treatment) (tasks : List Task) (k : List (Frame Value))
+    → s.control ≡ frame.Treats v treatment tasks ∷ k → a.operands ≢ []
+    → CallersStay types (active (a ∷ []) s) (active (b ∷ record a { operands = [] } ∷ []) s) → ⊥
+dropped_operands_refused s a b v treatment tasks k is some (goes_on runs) =
+    unlike (record a { operands = [] } ∷ []) [] (λ same. absurd (omega (arith, same))) runs.0
+dropped_operands_refused s a b v treatment tasks k is some (calls_one begins callee called) =
+    no_call_begins (active (a ∷ []) s) v treatment tasks k is begins
+dropped_operands_refused s a b v treatment tasks k is some (operates begins callee called) =
+    let behind : (record a { operands = [] } ∷ []) ≡ (a ∷ []) = ap callers_in called in
+    some (sym (ap (λ (x : Activation Value). x.operands) (head_of (record a { operands = [] }) a [] [] behind)))
+dropped_operands_refused s a b v treatment tasks k is some (ends body normal back) =
+    unlike (b ∷ record a { operands = [] } ∷ []) [] (λ same. absurd (omega (arith, same))) back
+dropped_operands_refused s a b v treatment tasks k is some (breaks_off body abrupt left) =
+    unlike (b ∷ record a { operands = [] } ∷ []) [] (λ same. absurd (omega (arith, same))) left
 
 -- Where a body ends normally, its caller gets back what it is to get, and nothing else can have happened.
 apart_modes : (mode : Mode) → EndsNormally mode → EndsAbruptly mode → ⊥
@@ -138,11 +206,13 @@ same_actuals :
 same_actuals k outer behind actuals given references others is also = cc
 
 returned_to :
-    (s : State) (callee caller later : Activation Value) (actuals : List ActualForm) → EndsNormally s.mode → Ending actuals s
-    → CallersStay (active (callee ∷ caller ∷ []) s) (active (later ∷ []) s) → GetsBack actuals callee caller later
+    {types : List TypeDefinition} (s : State) (callee caller later : Activation Value) (actuals : List ActualForm) → EndsNormally s.mode → Ending actuals s
+    → CallersStay types (active (callee ∷ caller ∷ []) s) (active (later ∷ []) s) → GetsBack actuals callee caller later
 returned_to s callee caller later actuals normal is (goes_on runs) = absurd (unlike [] (caller ∷ []) (λ same. absurd (omega (arith, same))) runs.0)
 returned_to s callee caller later actuals normal is (calls_one begins one called) =
     absurd (unlike (later ∷ []) (one ∷ waiting (callee ∷ caller ∷ [])) (λ same. absurd (omega (arith, same))) called)
+returned_to s callee caller later actuals normal is (operates begins one called) =
+    absurd (unlike (later ∷ []) (one ∷ callee ∷ caller ∷ []) (λ same. absurd (omega (arith, same))) called)
 returned_to s callee caller later actuals normal is (ends body also back) =
     subst (λ (given : List ActualForm). GetsBack given callee caller later)
     (same_actuals s.control body.outer is.1 body.actuals actuals body.references is.0 body.first is.2) back.1
@@ -158,18 +228,18 @@ nothing_given :
 nothing_given a b given u v apart gives got = apart (sym (one_of v u (got.back [] [] given 0 u refl gives (λ never. never) refl (omega arith))))
 
 forgotten_refused :
-    (s : State) (a b : Activation Value) (given : ActualForm) (u v : Value) → u ≢ v → variable_given given ≡ Some 0 → EndsNormally s.mode
-    → Ending (given ∷ []) s → EndsWith a b u v v s → ⊥
+    {types : List TypeDefinition} (s : State) (a b : Activation Value) (given : ActualForm) (u v : Value) → u ≢ v → variable_given given ≡ Some 0 → EndsNormally s.mode
+    → Ending (given ∷ []) s → EndsWith types a b u v v s → ⊥
 forgotten_refused s a b given u v apart gives normal is ended =
     nothing_given a b given u v apart gives (returned_to s (holding (u ∷ []) a) (holding (v ∷ []) b) (holding (v ∷ []) b) (given ∷ []) normal is ended)
 
 nothing_back_refused :
-    (s : State) (a b : Activation Value) (spot : Spot) (u v : Value) → u ≢ v → EndsNormally s.mode → Ending (first_given spot) s → EndsWith a b u v v s → ⊥
+    {types : List TypeDefinition} (s : State) (a b : Activation Value) (spot : Spot) (u v : Value) → u ≢ v → EndsNormally s.mode → Ending (first_given spot) s → EndsWith types a b u v v s → ⊥
 nothing_back_refused s a b spot u v apart = forgotten_refused s a b (in_out_path (to_first spot)) u v apart refl
 
 no_access_back_refused :
-    (s : State) (a b : Activation Value) (spot : Spot) (u v : Value) → u ≢ v → EndsNormally s.mode → Ending (in_out_access (to_first spot) ∷ []) s
-    → EndsWith a b u v v s → ⊥
+    {types : List TypeDefinition} (s : State) (a b : Activation Value) (spot : Spot) (u v : Value) → u ≢ v → EndsNormally s.mode → Ending (in_out_access (to_first spot) ∷ []) s
+    → EndsWith types a b u v v s → ⊥
 no_access_back_refused s a b spot u v apart = forgotten_refused s a b (in_out_access (to_first spot)) u v apart refl
 
 -- A formal parameter of mode `in` that gives back what it holds: the value of an expression, or an access value, though the first variable names it.
@@ -178,33 +248,33 @@ gives_none given x constant (inl is) = absurd (cc)
 gives_none given x constant (inr never) = never
 
 constant_back_refused :
-    (s : State) (a b : Activation Value) (given : ActualForm) (u v : Value) → u ≢ v → variable_given given ≡ None → EndsNormally s.mode
-    → Ending (given ∷ []) s → EndsWith a b u v u s → ⊥
+    {types : List TypeDefinition} (s : State) (a b : Activation Value) (given : ActualForm) (u v : Value) → u ≢ v → variable_given given ≡ None → EndsNormally s.mode
+    → Ending (given ∷ []) s → EndsWith types a b u v u s → ⊥
 constant_back_refused s a b given u v apart constant normal is ended =
     let got = returned_to s (holding (u ∷ []) a) (holding (v ∷ []) b) (holding (u ∷ []) b) (given ∷ []) normal is ended in
     apart (one_of u v (got.others 0 (gives_none given 0 constant)))
 
 value_back_refused :
-    (s : State) (a b : Activation Value) (e : ExpressionForm) (u v : Value) → u ≢ v → EndsNormally s.mode → Ending (in_value e ∷ []) s
-    → EndsWith a b u v u s → ⊥
+    {types : List TypeDefinition} (s : State) (a b : Activation Value) (e : ExpressionForm) (u v : Value) → u ≢ v → EndsNormally s.mode → Ending (in_value e ∷ []) s
+    → EndsWith types a b u v u s → ⊥
 value_back_refused s a b e u v apart = constant_back_refused s a b (in_value e) u v apart refl
 
 access_back_refused :
-    (s : State) (a b : Activation Value) (spot : Spot) (u v : Value) → u ≢ v → EndsNormally s.mode → Ending (in_access (to_first spot) ∷ []) s
-    → EndsWith a b u v u s → ⊥
+    {types : List TypeDefinition} (s : State) (a b : Activation Value) (spot : Spot) (u v : Value) → u ≢ v → EndsNormally s.mode → Ending (in_access (to_first spot) ∷ []) s
+    → EndsWith types a b u v u s → ⊥
 access_back_refused s a b spot u v apart = constant_back_refused s a b (in_access (to_first spot)) u v apart refl
 
 -- A component that is given: what the formal parameter holds goes to the newest operand, and not to a variable.
 component_back_passes :
-    (s : State) (a b : Activation Value) (path : PathForm) (u : Value) → s.mode ≡ Returning → Ending (in_out_component path ∷ []) s
-    → CallersStay (active (holding (u ∷ []) a ∷ b ∷ []) s) (active (record b { operands = u ∷ b.operands } ∷ []) s)
+    {types : List TypeDefinition} (s : State) (a b : Activation Value) (path : PathForm) (u : Value) → s.mode ≡ Returning → Ending (in_out_component path ∷ []) s
+    → CallersStay types (active (holding (u ∷ []) a ∷ b ∷ []) s) (active (record b { operands = u ∷ b.operands } ∷ []) s)
 component_back_passes s a b path u returns is =
     ends (record { actuals = in_out_component path ∷ []; references = is.0; outer = is.1; first = is.2 }) (inr returns)
     (comes_back (in_out_component path ∷ []) (holding (u ∷ []) a ∷ b ∷ []))
 
 component_variable_refused :
-    (s : State) (a b : Activation Value) (path : PathForm) (u v : Value) → u ≢ v → EndsNormally s.mode → Ending (in_out_component path ∷ []) s
-    → EndsWith a b u v u s → ⊥
+    {types : List TypeDefinition} (s : State) (a b : Activation Value) (path : PathForm) (u v : Value) → u ≢ v → EndsNormally s.mode → Ending (in_out_component path ∷ []) s
+    → EndsWith types a b u v u s → ⊥
 component_variable_refused s a b path u v apart = constant_back_refused s a b (in_out_component path) u v apart refl
 
 -- What goes back to one component, to two, and to none.
@@ -223,10 +293,10 @@ none_goes : (p : RecordPathForm) (u : Value) (given_back : List Value) → GoBac
 none_goes p u given_back (skips apart none) = refl
 none_goes p u given_back (takes is none) = absurd is
 
-module _ (s : State) (a b : Activation Value) where
+module _ (types : List TypeDefinition) (s : State) (a b : Activation Value) where
   -- The caller has these operands more than before.
   abbrev GoesOnWith : (formals more : List Value) → Type 0
-  GoesOnWith vs us = CallersStay (active (holding vs a ∷ b ∷ []) s) (active (record b { operands = us ++ b.operands } ∷ []) s)
+  GoesOnWith vs us = CallersStay types (active (holding vs a ∷ b ∷ []) s) (active (record b { operands = us ++ b.operands } ∷ []) s)
 
   back_with :
       (actuals : List ActualForm) (vs us : List Value) → EndsNormally s.mode → Ending actuals s → GoesOnWith vs us
@@ -260,9 +330,9 @@ module _ (s : State) (a b : Activation Value) where
 
 -- Two that stand for one variable, of which the first gives back last.
 first_back_refused :
-    (s : State) (a b : Activation Value) (spot : Spot) (u v w : Value) → u ≢ v → EndsNormally s.mode
+    {types : List TypeDefinition} (s : State) (a b : Activation Value) (spot : Spot) (u v w : Value) → u ≢ v → EndsNormally s.mode
     → Ending (in_out_path (to_first spot) ∷ first_given spot) s
-    → CallersStay (active (holding (u ∷ v ∷ []) a ∷ holding (w ∷ []) b ∷ []) s) (active (holding (u ∷ []) b ∷ []) s) → ⊥
+    → CallersStay types (active (holding (u ∷ v ∷ []) a ∷ holding (w ∷ []) b ∷ []) s) (active (holding (u ∷ []) b ∷ []) s) → ⊥
 first_back_refused s a b spot u v w apart normal is ended =
     let both : List ActualForm = in_out_path (to_first spot) ∷ first_given spot in
     let got = returned_to s (holding (u ∷ v ∷ []) a) (holding (w ∷ []) b) (holding (u ∷ []) b) both normal is ended in
@@ -273,10 +343,12 @@ first_held : (b : Activation Value) (u v : Value) → (holding (u ∷ []) b ∷ 
 first_held b u v is =
     let places : (u ∷ []) ≡ (v ∷ []) = ap (λ (x : Activation Value). x.places) (head_of (holding (u ∷ []) b) (holding (v ∷ []) b) [] [] is) in cc
 
-raise_gives_refused : (s : State) (a b : Activation Value) (u v : Value) (e : Exception) → u ≢ v → s.mode ≡ Raising e → EndsWith a b u v u s → ⊥
+raise_gives_refused : {types : List TypeDefinition} (s : State) (a b : Activation Value) (u v : Value) (e : Exception) → u ≢ v → s.mode ≡ Raising e → EndsWith types a b u v u s → ⊥
 raise_gives_refused s a b u v e apart raises (goes_on runs) = unlike [] (holding (v ∷ []) b ∷ []) (λ same. absurd (omega (arith, same))) runs.0
 raise_gives_refused s a b u v e apart raises (calls_one begins callee called) =
     unlike (holding (u ∷ []) b ∷ []) (callee ∷ waiting (holding (u ∷ []) a ∷ holding (v ∷ []) b ∷ [])) (λ same. absurd (omega (arith, same))) called
+raise_gives_refused s a b u v e apart raises (operates begins callee called) =
+    unlike (holding (u ∷ []) b ∷ []) (callee ∷ holding (u ∷ []) a ∷ holding (v ∷ []) b ∷ []) (λ same. absurd (omega (arith, same))) called
 raise_gives_refused s a b u v e apart raises (ends body normal back) = apart_modes s.mode normal (subst EndsAbruptly (sym raises) tt)
 raise_gives_refused s a b u v e apart raises (breaks_off body abrupt left) = apart (first_held b u v left)
 

@@ -6,7 +6,6 @@ use Rattle.ada_program.specs.declared.program.TypeDefinition.{TypeDefinition}
 use Rattle.ada_program.specs.Form.{RecordPathForm, ActualForm, ExpressionForm, integer, boolean, reads, is_null, applied_to, chained, LinksForm, no_more_links, a_link, ItemForm, null_item, item_of_path, item_of_value, item_of_record, RightForm, nothing, value_of, allocates, allocates_default, computes, StmtForm, skips, assigns, assigns_record, frees, gets, writes, writes_text, chooses, repeats, counts, exits, calls, raises, encloses, StmtsForm, no_stmts, a_stmt, BranchesForm, otherwise, a_branch, HandlersForm, DeclarationForm, creates_pool, collects, declares, declares_record}
 use Rattle.ada_program.specs.Form as form
 use Rattle.ada_program.specs.ProgramForm.{BodyForm}
-use Rattle.ada_program.specs.Controlled.{shapes_of}
 use Rattle.ada_program.specs.Typed.{words_of, width_of}
 use Rattle.ada_parts.specs.Task.{next as task_next}
 use Rattle.ada_meaning.specs.declared.state.Place.{Place}
@@ -15,14 +14,15 @@ use Rattle.ada_meaning.specs.declared.state.Value.TheVariants.{Null}
 use Rattle.ada_meaning.specs.declared.state.Mode.{Mode}
 use Rattle.ada_meaning.specs.declared.event.Cause.{Cause}
 use Rattle.ada_meaning.specs.declared.event.Cause.TheVariants.{Leaving}
-use Rattle.ada_meaning.specs.Event.{Quiet}
+use Rattle.ada_meaning.specs.Event.{Followed, Quiet}
 use Rattle.ada_meaning.specs.Frame.{Frame, is_master, Landing, passes_on, goes_behind, goes_in, landing}
 use Rattle.ada_meaning.specs.Frame as frame
 use Rattle.ada_meaning.specs.State.{Owned, declared, collection, record_object, storage_pool, Item, Master, home_of}
 use Rattle.ada_meaning.specs.Heap.{Cell, Found, on_null, on_gone, on_other, finds}
 use Rattle.ada_meaning.specs.Step.{referred_next, refers_next, open_next, opened_next, opens_next, record_in, newest_ones, without_newest, record_target_next, record_stored_next, store_record_next, assigns_next, copy_next, record_assign_next, has_parts, record_next, moves, at, computed, popped, held, newest, assign_next, target_next, stored_next, store_next, received_next, receive_next, frees_next, freed_next, free_component_next, free_in_next, branches_next, decided_next, turn_next, repeats_next, turned_next, count_turn_next, counts_next, ranges_next, gets_next, exit_next, exited_next, call_next, stmt_next, stmts_next, line_next, declaration_next, declarations_next, taken_out, members_next, item_leave_next, master_leave_next, leave_next, frame_next}
-use Rattle.ada_meaning.specs.Named.{State, named, refer, same, look, lent, reads_boolean, reads_null, reads_integer, unary_given, binary_given, members}
-use Rattle.ada_meaning.proofs.Activations.{Shape, shape, Keeps, operands_kept, less, put_kept, path_keeps, holder_keeps, record_holder_keeps, expression_keeps, null_test_keeps, links_keep, outcome_keeps, items_keep, copies_keep, new_keeps, right_keeps, free_keeps, end_keeps, back_keeps, treats_keep}
+use Rattle.ada_meaning.specs.Named.{State, named, refer, same, look, standing, lent, reads_boolean, reads_null, reads_integer, unary_given, binary_given, members}
+use Rattle.ada_meaning.specs.Ending.{frame_calls}
+use Rattle.ada_meaning.proofs.Activations.{Shape, shape, Keeps, operands_kept, less, put_kept, path_keeps, holder_keeps, record_holder_keeps, expression_keeps, null_test_keeps, links_keep, outcome_keeps, items_keep, copies_keep, new_keeps, right_keeps, freeing_keeps, free_keeps, end_keeps, back_keeps, awaited_keeps, treats_keep}
 
 -- Statements and declarations.
 assign_keeps : {w : Shape} (cs : List ℕ) (x : ℕ) (right : RightForm) (s : State) → shape s.activations ≡ w → Keeps w (assign_next named cs x right s)
@@ -76,7 +76,7 @@ store_record_keeps o first count (finds cell) s h =
 frees_keep :
     {w : Shape} (types : List TypeDefinition) (cs : List ℕ) (access x : ℕ) (s : State) → shape s.activations ≡ w
     → Keeps w (frees_next named types cs access x s)
-frees_keep types [] access x s h = free_keeps types access x (held named s x) (look s.heap (held named s x)) s h
+frees_keep types [] access x s h = free_keeps types access x (held named s x) (standing s.heap (held named s x)) s h
 frees_keep types (c ∷ cs) access x s h = holder_keeps c cs x (λ last. frame.FreesIn access last) s h
 
 freed_keeps :
@@ -85,13 +85,13 @@ freed_keeps :
 freed_keeps types access o c v on_null s h = h
 freed_keeps types access o c v on_gone s h = tt
 freed_keeps types access o c v on_other s h = tt
-freed_keeps types access o c v (finds cell) s h = h
+freed_keeps types access o c v (finds cell) s h = freeing_keeps types access v cell (frame.ClearsIn o c) (Followed o) s h
 
 free_component_keeps :
     {w : Shape} (types : List TypeDefinition) (access : ℕ) (o : Value) (c : ℕ) (held : Option Value) (s : State) → shape s.activations ≡ w
     → Keeps w (free_component_next named types access o c held s)
 free_component_keeps types access o c None s h = tt
-free_component_keeps types access o c (Some v) s h = freed_keeps types access o c v (look s.heap v) s h
+free_component_keeps types access o c (Some v) s h = freed_keeps types access o c v (standing s.heap v) s h
 
 free_in_keeps :
     {w : Shape} (types : List TypeDefinition) (access : ℕ) (o : Value) (c : ℕ) (found : Found (Cell Value)) (s : State) → shape s.activations ≡ w
@@ -324,55 +324,58 @@ IsWithin (frame.Returns actuals references) = ⊥
 IsWithin f = Unit {0}
 
 pub frame_keeps :
-    {w : Shape} (types : List TypeDefinition) (bodies : List BodyForm) (f : Frame Value) (s : State) → IsWithin f → shape s.activations ≡ w
-    → Keeps w (frame_next named types bodies f s)
-frame_keeps types bodies (frame.Elaborates ds fs hs) s i h = declarations_keep types ds fs hs s h
-frame_keeps types bodies (frame.Does fs) s i h = stmts_keep types bodies fs s h
-frame_keeps types bodies (frame.Decides fs branches) s i h = decided_keeps fs branches (reads_boolean (newest named s)) (popped s) (less s h)
-frame_keeps types bodies (frame.Repeats condition fs) s i h = repeats_keep condition fs s h
-frame_keeps types bodies (frame.Turns condition fs) s i h = turned_keeps condition fs (reads_boolean (newest named s)) (popped s) (less s h)
-frame_keeps types bodies (frame.Ranges x fs) s i h =
+    {w : Shape} (types : List TypeDefinition) (bodies : List BodyForm) (f : Frame Value) (s : State) → IsWithin f → frame_calls types f ≡ false
+    → shape s.activations ≡ w → Keeps w (frame_next named types bodies f s)
+frame_keeps types bodies (frame.Elaborates ds fs hs) s i none h = declarations_keep types ds fs hs s h
+frame_keeps types bodies (frame.Does fs) s i none h = stmts_keep types bodies fs s h
+frame_keeps types bodies (frame.Decides fs branches) s i none h = decided_keeps fs branches (reads_boolean (newest named s)) (popped s) (less s h)
+frame_keeps types bodies (frame.Repeats condition fs) s i none h = repeats_keep condition fs s h
+frame_keeps types bodies (frame.Turns condition fs) s i none h = turned_keeps condition fs (reads_boolean (newest named s)) (popped s) (less s h)
+frame_keeps types bodies (frame.Ranges x fs) s i none h =
     ranges_keep x fs (reads_integer (newest named (popped s))) (reads_integer (newest named s)) (popped (popped s)) (less (popped s) (less s h))
-frame_keeps types bodies (frame.Counts x value last fs) s i h = counts_keep x value last fs s h
-frame_keeps types bodies frame.Exits s i h = exited_keeps (reads_boolean (newest named s)) (popped s) (less s h)
-frame_keeps types bodies (frame.Handles hs) s i h = h
-frame_keeps types bodies frame.Closes s i h = h
-frame_keeps types bodies (frame.Leaves mode) s i h = leave_keeps types mode s.masters s h
-frame_keeps types bodies (frame.Calls procedure b actuals) s i h = absurd i
-frame_keeps types bodies (frame.Returns actuals references) s i h = absurd i
-frame_keeps types bodies (frame.Evaluates right) s i h = right_keeps types right s h
-frame_keeps types bodies (frame.Computes e) s i h = expression_keeps e s h
-frame_keeps types bodies (frame.Follows cs) s i h = path_keeps cs (newest named s) (popped s) (less s h)
-frame_keeps types bodies (frame.TestsNull equal) s i h = null_test_keeps equal (reads_null (newest named s)) (popped s) (less s h)
-frame_keeps types bodies (frame.Refers p) s i h = record_holder_keeps p (λ place. frame.RefersIn place p.record_type) s h
-frame_keeps types bodies (frame.RefersIn place t) s i h =
+frame_keeps types bodies (frame.Counts x value last fs) s i none h = counts_keep x value last fs s h
+frame_keeps types bodies frame.Exits s i none h = exited_keeps (reads_boolean (newest named s)) (popped s) (less s h)
+frame_keeps types bodies (frame.Handles hs) s i none h = h
+frame_keeps types bodies frame.Closes s i none h = h
+frame_keeps types bodies (frame.Leaves mode) s i none h = leave_keeps types mode s.masters s h
+frame_keeps types bodies (frame.Calls procedure b actuals) s i none h = absurd i
+frame_keeps types bodies (frame.Returns actuals references) s i none h = absurd i
+frame_keeps types bodies (frame.Evaluates right) s i none h = right_keeps types right s h
+frame_keeps types bodies (frame.Computes e) s i none h = expression_keeps e s h
+frame_keeps types bodies (frame.Follows cs) s i none h = path_keeps cs (newest named s) (popped s) (less s h)
+frame_keeps types bodies (frame.TestsNull equal) s i none h = null_test_keeps equal (reads_null (newest named s)) (popped s) (less s h)
+frame_keeps types bodies (frame.Refers p) s i none h = record_holder_keeps p (λ place. frame.RefersIn place p.record_type) s h
+frame_keeps types bodies (frame.RefersIn place t) s i none h =
     refers_keep (newest named s) place (width_of types t) (look s.heap (newest named s)) (popped s) (less s h)
-frame_keeps types bodies (frame.Opens path) s i h = open_keeps path.selectors path.root s h
-frame_keeps types bodies (frame.OpensIn c) s i h = opens_keep (newest named s) c (look s.heap (newest named s)) (popped s) (less s h)
-frame_keeps types bodies (frame.Continues links) s i h = links_keep links s h
-frame_keeps types bodies (frame.Applies operator) s i h =
+frame_keeps types bodies (frame.Opens path) s i none h = open_keeps path.selectors path.root s h
+frame_keeps types bodies (frame.OpensIn c) s i none h = opens_keep (newest named s) c (look s.heap (newest named s)) (popped s) (less s h)
+frame_keeps types bodies (frame.Continues links) s i none h = links_keep links s h
+frame_keeps types bodies (frame.Applies operator) s i none h =
     outcome_keeps (binary_given operator (newest named (popped s)) (newest named s)) (popped (popped s)) (less (popped s) (less s h))
-frame_keeps types bodies (frame.AppliesAlone operator) s i h = outcome_keeps (unary_given operator (newest named s)) (popped s) (less s h)
-frame_keeps types bodies (frame.Fills items) s i h = items_keep items s h
-frame_keeps types bodies (frame.Copies first t) s i h =
+frame_keeps types bodies (frame.AppliesAlone operator) s i none h = outcome_keeps (unary_given operator (newest named s)) (popped s) (less s h)
+frame_keeps types bodies (frame.Fills items) s i none h = items_keep items s h
+frame_keeps types bodies (frame.Copies first t) s i none h =
     copies_keep (newest named s) first (width_of types t) (look s.heap (newest named s)) (popped s) (less s h)
-frame_keeps types bodies (frame.Creates access count) s i h = new_keeps types access count (words_of types access) (home_of access s.masters) s h
-frame_keeps types bodies (frame.Stores x) s i h = put_kept _ _ (popped s) (less s h)
-frame_keeps types bodies (frame.Targets c right) s i h = target_keeps (newest named s) c right (look s.heap (newest named s)) (popped s) (less s h)
-frame_keeps types bodies (frame.StoresIn object c) s i h = store_keeps object c (newest named s) (look s.heap object) (popped s) (less s h)
-frame_keeps types bodies (frame.TargetsRecord first t items) s i h =
+frame_keeps types bodies (frame.Creates access count) s i none h = new_keeps types access count (words_of types access) (home_of access s.masters) s h
+frame_keeps types bodies (frame.Stores x) s i none h = put_kept _ _ (popped s) (less s h)
+frame_keeps types bodies (frame.Targets c right) s i none h = target_keeps (newest named s) c right (look s.heap (newest named s)) (popped s) (less s h)
+frame_keeps types bodies (frame.StoresIn object c) s i none h = store_keeps object c (newest named s) (look s.heap object) (popped s) (less s h)
+frame_keeps types bodies (frame.TargetsRecord first t items) s i none h =
     record_target_keeps (newest named s) first (width_of types t) items (look s.heap (newest named s)) (popped s) (less s h)
-frame_keeps types bodies (frame.StoresRecord object first count) s i h = store_record_keeps object first count (look s.heap object) s h
-frame_keeps types bodies (frame.Assigns t) s i h =
+frame_keeps types bodies (frame.StoresRecord object first count) s i none h = store_record_keeps object first count (look s.heap object) s h
+frame_keeps types bodies (frame.Assigns t) s i none h =
     assigns_keep types t (newest named (popped s)) (newest named s) (same (newest named (popped s)) (newest named s)) (popped (popped s))
     (less (popped s) (less s h))
-frame_keeps types bodies (frame.Receives c) s i h = receive_keeps (newest named s) c (look s.heap (newest named s)) (popped s) (less s h)
-frame_keeps types bodies (frame.FreesIn access c) s i h = free_in_keeps types access (newest named s) c (look s.heap (newest named s)) (popped s) (less s h)
-frame_keeps types bodies (frame.Declares x) s i h = put_kept _ _ (popped s) (less s h)
-frame_keeps types bodies (frame.DeclaresRecord x t) s i h = put_kept _ _ (without_newest named (words_of types t) s) (operands_kept _ s h)
-frame_keeps types bodies (frame.Treats v treatment tasks) s i h = treats_keep (shapes_of types) v treatment tasks (task_next tasks) s h
-frame_keeps types bodies frame.Writes s i h = line_keeps (reads_integer (newest named s)) (popped s) (less s h)
-frame_keeps types bodies (frame.Ends v) s i h = end_keeps v (look s.heap v) s h
-frame_keeps types bodies (frame.GivesBack v cause pool) s i h = back_keeps v cause pool (lent s.heap v) s h
-frame_keeps types bodies (frame.Clears x) s i h = put_kept _ _ s h
-frame_keeps types bodies (frame.ClearsIn object c) s i h = store_keeps object c Null (look s.heap object) s h
+frame_keeps types bodies (frame.Receives c) s i none h = receive_keeps (newest named s) c (look s.heap (newest named s)) (popped s) (less s h)
+frame_keeps types bodies (frame.FreesIn access c) s i none h = free_in_keeps types access (newest named s) c (look s.heap (newest named s)) (popped s) (less s h)
+frame_keeps types bodies (frame.Declares x) s i none h = put_kept _ _ (popped s) (less s h)
+frame_keeps types bodies (frame.DeclaresRecord x t) s i none h = put_kept _ _ (without_newest named (words_of types t) s) (operands_kept _ s h)
+frame_keeps types bodies (frame.Treats v treatment tasks) s i none h = treats_keep types bodies v treatment tasks (task_next tasks) s none h
+frame_keeps types bodies (frame.Awaits v by done of part tasks) s i none h = awaited_keeps v by done of part tasks (look s.heap v) s h
+frame_keeps types bodies frame.Confines s i none h = h
+frame_keeps types bodies (frame.Resumes mode) s i none h = h
+frame_keeps types bodies frame.Writes s i none h = line_keeps (reads_integer (newest named s)) (popped s) (less s h)
+frame_keeps types bodies (frame.Ends v) s i none h = end_keeps v (look s.heap v) s h
+frame_keeps types bodies (frame.GivesBack v cause pool) s i none h = back_keeps v cause pool (lent s.heap v) s h
+frame_keeps types bodies (frame.Clears x) s i none h = put_kept _ _ s h
+frame_keeps types bodies (frame.ClearsIn object c) s i none h = store_keeps object c Null (look s.heap object) s h

@@ -29,6 +29,20 @@ pub mod Records
 pub mod References
 -- assignments of records that have controlled parts
 pub mod RecordAssignments
+-- the operations of controlled types
+pub mod Operations
+-- what an exception that leaves one leaves to do, and how objects end
+pub mod Undoing
+-- which objects are freed
+pub mod Freeing
+-- when controlled parts are treated
+pub mod Treated
+-- where controlled parts begin, and whose operations they have
+pub mod Places
+-- in every run each part begins where it began
+pub mod PartsKept
+-- a program whose operations are called
+pub mod OperationExamples
 -- where a statement begins
 pub mod Beginnings
 -- what the law of the innermost master refuses

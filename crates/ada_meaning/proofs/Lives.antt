@@ -5,6 +5,7 @@ use Rattle.std.specs.List.{slice_get, slice_set, AllPairs, AllByRecursion}
 use Rattle.std.proofs.lemmas.List.Elements.{All-from_recursion}
 use Rattle.std.proofs.lemmas.List.Kept.{AllPairs-cons}
 use Rattle.ada_program.specs.declared.program.Program.{Program}
+use Rattle.ada_program.specs.declared.program.TypeDefinition.{TypeDefinition}
 use Rattle.ada_meaning.specs.declared.state.Id.{Id}
 use Rattle.ada_meaning.specs.declared.state.Value.{Value}
 use Rattle.ada_meaning.specs.declared.state.Value.TheVariants.{Null, Names, Scalar, Part}
@@ -84,23 +85,23 @@ keeps_stored xs o c [] = keeps_same xs
 keeps_stored xs o c (v ∷ vs) =
     keeps_later xs (store xs o c v) (stored_from named (store xs o c v) o (c + 1) vs) (keeps_on (filled c v) xs o (remains_filled c v)) (keeps_stored (store xs o c v) o (c + 1) vs)
 
-deed_keeps : (xs : Heap) (e : Event) (ys : Heap) → Deed xs e ys → KeepsObjects xs ys
-deed_keeps xs e ys (same b is) = subst (λ (zs : Heap). KeepsObjects xs zs) (sym is) (keeps_same xs)
-deed_keeps xs e ys (adds x b is) = subst (λ (zs : Heap). KeepsObjects xs zs) (sym is) (keeps_more xs x)
-deed_keeps xs e ys (parts v b is) = subst (λ (zs : Heap). KeepsObjects xs zs) (sym is) (keeps_on parted xs v remains_parted)
-deed_keeps xs e ys (finishes v b is) = subst (λ (zs : Heap). KeepsObjects xs zs) (sym is) (keeps_on finished xs v remains_finished)
-deed_keeps xs e ys (fills o c vs b is) = subst (λ (zs : Heap). KeepsObjects xs zs) (sym is) (keeps_stored xs o c vs)
-deed_keeps xs e ys (bears v part number b is) =
+deed_keeps : (types : List TypeDefinition) (xs : Heap) (e : Event) (ys : Heap) → Deed types xs e ys → KeepsObjects xs ys
+deed_keeps types xs e ys (same b is) = subst (λ (zs : Heap). KeepsObjects xs zs) (sym is) (keeps_same xs)
+deed_keeps types xs e ys (adds x b new is) = subst (λ (zs : Heap). KeepsObjects xs zs) (sym is) (keeps_more xs x)
+deed_keeps types xs e ys (parts v b is) = subst (λ (zs : Heap). KeepsObjects xs zs) (sym is) (keeps_on parted xs v remains_parted)
+deed_keeps types xs e ys (finishes v b is) = subst (λ (zs : Heap). KeepsObjects xs zs) (sym is) (keeps_on finished xs v remains_finished)
+deed_keeps types xs e ys (fills o c vs b is) = subst (λ (zs : Heap). KeepsObjects xs zs) (sym is) (keeps_stored xs o c vs)
+deed_keeps types xs e ys (bears v part number b is) =
     subst (λ (zs : Heap). KeepsObjects xs zs) (sym is) (keeps_on (treated (born_part number) part) xs v (remains_treated (born_part number) part))
-deed_keeps xs e ys (finalizes v part b is) =
+deed_keeps types xs e ys (finalizes v part b is) =
     subst (λ (zs : Heap). KeepsObjects xs zs) (sym is) (keeps_on (treated finalized_part part) xs v (remains_treated finalized_part part))
-deed_keeps xs e ys (returns o x b was out is) = subst (λ (zs : Heap). KeepsObjects xs zs) (sym is) (keeps_set xs o.0 x (returned x) was (remains_returned x))
+deed_keeps types xs e ys (returns o x b was out is) = subst (λ (zs : Heap). KeepsObjects xs zs) (sym is) (keeps_set xs o.0 x (returned x) was (remains_returned x))
 
 -- Over any run each name keeps its object.
 pub names_are_used_once : (program : Program) (s last : State) (events : List Event) → Run program s events last → KeepsObjects s.heap last.heap
 names_are_used_once program s last events here = keeps_same s.heap
 names_are_used_once program s last (e ∷ events) (there choice mid step rest) =
-    keeps_later s.heap mid.heap last.heap (deed_keeps s.heap e mid.heap (step_deed program s mid choice e step)) (names_are_used_once program mid last events rest)
+    keeps_later s.heap mid.heap last.heap (deed_keeps program.types.items s.heap e mid.heap (step_deed program s mid choice e step)) (names_are_used_once program mid last events rest)
 
 -- The object of a name later.
 kept_at : (xs ys : Heap) (i : ℕ) (x : Object) → KeepsObjects xs ys → slice_get xs i ≡ Some x → (y : Object) × ((slice_get ys i ≡ Some y) × Remains x y)
@@ -125,28 +126,28 @@ set_at (z ∷ xs) (suc i) x y is = set_at xs i x y is
 abbrev IsBackAt : Heap → Id → Type 0
 IsBackAt xs o = (x : Object) × ((object_at xs o ≡ Some x) × (x.out ≡ false))
 
-deed_back : (xs : Heap) (e : Event) (ys : Heap) (o : Id) → Deed xs e ys → back_of e ≡ Some o → IsBackAt ys o
-deed_back xs e ys o (same b is) back = absurd (cc)
-deed_back xs e ys o (adds x b is) back = absurd (cc)
-deed_back xs e ys o (parts v b is) back = absurd (cc)
-deed_back xs e ys o (finishes v b is) back = absurd (cc)
-deed_back xs e ys o (fills v c vs b is) back = absurd (cc)
-deed_back xs e ys o (bears v part number b is) back = absurd (cc)
-deed_back xs e ys o (finalizes v part b is) back = absurd (cc)
-deed_back xs e ys o (returns other x b was out is) back =
+deed_back : (types : List TypeDefinition) (xs : Heap) (e : Event) (ys : Heap) (o : Id) → Deed types xs e ys → back_of e ≡ Some o → IsBackAt ys o
+deed_back types xs e ys o (same b is) back = absurd (cc)
+deed_back types xs e ys o (adds x b new is) back = absurd (cc)
+deed_back types xs e ys o (parts v b is) back = absurd (cc)
+deed_back types xs e ys o (finishes v b is) back = absurd (cc)
+deed_back types xs e ys o (fills v c vs b is) back = absurd (cc)
+deed_back types xs e ys o (bears v part number b is) back = absurd (cc)
+deed_back types xs e ys o (finalizes v part b is) back = absurd (cc)
+deed_back types xs e ys o (returns other x b was out is) back =
     let one : other ≡ o = cc in
     let at_other : IsBackAt ys other = (returned x, (ap (λ (zs : Heap). object_at zs other) is ∙ set_at xs other.0 x (returned x) was, refl)) in
     subst (IsBackAt ys) one at_other
 
-deed_differs : (xs : Heap) (e : Event) (ys : Heap) (o : Id) (x : Object) → Deed xs e ys → object_at xs o ≡ Some x → x.out ≡ false → Differ (Some o) (back_of e)
-deed_differs xs e ys o x (same b is) at_o back = rw b tt
-deed_differs xs e ys o x (adds y b is) at_o back = rw b tt
-deed_differs xs e ys o x (parts v b is) at_o back = rw b tt
-deed_differs xs e ys o x (finishes v b is) at_o back = rw b tt
-deed_differs xs e ys o x (fills v c vs b is) at_o back = rw b tt
-deed_differs xs e ys o x (bears v part number b is) at_o back = rw b tt
-deed_differs xs e ys o x (finalizes v part b is) at_o back = rw b tt
-deed_differs xs e ys o x (returns other y b was out is) at_o back =
+deed_differs : (types : List TypeDefinition) (xs : Heap) (e : Event) (ys : Heap) (o : Id) (x : Object) → Deed types xs e ys → object_at xs o ≡ Some x → x.out ≡ false → Differ (Some o) (back_of e)
+deed_differs types xs e ys o x (same b is) at_o back = rw b tt
+deed_differs types xs e ys o x (adds y b new is) at_o back = rw b tt
+deed_differs types xs e ys o x (parts v b is) at_o back = rw b tt
+deed_differs types xs e ys o x (finishes v b is) at_o back = rw b tt
+deed_differs types xs e ys o x (fills v c vs b is) at_o back = rw b tt
+deed_differs types xs e ys o x (bears v part number b is) at_o back = rw b tt
+deed_differs types xs e ys o x (finalizes v part b is) at_o back = rw b tt
+deed_differs types xs e ys o x (returns other y b was out is) at_o back =
     rw b (λ (one : o ≡ other).
     let twice : Some x ≡ Some y = sym at_o ∙ ap (object_at xs) one ∙ was in
     let alike : x ≡ y = cc in
@@ -157,8 +158,8 @@ never_back : (program : Program) (s last : State) (events : List Event) (o : Id)
 never_back program s last events o x here at_o back = tt
 never_back program s last (e ∷ events) o x (there choice mid step rest) at_o back =
     let deed = step_deed program s mid choice e step in
-    let later = kept_at s.heap mid.heap o.0 x (deed_keeps s.heap e mid.heap deed) at_o in
-    (deed_differs s.heap e mid.heap o x deed at_o back, never_back program mid last events o later.0 rest later.1.0 (later.1.1.back back))
+    let later = kept_at s.heap mid.heap o.0 x (deed_keeps program.types.items s.heap e mid.heap deed) at_o in
+    (deed_differs program.types.items s.heap e mid.heap o x deed at_o back, never_back program mid last events o later.0 rest later.1.0 (later.1.1.back back))
 
 all_differ : (events : List Event) → AllByRecursion (λ e. Differ None (back_of e)) events
 all_differ [] = tt
@@ -167,7 +168,7 @@ all_differ (e ∷ events) = (tt, all_differ events)
 back_later : (program : Program) (s mid last : State) (e : Event) (events : List Event) (choice : Choice) (back : Option Id) → back_of e ≡ back → Step program s choice e mid → Run program mid events last → AllByRecursion (λ f. Differ back (back_of f)) events
 back_later program s mid last e events choice None is step rest = all_differ events
 back_later program s mid last e events choice (Some o) is step rest =
-    let gone = deed_back s.heap e mid.heap o (step_deed program s mid choice e step) is in
+    let gone = deed_back program.types.items s.heap e mid.heap o (step_deed program s mid choice e step) is in
     never_back program mid last events o gone.0 rest gone.1.0 gone.1.1
 
 pub back_once : (program : Program) (s last : State) (events : List Event) → Run program s events last → AllPairs BackTwoObjects events

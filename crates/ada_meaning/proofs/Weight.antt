@@ -1,14 +1,18 @@
 -- Each step that begins no statement makes a state lighter, so that a run comes to the next statement, or to its end.
 
-use Rattle.std.proofs.Common.{◌≡◌, ◌≢◌, ℕ, suc, ℤ, ◌+◌, ◌<◌, ◌≤◌, int_le, Bool, true, false, ◌==◌, ◌||◌, if◌then◌else◌, List, [], ◌∷◌, length, Option, Some, None, Result, Ok, Err, arith, refl, sym, ap, subst}
+use Rattle.std.proofs.Common.{◌≡◌, ◌≢◌, ℕ, suc, ℤ, ◌+◌, ◌<◌, ◌≤◌, int_le, Bool, true, false, ◌==◌, ◌||◌, if◌then◌else◌, List, [], ◌∷◌, length, map, Option, Some, None, is_some, Result, Ok, Err, arith, refl, sym, ap, ◌∙◌, subst}
 use Rattle.std.specs.List.{slice_get, slice_index_or}
 use Rattle.ada_program.specs.declared.program.Program.{Program}
 use Rattle.ada_program.specs.declared.program.TypeDefinition.{TypeDefinition}
 use Rattle.ada_program.specs.Form.{RecordPathForm, ActualForm, in_value, in_null, in_access, in_record, in_out_path, in_out_access, in_out_component, in_out_record, ExpressionForm, integer, boolean, reads, is_null, applied_to, chained, LinksForm, no_more_links, a_link, ItemForm, null_item, item_of_path, item_of_value, item_of_record, RightForm, nothing, value_of, allocates, allocates_default, computes, StmtForm, skips, assigns, assigns_record, frees, gets, writes, writes_text, chooses, repeats, counts, exits, calls, returns, raises, encloses, StmtsForm, no_stmts, a_stmt, BranchesForm, otherwise, a_branch, HandlersForm, DeclarationForm, creates_pool, collects, declares, declares_record}
 use Rattle.ada_program.specs.Handling.{handler_of}
 use Rattle.ada_program.specs.ProgramForm.{BodyForm, body_forms}
-use Rattle.ada_program.specs.Controlled.{shapes_of}
+use Rattle.ada_program.specs.declared.program.Operations.{Operations}
+use Rattle.ada_program.specs.Controlled.{OverridesNothing, shapes_of, operations_of, procedure_number}
 use Rattle.ada_parts.specs.declared.tasks.Direction.TheVariants.{PartsFirst, WholeFirst}
+use Rattle.ada_parts.specs.declared.tasks.Next.{Next as Follows}
+use Rattle.ada_parts.specs.declared.tasks.Next.TheVariants.{Done, Pick, Perform}
+use Rattle.ada_parts.specs.Part.{Part}
 use Rattle.ada_parts.specs.Task.{Task, performs, treats, next as task_next}
 use Rattle.ada_program.specs.Typed.{reached_of, words_of, width_of, pool_named}
 use Rattle.ada_values.specs.declared.operator.BinaryOperator.{BinaryOperator}
@@ -20,7 +24,7 @@ use Rattle.ada_meaning.specs.declared.state.Value.TheVariants.{Null}
 use Rattle.ada_meaning.specs.declared.state.Mode.{Mode}
 use Rattle.ada_meaning.specs.declared.state.Mode.TheVariants.{Running, Raising, Exiting, Returning}
 use Rattle.ada_meaning.specs.declared.event.Cause.{Cause}
-use Rattle.ada_meaning.specs.declared.event.Cause.TheVariants.{Leaving, Freeing, Assigning}
+use Rattle.ada_meaning.specs.declared.event.Cause.TheVariants.{Leaving, Freeing, Assigning, Undoing}
 use Rattle.ada_meaning.specs.declared.event.Birth.{Birth}
 use Rattle.ada_meaning.specs.declared.event.Birth.TheVariants.{Creation, Copy, Adjustment}
 use Rattle.ada_meaning.specs.declared.state.Stage.{Stage}
@@ -28,19 +32,20 @@ use Rattle.ada_meaning.specs.declared.state.Stage.TheVariants.{Building, Existin
 use Rattle.ada_program.specs.declared.program.Exception.{Exception}
 use Rattle.ada_meaning.specs.declared.event.Halt.TheVariants.{Erroneous, Memory, Stuck}
 use Rattle.ada_meaning.specs.declared.event.Why.TheVariants.{GivesElsewhere, FinalizesTwice}
-use Rattle.ada_meaning.specs.Frame.{Treatment, Frame, is_master, is_loop, is_return, Landing, passes_on, goes_behind, goes_in, handler_landing, exception_landing, begins_by}
+use Rattle.ada_meaning.specs.Frame.{Treatment, Frame, is_master, is_loop, is_return, Landing, passes_on, goes_behind, goes_in, breaks_off, escapes, operation_landing, handler_landing, exception_landing, begins_by}
 use Rattle.ada_meaning.specs.Frame as frame
-use Rattle.ada_meaning.specs.State.{Owned, declared, collection, record_object, storage_pool, Item, Master, Destination, height, home_of, pools_in, pool_for, pool_freed_to, counted, begins, begins_in, begins_among}
-use Rattle.ada_meaning.specs.Event.{Back, Finalized, Quiet}
+use Rattle.ada_meaning.specs.State.{Activation, Owned, declared, collection, record_object, storage_pool, Item, Master, Destination, height, home_of, pools_in, pool_for, pool_freed_to, counted, begins, begins_in, begins_among}
+use Rattle.ada_meaning.specs.Event.{Back, Finalized, Followed, Quiet}
 use Rattle.ada_meaning.specs.Heap.{PartState, Cell, Found, on_null, on_gone, on_other, finds}
-use Rattle.ada_meaning.specs.Step.{direction_of, picked_task, all_tasks, record_tasks, has_parts, treating, treated_on, born_next, finalized_next, performed_next, treats_next, made, taken_out, same_pool, told_back, record_cell, record_in, newest_ones, without_newest, initial_values, copied_next, copies_next, record_target_next, record_stored_next, store_record_next, record_next, halts, moves, tells, asks, picks, at, older, owning, shorter, popped, held, newest, reading, component_next, follow_next, path_next, selected, named_next, holder_next, place_in, record_holder_next, referred_next, refers_next, open_next, opened_next, opens_next, references_in, operand_count, storing, unwound, expression_next, null_test_next, is_decided, link_next, links_next, outcome_next, item_next, items_next, answered, new_next, new_cell, right_next, free_next, end_next, given_back, back_next, assigns_next, assign_next, copy_next, record_assign_next, frees_next, freed_next, free_component_next, free_in_next, branches_next, decided_next, turn_next, repeats_next, turned_next, count_turn_next, counts_next, ranges_next, gets_next, exit_next, exited_next, call_next, stmt_next, line_next, before_last, last_of, target_next, stored_next, store_next, received_next, receive_next, declaration_next, declarations_next, members_next, item_leave_next, master_leave_next, leave_next, frame_next, pass_next, running_next, mode_next}
-use Rattle.ada_meaning.specs.Named.{Object, State, Next, existing, created, parted, born_part, finalized_part, finalize, next, named, whole, inside, base, part_base, same, look, lent, reads_boolean, reads_null, reads_integer, unary_given, binary_given, members, on_object, returned, new_object, an_integer}
+use Rattle.ada_meaning.specs.Step.{direction_of, picked_task, all_tasks, record_tasks, has_parts, treating, treated_on, beginning, born_next, begun_next, awaited_next, ended_next, finalized_next, performed_next, treats_next, made, taken_out, same_pool, told_back, record_cell, record_in, newest_ones, without_newest, initial_values, copied_next, copies_next, record_target_next, record_stored_next, store_record_next, record_next, halts, moves, tells, asks, picks, at, older, owning, shorter, popped, held, newest, reading, component_next, follow_next, path_next, selected, named_next, holder_next, place_in, record_holder_next, referred_next, refers_next, open_next, opened_next, opens_next, references_in, operand_count, storing, unwound, expression_next, null_test_next, is_decided, link_next, links_next, outcome_next, item_next, items_next, answered, new_next, new_cell, right_next, freeing, freeing_next, free_next, end_next, given_back, back_next, assigns_next, assign_next, copy_next, record_assign_next, frees_next, freed_next, free_component_next, free_in_next, branches_next, decided_next, turn_next, repeats_next, turned_next, count_turn_next, counts_next, ranges_next, gets_next, exit_next, exited_next, call_next, stmt_next, line_next, before_last, last_of, target_next, stored_next, store_next, received_next, receive_next, declaration_next, declarations_next, members_next, item_leave_next, master_leave_next, leave_next, frame_next, undo_next, broken_next, landed, pass_next, running_next, mode_next}
+use Rattle.ada_meaning.specs.Named.{Object, State, Next, existing, created, parted, born_part, finalized_part, finalize, next, named, whole, inside, base, part_base, same, look, standing, lent, reads_boolean, reads_null, reads_integer, unary_given, binary_given, members, on_object, returned, new_object, an_integer}
 use Rattle.ada_meaning.specs.Run.{Event, Choice, settled, grants, takes, Leads, Step}
 use Rattle.ada_meaning.specs.Beginning.{BeginsStatement}
-use Rattle.ada_meaning.specs.Ending.{steps_of_any, record_steps, tasks_weight, treatment_weight, new_weight, path_weight, expression_weight, links_weight, item_weight, items_weight, right_weight, branches_weight, condition_weight, initial_weight, declaration_weight, declarations_weight, frame_weight, has_handlers, stored_behind, pass_weight, passed_weight, by_mode, behind_weight, run_weight, exit_weight, return_weight, heap_weight, masters_weight, weight, GoesOn, WithinStatement, here, there}
+use Rattle.ada_meaning.specs.Ending.{steps_of_any, record_steps, tasks_weight, treatment_weight, new_weight, path_weight, expression_weight, links_weight, item_weight, items_weight, right_weight, branches_weight, condition_weight, initial_weight, declaration_weight, declarations_weight, frame_weight, has_handlers, stored_behind, pass_weight, passed_weight, by_mode, behind_weight, run_weight, exit_weight, return_weight, heap_weight, masters_weight, weight, undone_behind, task_calls, frame_calls, calls_among, calls_in, calls_operation, NothingIsCalled, GoesOn, StatementsEnd, here, there}
 use Rattle.ada_meaning.proofs.Members.{IsListed, member_seen, part_lighter, member_listed, heap_append, finished_lighter, returned_lighter, filled_lighter, stored_lighter, parted_lighter, taken_lighter}
 use Rattle.ada_meaning.proofs.Beginnings.{statements_begin}
 use Rattle.ada_meaning.proofs.Treatments.{tasks_lighter, treatment_any, record_lighter, picked_lighter, treating_weight}
+use Rattle.ada_meaning.proofs.Activations.{number_there, Operates, treats_operate}
 use Rattle.ada_meaning.proofs.Jumps.{unwound_to, unwound_by, master_no_loop, master_no_return}
 
 -- The state in a mode.
@@ -151,6 +156,9 @@ module _ (types : List TypeDefinition) where
   frame_passed (frame.Declares x) passed exited returned run h i j = omega (arith, h)
   frame_passed (frame.DeclaresRecord x t) passed exited returned run h i j = omega (arith, h)
   frame_passed (frame.Treats v treatment tasks) passed exited returned run h i j = omega (arith, h)
+  frame_passed (frame.Awaits v by done of part tasks) passed exited returned run h i j = omega (arith, h)
+  frame_passed frame.Confines passed exited returned run h i j = omega (arith, h)
+  frame_passed (frame.Resumes mode) passed exited returned run h i j = omega (arith, mode_passed mode passed exited returned run h i j)
   frame_passed frame.Writes passed exited returned run h i j = omega (arith, h)
   frame_passed (frame.Ends v) passed exited returned run h i j = omega (arith, h)
   frame_passed (frame.GivesBack v cause pool) passed exited returned run h i j = omega (arith, h)
@@ -297,7 +305,7 @@ module _ (types : List TypeDefinition) where
       (access count words : ℕ) (home : Destination) (s : State) (w : ℕ) → load (running s) + 1 + new_weight types access ≤ w
       → (granted : Bool) → load (answered named types access count words home (running s) granted) < w
   answered_lightens access count words home s w h true =
-      let initializes = treating_weight types (created s.heap words) (frame.begins Creation) (all_tasks types access PartsFirst) s.control in
+      let initializes = treating_weight types (created s.heap words) (frame.begins Creation []) (all_tasks types access PartsFirst) s.control in
       omega (
         arith,
         h,
@@ -390,9 +398,9 @@ module _ (types : List TypeDefinition) where
   assigns_lighten t target source (Some false) s w h =
       let o = whole target in
       let part = part_base target in
-      let adjusts = treating o (frame.begins (Adjustment s.next)) (record_tasks types t PartsFirst part) s.control in
+      let adjusts = treating o (frame.begins (Adjustment s.next) []) (record_tasks types t PartsFirst part) s.control in
       let copies = frame.Copies (base source) t ∷ frame.StoresRecord o (base target) (width_of types t) ∷ adjusts in
-      let adjusted = treating_weight types o (frame.begins (Adjustment s.next)) (record_tasks types t PartsFirst part) s.control in
+      let adjusted = treating_weight types o (frame.begins (Adjustment s.next) []) (record_tasks types t PartsFirst part) s.control in
       let finalized = treating_weight types o (frame.ends (Assigning s.next)) (record_tasks types t WholeFirst part) copies in
       omega (arith, h, adjusted, finalized, record_lighter types t PartsFirst part, record_lighter types t WholeFirst part)
 
@@ -407,23 +415,36 @@ module _ (types : List TypeDefinition) where
   receive_lightens o c on_other s w h = λ memory. cc
   receive_lightens o c (finds cell) s w h = received_lightens o c s.input (slice_get cell.values c) s w h
 
-  -- A component that is freed: an end and a back are to come, and the component is to be cleared.
+  -- An object that is freed: an end and a back are to come, and then what held its name is to be cleared.
+  freeing_lightens :
+      (access : ℕ) (v : Value) (cell : Cell Value) (clears : Frame Value) (event : Event) (s : State) (w : ℕ)
+      → run_weight types (clears ∷ s.control) ≡ 1 + run_weight types s.control
+      → load (running s) + 5 + steps_of_any (shapes_of types) ≤ w → Lightens (freeing_next named types access v cell clears event (running s)) w
+  freeing_lightens access v cell clears event s w one h = by_pool (same_pool (Some (pool_freed_to (home_of access s.masters))) cell.home.pool)
+    where
+      by_pool :
+          (own : Bool)
+          → Lightens (if own then moves event (freeing named types access v cell clears (running s)) else halts (Erroneous GivesElsewhere)) w
+      by_pool true =
+          let behind = frame.Ends v ∷ frame.GivesBack v (Freeing s.next) (Some (pool_freed_to (home_of access s.masters))) ∷ clears ∷ s.control in
+          let finalizes = treating_weight types v (frame.ends (Freeing s.next)) (all_tasks types cell.access WholeFirst) behind in
+          omega (arith, h, one, parted_lighter types s.heap v, finalizes, treatment_any types cell.access)
+      by_pool false = λ memory. cc
+
+  -- A component that is freed.
   freed_lightens :
       (access : ℕ) (o : Value) (c : ℕ) (v : Value) (found : Found (Cell Value)) (s : State) (w : ℕ)
       → load (running s) + 5 + steps_of_any (shapes_of types) ≤ w → Lightens (freed_next named types access o c v found (running s)) w
   freed_lightens access o c v on_null s w h = omega (arith, h)
   freed_lightens access o c v on_gone s w h = λ memory. cc
   freed_lightens access o c v on_other s w h = λ memory. cc
-  freed_lightens access o c v (finds cell) s w h =
-      let behind = frame.Ends v ∷ frame.GivesBack v (Freeing s.next) (Some (pool_freed_to (home_of access s.masters))) ∷ frame.ClearsIn o c ∷ s.control in
-      let finalizes = treating_weight types v (frame.ends (Freeing s.next)) (all_tasks types cell.access WholeFirst) behind in
-      omega (arith, h, parted_lighter types s.heap v, finalizes, treatment_any types cell.access)
+  freed_lightens access o c v (finds cell) s w h = freeing_lightens access v cell (frame.ClearsIn o c) (Followed o) s w refl h
 
   free_component_lightens :
       (access : ℕ) (o : Value) (c : ℕ) (held : Option Value) (s : State) (w : ℕ) → load (running s) + 5 + steps_of_any (shapes_of types) ≤ w
       → Lightens (free_component_next named types access o c held (running s)) w
   free_component_lightens access o c None s w h = λ memory. cc
-  free_component_lightens access o c (Some v) s w h = freed_lightens access o c v (look s.heap v) s w h
+  free_component_lightens access o c (Some v) s w h = freed_lightens access o c v (standing s.heap v) s w h
 
   free_in_lightens :
       (access : ℕ) (o : Value) (c : ℕ) (found : Found (Cell Value)) (s : State) (w : ℕ)
@@ -550,7 +571,7 @@ module _ (types : List TypeDefinition) where
       (x t : ℕ) (by : Birth) (values : List Value) (s : State) (w : ℕ) → load (running s) + 2 + new_weight types t ≤ w
       → load (made named types x t by values (running s)) < w
   made_lightens x t by values s w h =
-      let initializes = treating_weight types (created s.heap (words_of types t)) (frame.begins by) (all_tasks types t PartsFirst) s.control in
+      let initializes = treating_weight types (created s.heap (words_of types t)) (frame.begins by []) (all_tasks types t PartsFirst) s.control in
       let owned = masters_owning (record { number = height s.masters; owned = record_object t }) s.masters in
       let more = heap_append types s.heap (new_object (record_cell named types t (height s.masters) values) ∷ []) in
       omega (arith, h, owned, more, initializes, tasks_lighter types t PartsFirst)
@@ -634,39 +655,72 @@ module _ (types : List TypeDefinition) where
   leave_lightens mode [] s w top h = λ memory. cc
   leave_lightens mode (m ∷ ms) s w top h = master_leaves_lighter mode m ms m.items s w top refl h
 
-  -- The treatment of an object.
+  -- The treatment of an object, where no operation is called.
   born_lightens :
-      (v : Value) (of part : ℕ) (by : Birth) (tasks : List Task) (state : Option PartState) (s : State) (w : ℕ)
-      → load (running s) + 2 + tasks_weight (shapes_of types) tasks ≤ w
-      → Lightens (born_next named v of part by state (treated_on named v (frame.begins by) tasks (running s))) w
-  born_lightens v of part by tasks None s w h = λ memory. cc
-  born_lightens v of part by tasks (Some p) s w h =
-      omega (arith, h, part_lighter types (born_part (counted s.born)) part s.heap v, treating_weight types v (frame.begins by) tasks s.control)
+      (v : Value) (by : Birth) (done : List Part) (of part : ℕ) (tasks : List Task) (state : Option PartState) (s : State) (w : ℕ)
+      → load (running s) + 2 + tasks_weight (shapes_of types) tasks ≤ w → Lightens (born_next named v by done of part tasks state (running s)) w
+  born_lightens v by done of part tasks None s w h = λ memory. cc
+  born_lightens v by done of part tasks (Some p) s w h =
+      let begins = treating_weight types v (frame.begins by (record { of = of; number = part } ∷ done)) tasks s.control in
+      omega (arith, h, part_lighter types (born_part (counted s.born)) part s.heap v, begins)
+
+  begun_lightens :
+      (bodies : List BodyForm) (v : Value) (by : Birth) (done : List Part) (of part : ℕ) (tasks : List Task) (operation : Option ℕ)
+      (state : Option PartState) (s : State) (w : ℕ) → is_some operation ≡ false → load (running s) + 2 + tasks_weight (shapes_of types) tasks ≤ w
+      → Lightens (begun_next named bodies v by done of part tasks operation state (running s)) w
+  begun_lightens bodies v by done of part tasks operation None s w none h = λ memory. cc
+  begun_lightens bodies v by done of part tasks None (Some p) s w none h = born_lightens v by done of part tasks (Some p) s w h
+  begun_lightens bodies v by done of part tasks (Some procedure) (Some p) s w none h = absurd (cc)
+
+  awaited_lightens :
+      (v : Value) (by : Birth) (done : List Part) (of part : ℕ) (tasks : List Task) (found : Found (Cell Value)) (s : State) (w : ℕ)
+      → load (running s) + 2 + tasks_weight (shapes_of types) tasks ≤ w → Lightens (awaited_next named v by done of part tasks found (running s)) w
+  awaited_lightens v by done of part tasks on_null s w h = λ memory. cc
+  awaited_lightens v by done of part tasks on_gone s w h = λ memory. cc
+  awaited_lightens v by done of part tasks on_other s w h = λ memory. cc
+  awaited_lightens v by done of part tasks (finds cell) s w h = born_lightens v by done of part tasks (slice_get cell.parts part) s w h
+
+  ended_lightens :
+      (bodies : List BodyForm) (v : Value) (part : ℕ) (p : PartState) (behind : List (Frame Value)) (operation : Option ℕ) (event : Event) (s : State) (w : ℕ)
+      → is_some operation ≡ false → load (running (at behind s)) < w → Lightens (ended_next named bodies v part p behind operation event (running s)) w
+  ended_lightens bodies v part p behind None event s w none h = h
+  ended_lightens bodies v part p behind (Some procedure) event s w none h = absurd (cc)
 
   finalized_lightens :
-      (v : Value) (of part : ℕ) (cause : Cause) (tasks : List Task) (state : Option PartState) (s : State) (w : ℕ)
-      → load (running s) + 2 + tasks_weight (shapes_of types) tasks ≤ w
-      → Lightens (finalized_next named v of part cause state (treated_on named v (frame.ends cause) tasks (running s))) w
-  finalized_lightens v of part cause tasks None s w h = λ memory. cc
-  finalized_lightens v of part cause tasks (Some p) s w h = by_life p.alive
+      (bodies : List BodyForm) (v : Value) (cause : Cause) (of part : ℕ) (tasks : List Task) (operation : Option ℕ)
+      (state : Option PartState) (s : State) (w : ℕ) → is_some operation ≡ false → load (running s) + 2 + tasks_weight (shapes_of types) tasks ≤ w
+      → Lightens (finalized_next named bodies v cause of part tasks operation state (running s)) w
+  finalized_lightens bodies v cause of part tasks operation None s w none h = λ memory. cc
+  finalized_lightens bodies v cause of part tasks operation (Some p) s w none h = by_life p.alive
     where
+      behind : List (Frame Value)
+      behind = treating v (frame.ends cause) tasks s.control
+
+      event : Event
+      event = Finalized v part p.turn of p.number cause
+
       by_life :
           (alive : Bool)
           → Lightens
-          (if alive then moves (Finalized v part p.turn of p.number cause) (record (treated_on named v (frame.ends cause) tasks (running s)) { heap = finalize s.heap v part })
+          (if alive then ended_next named bodies v part p behind operation event (running (record s { heap = finalize s.heap v part }))
           else halts (Erroneous FinalizesTwice)) w
-      by_life true = omega (arith, h, part_lighter types finalized_part part s.heap v, treating_weight types v (frame.ends cause) tasks s.control)
+      by_life true =
+          ended_lightens bodies v part p behind operation event (record s { heap = finalize s.heap v part }) w none
+          (omega (arith, h, part_lighter types finalized_part part s.heap v, treating_weight types v (frame.ends cause) tasks s.control))
       by_life false = λ memory. cc
 
   performed_lightens :
-      (v : Value) (treatment : Treatment) (of part : ℕ) (tasks : List Task) (found : Found (Cell Value)) (s : State) (w : ℕ)
-      → load (running s) + 2 + tasks_weight (shapes_of types) tasks ≤ w
-      → Lightens (performed_next named v treatment of part found (treated_on named v treatment tasks (running s))) w
-  performed_lightens v treatment of part tasks on_null s w h = λ memory. cc
-  performed_lightens v treatment of part tasks on_gone s w h = λ memory. cc
-  performed_lightens v treatment of part tasks on_other s w h = λ memory. cc
-  performed_lightens v (frame.begins by) of part tasks (finds cell) s w h = born_lightens v of part by tasks (slice_get cell.parts part) s w h
-  performed_lightens v (frame.ends cause) of part tasks (finds cell) s w h = finalized_lightens v of part cause tasks (slice_get cell.parts part) s w h
+      (bodies : List BodyForm) (v : Value) (treatment : Treatment) (of part : ℕ) (tasks : List Task) (found : Found (Cell Value)) (s : State) (w : ℕ)
+      → task_calls types treatment (Perform of part) ≡ false → load (running s) + 2 + tasks_weight (shapes_of types) tasks ≤ w
+      → Lightens (performed_next named types bodies v treatment of part tasks found (running s)) w
+  performed_lightens bodies v treatment of part tasks on_null s w none h = λ memory. cc
+  performed_lightens bodies v treatment of part tasks on_gone s w none h = λ memory. cc
+  performed_lightens bodies v treatment of part tasks on_other s w none h = λ memory. cc
+  performed_lightens bodies v (frame.begins by done) of part tasks (finds cell) s w none h =
+      begun_lightens bodies v by done of part tasks (beginning by (operations_of types of)) (slice_get cell.parts part) s w none h
+  performed_lightens bodies v (frame.ends cause) of part tasks (finds cell) s w none h =
+      let operation = (operations_of types of).finalize in
+      finalized_lightens bodies v cause of part tasks (procedure_number operation) (slice_get cell.parts part) s w (number_there operation ∙ none) h
 
   picked_lightens :
       (none : Bool) (count : ℕ) (taking : ℕ → State) (w : ℕ) → 0 < count → ((i : ℕ) → i < count → load (taking i) < w)
@@ -675,176 +729,204 @@ module _ (types : List TypeDefinition) where
   picked_lightens false count taking w some lighter = (some, lighter)
 
   treats_lightens :
-      (v : Value) (treatment : Treatment) (tasks : List Task) (s : State) (w : ℕ) → load (running s) + 1 + tasks_weight (shapes_of types) tasks ≤ w
-      → Lightens (treats_next named (shapes_of types) v treatment tasks (task_next tasks) (running s)) w
-  treats_lightens v treatment [] s w h = omega (arith, h)
-  treats_lightens v treatment (performs of part ∷ tasks) s w h = performed_lightens v treatment of part tasks (look s.heap v) s w (omega (arith, h))
-  treats_lightens v treatment (treats [] ∷ tasks) s w h = λ memory. cc
-  treats_lightens v treatment (treats (c ∷ cs) ∷ tasks) s w h =
+      (bodies : List BodyForm) (v : Value) (treatment : Treatment) (tasks : List Task) (s : State) (w : ℕ)
+      → task_calls types treatment (task_next tasks) ≡ false → load (running s) + 1 + tasks_weight (shapes_of types) tasks ≤ w
+      → Lightens (treats_next named types bodies v treatment tasks (task_next tasks) (running s)) w
+  treats_lightens bodies v treatment [] s w none h = omega (arith, h)
+  treats_lightens bodies v treatment (performs of part ∷ tasks) s w none h =
+      performed_lightens bodies v treatment of part tasks (look s.heap v) s w none (omega (arith, h))
+  treats_lightens bodies v treatment (treats [] ∷ tasks) s w none h = λ memory. cc
+  treats_lightens bodies v treatment (treats (c ∷ cs) ∷ tasks) s w none h =
       let left : ℕ → List Task = λ i. picked_task (shapes_of types) (direction_of treatment) (treats (c ∷ cs) ∷ tasks) i in
       picked_lightens (length (c ∷ cs) == 0) (length (c ∷ cs)) (λ i. treated_on named v treatment (left i) (running s)) w (omega arith) (λ i lt.
       omega (arith, h, treating_weight types v treatment (left i) s.control, picked_lighter types (direction_of treatment) (c ∷ cs) tasks i lt))
 
-  -- Each frame that is taken off, unless a statement begins.
+  -- Each frame that is taken off, unless a statement begins, or an operation is called.
   frame_lightens :
-      (bodies : List BodyForm) (f : Frame Value) (s : State) (w : ℕ) → begins_by f ≡ false
+      (bodies : List BodyForm) (f : Frame Value) (s : State) (w : ℕ) → begins_by f ≡ false → frame_calls types f ≡ false
       → stored s + run_weight types (f ∷ s.control) ≤ w → Lightens (frame_next named types bodies f (running s)) w
-  frame_lightens bodies (frame.Elaborates ds fs hs) s w b h = declarations_lighten ds fs hs s w (omega (arith, h))
-  frame_lightens bodies (frame.Does no_stmts) s w b h = omega (arith, h)
-  frame_lightens bodies (frame.Does (a_stmt f fs)) s w b h = absurd (cc)
-  frame_lightens bodies (frame.Decides fs branches) s w b h =
+  frame_lightens bodies (frame.Elaborates ds fs hs) s w b none h = declarations_lighten ds fs hs s w (omega (arith, h))
+  frame_lightens bodies (frame.Does no_stmts) s w b none h = omega (arith, h)
+  frame_lightens bodies (frame.Does (a_stmt f fs)) s w b none h = absurd (cc)
+  frame_lightens bodies (frame.Decides fs branches) s w b none h =
       decided_lightens fs branches (reads_boolean (newest named s)) (popped s) w (omega (arith, h, some_branches branches)) (omega (arith, h))
-  frame_lightens bodies (frame.Repeats condition fs) s w b h = repeats_lighten condition fs s w (omega (arith, h))
-  frame_lightens bodies (frame.Turns condition fs) s w b h = turned_lightens condition fs (reads_boolean (newest named s)) (popped s) w (omega (arith, h))
-  frame_lightens bodies (frame.Ranges x fs) s w b h =
+  frame_lightens bodies (frame.Repeats condition fs) s w b none h = repeats_lighten condition fs s w (omega (arith, h))
+  frame_lightens bodies (frame.Turns condition fs) s w b none h = turned_lightens condition fs (reads_boolean (newest named s)) (popped s) w (omega (arith, h))
+  frame_lightens bodies (frame.Ranges x fs) s w b none h =
       ranges_lighten x fs (reads_integer (newest named (popped s))) (reads_integer (newest named s)) (popped (popped s)) w (omega (arith, h))
-  frame_lightens bodies (frame.Counts x value last fs) s w b h = counts_lighten x value last fs s w (omega (arith, h))
-  frame_lightens bodies frame.Exits s w b h = exited_lightens (reads_boolean (newest named s)) (popped s) w (omega (arith, h))
-  frame_lightens bodies (frame.Handles hs) s w b h = omega (arith, h)
-  frame_lightens bodies frame.Closes s w b h = omega (arith, h)
-  frame_lightens bodies (frame.Leaves mode) s w b h = leave_lightens mode s.masters s w refl (omega (arith, h))
-  frame_lightens bodies (frame.Calls procedure body actuals) s w b h =
+  frame_lightens bodies (frame.Counts x value last fs) s w b none h = counts_lighten x value last fs s w (omega (arith, h))
+  frame_lightens bodies frame.Exits s w b none h = exited_lightens (reads_boolean (newest named s)) (popped s) w (omega (arith, h))
+  frame_lightens bodies (frame.Handles hs) s w b none h = omega (arith, h)
+  frame_lightens bodies frame.Closes s w b none h = omega (arith, h)
+  frame_lightens bodies (frame.Leaves mode) s w b none h = leave_lightens mode s.masters s w refl (omega (arith, h))
+  frame_lightens bodies (frame.Calls procedure body actuals) s w b none h =
       omega (arith, h, few_references actuals (newest_ones named (operand_count actuals) s))
-  frame_lightens bodies (frame.Returns actuals references) s w b h = omega (arith, h, storing_weight references s.control)
-  frame_lightens bodies (frame.Evaluates right) s w b h = right_lightens right s w (omega (arith, h))
-  frame_lightens bodies (frame.Computes e) s w b h = expression_lightens e s w (omega (arith, h))
-  frame_lightens bodies (frame.Follows cs) s w b h = path_lightens cs (newest named s) (popped s) w (omega (arith, h))
-  frame_lightens bodies (frame.TestsNull equal) s w b h = null_test_lightens equal (reads_null (newest named s)) (popped s) w (omega (arith, h))
-  frame_lightens bodies (frame.Refers p) s w b h =
+  frame_lightens bodies (frame.Returns actuals references) s w b none h = omega (arith, h, storing_weight references s.control)
+  frame_lightens bodies (frame.Evaluates right) s w b none h = right_lightens right s w (omega (arith, h))
+  frame_lightens bodies (frame.Computes e) s w b none h = expression_lightens e s w (omega (arith, h))
+  frame_lightens bodies (frame.Follows cs) s w b none h = path_lightens cs (newest named s) (popped s) w (omega (arith, h))
+  frame_lightens bodies (frame.TestsNull equal) s w b none h = null_test_lightens equal (reads_null (newest named s)) (popped s) w (omega (arith, h))
+  frame_lightens bodies (frame.Refers p) s w b none h =
       record_holder_lightens p (λ place. frame.RefersIn place p.record_type) s w (λ place. refl) (omega (arith, h))
-  frame_lightens bodies (frame.RefersIn place t) s w b h =
+  frame_lightens bodies (frame.RefersIn place t) s w b none h =
       refers_lighten (newest named s) place (width_of types t) (look s.heap (newest named s)) (popped s) w (omega (arith, h))
-  frame_lightens bodies (frame.Opens path) s w b h = open_lightens path.selectors path.root s w (omega (arith, h))
-  frame_lightens bodies (frame.OpensIn c) s w b h = opens_lighten (newest named s) c (look s.heap (newest named s)) (popped s) w (omega (arith, h))
-  frame_lightens bodies (frame.Continues links) s w b h = links_lighten links s w (omega (arith, h))
-  frame_lightens bodies (frame.Applies operator) s w b h =
+  frame_lightens bodies (frame.Opens path) s w b none h = open_lightens path.selectors path.root s w (omega (arith, h))
+  frame_lightens bodies (frame.OpensIn c) s w b none h = opens_lighten (newest named s) c (look s.heap (newest named s)) (popped s) w (omega (arith, h))
+  frame_lightens bodies (frame.Continues links) s w b none h = links_lighten links s w (omega (arith, h))
+  frame_lightens bodies (frame.Applies operator) s w b none h =
       outcome_lightens (binary_given operator (newest named (popped s)) (newest named s)) (popped (popped s)) w (omega (arith, h))
-  frame_lightens bodies (frame.AppliesAlone operator) s w b h = outcome_lightens (unary_given operator (newest named s)) (popped s) w (omega (arith, h))
-  frame_lightens bodies (frame.Fills items) s w b h = items_lighten items s w (omega (arith, h))
-  frame_lightens bodies (frame.Copies first t) s w b h =
+  frame_lightens bodies (frame.AppliesAlone operator) s w b none h = outcome_lightens (unary_given operator (newest named s)) (popped s) w (omega (arith, h))
+  frame_lightens bodies (frame.Fills items) s w b none h = items_lighten items s w (omega (arith, h))
+  frame_lightens bodies (frame.Copies first t) s w b none h =
       copies_lighten (newest named s) first (width_of types t) (look s.heap (newest named s)) (popped s) w (omega (arith, h))
-  frame_lightens bodies (frame.Creates access count) s w b h =
+  frame_lightens bodies (frame.Creates access count) s w b none h =
       new_lightens access count (words_of types access) (home_of access s.masters) s w (omega (arith, h))
-  frame_lightens bodies (frame.Stores x) s w b h = omega (arith, h)
-  frame_lightens bodies (frame.Targets c right) s w b h =
+  frame_lightens bodies (frame.Stores x) s w b none h = omega (arith, h)
+  frame_lightens bodies (frame.Targets c right) s w b none h =
       target_lightens (newest named s) c right (look s.heap (newest named s)) (popped s) w (omega (arith, h))
-  frame_lightens bodies (frame.StoresIn object c) s w b h =
+  frame_lightens bodies (frame.StoresIn object c) s w b none h =
       store_lightens object c (newest named s) (look s.heap object) (popped s) w (omega (arith, h))
-  frame_lightens bodies (frame.TargetsRecord first t items) s w b h =
+  frame_lightens bodies (frame.TargetsRecord first t items) s w b none h =
       record_target_lightens (newest named s) first (width_of types t) items (look s.heap (newest named s)) (popped s) w (omega (arith, h))
-  frame_lightens bodies (frame.StoresRecord object first count) s w b h =
+  frame_lightens bodies (frame.StoresRecord object first count) s w b none h =
       store_record_lightens object first count (look s.heap object) s w (omega (arith, h))
-  frame_lightens bodies (frame.Assigns t) s w b h =
+  frame_lightens bodies (frame.Assigns t) s w b none h =
       let target = newest named (popped s) in
       let source = newest named s in
       assigns_lighten t target source (same target source) (popped (popped s)) w (omega (arith, h))
-  frame_lightens bodies (frame.Receives c) s w b h =
+  frame_lightens bodies (frame.Receives c) s w b none h =
       receive_lightens (newest named s) c (look s.heap (newest named s)) (popped s) w (omega (arith, h))
-  frame_lightens bodies (frame.FreesIn access c) s w b h =
+  frame_lightens bodies (frame.FreesIn access c) s w b none h =
       free_in_lightens access (newest named s) c (look s.heap (newest named s)) (popped s) w (omega (arith, h))
-  frame_lightens bodies (frame.Declares x) s w b h = omega (arith, h, masters_owning (record { number = height s.masters; owned = declared x }) s.masters)
-  frame_lightens bodies (frame.DeclaresRecord x t) s w b h =
+  frame_lightens bodies (frame.Declares x) s w b none h = omega (arith, h, masters_owning (record { number = height s.masters; owned = declared x }) s.masters)
+  frame_lightens bodies (frame.DeclaresRecord x t) s w b none h =
       made_lightens x t Copy (newest_ones named (words_of types t) s) (without_newest named (words_of types t) s) w (omega (arith, h))
-  frame_lightens bodies (frame.Treats v treatment tasks) s w b h = treats_lightens v treatment tasks s w (omega (arith, h))
-  frame_lightens bodies frame.Writes s w b h = line_lightens (reads_integer (newest named s)) (popped s) w (omega (arith, h))
-  frame_lightens bodies (frame.Ends v) s w b h = end_lightens v (look s.heap v) s w (omega (arith, h))
-  frame_lightens bodies (frame.GivesBack v cause pool) s w b h = back_lightens v cause pool (lent s.heap v) s w (omega (arith, h))
-  frame_lightens bodies (frame.Clears x) s w b h = omega (arith, h)
-  frame_lightens bodies (frame.ClearsIn object c) s w b h = store_lightens object c Null (look s.heap object) s w (omega (arith, h))
+  frame_lightens bodies (frame.Treats v treatment tasks) s w b none h = treats_lightens bodies v treatment tasks s w none (omega (arith, h))
+  frame_lightens bodies (frame.Awaits v by done of part tasks) s w b none h =
+      awaited_lightens v by done of part tasks (look s.heap v) s w (omega (arith, h))
+  frame_lightens bodies frame.Confines s w b none h = omega (arith, h)
+  frame_lightens bodies (frame.Resumes mode) s w b none h = omega (arith, h)
+  frame_lightens bodies frame.Writes s w b none h = line_lightens (reads_integer (newest named s)) (popped s) w (omega (arith, h))
+  frame_lightens bodies (frame.Ends v) s w b none h = end_lightens v (look s.heap v) s w (omega (arith, h))
+  frame_lightens bodies (frame.GivesBack v cause pool) s w b none h = back_lightens v cause pool (lent s.heap v) s w (omega (arith, h))
+  frame_lightens bodies (frame.Clears x) s w b none h = omega (arith, h)
+  frame_lightens bodies (frame.ClearsIn object c) s w b none h = store_lightens object c Null (look s.heap object) s w (omega (arith, h))
 
   running_lightens :
-      (bodies : List BodyForm) (k : List (Frame Value)) (s : State) (w : ℕ) → begins_among k ≡ false → stored s + run_weight types k ≤ w
-      → Lightens (running_next named types bodies k (running s)) w
-  running_lightens bodies [] s w b h = λ memory. cc
-  running_lightens bodies (f ∷ k) s w b h = frame_lightens bodies f (at k s) w b h
+      (bodies : List BodyForm) (k : List (Frame Value)) (s : State) (w : ℕ) → begins_among k ≡ false → calls_among types k ≡ false
+      → stored s + run_weight types k ≤ w → Lightens (running_next named types bodies k (running s)) w
+  running_lightens bodies [] s w b none h = λ memory. cc
+  running_lightens bodies (f ∷ k) s w b none h = frame_lightens bodies f (at k s) w b none h
 
-  -- A frame that an exception passes: a master is to be left before, and it lands in handlers alone.
-  abbrev LandsIn : Bool → Landing → Type 0
-  LandsIn handlers passes_on = Unit {0}
-  LandsIn handlers goes_behind = ⊥
-  LandsIn handlers (goes_in fs) = handlers ≡ true
+  -- Where a jump comes out of an operation, what has begun of its object is undone, or the run ends.
+  done_weight : (done : List Part) → tasks_weight (shapes_of types) (map (λ p. performs p.of p.number) done) ≡ length done
+  done_weight [] = refl
+  done_weight (p ∷ done) = omega (arith, done_weight done)
 
-  handler_lands : (taken : Option StmtsForm) → LandsIn true (handler_landing taken)
-  handler_lands None = tt
-  handler_lands (Some fs) = refl
+  undo_lightens :
+      (e : Exception) (v : Value) (done : List Part) (found : Found (Cell Value)) (s : State) (w : ℕ)
+      → stored s + passed_weight s.control + 5 + length done ≤ w → Lightens (undo_next named e v done found (in_mode (Raising e) s)) w
+  undo_lightens e v done on_null s w h = λ memory. cc
+  undo_lightens e v done on_gone s w h = λ memory. cc
+  undo_lightens e v done on_other s w h = λ memory. cc
+  undo_lightens e v done (finds cell) s w h =
+      let behind = frame.Ends v ∷ frame.GivesBack v (Undoing s.next) cell.home.pool ∷ frame.Resumes (Raising e) ∷ s.control in
+      let finalizes = treating_weight types v (frame.ends (Undoing s.next)) (map (λ p. performs p.of p.number) done) behind in
+      omega (arith, h, parted_lighter types s.heap v, finalizes, done_weight done)
 
-  exception_lands : (e : Exception) (f : Frame Value) → LandsIn (has_handlers f) (exception_landing e f)
-  exception_lands e (frame.Elaborates ds fs hs) = tt
-  exception_lands e (frame.Does fs) = tt
-  exception_lands e (frame.Decides fs branches) = tt
-  exception_lands e (frame.Repeats condition fs) = tt
-  exception_lands e (frame.Turns condition fs) = tt
-  exception_lands e (frame.Ranges x fs) = tt
-  exception_lands e (frame.Counts x value last fs) = tt
-  exception_lands e frame.Exits = tt
-  exception_lands e (frame.Handles hs) = handler_lands (handler_of e hs)
-  exception_lands e frame.Closes = tt
-  exception_lands e (frame.Leaves mode) = tt
-  exception_lands e (frame.Calls procedure b actuals) = tt
-  exception_lands e (frame.Returns actuals references) = tt
-  exception_lands e (frame.Evaluates right) = tt
-  exception_lands e (frame.Computes x) = tt
-  exception_lands e (frame.Follows cs) = tt
-  exception_lands e (frame.TestsNull equal) = tt
-  exception_lands e (frame.Refers p) = tt
-  exception_lands e (frame.RefersIn place t) = tt
-  exception_lands e (frame.Opens path) = tt
-  exception_lands e (frame.OpensIn c) = tt
-  exception_lands e (frame.Continues links) = tt
-  exception_lands e (frame.Applies operator) = tt
-  exception_lands e (frame.AppliesAlone operator) = tt
-  exception_lands e (frame.Fills items) = tt
-  exception_lands e (frame.Copies first t) = tt
-  exception_lands e (frame.Creates access count) = tt
-  exception_lands e (frame.Stores x) = tt
-  exception_lands e (frame.Targets c right) = tt
-  exception_lands e (frame.StoresIn object c) = tt
-  exception_lands e (frame.TargetsRecord first t items) = tt
-  exception_lands e (frame.StoresRecord object first count) = tt
-  exception_lands e (frame.Assigns t) = tt
-  exception_lands e (frame.Receives c) = tt
-  exception_lands e (frame.FreesIn access c) = tt
-  exception_lands e (frame.Declares x) = tt
-  exception_lands e (frame.DeclaresRecord x t) = tt
-  exception_lands e (frame.Treats v treatment tasks) = tt
-  exception_lands e frame.Writes = tt
-  exception_lands e (frame.Ends v) = tt
-  exception_lands e (frame.GivesBack v cause pool) = tt
-  exception_lands e (frame.Clears x) = tt
-  exception_lands e (frame.ClearsIn object c) = tt
+  broken_lightens :
+      (e : Exception) (v : Value) (by : Birth) (done : List Part) (s : State) (w : ℕ)
+      → stored s + passed_weight s.control + 5 + length done ≤ w → Lightens (broken_next named e v by done (in_mode (Raising e) s)) w
+  broken_lightens e v Creation done s w h = undo_lightens e v done (look s.heap v) s w h
+  broken_lightens e v Copy done s w h = λ memory. cc
+  broken_lightens e v (Adjustment number) done s w h = λ memory. cc
 
-  raise_lightens : (master handlers : Bool) (l : Landing) (e : Exception) (s : State) (w : ℕ) → LandsIn handlers l → load (in_mode (Raising e) s) + (if master || handlers then 2 else 1) ≤ w → Lightens (pass_next named master l (Raising e) (in_mode (Raising e) s)) w
-  raise_lightens true handlers l e s w lands h = omega (arith, h)
-  raise_lightens false true passes_on e s w lands h = omega (arith, h)
-  raise_lightens false true goes_behind e s w lands h = absurd lands
-  raise_lightens false true (goes_in no_stmts) e s w lands h = λ memory. cc
-  raise_lightens false true (goes_in (a_stmt f fs)) e s w lands h = omega (arith, h)
-  raise_lightens false false passes_on e s w lands h = omega (arith, h)
-  raise_lightens false false goes_behind e s w lands h = absurd lands
-  raise_lightens false false (goes_in fs) e s w lands h = absurd (cc)
+  -- A frame that an exception passes: a master is to be left before, it lands in handlers alone, and what it undoes has its weight.
+  abbrev LandsIn : (handlers : Bool) → (undone : ℕ) → Landing Value → Type 0
+  LandsIn handlers undone passes_on = Unit {0}
+  LandsIn handlers undone goes_behind = ⊥
+  LandsIn handlers undone (goes_in fs) = handlers ≡ true
+  LandsIn handlers undone (breaks_off v by done) = undone ≡ 4 + length done
+  LandsIn handlers undone escapes = Unit {0}
 
-  -- A frame that an exit or a return passes: behind a loop, or behind the end of a call's body, it lands.
+  handler_lands : (undone : ℕ) (taken : Option StmtsForm) → LandsIn true undone (handler_landing taken)
+  handler_lands undone None = tt
+  handler_lands undone (Some fs) = refl
+
+  exception_lands : (e : Exception) (f : Frame Value) → LandsIn (has_handlers f) (undone_behind f) (exception_landing e f)
+  exception_lands e (frame.Handles hs) = handler_lands 0 (handler_of e hs)
+  exception_lands e (frame.Awaits v by done of part tasks) = refl
+  exception_lands e f = tt
+
+  raise_lightens :
+      (master handlers : Bool) (undone : ℕ) (l : Landing Value) (e : Exception) (s : State) (w : ℕ) → LandsIn handlers undone l
+      → load (in_mode (Raising e) s) + (if master || handlers then 2 else 1) + undone ≤ w
+      → Lightens (pass_next named master l (Raising e) (in_mode (Raising e) s)) w
+  raise_lightens true handlers undone l e s w lands h = omega (arith, h)
+  raise_lightens false true undone passes_on e s w lands h = omega (arith, h)
+  raise_lightens false true undone goes_behind e s w lands h = absurd lands
+  raise_lightens false true undone (goes_in no_stmts) e s w lands h = λ memory. cc
+  raise_lightens false true undone (goes_in (a_stmt f fs)) e s w lands h = omega (arith, h)
+  raise_lightens false true undone (breaks_off v by done) e s w lands h = broken_lightens e v by done s w (omega (arith, h, lands))
+  raise_lightens false true undone escapes e s w lands h = λ memory. cc
+  raise_lightens false false undone passes_on e s w lands h = omega (arith, h)
+  raise_lightens false false undone goes_behind e s w lands h = absurd lands
+  raise_lightens false false undone (goes_in fs) e s w lands h = absurd (cc)
+  raise_lightens false false undone (breaks_off v by done) e s w lands h = broken_lightens e v by done s w (omega (arith, h, lands))
+  raise_lightens false false undone escapes e s w lands h = λ memory. cc
+
+  -- A frame that an exit or a return passes: behind a loop, or behind the end of a call's body, it lands; out of an operation it doesn't come.
+  abbrev LandsNowhere : Landing Value → Type 0
+  LandsNowhere passes_on = Unit {0}
+  LandsNowhere goes_behind = ⊥
+  LandsNowhere (goes_in fs) = ⊥
+  LandsNowhere (breaks_off v by done) = Unit {0}
+  LandsNowhere escapes = Unit {0}
+
+  operation_lands : (f : Frame Value) → LandsNowhere (operation_landing f)
+  operation_lands (frame.Awaits v by done of part tasks) = tt
+  operation_lands frame.Confines = tt
+  operation_lands f = tt
+
+  nowhere_exits :
+      (l : Landing Value) (s : State) (w : ℕ) → LandsNowhere l → stored s + exit_weight types s.control < w
+      → Lightens (landed named l Exiting (in_mode Exiting s)) w
+  nowhere_exits passes_on s w lands h = h
+  nowhere_exits goes_behind s w lands h = absurd lands
+  nowhere_exits (goes_in fs) s w lands h = absurd lands
+  nowhere_exits (breaks_off v by done) s w lands h = λ memory. cc
+  nowhere_exits escapes s w lands h = λ memory. cc
+
+  nowhere_returns :
+      (l : Landing Value) (s : State) (w : ℕ) → LandsNowhere l → stored s + return_weight types s.control < w
+      → Lightens (landed named l Returning (in_mode Returning s)) w
+  nowhere_returns passes_on s w lands h = h
+  nowhere_returns goes_behind s w lands h = absurd lands
+  nowhere_returns (goes_in fs) s w lands h = absurd lands
+  nowhere_returns (breaks_off v by done) s w lands h = λ memory. cc
+  nowhere_returns escapes s w lands h = λ memory. cc
+
   exit_lightens :
-      (master handlers loop : Bool) (s : State) (w : ℕ) → (master ≡ true → loop ≡ false)
+      (master handlers loop : Bool) (l : Landing Value) (s : State) (w : ℕ) → (master ≡ true → loop ≡ false) → LandsNowhere l
       → stored s + (if master || handlers then 2 else 1) + (if loop then run_weight types s.control else exit_weight types s.control) ≤ w
-      → Lightens (pass_next named master (if loop then goes_behind else passes_on) Exiting (in_mode Exiting s)) w
-  exit_lightens true handlers true s w apart h = let never : true ≡ false = apart refl in absurd (cc)
-  exit_lightens true handlers false s w apart h = omega (arith, h)
-  exit_lightens false true true s w apart h = omega (arith, h)
-  exit_lightens false true false s w apart h = omega (arith, h)
-  exit_lightens false false true s w apart h = omega (arith, h)
-  exit_lightens false false false s w apart h = omega (arith, h)
+      → Lightens (pass_next named master (if loop then goes_behind else l) Exiting (in_mode Exiting s)) w
+  exit_lightens true handlers true l s w apart lands h = let never : true ≡ false = apart refl in absurd (cc)
+  exit_lightens true handlers false l s w apart lands h = omega (arith, h)
+  exit_lightens false true true l s w apart lands h = omega (arith, h)
+  exit_lightens false true false l s w apart lands h = nowhere_exits l s w lands (omega (arith, h))
+  exit_lightens false false true l s w apart lands h = omega (arith, h)
+  exit_lightens false false false l s w apart lands h = nowhere_exits l s w lands (omega (arith, h))
 
   return_lightens :
-      (master handlers ends : Bool) (s : State) (w : ℕ) → (master ≡ true → ends ≡ false)
+      (master handlers ends : Bool) (l : Landing Value) (s : State) (w : ℕ) → (master ≡ true → ends ≡ false) → LandsNowhere l
       → stored s + (if master || handlers then 2 else 1) + (if ends then run_weight types s.control else return_weight types s.control) ≤ w
-      → Lightens (pass_next named master (if ends then goes_behind else passes_on) Returning (in_mode Returning s)) w
-  return_lightens true handlers true s w apart h = let never : true ≡ false = apart refl in absurd (cc)
-  return_lightens true handlers false s w apart h = omega (arith, h)
-  return_lightens false true true s w apart h = omega (arith, h)
-  return_lightens false true false s w apart h = omega (arith, h)
-  return_lightens false false true s w apart h = omega (arith, h)
-  return_lightens false false false s w apart h = omega (arith, h)
+      → Lightens (pass_next named master (if ends then goes_behind else l) Returning (in_mode Returning s)) w
+  return_lightens true handlers true l s w apart lands h = let never : true ≡ false = apart refl in absurd (cc)
+  return_lightens true handlers false l s w apart lands h = omega (arith, h)
+  return_lightens false true true l s w apart lands h = omega (arith, h)
+  return_lightens false true false l s w apart lands h = nowhere_returns l s w lands (omega (arith, h))
+  return_lightens false false true l s w apart lands h = omega (arith, h)
+  return_lightens false false false l s w apart lands h = nowhere_returns l s w lands (omega (arith, h))
 
   -- Where a frame is passed, what is left is what was left, and behind the end of a call's body besides what goes back to components.
   raised_left : (e : Exception) (f : Frame Value) (s : State) → (unwound named (Raising e) f s).control ≡ s.control
@@ -870,27 +952,31 @@ module _ (types : List TypeDefinition) where
   -- What is left to do, in each mode.
   control_lightens :
       (bodies : List BodyForm) (mode : Mode) (k : List (Frame Value)) (s : State) (w : ℕ) → begins_in mode k ≡ false
-      → load (in_mode mode (at k s)) ≤ w → s.control ≡ k → Lightens (mode_next named types bodies mode (in_mode mode s)) w
-  control_lightens bodies Running k s w b h is = rw is (running_lightens bodies k (at k s) w b h)
-  control_lightens bodies (Raising e) [] s w b h is = rw is (λ memory. cc)
-  control_lightens bodies (Raising e) (f ∷ k) s w b h is =
+      → (mode ≡ Running → calls_among types k ≡ false) → load (in_mode mode (at k s)) ≤ w → s.control ≡ k
+      → Lightens (mode_next named types bodies mode (in_mode mode s)) w
+  control_lightens bodies Running k s w b none h is = rw is (running_lightens bodies k (at k s) w b (none refl) h)
+  control_lightens bodies (Raising e) [] s w b none h is = rw is (λ memory. cc)
+  control_lightens bodies (Raising e) (f ∷ k) s w b none h is =
       rw (is, unwound_by (Raising e) f (in_mode (Raising e) (at k s)))
-      (raise_lightens (is_master f) (has_handlers f) (exception_landing e f) e (unwound_to (Raising e) f (in_mode (Raising e) (at k s))) w (exception_lands e f)
+      (raise_lightens (is_master f) (has_handlers f) (undone_behind f) (exception_landing e f) e (unwound_to (Raising e) f (in_mode (Raising e) (at k s))) w (exception_lands e f)
       (omega (arith, h, ap passed_weight (raised_left e f (in_mode (Raising e) (at k s))))))
-  control_lightens bodies Exiting [] s w b h is = rw is (λ memory. cc)
-  control_lightens bodies Exiting (f ∷ k) s w b h is =
+  control_lightens bodies Exiting [] s w b none h is = rw is (λ memory. cc)
+  control_lightens bodies Exiting (f ∷ k) s w b none h is =
       rw (is, unwound_by Exiting f (in_mode Exiting (at k s)))
-      (exit_lightens (is_master f) (has_handlers f) (is_loop f) (unwound_to Exiting f (in_mode Exiting (at k s))) w (master_no_loop f)
+      (exit_lightens (is_master f) (has_handlers f) (is_loop f) (operation_landing f) (unwound_to Exiting f (in_mode Exiting (at k s))) w (master_no_loop f)
+      (operation_lands f)
       (omega (arith, h, ap (behind_exit (is_loop f)) (exited_left f (in_mode Exiting (at k s))))))
-  control_lightens bodies Returning [] s w b h is = rw is (λ memory. cc)
-  control_lightens bodies Returning (f ∷ k) s w b h is =
+  control_lightens bodies Returning [] s w b none h is = rw is (λ memory. cc)
+  control_lightens bodies Returning (f ∷ k) s w b none h is =
       rw (is, unwound_by Returning f (in_mode Returning (at k s)))
-      (return_lightens (is_master f) (has_handlers f) (is_return f) (unwound_to Returning f (in_mode Returning (at k s))) w (master_no_return f)
+      (return_lightens (is_master f) (has_handlers f) (is_return f) (operation_landing f) (unwound_to Returning f (in_mode Returning (at k s))) w
+      (master_no_return f) (operation_lands f)
       (omega (arith, h, returned_left f (in_mode Returning (at k s)))))
 
-  next_lightens : (bodies : List BodyForm) (s : State) → begins s ≡ false → Lightens (next types bodies s) (load s)
+  next_lightens : (bodies : List BodyForm) (s : State) → begins s ≡ false → (s.mode ≡ Running → calls_among types s.control ≡ false)
+      → Lightens (next types bodies s) (load s)
   unfolding next
-  next_lightens bodies s b = control_lightens bodies s.mode s.control s (load s) b (omega arith) refl
+  next_lightens bodies s b none = control_lightens bodies s.mode s.control s (load s) b none (omega arith) refl
 
   leads_lighter : (coming : Next) (choice : Choice) (event : Event) (w : ℕ) (after : State) → Lightens coming w → Leads coming choice event after → load after < w
   leads_lighter (halts halt) choice event w after h l = absurd l
@@ -907,22 +993,51 @@ module _ (types : List TypeDefinition) where
   leads_lighter (picks n taking) (grants granted) event w after h l = absurd l
   leads_lighter (picks n taking) (takes i) event w after h l = rw (l.2) (h.1 i l.0)
 
--- Each step that begins no statement makes the state lighter.
+-- Each step that begins no statement and calls no operation makes the state lighter.
 pub steps_make_lighter :
-    (program : Program) (s : State) (choice : Choice) (event : Event) (after : State) → begins s ≡ false → Step program s choice event after
+    (program : Program) (s : State) (choice : Choice) (event : Event) (after : State) → begins s ≡ false
+    → calls_operation program.types.items s ≡ false → Step program s choice event after
     → weight program.types.items after < weight program.types.items s
 unfolding weight
-steps_make_lighter program s choice event after b step =
+steps_make_lighter program s choice event after b none step =
     leads_lighter program.types.items (next program.types.items (body_forms program) s) choice event (load program.types.items s) after
-    (next_lightens program.types.items (body_forms program) s b) step
+    (next_lightens program.types.items (body_forms program) s b
+    (λ runs. subst (λ (mode : Mode). calls_in program.types.items mode s.control ≡ false) runs none)) step
+
+-- A program whose types override nothing calls no operation.
+task_calls_none :
+    (types : List TypeDefinition) (treatment : Treatment) (follows : Follows) → OverridesNothing types → task_calls types treatment follows ≡ false
+task_calls_none types treatment Done inherits = refl
+task_calls_none types treatment (Pick count) inherits = refl
+task_calls_none types (frame.begins Creation done) (Perform of part) inherits = ap (λ (o : Operations). is_some (beginning Creation o)) (inherits of)
+task_calls_none types (frame.begins Copy done) (Perform of part) inherits = ap (λ (o : Operations). is_some (beginning Copy o)) (inherits of)
+task_calls_none types (frame.begins (Adjustment n) done) (Perform of part) inherits =
+    ap (λ (o : Operations). is_some (beginning (Adjustment n) o)) (inherits of)
+task_calls_none types (frame.ends cause) (Perform of part) inherits = ap (λ (o : Operations). is_some o.finalize) (inherits of)
+
+frame_calls_none : (types : List TypeDefinition) (f : Frame Value) → OverridesNothing types → frame_calls types f ≡ false
+frame_calls_none types (frame.Treats v treatment tasks) inherits = task_calls_none types treatment (task_next tasks) inherits
+frame_calls_none types f inherits = refl
+
+among_none : (types : List TypeDefinition) (k : List (Frame Value)) → OverridesNothing types → calls_among types k ≡ false
+among_none types [] inherits = refl
+among_none types (f ∷ k) inherits = frame_calls_none types f inherits
+
+pub nothing_is_called : NothingIsCalled
+nothing_is_called types s inherits = go s.mode
+  where
+    go : (mode : Mode) → calls_in types mode s.control ≡ false
+    go Running = among_none types s.control inherits
+    go (Raising e) = refl
+    go Exiting = refl
+    go Returning = refl
 
 -- So as many steps as the first state's weight follow one another at most before a statement begins.
-pub statements_end :
-    (program : Program) (s last : State) (events : List Event) → WithinStatement program s events last
-    → length events ≤ weight program.types.items s
-statements_end program s last events here = omega arith
-statements_end program s last (e ∷ events) (there choice mid b step rest) =
-    omega (arith, statements_end program mid last events rest, steps_make_lighter program s choice e mid b step)
+pub statements_end : StatementsEnd
+statements_end program inherits s last events here = omega arith
+statements_end program inherits s last (e ∷ events) (there choice mid b step rest) =
+    let lighter = steps_make_lighter program s choice e mid b (nothing_is_called program.types.items s inherits) step in
+    omega (arith, statements_end program inherits mid last events rest, lighter)
 
 lighter_goes_on : (types : List TypeDefinition) (coming : Next) (w : ℕ) → Lightens types coming w → GoesOn coming
 lighter_goes_on types (halts halt) w h = h
@@ -973,16 +1088,25 @@ record_assign_goes_on true target items s = copy_goes_on target items s
 record_assign_goes_on false target items s =
     record_holder_goes_on target (λ place. frame.TargetsRecord place.component target.record_type items) s
 
+freeing_goes_on :
+    (types : List TypeDefinition) (access : ℕ) (v : Value) (cell : Cell Value) (clears : Frame Value) (event : Event) (s : State)
+    → GoesOn (freeing_next named types access v cell clears event s)
+freeing_goes_on types access v cell clears event s = by_pool (same_pool (Some (pool_freed_to (home_of access s.masters))) cell.home.pool)
+  where
+    by_pool : (own : Bool) → GoesOn (if own then moves event (freeing named types access v cell clears s) else halts (Erroneous GivesElsewhere))
+    by_pool true = tt
+    by_pool false = λ memory. cc
+
 free_goes_on :
     (types : List TypeDefinition) (access x : ℕ) (v : Value) (found : Found (Cell Value)) (s : State)
     → GoesOn (free_next named types access x v found s)
 free_goes_on types access x v on_null s = tt
 free_goes_on types access x v on_gone s = λ memory. cc
 free_goes_on types access x v on_other s = λ memory. cc
-free_goes_on types access x v (finds cell) s = tt
+free_goes_on types access x v (finds cell) s = freeing_goes_on types access v cell (frame.Clears x) Quiet s
 
 frees_go_on : (types : List TypeDefinition) (cs : List ℕ) (access x : ℕ) (s : State) → GoesOn (frees_next named types cs access x s)
-frees_go_on types [] access x s = free_goes_on types access x (held named s x) (look s.heap (held named s x)) s
+frees_go_on types [] access x s = free_goes_on types access x (held named s x) (standing s.heap (held named s x)) s
 frees_go_on types (c ∷ cs) access x s = holder_goes_on c cs x (λ last. frame.FreesIn access last) s
 
 branches_go_on : (branches : BranchesForm) (s : State) → GoesOn (branches_next named branches s)
@@ -1024,9 +1148,50 @@ unfolding next
 begun_goes_on types bodies s b =
     rw (b.runs, b.first) (stmt_goes_on types bodies b.stmt (running (at (frame.Does b.later ∷ b.outer) s)))
 
+-- An operation that is called goes on.
+operated_goes_on : (before : List (Activation Value)) (coming : Next) → Operates before coming → GoesOn coming
+operated_goes_on before (halts halt) operates = operates
+operated_goes_on before (moves e s) operates = tt
+operated_goes_on before (tells request e s) operates = tt
+operated_goes_on before (asks request answers) operates = tt
+operated_goes_on before (picks n taking) operates = absurd operates
+
+operating_goes_on :
+    (types : List TypeDefinition) (bodies : List BodyForm) (f : Frame Value) (s : State) → frame_calls types f ≡ true
+    → GoesOn (frame_next named types bodies f s)
+operating_goes_on types bodies (frame.Treats v treatment tasks) s some =
+    operated_goes_on s.activations (treats_next named types bodies v treatment tasks (task_next tasks) s)
+    (treats_operate types bodies v treatment tasks (task_next tasks) s some)
+operating_goes_on types bodies f s some = absurd (cc)
+
+among_goes_on :
+    (types : List TypeDefinition) (bodies : List BodyForm) (k : List (Frame Value)) (s : State) → calls_among types k ≡ true
+    → GoesOn (running_next named types bodies k s)
+among_goes_on types bodies [] s some = absurd (cc)
+among_goes_on types bodies (f ∷ k) s some = operating_goes_on types bodies f (at k s) some
+
+called_goes_on :
+    (types : List TypeDefinition) (bodies : List BodyForm) (s : State) (called : Bool) → s.mode ≡ Running → begins s ≡ false
+    → calls_among types s.control ≡ called → GoesOn (next types bodies s)
+unfolding next
+called_goes_on types bodies s true runs b some = rw runs (among_goes_on types bodies s.control (running s) some)
+called_goes_on types bodies s false runs b none =
+    lighter_goes_on types (next types bodies s) (load types s) (next_lightens types bodies s b (λ running. none))
+
+other_goes_on : (types : List TypeDefinition) (bodies : List BodyForm) (s : State) → s.mode ≢ Running → begins s ≡ false → GoesOn (next types bodies s)
+other_goes_on types bodies s jumps b =
+    lighter_goes_on types (next types bodies s) (load types s) (next_lightens types bodies s b (λ running. absurd (jumps running)))
+
+mode_goes_on :
+    (types : List TypeDefinition) (bodies : List BodyForm) (s : State) (mode : Mode) → s.mode ≡ mode → begins s ≡ false → GoesOn (next types bodies s)
+mode_goes_on types bodies s Running runs b = called_goes_on types bodies s (calls_among types s.control) runs b refl
+mode_goes_on types bodies s (Raising e) jumps b = other_goes_on types bodies s (λ runs. cc) b
+mode_goes_on types bodies s Exiting jumps b = other_goes_on types bodies s (λ runs. cc) b
+mode_goes_on types bodies s Returning jumps b = other_goes_on types bodies s (λ runs. cc) b
+
 either_goes_on : (types : List TypeDefinition) (bodies : List BodyForm) (s : State) (begun : Bool) → begins s ≡ begun → GoesOn (next types bodies s)
 either_goes_on types bodies s true b = begun_goes_on types bodies s ((statements_begin s).0 b)
-either_goes_on types bodies s false b = lighter_goes_on types (next types bodies s) (load types s) (next_lightens types bodies s b)
+either_goes_on types bodies s false b = mode_goes_on types bodies s s.mode refl b
 
 -- A state has a step for whatever is answered, or halts, and not for want of memory.
 pub states_go_on : (program : Program) (s : State) → GoesOn (next program.types.items (body_forms program) s)

@@ -1,26 +1,29 @@
 -- Calls (6.4, 6.5), in any step and any run of any program: what they do to activations, and what comes next where one begins and ends.
 
-use Rattle.std.specs.Prelude.{◌≡◌, ◌⊎◌, ℕ, ◌+◌, ◌<◌, ℤ, Bool, List, [], ◌∷◌, ◌++◌, length, map, take, drop, reverse, Option, Some, None}
+use Rattle.std.specs.Prelude.{◌≡◌, ◌⊎◌, ℕ, ◌+◌, ◌<◌, ℤ, Bool, true, List, [], ◌∷◌, ◌++◌, length, map, take, drop, reverse, Option, Some, None}
 use Rattle.std.specs.List.{slice_get}
 use Rattle.ada_values.specs.declared.value.Value.TheVariants as scalar
 use Rattle.ada_program.specs.declared.program.Exception.{Exception}
 use Rattle.ada_program.specs.declared.program.Program.{Program}
+use Rattle.ada_program.specs.declared.program.TypeDefinition.{TypeDefinition}
 use Rattle.ada_program.specs.declared.program.VariableKind.{VariableKind}
 use Rattle.ada_program.specs.declared.program.VariableKind.TheVariants as variable
 use Rattle.ada_program.specs.Form.{ActualForm, in_value, in_null, in_access, in_record, in_out_path, in_out_access, in_out_component, in_out_record, calls, StmtsForm, a_stmt}
 use Rattle.ada_program.specs.ProgramForm.{VariableForm, BodyForm, body_forms}
+use Rattle.ada_parts.specs.Task.{Task, next}
 use Rattle.ada_meaning.specs.declared.state.Mode.{Mode}
 use Rattle.ada_meaning.specs.declared.state.Mode.TheVariants.{Running, Raising, Exiting, Returning}
 use Rattle.ada_meaning.specs.declared.state.Value.{Value}
 use Rattle.ada_meaning.specs.declared.state.Value.TheVariants.{Null, Names, Scalar, Part}
 use Rattle.ada_meaning.specs.Event.{Quiet}
-use Rattle.ada_meaning.specs.Frame.{Frame, evaluating}
+use Rattle.ada_meaning.specs.Frame.{Treatment, Frame, evaluating}
 use Rattle.ada_meaning.specs.Frame as frame
 use Rattle.ada_meaning.specs.State.{Activation}
 use Rattle.ada_meaning.specs.Named.{State}
 use Rattle.ada_meaning.specs.declared.state.Id.{Id}
 use Rattle.ada_meaning.specs.declared.state.Place.{Place}
 use Rattle.ada_meaning.specs.Run.{Event, Choice, settled, Step}
+use Rattle.ada_meaning.specs.Ending.{task_calls}
 
 -- Callers stay.
 
@@ -50,6 +53,16 @@ pub record BeginsCall (s : State) : Type 0 where
   pub outer : List (Frame Value)
   pub runs : s.mode ≡ Running
   pub first : s.control ≡ frame.Calls procedure body actuals ∷ outer
+
+-- The body of an operation begins next: a treatment comes to a part whose type overrides it (7.6, 7.6.1).
+pub record BeginsOperation (types : List TypeDefinition) (s : State) : Type 0 where
+  pub object : Value
+  pub treatment : Treatment
+  pub tasks : List Task
+  pub outer : List (Frame Value)
+  pub runs : s.mode ≡ Running
+  pub first : s.control ≡ frame.Treats object treatment tasks ∷ outer
+  pub called : task_calls types treatment (next tasks) ≡ true
 
 -- The body of a call ends next: all of it is done, or a jump has come to its end (6.5, 11.4).
 pub record EndsBody (s : State) : Type 0 where
@@ -125,18 +138,22 @@ ComesBack actuals (callee ∷ []) after = (after ≡ [])
 ComesBack actuals (callee ∷ caller ∷ suspended) [] = ⊥
 ComesBack actuals (callee ∷ caller ∷ suspended) (later ∷ behind) = (behind ≡ suspended) × GetsBack actuals callee caller later
 
--- What a step makes of the activations: the running body goes on; or it calls, and waits behind the activation that begins; or it ends normally, and its
--- caller gets back what it is to get; or it ends otherwise, and those that waited for it are as they were.
-pub data CallersStay (before after : State) : Type 0 where
-  goes_on : RunsOn before.activations after.activations → CallersStay before after
-  calls_one : BeginsCall before → (callee : Activation Value) → after.activations ≡ callee ∷ waiting before.activations → CallersStay before after
-  ends : (body : EndsBody before) → EndsNormally before.mode → ComesBack body.actuals before.activations after.activations → CallersStay before after
-  breaks_off : EndsBody before → EndsAbruptly before.mode → after.activations ≡ callers_in before.activations → CallersStay before after
+-- What a step makes of the activations: the running body goes on; or it calls, and waits behind the activation that begins; or an operation of a controlled
+-- type is called, and the running body waits with all that it holds, its operands too, since such a call is no statement (7.6, 7.6.1); or the body ends
+-- normally, and its caller gets back what it is to get; or it ends otherwise, and those that waited for it are as they were.
+pub data CallersStay (types : List TypeDefinition) (before after : State) : Type 0 where
+  goes_on : RunsOn before.activations after.activations → CallersStay types before after
+  calls_one : BeginsCall before → (callee : Activation Value) → after.activations ≡ callee ∷ waiting before.activations → CallersStay types before after
+  operates :
+      BeginsOperation types before → (callee : Activation Value) → after.activations ≡ callee ∷ before.activations → CallersStay types before after
+  ends : (body : EndsBody before) → EndsNormally before.mode → ComesBack body.actuals before.activations after.activations → CallersStay types before after
+  breaks_off : EndsBody before → EndsAbruptly before.mode → after.activations ≡ callers_in before.activations → CallersStay types before after
 
 -- Each step of a program does so, from whatever state.
 abbrev pub StepsKeepCallers : Type 0
 StepsKeepCallers =
-    (program : Program) (before after : State) (choice : Choice) (event : Event) → Step program before choice event after → CallersStay before after
+    (program : Program) (before after : State) (choice : Choice) (event : Event) → Step program before choice event after
+    → CallersStay program.types.items before after
 
 -- Steps one after another, behind each of which more activations are there than so many callers: none of these has been returned to.
 pub data WithinCall (program : Program) (callers : ℕ) : State → List Event → State → Type 0 where

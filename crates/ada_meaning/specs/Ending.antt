@@ -1,23 +1,25 @@
 -- Statements keep beginning, or the run ends: each step that begins none makes a number smaller, the weight of its state.
 
-use Rattle.std.specs.Prelude.{◌≡◌, ◌≢◌, ℕ, Bool, true, false, ◌||◌, ◌+◌, ◌==◌, ◌<◌, ◌≤◌, if◌then◌else◌, List, [], ◌∷◌, length, Option, Some, None}
+use Rattle.std.specs.Prelude.{◌≡◌, ◌≢◌, ℕ, Bool, true, false, ◌||◌, ◌+◌, ◌==◌, ◌<◌, ◌≤◌, if◌then◌else◌, List, [], ◌∷◌, length, Option, Some, None, is_some}
 use Rattle.std.specs.List.{sum_by}
 use Rattle.ada_program.specs.declared.program.Program.{Program}
 use Rattle.ada_program.specs.declared.program.TypeDefinition.{TypeDefinition}
-use Rattle.ada_program.specs.Controlled.{number_of, shapes_of}
+use Rattle.ada_program.specs.Controlled.{OverridesNothing, number_of, shapes_of, operations_of}
 use Rattle.ada_parts.specs.declared.tasks.Direction.TheVariants.{WholeFirst}
 use Rattle.ada_parts.specs.Shape.{Shape, own_parts}
-use Rattle.ada_parts.specs.Task.{Task, performs, treats}
+use Rattle.ada_parts.specs.declared.tasks.Next.{Next as Follows}
+use Rattle.ada_parts.specs.declared.tasks.Next.TheVariants.{Done, Pick, Perform}
+use Rattle.ada_parts.specs.Task.{Task, performs, treats, next as task_next}
 use Rattle.ada_program.specs.Form.{PathForm, ExpressionForm, integer, boolean, reads, is_null, applied_to, chained, LinksForm, no_more_links, a_link, ItemForm, null_item, item_of_path, item_of_value, item_of_record, RightForm, nothing, value_of, allocates, allocates_default, computes, a_stmt, BranchesForm, otherwise, a_branch, DeclarationForm, creates_pool, collects, declares, declares_record}
 use Rattle.ada_meaning.specs.declared.event.Halt.TheVariants.{Memory}
 use Rattle.ada_meaning.specs.declared.state.Value.{Value}
 use Rattle.ada_meaning.specs.declared.state.Mode.{Mode}
 use Rattle.ada_meaning.specs.declared.state.Mode.TheVariants.{Running, Raising, Exiting, Returning}
 use Rattle.ada_program.specs.ProgramForm.{body_forms}
-use Rattle.ada_meaning.specs.Frame.{Frame, is_master, is_loop, is_return}
+use Rattle.ada_meaning.specs.Frame.{Treatment, begins as starts, ends, Frame, is_master, is_loop, is_return}
 use Rattle.ada_meaning.specs.Frame as frame
 use Rattle.ada_meaning.specs.State.{Master, begins}
-use Rattle.ada_meaning.specs.Step.{halts, moves, tells, asks, picks, all_tasks}
+use Rattle.ada_meaning.specs.Step.{halts, moves, tells, asks, picks, all_tasks, beginning}
 use Rattle.ada_meaning.specs.Named.{Object, State, Next, next}
 use Rattle.ada_meaning.specs.Run.{Event, Choice, Step}
 
@@ -161,6 +163,9 @@ frame_weight types (frame.FreesIn access c) = 5 + steps_of_any (shapes_of types)
 frame_weight types (frame.Declares x) = 2
 frame_weight types (frame.DeclaresRecord x t) = 2 + new_weight types t
 frame_weight types (frame.Treats v treatment tasks) = 1 + tasks_weight (shapes_of types) tasks
+frame_weight types (frame.Awaits v by done of part tasks) = 5 + length done + tasks_weight (shapes_of types) tasks
+frame_weight types frame.Confines = 1
+frame_weight types (frame.Resumes mode) = 1
 frame_weight types frame.Writes = 1
 frame_weight types (frame.Ends v) = 1
 frame_weight types (frame.GivesBack v cause pool) = 1
@@ -177,9 +182,15 @@ abbrev pub stored_behind : {V : Type 0} → Frame V → ℕ
 stored_behind (frame.Returns actuals references) = length references
 stored_behind f = 0
 
--- A frame that a jump passes: a master is left besides, in handlers an exception may land, and behind a call components may get something back.
+-- What an exception undoes that comes out of an Initialize (7.6.1): the parts that have begun, and their object.
+abbrev pub undone_behind : {V : Type 0} → Frame V → ℕ
+undone_behind (frame.Awaits v by done of part tasks) = 4 + length done
+undone_behind f = 0
+
+-- A frame that a jump passes: a master is left besides, in handlers an exception may land, behind a call components may get something back, and what an
+-- Initialize leaves is undone.
 abbrev pub pass_weight : {V : Type 0} → Frame V → ℕ
-pass_weight f = (if is_master f || has_handlers f then 2 else 1) + stored_behind f
+pass_weight f = (if is_master f || has_handlers f then 2 else 1) + stored_behind f + undone_behind f
 
 -- All frames, for an exception.
 abbrev pub passed_weight : {V : Type 0} → List (Frame V) → ℕ
@@ -198,6 +209,7 @@ abbrev pub behind_weight : {V : Type 0} → Frame V → (passed exited returned 
 behind_weight (frame.Does (a_stmt f fs)) passed exited returned run = passed
 behind_weight frame.Exits passed exited returned run = exited + run
 behind_weight (frame.Leaves mode) passed exited returned run = by_mode mode passed exited returned run
+behind_weight (frame.Resumes mode) passed exited returned run = by_mode mode passed exited returned run
 behind_weight f passed exited returned run = run
 
 abbrev mutual
@@ -236,10 +248,41 @@ weight types s =
     heap_weight types s.heap + masters_weight s.masters
     + by_mode s.mode (passed_weight s.control) (exit_weight types s.control) (return_weight types s.control) (run_weight types s.control)
 
--- Each step that begins no statement makes the state lighter, whatever is granted and picked: a loop over a machine comes to the next
--- statement, or to the end.
+-- Does a task call a procedure that overrides an operation?
+abbrev pub task_calls : List TypeDefinition → Treatment → Follows → Bool
+task_calls types treatment Done = false
+task_calls types treatment (Pick count) = false
+task_calls types (starts by done) (Perform of part) = is_some (beginning by (operations_of types of))
+task_calls types (ends cause) (Perform of part) = is_some (operations_of types of).finalize
+
+-- Does a frame call one? A treatment does, where it comes to a part whose type overrides the operation.
+abbrev pub frame_calls : {V : Type 0} → List TypeDefinition → Frame V → Bool
+frame_calls types (frame.Treats v treatment tasks) = task_calls types treatment (task_next tasks)
+frame_calls types f = false
+
+abbrev pub calls_among : {V : Type 0} → List TypeDefinition → List (Frame V) → Bool
+calls_among types [] = false
+calls_among types (f ∷ k) = frame_calls types f
+
+-- Is one called next, in a mode with this left to do? While a jump is on its way none is.
+abbrev pub calls_in : {V : Type 0} → List TypeDefinition → Mode → List (Frame V) → Bool
+calls_in types Running k = calls_among types k
+calls_in types (Raising e) k = false
+calls_in types Exiting k = false
+calls_in types Returning k = false
+
+-- Is an operation called next (7.6, 7.6.1)?
+abbrev pub calls_operation : List TypeDefinition → State → Bool
+calls_operation types s = calls_in types s.mode s.control
+
+-- Each step that begins no statement and calls no operation makes the state lighter, whatever is granted and picked: so a loop over a machine comes to the
+-- next statement, to the body of an operation, or to the end.
 abbrev pub StepsMakeLighter : Type 0
-StepsMakeLighter = (program : Program) (s : State) (choice : Choice) (event : Event) (after : State) → begins s ≡ false → Step program s choice event after → weight program.types.items after < weight program.types.items s
+StepsMakeLighter = (program : Program) (s : State) (choice : Choice) (event : Event) (after : State) → begins s ≡ false → calls_operation program.types.items s ≡ false → Step program s choice event after → weight program.types.items after < weight program.types.items s
+
+-- A program whose types override nothing calls no operation.
+abbrev pub NothingIsCalled : Type 0
+NothingIsCalled = (types : List TypeDefinition) (s : State) → OverridesNothing types → calls_operation types s ≡ false
 
 -- The definition itself never wants memory, and where members are to be picked there is one.
 abbrev pub GoesOn : Next → Type 0
@@ -258,6 +301,6 @@ pub data WithinStatement (program : Program) : State → List Event → State �
   here : {s : State} → WithinStatement program s [] s
   there : {s last : State} {event : Event} {events : List Event} (choice : Choice) (mid : State) → begins s ≡ false → Step program s choice event mid → WithinStatement program mid events last → WithinStatement program s (event ∷ events) last
 
--- So many of them at most follow one another: a run begins another statement, or ends.
+-- So many of them at most follow one another, where no type overrides an operation: a run begins another statement, or ends.
 abbrev pub StatementsEnd : Type 0
-StatementsEnd = (program : Program) (s last : State) (events : List Event) → WithinStatement program s events last → length events ≤ weight program.types.items s
+StatementsEnd = (program : Program) → OverridesNothing program.types.items → (s last : State) (events : List Event) → WithinStatement program s events last → length events ≤ weight program.types.items s

@@ -148,6 +148,7 @@ InsideIsBegun shapes events =
 abbrev pub NothingTreated : List (Frame Value) → Type 0
 NothingTreated [] = Unit {0}
 NothingTreated (frame.Treats v treatment tasks ∷ k) = ⊥
+NothingTreated (frame.Awaits v by done of part tasks ∷ k) = ⊥
 NothingTreated (f ∷ k) = NothingTreated k
 
 -- Each controlled part of an object has a value (7.6).

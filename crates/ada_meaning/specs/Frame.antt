@@ -13,11 +13,13 @@ use Rattle.ada_meaning.specs.declared.state.Mode.TheVariants.{Running, Raising, 
 use Rattle.ada_meaning.specs.declared.state.Place.{Place}
 use Rattle.ada_meaning.specs.declared.event.Birth.{Birth}
 use Rattle.ada_meaning.specs.declared.event.Cause.{Cause}
+use Rattle.ada_parts.specs.Part.{Part}
 use Rattle.ada_parts.specs.Task.{Task}
 
--- What is done to the controlled parts of an object (7.6, 7.6.1): they come to have values, or their values are finalized.
+-- What is done to the controlled parts of an object (7.6, 7.6.1): they come to have values, of which these do already, newest first; or their values are
+-- finalized.
 pub data Treatment : Type 0 where
-  begins : Birth → Treatment
+  begins : Birth → (done : List Part) → Treatment
   ends : Cause → Treatment
 
 -- One thing that is left to do.
@@ -102,6 +104,13 @@ pub data Frame (V : Type 0) : Type 0 where
   DeclaresRecord : (variable object_type : ℕ) → Frame V
   -- the controlled parts of an object are initialized, or finalized (7.6, 7.6.1): this is left of that
   Treats : V → Treatment → List Task → Frame V
+  -- the body of the operation that begins a part of an object, which is of this type, is in front of this (7.6): then the part has its value, and this is
+  -- left of the object
+  Awaits : V → Birth → (done : List Part) → (of part : ℕ) → List Task → Frame V
+  -- the body of a Finalize is in front of this: no exception leaves it (7.6.1)
+  Confines : Frame V
+  -- what a jump had to wait for is done: it goes on
+  Resumes : Mode → Frame V
   -- the newest operand is to be written (A.10.7)
   Writes : Frame V
   -- an object ceases to exist (13.11.2)
@@ -142,32 +151,41 @@ abbrev pub is_return : {V : Type 0} → Frame V → Bool
 is_return (Returns actuals references) = true
 is_return f = false
 
--- Where a jump lands: it passes this frame; or it ends, and what is behind the frame is next; or it ends in these statements.
-pub data Landing : Type 0 where
-  passes_on : Landing
-  goes_behind : Landing
-  goes_in : StmtsForm → Landing
+-- Where a jump lands: it passes this frame; or it ends, and what is behind the frame is next; or it ends in these statements; or it comes out of an
+-- operation that was to begin a part of an object, of which these parts have begun; or it comes out of a Finalize.
+pub data Landing (V : Type 0) : Type 0 where
+  passes_on : Landing V
+  goes_behind : Landing V
+  goes_in : StmtsForm → Landing V
+  breaks_off : V → Birth → (done : List Part) → Landing V
+  escapes : Landing V
+
+-- Where any jump lands that comes to a frame which is no loop, no call's and has no handlers: it comes out of an operation, or it passes.
+abbrev pub operation_landing : {V : Type 0} → Frame V → Landing V
+operation_landing (Awaits v by done of part tasks) = breaks_off v by done
+operation_landing Confines = escapes
+operation_landing f = passes_on
 
 -- An exit goes on behind the innermost loop (5.7).
-abbrev pub exit_landing : {V : Type 0} → Frame V → Landing
-exit_landing f = if is_loop f then goes_behind else passes_on
+abbrev pub exit_landing : {V : Type 0} → Frame V → Landing V
+exit_landing f = if is_loop f then goes_behind else operation_landing f
 
 -- A return goes on behind the call of its body (6.5).
-abbrev pub return_landing : {V : Type 0} → Frame V → Landing
-return_landing f = if is_return f then goes_behind else passes_on
+abbrev pub return_landing : {V : Type 0} → Frame V → Landing V
+return_landing f = if is_return f then goes_behind else operation_landing f
 
 -- An exception goes on in the first handler that takes it (11.4).
-abbrev pub handler_landing : Option StmtsForm → Landing
+abbrev pub handler_landing : {V : Type 0} → Option StmtsForm → Landing V
 handler_landing None = passes_on
 handler_landing (Some fs) = goes_in fs
 
 -- Where an exception lands that comes to a frame: in the first handler that takes it (11.4).
-abbrev pub exception_landing : {V : Type 0} → Exception → Frame V → Landing
+abbrev pub exception_landing : {V : Type 0} → Exception → Frame V → Landing V
 exception_landing e (Handles hs) = handler_landing (handler_of e hs)
-exception_landing e f = passes_on
+exception_landing e f = operation_landing f
 
 -- Where a jump lands that comes to a frame.
-abbrev pub landing : {V : Type 0} → Mode → Frame V → Landing
+abbrev pub landing : {V : Type 0} → Mode → Frame V → Landing V
 landing Running f = passes_on
 landing (Raising e) f = exception_landing e f
 landing Exiting f = exit_landing f

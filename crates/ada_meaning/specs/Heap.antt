@@ -13,12 +13,13 @@ pub record Home : Type 0 where
   pub pool : Option ℕ
   pub subpool : Option ℕ
 
--- A controlled part of an object (7.6): whether it has a value now, how many values it had before that, and the trace number of its newest value, 0
--- where it has had none.
+-- A controlled part of an object (7.6): whether it has a value now, how many values it had before that, the trace number of its newest value, 0 where it
+-- has had none; and the elementary component with which it begins.
 pub record PartState : Type 0 where
   pub alive : Bool
   pub turn : ℕ
   pub number : ℕ
+  pub first : ℕ
 
 -- What lies in an object (3.3, 4.8): its access type, or the type that it is known by; its trace number, 0 where it is declared; its home; its
 -- components; and its controlled parts, by their numbers (7.6).
@@ -63,6 +64,8 @@ pub record Ops (V H : Type 0) : Type 0 where
   pub look : H → V → Found (Cell V)
   -- the same as long as its words are out
   pub lent : H → V → Found (Cell V)
+  -- the same as long as the object is in its collection, and each of its controlled parts has a value
+  pub standing : H → V → Found (Cell V)
   -- a new object for a granted request of so many words, in the collection of its home; and the value that names it
   pub create : H → (words : ℕ) → Cell V → H
   pub created : H → (words : ℕ) → V

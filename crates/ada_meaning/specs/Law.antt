@@ -7,7 +7,7 @@ use Rattle.ada_meaning.specs.declared.state.Value.TheVariants.{Null, Names, Scal
 use Rattle.ada_meaning.specs.declared.event.Cause.{Cause}
 use Rattle.ada_meaning.specs.declared.event.Cause.TheVariants.{Leaving, Freeing, Assigning, Undoing}
 use Rattle.ada_meaning.specs.declared.event.Halt.{Halt}
-use Rattle.ada_meaning.specs.declared.event.Halt.TheVariants.{Finished, Unhandled, Erroneous, Stuck, Memory}
+use Rattle.ada_meaning.specs.declared.event.Halt.TheVariants.{Finished, Unhandled, Escaped, Erroneous, Stuck, Memory}
 use Rattle.ada_meaning.specs.Event.{Finalized, Back, Followed, Left}
 use Rattle.ada_meaning.specs.State.{Owned, declared, collection, record_object, storage_pool, pool_housed, Item, Master}
 use Rattle.ada_meaning.specs.Heap.{Home}
@@ -224,6 +224,7 @@ LeavesInnermost e masters = IfSome (left_by e) (λ m. IsInnermost m masters)
 abbrev pub HasEnded : Halt → Type 0
 HasEnded Finished = Unit {0}
 HasEnded (Unhandled e) = Unit {0}
+HasEnded (Escaped e) = ⊥
 HasEnded (Erroneous why) = ⊥
 HasEnded Stuck = ⊥
 HasEnded Memory = ⊥

@@ -30,6 +30,14 @@ pub mod Defaults
 pub mod Records
 -- calls, and what callers hold (6.4, 6.5)
 pub mod Calls
+-- operations of controlled types, and what an exception that leaves one does (7.6, 7.6.1)
+pub mod Operations
+-- when controlled parts are treated (7.6, 7.6.1)
+pub mod Treated
+-- where controlled parts begin, and whose operations they have (7.6)
+pub mod Places
+-- a run that meets the premises of the laws of operations
+pub mod OperationExamples
 -- what is passed by reference (6.2, 6.4.1)
 pub mod References
 -- where a statement begins (5.1)

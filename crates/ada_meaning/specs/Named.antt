@@ -1,7 +1,7 @@
 -- The heap of names: objects by name, for ever. A name is never used twice.
 
 use Rattle.std.specs.Prelude.{ℕ, suc, ◌+◌, ◌==◌, ◌&&◌, ℤ, Bool, true, false, if◌then◌else◌, List, [], ◌∷◌, ◌++◌, length, map, Option, Some, None, Result, Ok, Err}
-use Rattle.std.specs.List.{slice_get, slice_set}
+use Rattle.std.specs.List.{slice_get, slice_set, list_all}
 use Rattle.ada_values.specs.declared.value.Value.{Value as ScalarValue}
 use Rattle.ada_values.specs.declared.value.Value.TheVariants as scalar
 use Rattle.ada_values.specs.declared.operator.BinaryOperator.{BinaryOperator}
@@ -75,6 +75,22 @@ lent objects (Names o) = lent_by (object_at objects o)
 lent objects (Scalar v) = on_other
 lent objects (Part o place) = on_other
 
+-- Each of these controlled parts has a value (7.6).
+abbrev pub all_alive : List PartState → Bool
+all_alive parts = list_all (λ p. p.alive) parts
+
+-- The cell of an object as long as it is in its collection, and each of its controlled parts has a value.
+abbrev pub standing_by : Option Object → Found (Cell Value)
+standing_by None = on_gone
+standing_by (Some object) = if object.listed && all_alive object.cell.parts then finds object.cell else on_gone
+
+-- The cell of the object of a value, as long as it is.
+abbrev pub standing : List Object → Value → Found (Cell Value)
+standing objects Null = on_null
+standing objects (Names o) = standing_by (object_at objects o)
+standing objects (Scalar v) = on_other
+standing objects (Part o place) = on_other
+
 -- A new object exists, is in its collection, and its words are out.
 abbrev pub new_object : Cell Value → Object
 new_object cell = record { cell = cell; stage = Existing; listed = true; out = true }
@@ -105,11 +121,11 @@ filled c v object = record object { cell = record (object.cell) { values = slice
 
 -- A part that comes to have a value (7.6), and one whose value is finalized (7.6.1).
 abbrev pub born_part : (number : ℕ) → PartState → PartState
-born_part number p = record { alive = true; turn = p.turn; number = number }
+born_part number p = record p { alive = true; number = number }
 
 -- The state of a part once its value is finalized.
 abbrev pub finalized_part : PartState → PartState
-finalized_part p = record { alive = false; turn = p.turn + 1; number = p.number }
+finalized_part p = record p { alive = false; turn = p.turn + 1 }
 
 -- The parts of an object once one of them has changed, if there is that one.
 abbrev pub with_part : (PartState → PartState) → (part : ℕ) → Option PartState → List PartState → List PartState
@@ -279,6 +295,7 @@ named = record {
   same = same;
   look = look;
   lent = lent;
+  standing = standing;
   create = create;
   created = created;
   store = store;

@@ -100,6 +100,6 @@ AssignmentsFinalizeCopyAdjust =
       next = suc before.next;
       control = treating (Names o) (ends (Assigning before.next)) (record_tasks program.types.items record_type WholeFirst target.part)
           (frame.Copies source.component record_type ∷ frame.StoresRecord (Names o) target.component (width_of program.types.items record_type)
-          ∷ treating (Names o) (begins (Adjustment before.next)) (record_tasks program.types.items record_type PartsFirst target.part) outer);
+          ∷ treating (Names o) (begins (Adjustment before.next) []) (record_tasks program.types.items record_type PartsFirst target.part) outer);
       activations = record { procedure = procedure; places = places; operands = Names p ∷ pending } ∷ suspended;
     }

@@ -1,6 +1,6 @@
 -- The small steps: what a state does next, form by form in the order of the manual. They are generic in what a value is and in the heap.
 
-use Rattle.std.specs.Prelude.{ℕ, ◌+◌, ◌-◌, ◌==◌, ℤ, pos, ◌+ℤ◌, int_le, Bool, true, false, not, if◌then◌else◌, List, [], ◌∷◌, ◌++◌, length, map, replicate, take, drop, reverse, Option, Some, None, is_some, Result, Ok, Err}
+use Rattle.std.specs.Prelude.{ℕ, ◌+◌, ◌-◌, ◌==◌, ℤ, pos, ◌+ℤ◌, int_le, Bool, true, false, not, if◌then◌else◌, List, [], ◌∷◌, ◌++◌, length, map, take, drop, reverse, Option, Some, None, is_some, Result, Ok, Err}
 use Rattle.std.specs.List.{slice_get, slice_index_or, slice_set}
 use Rattle.ada_values.specs.declared.operator.BinaryOperator.{BinaryOperator}
 use Rattle.ada_values.specs.declared.operator.BinaryOperator.TheVariants as binary
@@ -14,12 +14,14 @@ use Rattle.ada_program.specs.declared.program.VariableKind.TheVariants as variab
 use Rattle.ada_program.specs.Form.{RecordPathForm, ActualForm, in_value, in_null, in_access, in_record, in_out_path, in_out_access, in_out_component, in_out_record, ExpressionForm, integer, boolean, reads, is_null, applied_to, chained, LinksForm, no_more_links, a_link, ItemForm, null_item, item_of_path, item_of_value, item_of_record, RightForm, nothing, value_of, allocates, allocates_default, computes, StmtForm, skips, assigns, assigns_record, frees, gets, writes, writes_text, chooses, repeats, counts, exits, calls, returns, raises, encloses, StmtsForm, no_stmts, a_stmt, BranchesForm, otherwise, a_branch, HandlersForm, DeclarationForm, creates_pool, collects, declares, declares_record}
 use Rattle.ada_program.specs.ProgramForm.{VariableForm, BodyForm}
 use Rattle.ada_program.specs.Typed.{reached_of, words_of, width_of, pool_named}
-use Rattle.ada_program.specs.Controlled.{number_of, number_reached, shapes_of}
+use Rattle.ada_program.specs.declared.program.Operations.{Operations}
+use Rattle.ada_program.specs.Controlled.{number_of, number_reached, shapes_of, operations_of, procedure_number, part_firsts}
 use Rattle.ada_parts.specs.declared.tasks.Direction.{Direction}
 use Rattle.ada_parts.specs.declared.tasks.Direction.TheVariants.{PartsFirst, WholeFirst}
 use Rattle.ada_parts.specs.declared.tasks.Next.{Next as Follows}
 use Rattle.ada_parts.specs.declared.tasks.Next.TheVariants.{Done, Pick, Perform}
 use Rattle.ada_parts.specs.Shape.{Shape, parts_of}
+use Rattle.ada_parts.specs.Part.{Part}
 use Rattle.ada_parts.specs.Task.{Task, performs, treats, opened, performed, next as task_next, taken as taken_task}
 use Rattle.ada_meaning.specs.declared.event.Birth.{Birth}
 use Rattle.ada_meaning.specs.declared.event.Birth.TheVariants.{Creation, Copy, Adjustment}
@@ -27,15 +29,16 @@ use Rattle.ada_meaning.specs.declared.state.Place.{Place}
 use Rattle.ada_meaning.specs.declared.state.Mode.{Mode}
 use Rattle.ada_meaning.specs.declared.state.Mode.TheVariants.{Running, Raising, Exiting, Returning}
 use Rattle.ada_meaning.specs.declared.event.Cause.{Cause}
-use Rattle.ada_meaning.specs.declared.event.Cause.TheVariants.{Leaving, Freeing, Assigning}
+use Rattle.ada_meaning.specs.declared.event.Cause.TheVariants.{Leaving, Freeing, Assigning, Undoing}
 use Rattle.ada_program.specs.declared.program.Exception.{Exception}
 use Rattle.ada_program.specs.declared.program.Exception.TheVariants.{ConstraintError, StorageError, EndError}
 use Rattle.ada_meaning.specs.declared.event.Halt.{Halt}
-use Rattle.ada_meaning.specs.declared.event.Halt.TheVariants.{Finished, Unhandled, Erroneous, Stuck}
+use Rattle.ada_meaning.specs.declared.event.Halt.TheVariants.{Finished, Unhandled, Escaped, Erroneous, Stuck}
 use Rattle.ada_meaning.specs.declared.event.Line.TheVariants.{Image, Literal}
+use Rattle.ada_meaning.specs.declared.event.Why.{Why}
 use Rattle.ada_meaning.specs.declared.event.Why.TheVariants.{FollowsGone, EndsTwice, GivesElsewhere, FinalizesTwice}
 use Rattle.ada_meaning.specs.Event.{Event, Born, Finalized, Back, Followed, Left, Line, Quiet, Request, Allocate, GiveBack, New, Gone}
-use Rattle.ada_meaning.specs.Frame.{Treatment, begins, ends, Frame, evaluating, is_master, Landing, passes_on, goes_behind, goes_in, landing}
+use Rattle.ada_meaning.specs.Frame.{Treatment, begins, ends, Frame, evaluating, is_master, Landing, passes_on, goes_behind, goes_in, breaks_off, escapes, landing}
 use Rattle.ada_meaning.specs.Frame as frame
 use Rattle.ada_meaning.specs.State.{Activation, Owned, declared, collection, record_object, storage_pool, Item, Master, State, Destination, height, home_of, pools_in, pool_for, pool_freed_to, counted}
 use Rattle.ada_meaning.specs.Heap.{PartState, Cell, Found, on_null, on_gone, on_other, finds, Ops}
@@ -53,7 +56,7 @@ pub data Next (V H : Type 0) : Type 0 where
 
 -- In which order a treatment takes a record and its components (7.6, 7.6.1).
 abbrev pub direction_of : Treatment → Direction
-direction_of (begins by) = PartsFirst
+direction_of (begins by done) = PartsFirst
 direction_of (ends cause) = WholeFirst
 
 -- How many components are open, of which one is to be picked.
@@ -103,9 +106,19 @@ record_tasks types t direction first = tasks_in (shapes_of types) direction (num
 abbrev pub has_parts : List TypeDefinition → (record_type : ℕ) → Bool
 has_parts types t = is_some (number_of types (Some t))
 
--- The controlled parts of a new object: none has a value yet.
-abbrev pub new_parts : (count : ℕ) → List PartState
-new_parts count = replicate count (record { alive = false; turn = 0; number = 0 })
+-- The operation that begins a value so (7.6): Initialize as its object is created, Adjust where it is copied.
+abbrev pub beginning : Birth → Operations → Option ℕ
+beginning Creation operations = procedure_number operations.initialize
+beginning Copy operations = procedure_number operations.adjust
+beginning (Adjustment number) operations = procedure_number operations.adjust
+
+-- A controlled part of a new object, which begins with this component: it has no value yet.
+abbrev pub new_part : (first : ℕ) → PartState
+new_part first = record { alive = false; turn = 0; number = 0; first = first }
+
+-- The controlled parts of a new object: one that an access type's values name, or the one that is known by a type.
+abbrev pub new_parts : List TypeDefinition → (access : ℕ) → List PartState
+new_parts types access = map new_part (part_firsts types (number_reached types access))
 
 -- An object is treated before what comes behind, if anything is to be done.
 abbrev pub treating : {V : Type 0} → V → Treatment → List Task → List (Frame V) → List (Frame V)
@@ -463,39 +476,99 @@ module _ {V H : Type 0} (ops : Ops V H) where
   abbrev pub without_newest : (count : ℕ) → State V H → State V H
   without_newest count s = set_operands (drop count (operands s)) s
 
+  -- What lies in a variable's place before its declaration is elaborated: a value of its kind, which no resolved program reads (8.3).
+  abbrev pub blank : VariableKind → V
+  blank variable.Integer = ops.integer (pos 0)
+  blank variable.Boolean = ops.boolean false
+  blank (variable.Access access) = ops.null
+  blank (variable.Record object) = ops.null
+
+  -- What lies in the places of these variables then.
+  abbrev pub blanks : List VariableForm → List V
+  blanks [] = []
+  blanks (x ∷ xs) = blank x.kind ∷ blanks xs
+
+  -- The places of a body's variables, of which the first ones, the formal parameters, hold these values (6.4.1).
+  abbrev pub given_places : (actuals : List V) → List VariableForm → List V
+  given_places actuals variables = actuals ++ drop (length actuals) (blanks variables)
+
   -- Controlled parts (7.6, 7.6.1).
 
   -- What is left of the treatment of an object goes on.
   abbrev pub treated_on : V → Treatment → List Task → State V H → State V H
   treated_on v treatment tasks s = at (treating v treatment tasks s.control) s
 
-  -- A part comes to have a value (7.6): its operation does nothing.
-  abbrev pub born_next : V → (of part : ℕ) → Birth → Option PartState → State V H → Next V H
-  born_next v of part by None s = halts Stuck
-  born_next v of part by (Some p) s =
-      moves (Born v part p.turn of (counted s.born) by) (record s { born = counted s.born; heap = ops.bear s.heap v part (counted s.born) })
+  -- The body of an operation begins (7.6, 6.4): its one formal parameter stands for a part of an object. What the running body has computed waits.
+  abbrev pub operating : (procedure : ℕ) → BodyForm → (reference : V) → (behind : List (Frame V)) → State V H → State V H
+  operating procedure b reference behind s = entered (record s {
+    activations = record { procedure = Some procedure; places = given_places (reference ∷ []) b.variables; operands = [] } ∷ s.activations;
+    control = frame.Elaborates b.declarations b.statements b.handlers ∷ frame.Returns [] [] ∷ behind;
+  })
 
-  -- The value of a part is finalized (7.6.1): to finalize one that does not exist is erroneous.
-  abbrev pub finalized_next : V → (of part : ℕ) → Cause → Option PartState → State V H → Next V H
-  finalized_next v of part cause None s = halts Stuck
-  finalized_next v of part cause (Some p) s =
-      if p.alive then moves (Finalized v part p.turn of p.number cause) (record s { heap = ops.finalize s.heap v part }) else halts (Erroneous FinalizesTwice)
+  abbrev pub operation_next : (procedure : ℕ) → Option BodyForm → (reference : V) → (behind : List (Frame V)) → Event V → State V H → Next V H
+  operation_next procedure None reference behind event s = halts Stuck
+  operation_next procedure (Some b) reference behind event s = moves event (operating procedure b reference behind s)
 
-  -- The operation of a part is called.
-  abbrev pub performed_next : V → Treatment → (of part : ℕ) → Found (Cell V) → State V H → Next V H
-  performed_next v treatment of part on_null s = halts Stuck
-  performed_next v treatment of part on_gone s = halts (Erroneous FinalizesTwice)
-  performed_next v treatment of part on_other s = halts Stuck
-  performed_next v (begins by) of part (finds cell) s = born_next v of part by (slice_get cell.parts part) s
-  performed_next v (ends cause) of part (finds cell) s = finalized_next v of part cause (slice_get cell.parts part) s
+  -- What refers to a part of an object.
+  abbrev pub part_reference : V → (part : ℕ) → PartState → V
+  part_reference v part p = ops.refer v (record { component = p.first; part = part })
+
+  -- A part comes to have a value (7.6).
+  abbrev pub born_next : V → Birth → (done : List Part) → (of part : ℕ) → List Task → Option PartState → State V H → Next V H
+  born_next v by done of part tasks None s = halts Stuck
+  born_next v by done of part tasks (Some p) s =
+      moves (Born v part p.turn of (counted s.born) by)
+      (treated_on v (begins by (record { of = of; number = part } ∷ done)) tasks
+      (record s { born = counted s.born; heap = ops.bear s.heap v part (counted s.born) }))
+
+  -- The operation that begins a part is called (7.6); where the type doesn't override it, it does nothing.
+  abbrev pub begun_next : List BodyForm → V → Birth → (done : List Part) → (of part : ℕ) → List Task → (operation : Option ℕ) → Option PartState → State V H → Next V H
+  begun_next bodies v by done of part tasks operation None s = halts Stuck
+  begun_next bodies v by done of part tasks None (Some p) s = born_next v by done of part tasks (Some p) s
+  begun_next bodies v by done of part tasks (Some procedure) (Some p) s =
+      operation_next procedure (slice_get bodies procedure) (part_reference v part p) (frame.Awaits v by done of part tasks ∷ s.control) Quiet s
+
+  -- The body of that operation has ended.
+  abbrev pub awaited_next : V → Birth → (done : List Part) → (of part : ℕ) → List Task → Found (Cell V) → State V H → Next V H
+  awaited_next v by done of part tasks on_null s = halts Stuck
+  awaited_next v by done of part tasks on_gone s = halts (Erroneous FinalizesTwice)
+  awaited_next v by done of part tasks on_other s = halts Stuck
+  awaited_next v by done of part tasks (finds cell) s = born_next v by done of part tasks (slice_get cell.parts part) s
+
+  -- Finalize of a part is called (7.6.1).
+  abbrev pub ended_next : List BodyForm → V → (part : ℕ) → PartState → (behind : List (Frame V)) → (operation : Option ℕ) → Event V → State V H → Next V H
+  ended_next bodies v part p behind None event s = moves event (at behind s)
+  ended_next bodies v part p behind (Some procedure) event s =
+      operation_next procedure (slice_get bodies procedure) (part_reference v part p) (frame.Confines ∷ behind) event s
+
+  -- The value of a part is finalized: to finalize one that does not exist is erroneous.
+  abbrev pub finalized_next : List BodyForm → V → Cause → (of part : ℕ) → List Task → (operation : Option ℕ) → Option PartState → State V H → Next V H
+  finalized_next bodies v cause of part tasks operation None s = halts Stuck
+  finalized_next bodies v cause of part tasks operation (Some p) s =
+      if p.alive
+      then ended_next bodies v part p (treating v (ends cause) tasks s.control) operation (Finalized v part p.turn of p.number cause)
+      (record s { heap = ops.finalize s.heap v part })
+      else halts (Erroneous FinalizesTwice)
+
+  -- The operation of a part is called; this is left of the object then.
+  abbrev pub performed_next : List TypeDefinition → List BodyForm → V → Treatment → (of part : ℕ) → List Task → Found (Cell V) → State V H → Next V H
+  performed_next types bodies v treatment of part tasks on_null s = halts Stuck
+  performed_next types bodies v treatment of part tasks on_gone s = halts (Erroneous FinalizesTwice)
+  performed_next types bodies v treatment of part tasks on_other s = halts Stuck
+  performed_next types bodies v (begins by done) of part tasks (finds cell) s =
+      begun_next bodies v by done of part tasks (beginning by (operations_of types of)) (slice_get cell.parts part) s
+  performed_next types bodies v (ends cause) of part tasks (finds cell) s =
+      finalized_next bodies v cause of part tasks (procedure_number (operations_of types of).finalize) (slice_get cell.parts part) s
 
   -- The next step of a treatment, by what comes next of what is left.
-  abbrev pub treats_next : List Shape → V → Treatment → List Task → Follows → State V H → Next V H
-  treats_next shapes v treatment tasks Done s = moves Quiet s
-  treats_next shapes v treatment tasks (Pick count) s =
-      if count == 0 then halts Stuck else picks count (λ i. treated_on v treatment (picked_task shapes (direction_of treatment) tasks i) s)
-  treats_next shapes v treatment tasks (Perform of part) s =
-      performed_next v treatment of part (ops.look s.heap v) (treated_on v treatment (performed tasks) s)
+  abbrev pub treats_next : List TypeDefinition → List BodyForm → V → Treatment → List Task → Follows → State V H → Next V H
+  treats_next types bodies v treatment tasks Done s = moves Quiet s
+  treats_next types bodies v treatment tasks (Pick count) s =
+      if count == 0
+      then halts Stuck
+      else picks count (λ i. treated_on v treatment (picked_task (shapes_of types) (direction_of treatment) tasks i) s)
+  treats_next types bodies v treatment tasks (Perform of part) s =
+      performed_next types bodies v treatment of part (performed tasks) (ops.look s.heap v) s
 
   -- The new object: its components are the newest operands, in the order in which they were computed.
   abbrev pub new_cell : List TypeDefinition → (access count : ℕ) → Destination → State V H → Cell V
@@ -504,13 +577,13 @@ module _ {V H : Type 0} (ops : Ops V H) where
     number = counted s.allocated;
     home = record { item = home.item; pool = Some home.pool; subpool = None };
     values = newest_ones count s;
-    parts = new_parts (parts_held types access);
+    parts = new_parts types access;
   }
 
   -- A granted allocator: the object exists, and the value that names it is the newest operand. A refused one raises Storage_Error (11.1).
   abbrev pub granted : List TypeDefinition → (access count words : ℕ) → Destination → State V H → State V H
   granted types access count words home s =
-      treated_on (ops.created s.heap words) (begins Creation) (all_tasks types access PartsFirst)
+      treated_on (ops.created s.heap words) (begins Creation []) (all_tasks types access PartsFirst)
       (record (set_operands (ops.created s.heap words ∷ drop count (operands s)) s) {
         allocated = counted s.allocated;
         heap = ops.create s.heap words (new_cell types access count home s);
@@ -559,12 +632,24 @@ module _ {V H : Type 0} (ops : Ops V H) where
         (frame.Ends v ∷ frame.GivesBack v (Freeing s.next) (Some (pool_freed_to (home_of access s.masters))) ∷ clears ∷ s.control);
   })
 
+  -- It is erroneous where the object is of another pool (13.11.2).
+  abbrev pub freeing_next : List TypeDefinition → (access : ℕ) → V → Cell V → (clears : Frame V) → Event V → State V H → Next V H
+  freeing_next types access v cell clears event s =
+      if same_pool (Some (pool_freed_to (home_of access s.masters))) cell.home.pool
+      then moves event (freeing types access v cell clears s)
+      else halts (Erroneous GivesElsewhere)
+
+  -- Why a Free is erroneous where the object is gone, or is being ended, or not all of its controlled parts have a value (7.6.1, 13.11.2): a part would be
+  -- finalized that has none; where it has no such parts, it would cease to exist once more.
+  abbrev pub ends_again : List TypeDefinition → (access : ℕ) → Why
+  ends_again types access = if parts_held types access == 0 then EndsTwice else FinalizesTwice
+
   -- Free (X) (13.11.2): null has no effect.
   abbrev pub free_next : List TypeDefinition → (access x : ℕ) → V → Found (Cell V) → State V H → Next V H
   free_next types access x v on_null s = moves Quiet s
-  free_next types access x v on_gone s = halts (Erroneous EndsTwice)
+  free_next types access x v on_gone s = halts (Erroneous (ends_again types access))
   free_next types access x v on_other s = halts Stuck
-  free_next types access x v (finds cell) s = moves Quiet (freeing types access v cell (frame.Clears x) s)
+  free_next types access x v (finds cell) s = freeing_next types access v cell (frame.Clears x) Quiet s
 
   -- An object ceases to exist (13.11.2): twice is erroneous.
   abbrev pub end_next : V → Found (Cell V) → State V H → Next V H
@@ -594,7 +679,7 @@ module _ {V H : Type 0} (ops : Ops V H) where
   assigning types t target source s = numbered (computed (ops.whole source) (record s {
     control = treating (ops.whole target) (ends (Assigning s.next)) (record_tasks types t WholeFirst (ops.part_base target))
         (frame.Copies (ops.base source) t ∷ frame.StoresRecord (ops.whole target) (ops.base target) (width_of types t)
-        ∷ treating (ops.whole target) (begins (Adjustment s.next)) (record_tasks types t PartsFirst (ops.part_base target)) s.control);
+        ∷ treating (ops.whole target) (begins (Adjustment s.next) []) (record_tasks types t PartsFirst (ops.part_base target)) s.control);
   }))
 
   abbrev pub assigns_next : List TypeDefinition → (record_type : ℕ) → (target source : V) → (same : Option Bool) → State V H → Next V H
@@ -662,21 +747,20 @@ module _ {V H : Type 0} (ops : Ops V H) where
       record_holder_next target (λ place. frame.TargetsRecord place.component target.record_type items) s
 
   abbrev pub frees_next : List TypeDefinition → List ℕ → (access x : ℕ) → State V H → Next V H
-  frees_next types [] access x s = free_next types access x (held s x) (ops.look s.heap (held s x)) s
+  frees_next types [] access x s = free_next types access x (held s x) (ops.standing s.heap (held s x)) s
   frees_next types (c ∷ cs) access x s = holder_next c cs x (λ last. frame.FreesIn access last) s
 
   -- Free (P.C): the object that P leads to is found first, as that of a target. What its component gives access to is freed as by Free (X), and
   -- the component becomes null.
   abbrev pub freed_next : List TypeDefinition → (access : ℕ) → V → (c : ℕ) → V → Found (Cell V) → State V H → Next V H
   freed_next types access o c v on_null s = moves (Followed o) s
-  freed_next types access o c v on_gone s = halts (Erroneous EndsTwice)
+  freed_next types access o c v on_gone s = halts (Erroneous (ends_again types access))
   freed_next types access o c v on_other s = halts Stuck
-  freed_next types access o c v (finds cell) s =
-      moves (Followed o) (freeing types access v cell (frame.ClearsIn o c) s)
+  freed_next types access o c v (finds cell) s = freeing_next types access v cell (frame.ClearsIn o c) (Followed o) s
 
   abbrev pub free_component_next : List TypeDefinition → (access : ℕ) → V → (c : ℕ) → Option V → State V H → Next V H
   free_component_next types access o c None s = halts Stuck
-  free_component_next types access o c (Some v) s = freed_next types access o c v (ops.look s.heap v) s
+  free_component_next types access o c (Some v) s = freed_next types access o c v (ops.standing s.heap v) s
 
   abbrev pub free_in_next : List TypeDefinition → (access : ℕ) → V → (c : ℕ) → Found (Cell V) → State V H → Next V H
   free_in_next types access o c on_null s = moves Quiet (raised ConstraintError s)
@@ -748,22 +832,6 @@ module _ {V H : Type 0} (ops : Ops V H) where
   exited_next None s = halts Stuck
   exited_next (Some true) s = moves Quiet (jumping Exiting s)
   exited_next (Some false) s = moves Quiet s
-
-  -- What lies in a variable's place before its declaration is elaborated: a value of its kind, which no resolved program reads (8.3).
-  abbrev pub blank : VariableKind → V
-  blank variable.Integer = ops.integer (pos 0)
-  blank variable.Boolean = ops.boolean false
-  blank (variable.Access access) = ops.null
-  blank (variable.Record object) = ops.null
-
-  -- What lies in the places of these variables then.
-  abbrev pub blanks : List VariableForm → List V
-  blanks [] = []
-  blanks (x ∷ xs) = blank x.kind ∷ blanks xs
-
-  -- The places of a body's variables, of which the first ones, the formal parameters, hold these values (6.4.1).
-  abbrev pub given_places : (actuals : List V) → List VariableForm → List V
-  given_places actuals variables = actuals ++ drop (length actuals) (blanks variables)
 
   -- An activation of a procedure's body begins (6.4). A call is a statement: no form of the caller waits for a value.
   abbrev pub activated : (procedure : ℕ) → BodyForm → (actuals : List V) → State V H → State V H
@@ -872,14 +940,14 @@ module _ {V H : Type 0} (ops : Ops V H) where
     number = 0;
     home = record { item = item; pool = None; subpool = None };
     values = values;
-    parts = new_parts (parts_held types t);
+    parts = new_parts types t;
   }
 
   -- The variable holds the name of the object, which is there from now on, and which the innermost master owns. Its controlled parts are initialized next,
   -- or adjusted, where it is a copy.
   abbrev pub made : List TypeDefinition → (x object_type : ℕ) → Birth → List V → State V H → State V H
   made types x t by values s =
-      treated_on (ops.created s.heap (words_of types t)) (begins by) (all_tasks types t PartsFirst)
+      treated_on (ops.created s.heap (words_of types t)) (begins by []) (all_tasks types t PartsFirst)
       (owned (record_object t) (put x (ops.created s.heap (words_of types t))
       (record s { heap = ops.create s.heap (words_of types t) (record_cell types t (height s.masters) values) })))
 
@@ -979,24 +1047,65 @@ module _ {V H : Type 0} (ops : Ops V H) where
   frame_next types bodies (frame.Declares x) s = moves Quiet (owned (declared x) (put x (newest s) (popped s)))
   frame_next types bodies (frame.DeclaresRecord x t) s =
       moves Quiet (made types x t Copy (newest_ones (words_of types t) s) (without_newest (words_of types t) s))
-  frame_next types bodies (frame.Treats v treatment tasks) s = treats_next (shapes_of types) v treatment tasks (task_next tasks) s
+  frame_next types bodies (frame.Treats v treatment tasks) s = treats_next types bodies v treatment tasks (task_next tasks) s
+  frame_next types bodies (frame.Awaits v by done of part tasks) s = awaited_next v by done of part tasks (ops.look s.heap v) s
+  frame_next types bodies frame.Confines s = moves Quiet s
+  frame_next types bodies (frame.Resumes mode) s = moves Quiet (record s { mode = mode })
   frame_next types bodies frame.Writes s = line_next (ops.reads_integer (newest s)) (popped s)
   frame_next types bodies (frame.Ends v) s = end_next v (ops.look s.heap v) s
   frame_next types bodies (frame.GivesBack v cause pool) s = back_next v cause pool (ops.lent s.heap v) s
   frame_next types bodies (frame.Clears x) s = moves Quiet (put x ops.null s)
   frame_next types bodies (frame.ClearsIn o c) s = store_next o c ops.null (ops.look s.heap o) s
 
-  -- While a jump is on its way (5.7, 6.5, 11.4), pending work is discarded frame by frame, up to where it lands. Only a master interrupts it:
-  -- the master is left first, and then the jump continues.
-  abbrev pub landed : Landing → State V H → Next V H
-  landed passes_on s = moves Quiet s
-  landed goes_behind s = moves Quiet (record s { mode = Running })
-  landed (goes_in no_stmts) s = halts Stuck
-  landed (goes_in (a_stmt f fs)) s = moves Quiet (record s { control = frame.Does (a_stmt f fs) ∷ s.control; mode = Running })
+  -- An exception comes out of an Initialize (7.6.1): the part that this was to begin has no value. Those of its object that have begun are finalized, newest
+  -- first; the object ceases to exist, its words go back, and then the exception goes on.
+  abbrev pub undone : Exception → V → (done : List Part) → Cell V → State V H → State V H
+  undone e v done cell s = numbered (record (set_operands [] s) {
+    heap = ops.part s.heap v;
+    mode = Running;
+    control = treating v (ends (Undoing s.next)) (map (λ p. performs p.of p.number) done)
+        (frame.Ends v ∷ frame.GivesBack v (Undoing s.next) cell.home.pool ∷ frame.Resumes (Raising e) ∷ s.control);
+  })
 
-  abbrev pub pass_next : (master : Bool) → Landing → Mode → State V H → Next V H
+  abbrev pub undo_next : Exception → V → (done : List Part) → Found (Cell V) → State V H → Next V H
+  undo_next e v done on_null s = halts Stuck
+  undo_next e v done on_gone s = halts (Erroneous EndsTwice)
+  undo_next e v done on_other s = halts Stuck
+  undo_next e v done (finds cell) s = moves Quiet (undone e v done cell s)
+
+  -- One comes out of an Adjust: the run ends there.
+  abbrev pub broken_next : Exception → V → Birth → (done : List Part) → State V H → Next V H
+  broken_next e v Creation done s = undo_next e v done (ops.look s.heap v) s
+  broken_next e v Copy done s = halts (Escaped e)
+  broken_next e v (Adjustment number) done s = halts (Escaped e)
+
+  -- No other jump leaves an operation so.
+  abbrev pub broken_off : Mode → V → Birth → (done : List Part) → State V H → Next V H
+  broken_off Running v by done s = halts Stuck
+  broken_off (Raising e) v by done s = broken_next e v by done s
+  broken_off Exiting v by done s = halts Stuck
+  broken_off Returning v by done s = halts Stuck
+
+  -- One comes out of a Finalize: the run ends there.
+  abbrev pub escaped : Mode → Halt
+  escaped Running = Stuck
+  escaped (Raising e) = Escaped e
+  escaped Exiting = Stuck
+  escaped Returning = Stuck
+
+  -- While a jump is on its way (5.7, 6.5, 11.4), pending work is discarded frame by frame, up to where it lands. A master interrupts it: the master is left
+  -- first, and then the jump continues. So does an object whose initialization it leaves.
+  abbrev pub landed : Landing V → Mode → State V H → Next V H
+  landed passes_on mode s = moves Quiet s
+  landed goes_behind mode s = moves Quiet (record s { mode = Running })
+  landed (goes_in no_stmts) mode s = halts Stuck
+  landed (goes_in (a_stmt f fs)) mode s = moves Quiet (record s { control = frame.Does (a_stmt f fs) ∷ s.control; mode = Running })
+  landed (breaks_off v by done) mode s = broken_off mode v by done s
+  landed escapes mode s = halts (escaped mode)
+
+  abbrev pub pass_next : (master : Bool) → Landing V → Mode → State V H → Next V H
   pass_next true landing mode s = moves Quiet (record s { control = frame.Leaves mode ∷ s.control; mode = Running })
-  pass_next false landing mode s = landed landing s
+  pass_next false landing mode s = landed landing mode s
 
   abbrev pub running_next : List TypeDefinition → List BodyForm → List (Frame V) → State V H → Next V H
   running_next types bodies [] s = halts (end_of Running)

@@ -80,7 +80,7 @@ pub enum Cause {
     Freeing { number: u64 },
     /// An assignment to a record that has controlled parts.
     Assigning { number: u64 },
-    /// An Initialize that raised an exception. None does yet.
+    /// An Initialize that an exception left: what was initialized of its object before.
     Undoing { number: u64 },
 }
 
@@ -100,6 +100,8 @@ pub enum Halt {
     Finished,
     /// An exception left the main procedure (11.4).
     Unhandled(Exception),
+    /// An exception would leave an Adjust or a Finalize (7.6.1).
+    Escaped(Exception),
     /// The next action would be erroneous (13.11.2).
     Erroneous(Why),
     /// The next action has no meaning: the program is not well formed.

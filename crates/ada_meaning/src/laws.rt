@@ -5,13 +5,22 @@ ghost use Rattle.ada_meaning.specs.Calls.{StepsKeepCallers, CallersHold, CallsEv
 ghost use Rattle.ada_meaning.specs.References.{RecordsAreReferredTo, ComponentsAreOpened, ParametersShareRecords, PathsGoOnThere, ComponentsAreFoundThere, RecordsBeginThere, StoresAreKept};
 ghost use Rattle.ada_meaning.specs.Defaults.{MakesByDefault, MakesRecords};
 ghost use Rattle.ada_meaning.specs.Life.{NamesAreUsedOnce, GoneForEver, BackOnce};
-ghost use Rattle.ada_meaning.specs.Ending.{StepsMakeLighter, StatesGoOn, StatementsEnd};
+ghost use Rattle.ada_meaning.specs.Ending.{StepsMakeLighter, NothingIsCalled, StatesGoOn, StatementsEnd};
+ghost use Rattle.ada_meaning.specs.Operations.{OperationsAreCalled, AwaitedPartsAreBorn, PlainPartsAreBorn, GoneObjectsAreNotTreated};
+ghost use Rattle.ada_meaning.specs.Operations.{FinalizeIsCalled, FinalizesEnd, NoFinalizeIsCalled, EndedValuesAreNotFinalized};
+ghost use Rattle.ada_meaning.specs.Operations.{FailedInitializesAreUndone, ObjectsEnd, WordsGoBack, ExceptionsGoOn, NothingEscapes};
+ghost use Rattle.ada_meaning.specs.Operations.{FreesOnce, FreesToItsPool, FreesFinalize};
+ghost use Rattle.ada_meaning.specs.Treated.{ObjectsBegin, ComponentsArePicked, MembersAreFinalized, TreatmentsComeFirst};
+ghost use Rattle.ada_meaning.specs.OperationExamples.{AnInitializeIsUndone, OthersAreMet, APartBeginsWithAComponent};
+ghost use Rattle.ada_meaning.specs.Places.{RecordsBeginThemselves, PartsBeginWithComponents, PartsAreCounted, PartsStayInPlace, NumbersAreAlone, TypesHaveTheirOperations};
 ghost use Rattle.ada_meaning.specs.Records.{RecordsAreCopied, TargetsComeFirst, OntoItselfNothingIsDone, AssignmentsFinalizeCopyAdjust};
 
-/// Each step that begins no statement makes the weight of the state smaller, so a loop that runs a machine comes to the
-/// next statement, or to the end.
+/// Each step that begins no statement and calls no operation of a controlled type makes the weight of the state smaller, so
+/// a loop that runs a machine comes to the next statement, to the body of an operation, or to the end. No operation is
+/// called where no type overrides one.
 pub fn steps_make_lighter()
-    ensures { StepsMakeLighter }
+    ensures lighter { StepsMakeLighter }
+    ensures nothing_called { NothingIsCalled }
 {}
 
 /// A state has a step for whatever is answered, or halts, and not for want of memory.
@@ -19,7 +28,8 @@ pub fn states_go_on()
     ensures { StatesGoOn }
 {}
 
-/// A statement ends, or another one begins: there is a number of steps that no run passes before.
+/// A statement ends, or another one begins, where no type overrides an operation: there is a number of steps that no run
+/// passes before.
 pub fn statements_end()
     ensures { StatementsEnd }
 {}
@@ -70,7 +80,8 @@ pub fn records_are_assigned()
 {}
 
 /// Whatever step a program makes, the activations behind the running one are those before; or a
-/// call begins, and all those before wait behind the new one; or a body ends, and those that waited
+/// call begins, and all those before wait behind the new one; or so does the body of an operation of
+/// a controlled type, behind which the running body keeps its operands, too (7.6); or a body ends, and those that waited
 /// for it are what there is (6.4, 6.5). Of these the caller alone changes, and only where the body
 /// ends normally: the variables that it gave for formal parameters of mode `in out` get what the
 /// parameters hold, and no other variable changes (6.4.1). An exception gives nothing back (11.4).
@@ -122,4 +133,77 @@ pub fn stores_are_kept()
 /// hold next, in order, each at the place that was named before the call (6.4.1).
 pub fn callers_resume()
     ensures { CallersResume }
+{}
+
+/// An object that is created has the controlled parts of its type, without values; they are initialized next, or adjusted,
+/// where it is a copy, and of components that are open any one may come first. At the leaving of its master they are
+/// finalized, before it ceases to exist (7.6, 7.6.1).
+pub fn objects_are_treated()
+    ensures begins { ObjectsBegin }
+    ensures picks { ComponentsArePicked }
+    ensures leaves { MembersAreFinalized }
+    ensures first { TreatmentsComeFirst }
+{}
+
+/// The operation that begins a controlled part is called with the part where it lies, and the part has its value when the
+/// body has ended; at once, where the type inherits the operation (7.6). No part of an object that is gone begins or ends.
+pub fn operations_begin_parts()
+    ensures called { OperationsAreCalled }
+    ensures awaited { AwaitedPartsAreBorn }
+    ensures plain { PlainPartsAreBorn }
+    ensures gone { GoneObjectsAreNotTreated }
+{}
+
+/// Finalize is called with a part that has a value, and the part has none from then on; when the body has ended, what is
+/// left of the object comes. Where the type inherits Finalize, the value just ends. To finalize a part that has no value is
+/// erroneous (7.6.1).
+pub fn operations_end_parts()
+    ensures called { FinalizeIsCalled }
+    ensures goes_on { FinalizesEnd }
+    ensures plain { NoFinalizeIsCalled }
+    ensures ended { EndedValuesAreNotFinalized }
+{}
+
+/// Where an exception comes out of an Initialize, the parts of the object that have begun are finalized, newest first; the
+/// object ceases to exist, its words go back, and the exception goes on. None comes out of an Adjust or a Finalize: the run
+/// ends there (7.6.1).
+pub fn exceptions_leave_operations()
+    ensures undone { FailedInitializesAreUndone }
+    ensures ceases { ObjectsEnd }
+    ensures back { WordsGoBack }
+    ensures goes_on { ExceptionsGoOn }
+    ensures escapes { NothingEscapes }
+{}
+
+/// A Free is erroneous at once where its object is gone, or is under way to that, or one of its parts has no value; and where
+/// the object is not from the pool of the access type. Any other one finalizes its object, by a variable's name or by a
+/// component's (13.11.2).
+pub fn frees_are_of_whole_objects()
+    ensures once { FreesOnce }
+    ensures pool { FreesToItsPool }
+    ensures finalizes { FreesFinalize }
+{}
+
+/// Controlled parts begin in a record where the declarations of its components say, in a well-formed program; and in every
+/// run of any program the parts of an object are those of its type, and stay where they begin (7.6).
+pub fn parts_begin_with_components()
+    ensures itself { RecordsBeginThemselves }
+    ensures components { PartsBeginWithComponents }
+    ensures counted { PartsAreCounted }
+    ensures stay { PartsStayInPlace }
+{}
+
+/// The operations that are called for a part are those of its type, which is found by its number (7.6).
+pub fn operations_are_of_their_types()
+    ensures alone { NumbersAreAlone }
+    ensures own { TypesHaveTheirOperations }
+{}
+
+/// The premises of the laws of operations are met: by a run in which two parts of an object begin, an exception comes out of
+/// the Initialize of the third, and these two are finalized, the newer one first; and by states of no run. A well-formed
+/// program has a component whose parts begin where it says.
+pub fn premises_of_operations_are_met()
+    ensures undone { AnInitializeIsUndone }
+    ensures others { OthersAreMet }
+    ensures places { APartBeginsWithAComponent }
 {}

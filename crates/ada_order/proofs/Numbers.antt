@@ -5,7 +5,7 @@ use Rattle.std.specs.List.{All, AllPairs}
 use Rattle.std.proofs.lemmas.List.Elements.{All-nil, All-cons}
 use Rattle.std.proofs.lemmas.List.Kept.{AllPairs-cons}
 use Rattle.ada_meaning.specs.State.{Owned, Item, Master, height}
-use Rattle.ada_meaning.specs.Step.{owning, shorter}
+use Rattle.ada_meaning.specs.Step.{older, owning, shorter}
 use Rattle.ada_meaning.specs.Law.{items_of, Falls, MastersFall, IsInnermost}
 use Rattle.ada_order.specs.Masters.{IsBelow}
 
@@ -68,14 +68,6 @@ pub newest_counted : (m i : ℕ) (ms : List Master) → Newest m i ms → Counte
 newest_counted m i [] w c = absurd w
 newest_counted m i (n ∷ ns) w c = height_is (n ∷ ns) ∙ newest_of i n.items (items_of ns) w.1 c
 
-height_without : (is : List Item) (n : ℕ) (ms : List Master) → height (shorter (record { number = n; items = is } ∷ ms)) ≤ height (record { number = n; items = is } ∷ ms)
-height_without [] n ms = omega arith
-height_without (i ∷ is) n ms = omega arith
-
-pub height_shorter : (ms : List Master) → height (shorter ms) ≤ height ms
-height_shorter [] = omega arith
-height_shorter (m ∷ ms) = height_without m.items m.number ms
-
 -- Masters keep their numbers as their items change.
 pub entered_owning : (n : ℕ) (i : Item) (ms : List Master) → Entered n ms → Entered n (owning i ms)
 entered_owning n i [] e = e
@@ -89,6 +81,10 @@ pub entered_above : (n more : ℕ) (ms : List Master) → n ≤ more → Entered
 entered_above n more [] le e = tt
 entered_above n more (m ∷ ms) le e = let lt = e.0 in (omega (arith, le, lt), e.1)
 
+pub entered_older : (n : ℕ) (ms : List Master) → Entered n ms → Entered n (older ms)
+entered_older n [] e = e
+entered_older n (m ∷ ms) e = let lt = e.0 in entered_above m.number n ms (omega (arith, lt)) e.1
+
 pub innermost_below : (n m : ℕ) (ms : List Master) → Entered n ms → IsInnermost m ms → m < n
 innermost_below n m [] e is = absurd is
 innermost_below n m (x ∷ ms) e is = let lt = e.0 in omega (arith, lt, is)
@@ -100,10 +96,6 @@ not_owning m i (n ∷ ns) away = away
 pub not_shorter : (m : ℕ) (ms : List Master) → NotEntered m ms → NotEntered m (shorter ms)
 not_shorter m [] away = away
 not_shorter m (n ∷ ns) away = away
-
-pub innermost_shorter : (m : ℕ) (ms : List Master) → IsInnermost m ms → IsInnermost m (shorter ms)
-innermost_shorter m [] is = is
-innermost_shorter m (n ∷ ns) is = is
 
 -- A master that is not entered is not the innermost one.
 pub not_innermost : (m n : ℕ) (ms : List Master) → NotEntered m ms → IsInnermost n ms → m ≢ n

@@ -2,15 +2,16 @@
 
 use Rattle.std.proofs.Common.{◌≡◌, ◌≢◌, ℕ, zero, suc, ◌+◌, ℤ, int_le, Bool, true, false, ◌==◌, if◌then◌else◌, List, [], ◌∷◌, ◌++◌, drop, Option, Some, None, Result, Ok, Err, refl, sym, ap, ◌∙◌, subst}
 use Rattle.std.specs.List.{slice_get, slice_set, slice_index_or}
+use Rattle.ada_program.specs.declared.program.Exception.{Exception}
 use Rattle.ada_program.specs.declared.program.Program.{Program}
 use Rattle.ada_program.specs.declared.program.TypeDefinition.{TypeDefinition}
 use Rattle.ada_program.specs.Form.{RecordPathForm, ActualForm, ExpressionForm, integer, boolean, reads, is_null, applied_to, chained, LinksForm, no_more_links, a_link, ItemForm, null_item, item_of_path, item_of_value, item_of_record, RightForm, nothing, value_of, allocates, allocates_default, computes, StmtForm, skips, assigns, assigns_record, frees, gets, writes, writes_text, chooses, repeats, counts, exits, calls, raises, encloses, StmtsForm, no_stmts, a_stmt, BranchesForm, otherwise, a_branch, HandlersForm, DeclarationForm, creates_pool, collects, declares, declares_record}
 use Rattle.ada_program.specs.Form as form
 use Rattle.ada_program.specs.ProgramForm.{BodyForm, body_forms}
-use Rattle.ada_program.specs.Controlled.{shapes_of}
+use Rattle.ada_program.specs.Controlled.{shapes_of, operations_of, procedure_number}
 use Rattle.ada_parts.specs.declared.tasks.Next.{Next as Follows}
 use Rattle.ada_parts.specs.declared.tasks.Next.TheVariants.{Done, Pick, Perform}
-use Rattle.ada_parts.specs.Shape.{Shape}
+use Rattle.ada_parts.specs.Part.{Part as OnePart}
 use Rattle.ada_parts.specs.Task.{Task, performed, next as task_next}
 use Rattle.ada_program.specs.Typed.{reached_of, words_of, width_of}
 use Rattle.ada_values.specs.declared.operator.BinaryOperator.{BinaryOperator}
@@ -23,19 +24,21 @@ use Rattle.ada_meaning.specs.declared.state.Value.TheVariants.{Null, Names, Scal
 use Rattle.ada_meaning.specs.declared.state.Mode.{Mode}
 use Rattle.ada_meaning.specs.declared.state.Mode.TheVariants.{Running, Raising, Exiting, Returning}
 use Rattle.ada_meaning.specs.declared.event.Birth.{Birth}
+use Rattle.ada_meaning.specs.declared.event.Birth.TheVariants.{Creation, Copy, Adjustment}
 use Rattle.ada_meaning.specs.declared.event.Cause.{Cause}
 use Rattle.ada_meaning.specs.declared.event.Cause.TheVariants.{Leaving}
 use Rattle.ada_meaning.specs.declared.event.Halt.TheVariants.{Erroneous, Stuck}
 use Rattle.ada_meaning.specs.declared.event.Why.TheVariants.{GivesElsewhere, FinalizesTwice}
-use Rattle.ada_meaning.specs.Event.{Back, Finalized, Quiet}
-use Rattle.ada_meaning.specs.Frame.{Treatment, Frame, is_master, Landing, passes_on, goes_behind, goes_in, landing}
+use Rattle.ada_meaning.specs.Event.{Back, Finalized, Followed, Quiet}
+use Rattle.ada_meaning.specs.Frame.{Treatment, Frame, is_master, Landing, passes_on, goes_behind, goes_in, breaks_off, escapes, landing}
 use Rattle.ada_meaning.specs.Frame as frame
-use Rattle.ada_meaning.specs.State.{Activation, Owned, declared, collection, record_object, storage_pool, Item, Master, Destination, height, home_of, counted}
+use Rattle.ada_meaning.specs.State.{Activation, Owned, declared, collection, record_object, storage_pool, Item, Master, Destination, height, home_of, pool_freed_to, counted}
 use Rattle.ada_meaning.specs.Heap.{PartState, Cell, Found, on_null, on_gone, on_other, finds}
-use Rattle.ada_meaning.specs.Step.{picked_task, direction_of, treated_on, born_next, finalized_next, performed_next, treats_next, taken_out, picks, first_or, operands_of, with_operands, operands, same_pool, told_back, record_cell, record_in, stored_from, newest_ones, without_newest, initial_values, copied_next, copies_next, record_target_next, record_stored_next, store_record_next, assigns_next, copy_next, record_assign_next, has_parts, record_next, halts, moves, at, popped, held, newest, component_next, follow_next, path_next, selected, named_next, holder_next, place_in, record_holder_next, referred_next, refers_next, open_next, opened_next, opens_next, expression_next, null_test_next, is_decided, link_next, links_next, outcome_next, item_next, items_next, new_next, new_cell, right_next, free_next, end_next, given_back, back_next, before_last, last_of, assign_next, target_next, stored_next, store_next, received_next, receive_next, frees_next, freed_next, free_component_next, free_in_next, branches_next, decided_next, turn_next, repeats_next, turned_next, count_turn_next, counts_next, ranges_next, gets_next, exit_next, exited_next, call_next, stmt_next, stmts_next, line_next, declaration_next, declarations_next, members_next, item_leave_next, master_leave_next, leave_next, frame_next, landed, pass_next, running_next, jump_next, mode_next}
-use Rattle.ada_meaning.specs.Named.{same, born_part, finalized_part, treated, finalize, Object, State, Next, next, named, whole, inside, look, lent, lent_by, reads_boolean, reads_null, reads_integer, unary_given, binary_given, members, object_at, changed, on_object, new_object, parted, finished, returned, filled, store, an_integer}
+use Rattle.ada_meaning.specs.Step.{picked_task, direction_of, treating, treated_on, operation_next, part_reference, beginning, born_next, begun_next, awaited_next, ended_next, finalized_next, performed_next, treats_next, freeing, freeing_next, undo_next, broken_next, broken_off, taken_out, picks, first_or, operands_of, with_operands, operands, same_pool, told_back, record_cell, record_in, stored_from, newest_ones, without_newest, initial_values, copied_next, copies_next, record_target_next, record_stored_next, store_record_next, assigns_next, copy_next, record_assign_next, has_parts, record_next, halts, moves, at, popped, held, newest, component_next, follow_next, path_next, selected, named_next, holder_next, place_in, record_holder_next, referred_next, refers_next, open_next, opened_next, opens_next, expression_next, null_test_next, is_decided, link_next, links_next, outcome_next, item_next, items_next, new_next, new_cell, right_next, free_next, end_next, given_back, back_next, before_last, last_of, assign_next, target_next, stored_next, store_next, received_next, receive_next, frees_next, freed_next, free_component_next, free_in_next, branches_next, decided_next, turn_next, repeats_next, turned_next, count_turn_next, counts_next, ranges_next, gets_next, exit_next, exited_next, call_next, stmt_next, stmts_next, line_next, declaration_next, declarations_next, members_next, item_leave_next, master_leave_next, leave_next, frame_next, landed, pass_next, running_next, jump_next, mode_next}
+use Rattle.ada_meaning.specs.Named.{same, born_part, finalized_part, treated, finalize, Object, State, Next, next, named, whole, inside, look, lent, lent_by, standing, reads_boolean, reads_null, reads_integer, unary_given, binary_given, members, object_at, changed, on_object, new_object, parted, finished, returned, filled, store, an_integer}
+use Rattle.ada_meaning.specs.Run.{Event}
 use Rattle.ada_meaning.proofs.Jumps.{unwound_to, unwound_by}
-use Rattle.ada_order.specs.Requests.{next_name, lent_from, SameAreLent, GoesBack, RequestsFit}
+use Rattle.ada_order.specs.Requests.{next_name, lent_from, SameAreLent, GoesBack, GoesBackUntold, RequestsFit}
 
 abbrev Heap : Type 0
 Heap = List Object
@@ -223,11 +226,20 @@ module _ (types : List TypeDefinition) where
   right_fits (computes e) s = (tt, λ o. refl)
 
   -- Free, and what it leads to.
+  freeing_fits :
+      (access : ℕ) (v : Value) (cell : Cell Value) (clears : Frame Value) (e : Event) (s : State) → ((after : Heap) → GoesBackUntold s.heap e after)
+      → Fits s (freeing_next named types access v cell clears e s)
+  freeing_fits access v cell clears e s untold = by_pool (same_pool (Some (pool_freed_to (home_of access s.masters))) cell.home.pool)
+    where
+      by_pool : (own : Bool) → Fits s (if own then moves e (freeing named types access v cell clears s) else halts (Erroneous GivesElsewhere))
+      by_pool true = (untold (on_object parted s.heap v), parted_same s.heap v)
+      by_pool false = tt
+
   free_fits : (access x : ℕ) (v : Value) (found : Found (Cell Value)) (s : State) → Fits s (free_next named types access x v found s)
   free_fits access x v on_null s = (tt, λ o. refl)
   free_fits access x v on_gone s = tt
   free_fits access x v on_other s = tt
-  free_fits access x v (finds cell) s = (tt, parted_same s.heap v)
+  free_fits access x v (finds cell) s = freeing_fits access v cell (frame.Clears x) Quiet s (λ after. tt)
 
   end_fits : (v : Value) (found : Found (Cell Value)) (s : State) → Fits s (end_next named v found s)
   end_fits v on_null s = tt
@@ -297,18 +309,18 @@ module _ (types : List TypeDefinition) where
   store_record_fits o first count (finds cell) s = record_stored_fits o first (newest_ones named count s) (record_in cell.values first count) (without_newest named count s)
 
   frees_fit : (cs : List ℕ) (access x : ℕ) (s : State) → Fits s (frees_next named types cs access x s)
-  frees_fit [] access x s = free_fits access x (held named s x) (look s.heap (held named s x)) s
+  frees_fit [] access x s = free_fits access x (held named s x) (standing s.heap (held named s x)) s
   frees_fit (c ∷ cs) access x s = holder_fits c cs x (λ last. frame.FreesIn access last) s
 
   freed_fits : (access : ℕ) (o : Value) (c : ℕ) (v : Value) (found : Found (Cell Value)) (s : State) → Fits s (freed_next named types access o c v found s)
   freed_fits access o c v on_null s = (tt, λ o. refl)
   freed_fits access o c v on_gone s = tt
   freed_fits access o c v on_other s = tt
-  freed_fits access o c v (finds cell) s = (tt, parted_same s.heap v)
+  freed_fits access o c v (finds cell) s = freeing_fits access v cell (frame.ClearsIn o c) (Followed o) s (λ after. tt)
 
   free_component_fits : (access : ℕ) (o : Value) (c : ℕ) (held : Option Value) (s : State) → Fits s (free_component_next named types access o c held s)
   free_component_fits access o c None s = tt
-  free_component_fits access o c (Some v) s = freed_fits access o c v (look s.heap v) s
+  free_component_fits access o c (Some v) s = freed_fits access o c v (standing s.heap v) s
 
   free_in_fits : (access : ℕ) (o : Value) (c : ℕ) (found : Found (Cell Value)) (s : State) → Fits s (free_in_next named types access o c found s)
   free_in_fits access o c on_null s = (tt, λ o. refl)
@@ -496,31 +508,77 @@ module _ (types : List TypeDefinition) where
   leave_fits mode [] s = tt
   leave_fits mode (m ∷ ms) s = master_leave_fits mode m.number m.items s
 
-  -- The treatment of an object.
-  born_fits : (v : Value) (of part : ℕ) (by : Birth) (state : Option PartState) (s : State) → Fits s (born_next named v of part by state s)
-  born_fits v of part by None s = tt
-  born_fits v of part by (Some state) s = (tt, part_same (born_part (counted s.born)) part s.heap v)
+  -- The body of an operation begins.
+  operation_fits :
+      (procedure : ℕ) (b : Option BodyForm) (reference : Value) (behind : List (Frame Value)) (e : Event) (before : Heap) (s : State)
+      → GoesBackUntold before e s.heap → SameAreLent before s.heap
+      → RequestsFit types s.masters before (operation_next named procedure b reference behind e s)
+  operation_fits procedure None reference behind e before s untold same = tt
+  operation_fits procedure (Some b) reference behind e before s untold same = (untold, same)
 
-  finalized_fits : (v : Value) (of part : ℕ) (cause : Cause) (state : Option PartState) (s : State) → Fits s (finalized_next named v of part cause state s)
-  finalized_fits v of part cause None s = tt
-  finalized_fits v of part cause (Some state) s = by_life state.alive
+  -- The treatment of an object.
+  born_fits :
+      (v : Value) (by : Birth) (done : List OnePart) (of part : ℕ) (tasks : List Task) (state : Option PartState) (s : State)
+      → Fits s (born_next named v by done of part tasks state s)
+  born_fits v by done of part tasks None s = tt
+  born_fits v by done of part tasks (Some state) s = (tt, part_same (born_part (counted s.born)) part s.heap v)
+
+  begun_fits :
+      (bodies : List BodyForm) (v : Value) (by : Birth) (done : List OnePart) (of part : ℕ) (tasks : List Task) (operation : Option ℕ)
+      (state : Option PartState) (s : State) → Fits s (begun_next named bodies v by done of part tasks operation state s)
+  begun_fits bodies v by done of part tasks operation None s = tt
+  begun_fits bodies v by done of part tasks None (Some state) s = born_fits v by done of part tasks (Some state) s
+  begun_fits bodies v by done of part tasks (Some procedure) (Some state) s =
+      operation_fits procedure (slice_get bodies procedure) (part_reference named v part state) (frame.Awaits v by done of part tasks ∷ s.control) Quiet
+      s.heap s tt (λ o. refl)
+
+  awaited_fits :
+      (v : Value) (by : Birth) (done : List OnePart) (of part : ℕ) (tasks : List Task) (found : Found (Cell Value)) (s : State)
+      → Fits s (awaited_next named v by done of part tasks found s)
+  awaited_fits v by done of part tasks on_null s = tt
+  awaited_fits v by done of part tasks on_gone s = tt
+  awaited_fits v by done of part tasks on_other s = tt
+  awaited_fits v by done of part tasks (finds cell) s = born_fits v by done of part tasks (slice_get cell.parts part) s
+
+  ended_fits :
+      (bodies : List BodyForm) (v : Value) (part : ℕ) (state : PartState) (behind : List (Frame Value)) (operation : Option ℕ) (e : Event) (before : Heap)
+      (s : State) → GoesBackUntold before e s.heap → SameAreLent before s.heap
+      → RequestsFit types s.masters before (ended_next named bodies v part state behind operation e s)
+  ended_fits bodies v part state behind None e before s untold same = (untold, same)
+  ended_fits bodies v part state behind (Some procedure) e before s untold same =
+      operation_fits procedure (slice_get bodies procedure) (part_reference named v part state) (frame.Confines ∷ behind) e before s untold same
+
+  finalized_fits :
+      (bodies : List BodyForm) (v : Value) (cause : Cause) (of part : ℕ) (tasks : List Task) (operation : Option ℕ) (state : Option PartState) (s : State)
+      → Fits s (finalized_next named bodies v cause of part tasks operation state s)
+  finalized_fits bodies v cause of part tasks operation None s = tt
+  finalized_fits bodies v cause of part tasks operation (Some state) s = by_life state.alive
     where
+      behind : List (Frame Value)
+      behind = treating v (frame.ends cause) tasks s.control
+
+      event : Event
+      event = Finalized v part state.turn of state.number cause
+
       by_life :
           (alive : Bool)
           → Fits s
-          (if alive then moves (Finalized v part state.turn of state.number cause) (record s { heap = finalize s.heap v part })
+          (if alive then ended_next named bodies v part state behind operation event (record s { heap = finalize s.heap v part })
           else halts (Erroneous FinalizesTwice))
-      by_life true = (tt, part_same finalized_part part s.heap v)
+      by_life true =
+          ended_fits bodies v part state behind operation event s.heap (record s { heap = finalize s.heap v part }) tt (part_same finalized_part part s.heap v)
       by_life false = tt
 
   performed_fits :
-      (v : Value) (treatment : Treatment) (of part : ℕ) (found : Found (Cell Value)) (s : State)
-      → Fits s (performed_next named v treatment of part found s)
-  performed_fits v treatment of part on_null s = tt
-  performed_fits v treatment of part on_gone s = tt
-  performed_fits v treatment of part on_other s = tt
-  performed_fits v (frame.begins by) of part (finds cell) s = born_fits v of part by (slice_get cell.parts part) s
-  performed_fits v (frame.ends cause) of part (finds cell) s = finalized_fits v of part cause (slice_get cell.parts part) s
+      (bodies : List BodyForm) (v : Value) (treatment : Treatment) (of part : ℕ) (tasks : List Task) (found : Found (Cell Value)) (s : State)
+      → Fits s (performed_next named types bodies v treatment of part tasks found s)
+  performed_fits bodies v treatment of part tasks on_null s = tt
+  performed_fits bodies v treatment of part tasks on_gone s = tt
+  performed_fits bodies v treatment of part tasks on_other s = tt
+  performed_fits bodies v (frame.begins by done) of part tasks (finds cell) s =
+      begun_fits bodies v by done of part tasks (beginning by (operations_of types of)) (slice_get cell.parts part) s
+  performed_fits bodies v (frame.ends cause) of part tasks (finds cell) s =
+      finalized_fits bodies v cause of part tasks (procedure_number (operations_of types of).finalize) (slice_get cell.parts part) s
 
   picked_fits :
       (none : Bool) (count : ℕ) (taking : ℕ → State) (s : State) → ((i : ℕ) → SameAreLent s.heap (taking i).heap)
@@ -529,13 +587,12 @@ module _ (types : List TypeDefinition) where
   picked_fits false count taking s each = each
 
   treats_fit :
-      (shapes : List Shape) (v : Value) (treatment : Treatment) (tasks : List Task) (follows : Follows) (s : State)
-      → Fits s (treats_next named shapes v treatment tasks follows s)
-  treats_fit shapes v treatment tasks Done s = (tt, λ o. refl)
-  treats_fit shapes v treatment tasks (Pick count) s =
-      picked_fits (count == 0) count (λ i. treated_on named v treatment (picked_task shapes (direction_of treatment) tasks i) s) s (λ i o. refl)
-  treats_fit shapes v treatment tasks (Perform of part) s =
-      performed_fits v treatment of part (look s.heap v) (treated_on named v treatment (performed tasks) s)
+      (bodies : List BodyForm) (v : Value) (treatment : Treatment) (tasks : List Task) (follows : Follows) (s : State)
+      → Fits s (treats_next named types bodies v treatment tasks follows s)
+  treats_fit bodies v treatment tasks Done s = (tt, λ o. refl)
+  treats_fit bodies v treatment tasks (Pick count) s =
+      picked_fits (count == 0) count (λ i. treated_on named v treatment (picked_task (shapes_of types) (direction_of treatment) tasks i) s) s (λ i o. refl)
+  treats_fit bodies v treatment tasks (Perform of part) s = performed_fits bodies v treatment of part (performed tasks) (look s.heap v) s
 
   -- Each frame that is taken off.
   frame_fits : (bodies : List BodyForm) (f : Frame Value) (s : State) → Fits s (frame_next named types bodies f s)
@@ -581,7 +638,10 @@ module _ (types : List TypeDefinition) where
   frame_fits bodies (frame.Declares x) s = (tt, λ o. refl)
   frame_fits bodies (frame.DeclaresRecord x t) s =
       (tt, added_same s.heap (record_cell named types t (height s.masters) (newest_ones named (words_of types t) s)) refl)
-  frame_fits bodies (frame.Treats v treatment tasks) s = treats_fit (shapes_of types) v treatment tasks (task_next tasks) s
+  frame_fits bodies (frame.Treats v treatment tasks) s = treats_fit bodies v treatment tasks (task_next tasks) s
+  frame_fits bodies (frame.Awaits v by done of part tasks) s = awaited_fits v by done of part tasks (look s.heap v) s
+  frame_fits bodies frame.Confines s = (tt, λ o. refl)
+  frame_fits bodies (frame.Resumes mode) s = (tt, λ o. refl)
   frame_fits bodies frame.Writes s = line_fits (reads_integer (newest named s)) (popped s)
   frame_fits bodies (frame.Ends v) s = end_fits v (look s.heap v) s
   frame_fits bodies (frame.GivesBack v cause pool) s = back_fits v cause pool s
@@ -592,15 +652,35 @@ module _ (types : List TypeDefinition) where
   running_fits bodies [] s = tt
   running_fits bodies (f ∷ k) s = frame_fits bodies f (at k s)
 
-  landed_fits : (l : Landing) (s : State) → Fits s (landed named l s)
-  landed_fits passes_on s = (tt, λ o. refl)
-  landed_fits goes_behind s = (tt, λ o. refl)
-  landed_fits (goes_in no_stmts) s = tt
-  landed_fits (goes_in (a_stmt f fs)) s = (tt, λ o. refl)
+  -- An exception comes out of an operation that was to begin a part of an object.
+  undo_fits : (x : Exception) (v : Value) (done : List OnePart) (found : Found (Cell Value)) (s : State) → Fits s (undo_next named x v done found s)
+  undo_fits x v done on_null s = tt
+  undo_fits x v done on_gone s = tt
+  undo_fits x v done on_other s = tt
+  undo_fits x v done (finds cell) s = (tt, parted_same s.heap v)
 
-  pass_fits : (master : Bool) (l : Landing) (mode : Mode) (s : State) → Fits s (pass_next named master l mode s)
+  broken_fits : (x : Exception) (v : Value) (by : Birth) (done : List OnePart) (s : State) → Fits s (broken_next named x v by done s)
+  broken_fits x v Creation done s = undo_fits x v done (look s.heap v) s
+  broken_fits x v Copy done s = tt
+  broken_fits x v (Adjustment number) done s = tt
+
+  off_fits : (mode : Mode) (v : Value) (by : Birth) (done : List OnePart) (s : State) → Fits s (broken_off named mode v by done s)
+  off_fits Running v by done s = tt
+  off_fits (Raising x) v by done s = broken_fits x v by done s
+  off_fits Exiting v by done s = tt
+  off_fits Returning v by done s = tt
+
+  landed_fits : (l : Landing Value) (mode : Mode) (s : State) → Fits s (landed named l mode s)
+  landed_fits passes_on mode s = (tt, λ o. refl)
+  landed_fits goes_behind mode s = (tt, λ o. refl)
+  landed_fits (goes_in no_stmts) mode s = tt
+  landed_fits (goes_in (a_stmt f fs)) mode s = (tt, λ o. refl)
+  landed_fits (breaks_off v by done) mode s = off_fits mode v by done s
+  landed_fits escapes mode s = tt
+
+  pass_fits : (master : Bool) (l : Landing Value) (mode : Mode) (s : State) → Fits s (pass_next named master l mode s)
   pass_fits true l mode s = (tt, λ o. refl)
-  pass_fits false l mode s = landed_fits l s
+  pass_fits false l mode s = landed_fits l mode s
 
   jump_fits : (mode : Mode) (k : List (Frame Value)) (s : State) → Fits s (jump_next named mode k s)
   jump_fits mode [] s = tt

@@ -11,8 +11,8 @@ pub fn leaves_in_reverse()
     ensures { LeavesInReverse }
 {}
 
-/// Only the innermost of the masters that are entered is being left: each that was entered later has been left before
-/// (7.6.1).
+/// What goes at the leaving of a master goes while that is the innermost one, and so it is left: each that was entered
+/// later has been left before (7.6.1).
 pub fn inner_first()
     ensures { InnerFirst }
 {}

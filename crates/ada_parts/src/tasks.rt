@@ -1,7 +1,7 @@
 //! What is left of the treatment of an object.
 
-ghost use Rattle.std.specs.Prelude.{◌≡◌, ℕ, ◌<◌, ◌==◌, [], ◌++◌, length, IfOk, OnOk, OnErr};
-ghost use Rattle.ada_parts.specs.Task.{opened, next, taken, performed, IsOpen};
+ghost use Rattle.std.specs.Prelude.{◌≡◌, ℕ, ◌<◌, ◌==◌, [], ◌∷◌, ◌++◌, length, IfOk, OnOk, OnErr};
+ghost use Rattle.ada_parts.specs.Task.{performs, opened, next, taken, performed, IsOpen};
 
 use crate::put::{put_component, take_away};
 use crate::shapes::Shapes;
@@ -195,6 +195,17 @@ impl Tasks {
             direction,
             component,
         );
+        Ok(())
+    }
+
+    /// The operation of a part is to be called before all else that is left.
+    ///
+    /// # Errors
+    /// Where what is left cannot grow.
+    pub fn perform_first(&mut self, of: usize, part: usize) -> Result<(), AllocError>
+        ensures { OnOk result (self.new ≡ performs of part ∷ self.old) }
+    {
+        self.steps.push(Step::Call { of, part })?;
         Ok(())
     }
 

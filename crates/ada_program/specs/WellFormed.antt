@@ -13,6 +13,7 @@ use Rattle.ada_program.specs.declared.program.ComponentKind.TheVariants as compo
 use Rattle.ada_program.specs.declared.program.Exception.{Exception}
 use Rattle.ada_program.specs.declared.program.Exception.TheVariants.{ConstraintError, ProgramError, StorageError, EndError, Declared}
 use Rattle.ada_program.specs.declared.program.Finalization.{Finalization}
+use Rattle.ada_program.specs.declared.program.ProcedureNo.{ProcedureNo}
 use Rattle.ada_program.specs.declared.program.FormalMode.{FormalMode}
 use Rattle.ada_program.specs.declared.program.FormalMode.TheVariants.{In, InOut}
 use Rattle.ada_program.specs.declared.program.PartKind.{PartKind}
@@ -147,6 +148,16 @@ abbrev pub says_parts : List TypeForm → Option Finalization → List PartForm 
 says_parts types None ps = parts_in_order types 0 0 ps
 says_parts types (Some f) ps = nat_lt 0 f.parts && parts_in_order types f.parts 0 ps && list_all (λ p. is_of_earlier types f.number.0 p.kind) ps
 
+-- An operation is inherited (7.6).
+abbrev pub is_inherited : Option ProcedureNo → Bool
+is_inherited None = true
+is_inherited (Some procedure) = false
+
+-- A type overrides no operation: no rule of flow speaks of their calls so far.
+abbrev pub overrides_nothing : Option Finalization → Bool
+overrides_nothing None = true
+overrides_nothing (Some f) = is_inherited f.operations.initialize && is_inherited f.operations.adjust && is_inherited f.operations.finalize
+
 -- Whether this is the number of a record type among those that have controlled parts.
 abbrev pub has_number : ℕ → Option Finalization → Bool
 has_number n None = false
@@ -166,6 +177,7 @@ is_numbered_alone types (Some f) =
 abbrev pub type_fits : List TypeForm → TypeForm → Bool
 type_fits types (record_of name parts components finalization) =
     list_all (kind_fits types) components && parent_first parts && says_parts types finalization parts && is_numbered_alone types finalization
+    && overrides_nothing finalization
 type_fits types (access_to name designated pool) = is_record types designated
 type_fits types (object_of record_type) = is_record types record_type
 

@@ -150,6 +150,18 @@ pub(crate) fn is_numbered_alone(
     }
 }
 
+/// Whether a type overrides no operation (7.6).
+pub(crate) fn overrides_nothing(finalization: Option<Finalization>) -> bool
+    ensures { result ≡ fits.overrides_nothing finalization }
+{
+    match finalization {
+        None => true,
+        Some(finalization) => finalization.operations.initialize.is_none()
+            && finalization.operations.adjust.is_none()
+            && finalization.operations.finalize.is_none(),
+    }
+}
+
 /// How many record types have controlled parts.
 #[tactic(auto, using(std::proofs::lemmas::Grind::common_steps, crate::proofs::Viewed::views))]
 fn numbered_types(types: &[TypeDefinition]) -> usize

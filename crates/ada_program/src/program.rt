@@ -123,6 +123,16 @@ pub struct Finalization {
     /// Whether the type is limited (7.5): derived from `Ada.Finalization.Limited_Controlled`, or with a component that is. Its
     /// objects are not copied.
     pub limited: bool,
+    /// What the type itself overrides, where it is controlled.
+    pub operations: Operations,
+}
+
+/// The procedures that override the operations of a controlled type (7.6). None, where one is inherited: it does nothing.
+#[derive(Clone, Copy, Debug, PartialEq, Eq)]
+pub struct Operations {
+    pub initialize: Option<ProcedureNo>,
+    pub adjust: Option<ProcedureNo>,
+    pub finalize: Option<ProcedureNo>,
 }
 
 /// A storage pool that a declaration creates (13.11): a `First_Fit_Pool`.

@@ -16,6 +16,7 @@ use Rattle.ada_program.specs.declared.program.VariableKind.{VariableKind}
 use Rattle.ada_program.specs.declared.program.VariableKind.TheVariants as variable
 use Rattle.ada_program.specs.declared.program.Finalization.{Finalization as Finalized}
 use Rattle.ada_program.specs.ProgramForm.{PartForm, TypeForm, record_of, access_to, object_of}
+use Rattle.ada_program.specs.Controlled.{no_operations}
 use Rattle.ada_program.specs.WellFormed as well
 use Rattle.ada_resolve.specs.declared.fault.NameRule.TheVariants.{UnknownName, DeclaredTwice, WrongType}
 use Rattle.ada_resolve.specs.declared.library.LibraryName.{LibraryName}
@@ -188,14 +189,14 @@ any_alike types more (c ∷ ps) h = rw (limited_alike types more c.kind (h 0 c r
 pub all_finalized : (k : Known) (p : Context) (limited : Bool) (before : Composition) (cs : List ComponentTree) → IsBegun before → before.limited ≡ (limited || list_any (λ c. limited_within k.types c.kind) before.parts) → Legible k p → IsFinalized p.types p.place.controlled limited (composed k before cs).parts (finalization_made k.controlled (composed k before cs))
 all_finalized k p limited before cs begun start w = by_count (eqb (composed k before cs).controlled 0) refl
   where
-    by_count : (b : Bool) → eqb (composed k before cs).controlled 0 ≡ b → IsFinalized p.types p.place.controlled limited (composed k before cs).parts (cond b None (Some (record { number = record { 0 = k.controlled }; parts = (composed k before cs).controlled; limited = (composed k before cs).limited })))
+    by_count : (b : Bool) → eqb (composed k before cs).controlled 0 ≡ b → IsFinalized p.types p.place.controlled limited (composed k before cs).parts (cond b None (Some (record { number = record { 0 = k.controlled }; parts = (composed k before cs).controlled; limited = (composed k before cs).limited; operations = no_operations })))
     by_count b is =
         let own = composed k before cs in
         let alike = made_has k (λ t. well.finalization_of p.types t ≡ well.finalization_of k.types t) (λ text t size there. ap (λ (o : Option TypeForm). well.finalization_in o) (type_lasts k p w text t size there)) before cs begun in
         let in_order = order_is p.types own.controlled 0 own.parts (order_alike k.types p.types own.controlled 0 own.parts alike ∙ made_order k before cs begun) in
-        elim b as (λ c. eqb own.controlled 0 ≡ c → IsFinalized p.types p.place.controlled limited own.parts (cond c None (Some (record { number = record { 0 = k.controlled }; parts = own.controlled; limited = own.limited })))) [
+        elim b as (λ c. eqb own.controlled 0 ≡ c → IsFinalized p.types p.place.controlled limited own.parts (cond c None (Some (record { number = record { 0 = k.controlled }; parts = own.controlled; limited = own.limited; operations = no_operations })))) [
           | true ↦ λ on. subst (λ (n : ℕ). ArePartsInOrder p.types 0 own.parts n) (eqb-true own.controlled 0 on) in_order
-          | false ↦ λ off. (sym w.agrees.controlled, positive own.controlled off, in_order, made_limited k limited before cs start ∙ ap (λ (c : Bool). limited || c) (sym (any_alike k.types p.types own.parts alike)))
+          | false ↦ λ off. (sym w.agrees.controlled, positive own.controlled off, in_order, made_limited k limited before cs start ∙ ap (λ (c : Bool). limited || c) (sym (any_alike k.types p.types own.parts alike)), refl)
         ] is
 
 -- no two components have one name

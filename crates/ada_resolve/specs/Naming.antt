@@ -18,6 +18,7 @@ use Rattle.ada_program.specs.declared.program.PartKind.TheVariants as part
 use Rattle.ada_program.specs.declared.program.VariableKind.{VariableKind}
 use Rattle.ada_program.specs.declared.program.VariableKind.TheVariants as variable
 use Rattle.ada_program.specs.ProgramForm.{PartForm, PoolForm, TypeForm, record_of, access_to, VariableForm, BodyForm}
+use Rattle.ada_program.specs.Controlled.{no_operations}
 use Rattle.ada_program.specs.WellFormed.{parts_within}
 use Rattle.ada_resolve.specs.Controlled.{limited_within}
 use Rattle.ada_resolve.specs.Derived.{parent_part}
@@ -209,12 +210,12 @@ ArePartsInOrder types before (c ∷ cs) count = (c.part ≡ before) × ArePartsI
 
 -- How the objects of a record type with these components are finalized (7.6), whose parent makes it limited or not: it has as many controlled parts as
 -- its components, if any, and it is limited where its parent or one of its components makes it so (7.5). Its number tells how many record types with
--- controlled parts are complete before it.
+-- controlled parts are complete before it. It overrides no operation.
 abbrev pub IsFinalized : List TypeForm → (number : ℕ) → (limited : Bool) → List PartForm → Option Finalization → Type 0
 IsFinalized types number limited parts None = ArePartsInOrder types 0 parts 0
 IsFinalized types number limited parts (Some f) =
     (f.number.0 ≡ number) × (0 < f.parts) × ArePartsInOrder types 0 parts f.parts ×
-    (f.limited ≡ (limited || list_any (λ c. limited_within types c.kind) parts))
+    (f.limited ≡ (limited || list_any (λ c. limited_within types c.kind) parts)) × (f.operations ≡ no_operations)
 
 -- The parent of a derived type is Controlled or Limited_Controlled (7.6), the second of which makes it limited (7.5).
 abbrev pub IsParentRead : NameTree → (limited : Bool) → Type 0

@@ -4,6 +4,7 @@ use Rattle.std.specs.Prelude.{ℕ, ◌+◌, ◌==◌, Bool, false, ◌||◌, nat
 use Rattle.ada_text.specs.declared.spot.Spot.{Spot}
 use Rattle.ada_tree.specs.Names.{Ident}
 use Rattle.ada_tree.specs.Records.{StaticTree, plain, minus, named as static_name, ComponentTree, RecordTree, null_record, null_components, components}
+use Rattle.ada_program.specs.Controlled.{no_operations}
 use Rattle.ada_program.specs.ProgramForm.{PartForm, TypeForm, record_of}
 use Rattle.ada_program.specs.declared.program.ComponentKind.{ComponentKind}
 use Rattle.ada_program.specs.declared.program.ComponentKind.TheVariants as kind
@@ -194,10 +195,10 @@ record_type_remark known spot name definition =
     all_components_remark known (components_written definition)
 
 -- How the objects of a record type that is made of this are finalized (7.6), where as many types with controlled parts are complete before it: where it
--- has some too, that is its number.
+-- has some too, that is its number. It overrides no operation.
 abbrev pub finalization_made : (number : ℕ) → Composition → Option Finalization
 finalization_made number made =
-    if made.controlled == 0 then None else Some (record { number = record { 0 = number }; parts = made.controlled; limited = made.limited })
+    if made.controlled == 0 then None else Some (record { number = record { 0 = number }; parts = made.controlled; limited = made.limited; operations = no_operations })
 
 -- How many record types with controlled parts are complete once this one is.
 abbrev pub counted : Option Finalization → ℕ → ℕ

@@ -11,7 +11,7 @@ ghost use Rattle.ada_resolve.specs.Records.{finalization_made, is_component, no_
 
 use crate::fault::NameFault;
 use ada_program::program::{
-    ComponentKind, ComponentNo, Finalization, Part, PartKind, TypeDefinition,
+    ComponentKind, ComponentNo, Finalization, Operations, Part, PartKind, TypeDefinition,
 };
 use ada_program::{PartNo, PoolNo, RecordNo, TypeNo};
 use ada_tree::names::Identifier;
@@ -103,7 +103,7 @@ impl<'t> Components<'t> {
         })
     }
 
-    /// How objects of a record type that is made of these are finalized, where it is the next to be numbered.
+    /// How objects of a record type that is made of these are finalized, where it is the next to be numbered. It overrides nothing.
     #[tactic(auto, unfolding(crate::specs::Kept::composition_in))]
     pub(crate) fn finalization(&self, number: usize) -> Option<Finalization>
         ensures { result ≡ finalization_made number (composition_in self.now) }
@@ -115,6 +115,11 @@ impl<'t> Components<'t> {
             number: RecordNo(number),
             parts: self.controlled,
             limited: self.limited,
+            operations: Operations {
+                initialize: None,
+                adjust: None,
+                finalize: None,
+            },
         })
     }
 

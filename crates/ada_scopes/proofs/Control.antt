@@ -40,7 +40,7 @@ RecordHere types us t = Where us (λ around. (is_access types t ≡ false) × (a
 
 -- What a frame holds was written where these are open. Frames without statements nest everywhere; a part that is under way has created all
 -- its collections, has a master, and what the record objects need that it has left to create is open, be it one whose initial value is evaluated; a body
--- that is called nests as if it stood there; and no master but the innermost one is being left.
+-- that is called nests as if it stood there; no master but the innermost one is being left; and no operation of a controlled type is called.
 abbrev pub FrameNests : List TypeForm → Callees → Scopes → Frame Value → Type 0
 FrameNests types callees ss (frame.Elaborates ds fs hs) =
     (list_all is_object ds ≡ true) × Where (all_of ss) (λ around. StatementsNest types callees around fs × HandlersNest types callees around hs × RecordsNest types around ds) × HasOne ss
@@ -54,6 +54,9 @@ FrameNests types callees ss (frame.Handles hs) = Where (all_of ss) (λ around. H
 FrameNests types callees ss (frame.Calls procedure b actuals) = Where (all_of ss) (λ around. BodyNests types callees around b)
 FrameNests types callees ss (frame.DeclaresRecord x t) = RecordHere types (all_of ss) t × HasOne ss
 FrameNests types callees ss (frame.Leaves mode) = ⊥
+FrameNests types callees ss (frame.Awaits v by done of part tasks) = ⊥
+FrameNests types callees ss frame.Confines = ⊥
+FrameNests types callees ss (frame.Resumes mode) = ⊥
 FrameNests types callees ss f = Unit {0}
 
 -- What is open behind a frame: that of a master is the last one of its master.

@@ -20,12 +20,12 @@ use Rattle.ada_meaning.specs.declared.state.Mode.TheVariants.{Running}
 use Rattle.ada_meaning.specs.declared.event.Cause.{Cause}
 use Rattle.ada_meaning.specs.declared.event.Halt.TheVariants.{Erroneous}
 use Rattle.ada_meaning.specs.declared.event.Why.TheVariants.{GivesElsewhere}
-use Rattle.ada_meaning.specs.Event.{Back}
+use Rattle.ada_meaning.specs.Event.{Back, Followed, Quiet}
 use Rattle.ada_meaning.specs.Frame.{Frame, is_master, is_loop, is_return, Landing, passes_on, goes_behind, goes_in, handler_landing, landing}
 use Rattle.ada_meaning.specs.Frame as frame
 use Rattle.ada_meaning.specs.State.{Destination, home_of, pool_freed_to}
 use Rattle.ada_meaning.specs.Heap.{Cell, Found, on_null, on_gone, on_other, finds}
-use Rattle.ada_meaning.specs.Step.{halts, moves, tells, asks, picks, all_tasks, record_tasks, treating, copy_next, record_assign_next, assigns_next, at, held, newest, reading, component_next, follow_next, path_next, before_last, last_of, selected, named_next, holder_next, place_in, record_holder_next, referred_next, refers_next, open_next, opened_next, opens_next, expression_next, null_test_next, is_decided, link_next, links_next, outcome_next, item_next, items_next, copied_next, copies_next, newest_ones, without_newest, record_in, record_target_next, stored_from, record_stored_next, store_record_next, new_cell, answered, new_next, right_next, free_next, end_next, same_pool, told_back, given_back, back_next, freeing, freed_next, free_component_next, free_in_next}
+use Rattle.ada_meaning.specs.Step.{halts, moves, tells, asks, picks, all_tasks, record_tasks, treating, copy_next, record_assign_next, assigns_next, at, held, newest, reading, component_next, follow_next, path_next, before_last, last_of, selected, named_next, holder_next, place_in, record_holder_next, referred_next, refers_next, open_next, opened_next, opens_next, expression_next, null_test_next, is_decided, link_next, links_next, outcome_next, item_next, items_next, copied_next, copies_next, newest_ones, without_newest, record_in, record_target_next, stored_from, record_stored_next, store_record_next, new_cell, answered, new_next, right_next, free_next, end_next, same_pool, told_back, given_back, back_next, freeing, freeing_next, freed_next, free_component_next, free_in_next}
 use Rattle.ada_meaning.specs.Named.{Object, State, Next, named, whole, base, part_base, inside, look, parted, finished, filled, returned, on_object, reads_boolean}
 use Rattle.ada_meaning.specs.Run.{Event}
 use Rattle.ada_meaning.specs.Law.{items_of}
@@ -193,7 +193,7 @@ module _ (types : List TypeForm) (callees : Callees) where
   assigns_good definitions t target source (Some false) s h =
       let ss = scopes s.masters in
       let o = whole target in
-      let beginning = frame.begins (Adjustment s.next) in
+      let beginning = frame.begins (Adjustment s.next) [] in
       let adjusts = treating o beginning (record_tasks definitions t PartsFirst (part_base target)) s.control in
       standing h.0
       (nests_treating types callees ss o (frame.ends (Assigning s.next)) (record_tasks definitions t WholeFirst (part_base target))
@@ -205,7 +205,7 @@ module _ (types : List TypeForm) (callees : Callees) where
       let cell = new_cell named definitions access count home s in
       let name = Names (record { 0 = length s.heap }) in
       standing (whole_heap types s.masters s.heap _ (housed_new s.heap cell (items_of s.masters) (home_has access home s.masters is) h.0.housed) h.0)
-      (nests_treating types callees (scopes s.masters) name (frame.begins Creation) (all_tasks definitions access PartsFirst) s.control h.1)
+      (nests_treating types callees (scopes s.masters) name (frame.begins Creation []) (all_tasks definitions access PartsFirst) s.control h.1)
   answered_good definitions access count words home s false is h = standing h.0 h.1
 
   pub new_good : (definitions : List TypeDefinition) (access count words : ℕ) (home : Option Destination) (s : State) → home_of access s.masters ≡ home → Stands types callees s → Good types callees (new_next named definitions access count words home s)
@@ -251,21 +251,29 @@ module _ (types : List TypeForm) (callees : Callees) where
       standing (whole_on parted v s keeps_parted w)
       (nests_treating types callees (scopes s.masters) v (frame.ends (Freeing s.next)) (all_tasks definitions cell.access WholeFirst) (frame.Ends v ∷ back ∷ clears ∷ s.control) (tt, (tt, n)))
 
+  -- It is erroneous where the object is of another pool.
+  freeing_next_good : (definitions : List TypeDefinition) (access : ℕ) (v : Value) (cell : Cell Value) (clears : Frame Value) (event : Event) (s : State) → Whole types s.masters s.heap → Nests types callees (scopes s.masters) (clears ∷ s.control) → Good types callees (freeing_next named definitions access v cell clears event s)
+  freeing_next_good definitions access v cell clears event s w n = by_pool (same_pool (Some (pool_freed_to (home_of access s.masters))) cell.home.pool)
+    where
+      by_pool : (own : Bool) → Good types callees (if own then moves event (freeing named definitions access v cell clears s) else halts (Erroneous GivesElsewhere))
+      by_pool true = freeing_good definitions access v cell clears s w n
+      by_pool false = tt
+
   pub free_good : (definitions : List TypeDefinition) (access x : ℕ) (v : Value) (found : Found (Cell Value)) (s : State) → Stands types callees s → Good types callees (free_next named definitions access x v found s)
   free_good definitions access x v on_null s h = standing h.0 h.1
   free_good definitions access x v on_gone s h = tt
   free_good definitions access x v on_other s h = tt
-  free_good definitions access x v (finds cell) s h = freeing_good definitions access v cell (frame.Clears x) s h.0 (tt, h.1)
+  free_good definitions access x v (finds cell) s h = freeing_next_good definitions access v cell (frame.Clears x) Quiet s h.0 (tt, h.1)
 
   freed_good : (definitions : List TypeDefinition) (access : ℕ) (o : Value) (c : ℕ) (v : Value) (found : Found (Cell Value)) (s : State) → Stands types callees s → Good types callees (freed_next named definitions access o c v found s)
   freed_good definitions access o c v on_null s h = standing h.0 h.1
   freed_good definitions access o c v on_gone s h = tt
   freed_good definitions access o c v on_other s h = tt
-  freed_good definitions access o c v (finds cell) s h = freeing_good definitions access v cell (frame.ClearsIn o c) s h.0 (tt, h.1)
+  freed_good definitions access o c v (finds cell) s h = freeing_next_good definitions access v cell (frame.ClearsIn o c) (Followed o) s h.0 (tt, h.1)
 
   free_component_good : (definitions : List TypeDefinition) (access : ℕ) (o : Value) (c : ℕ) (found : Option Value) (s : State) → Stands types callees s → Good types callees (free_component_next named definitions access o c found s)
   free_component_good definitions access o c None s h = tt
-  free_component_good definitions access o c (Some v) s h = freed_good definitions access o c v (look s.heap v) s h
+  free_component_good definitions access o c (Some v) s h = freed_good definitions access o c v (named.standing s.heap v) s h
 
   pub free_in_good : (definitions : List TypeDefinition) (access : ℕ) (o : Value) (c : ℕ) (found : Found (Cell Value)) (s : State) → Stands types callees s → Good types callees (free_in_next named definitions access o c found s)
   free_in_good definitions access o c on_null s h = standing h.0 h.1

@@ -5,7 +5,7 @@ use Rattle.std.specs.List.{slice_index_or}
 use Rattle.ada_program.specs.declared.program.TypeDefinition.{TypeDefinition}
 use Rattle.ada_parts.specs.declared.tasks.Direction.TheVariants.{WholeFirst}
 use Rattle.ada_parts.specs.Task.{next as task_next}
-use Rattle.ada_program.specs.Controlled.{shapes_of}
+use Rattle.ada_program.specs.Controlled.{OverridesNothing}
 use Rattle.ada_program.specs.ProgramForm.{TypeForm, BodyForm}
 use Rattle.ada_program.specs.Nested.{Callees}
 use Rattle.ada_meaning.specs.declared.state.Value.{Value}
@@ -17,7 +17,7 @@ use Rattle.ada_meaning.specs.declared.event.Cause.TheVariants.{Leaving}
 use Rattle.ada_meaning.specs.declared.event.Halt.TheVariants.{Erroneous}
 use Rattle.ada_meaning.specs.declared.event.Why.TheVariants.{GivesElsewhere}
 use Rattle.ada_meaning.specs.Event.{Back}
-use Rattle.ada_meaning.specs.Frame.{Frame, is_master, is_loop, is_return, Landing, passes_on, goes_behind, goes_in, handler_landing, landing}
+use Rattle.ada_meaning.specs.Frame.{Frame}
 use Rattle.ada_meaning.specs.Frame as frame
 use Rattle.ada_meaning.specs.State.{Owned, declared, collection, record_object, storage_pool, Item, Master}
 use Rattle.ada_meaning.specs.Heap.{Cell, Found, on_null, on_gone, on_other, finds}
@@ -107,11 +107,11 @@ module _ (types : List TypeForm) (callees : Callees) where
   backing_good v cause pool on_other s h = tt
   backing_good v cause pool (finds cell) s h = giving_good (same_pool pool cell.home.pool) v cause cell s h
 
-  pub parts_good : (bodies : List BodyForm) (definitions : List TypeDefinition) (k : List (Frame Value)) (s : State) → s.mode ≡ Running → Parting types s.masters s.heap → Goes types callees (scopes s.masters) k → Good types callees (running_next named definitions bodies k s)
-  parts_good bodies definitions [] s runs p goes = absurd goes
-  parts_good bodies definitions (frame.Leaves mode ∷ k) s runs p goes = leave_good definitions mode s.masters (at k s) refl p runs goes
-  parts_good bodies definitions (frame.Treats v treatment tasks ∷ k) s runs p goes =
-      treating_good types callees (shapes_of definitions) v treatment tasks (task_next tasks) (at k s) (p, runs, goes)
-  parts_good bodies definitions (frame.Ends v ∷ k) s runs p goes = ending_good v (look s.heap v) (at k s) (p, runs, goes)
-  parts_good bodies definitions (frame.GivesBack v cause pool ∷ k) s runs p goes = backing_good v cause pool (lent s.heap v) (at k s) (p, runs, goes)
-  parts_good bodies definitions (f ∷ k) s runs p goes = absurd goes
+  pub parts_good : (bodies : List BodyForm) (definitions : List TypeDefinition) → OverridesNothing definitions → (k : List (Frame Value)) (s : State) → s.mode ≡ Running → Parting types s.masters s.heap → Goes types callees (scopes s.masters) k → Good types callees (running_next named definitions bodies k s)
+  parts_good bodies definitions inherits [] s runs p goes = absurd goes
+  parts_good bodies definitions inherits (frame.Leaves mode ∷ k) s runs p goes = leave_good definitions mode s.masters (at k s) refl p runs goes
+  parts_good bodies definitions inherits (frame.Treats v treatment tasks ∷ k) s runs p goes =
+      treating_good types callees definitions inherits bodies v treatment tasks (task_next tasks) (at k s) (p, runs, goes)
+  parts_good bodies definitions inherits (frame.Ends v ∷ k) s runs p goes = ending_good v (look s.heap v) (at k s) (p, runs, goes)
+  parts_good bodies definitions inherits (frame.GivesBack v cause pool ∷ k) s runs p goes = backing_good v cause pool (lent s.heap v) (at k s) (p, runs, goes)
+  parts_good bodies definitions inherits (f ∷ k) s runs p goes = absurd goes

@@ -9,6 +9,7 @@ use Rattle.ada_meaning.specs.State.{Master}
 use Rattle.ada_meaning.specs.Step.{halts, moves, tells, asks, picks}
 use Rattle.ada_meaning.specs.Named.{State, Next, next}
 use Rattle.ada_meaning.specs.Run.{Event, Choice, settled, grants, takes, Leads, Step, Run, here, there, first_state}
+use Rattle.ada_typed.proofs.Overriding.{well_formed_overrides_nothing}
 use Rattle.ada_scopes.proofs.Texts.{BodiesNest}
 use Rattle.ada_scopes.proofs.Bodies.{ProgramNests, program_nests}
 use Rattle.ada_scopes.proofs.Control.{Whole, Growing, Nested, beginning, grows}
@@ -69,22 +70,22 @@ led types callees (asks request answers) (takes i) e after g l = absurd l
 led types callees (picks n taking) settled e after g l = absurd l
 led types callees (picks n taking) (grants granted) e after g l = absurd l
 
--- A step keeps that.
-pub step_nested : (program : Program) (s after : State) (choice : Choice) (e : Event) → Scoped (program_form program) s → Step program s choice e after → Scoped (program_form program) after
-step_nested program s after choice e scoped step =
+-- A step of a well-formed program keeps that.
+pub step_nested : (program : Program) → IsWellFormed (program_form program) → (s after : State) (choice : Choice) (e : Event) → Scoped (program_form program) s → Step program s choice e after → Scoped (program_form program) after
+step_nested program well s after choice e scoped step =
     let p = program_form program in
     let types = program.types.items in
     record {
       bodies = scoped.bodies;
       nested = led p.types (callees_of p) (next types p.bodies s) choice e after
-          (next_good p.types (callees_of p) p.bodies scoped.bodies types s scoped.nested) step;
+          (next_good p.types (callees_of p) p.bodies scoped.bodies types (well_formed_overrides_nothing program well) s scoped.nested) step;
     }
 
-run_nested : (program : Program) (s last : State) (events : List Event) → Scoped (program_form program) s → Run program s events last → Scoped (program_form program) last
-run_nested program s last events scoped here = scoped
-run_nested program s last (e ∷ events) scoped (there choice mid step rest) =
-    run_nested program mid last events (step_nested program s mid choice e scoped step) rest
+run_nested : (program : Program) → IsWellFormed (program_form program) → (s last : State) (events : List Event) → Scoped (program_form program) s → Run program s events last → Scoped (program_form program) last
+run_nested program well s last events scoped here = scoped
+run_nested program well s last (e ∷ events) scoped (there choice mid step rest) =
+    run_nested program well mid last events (step_nested program well s mid choice e scoped step) rest
 
 pub state_nested : (program : Program) → IsWellFormed (program_form program) → CollectionsNest (program_form program) → (input : List ℤ) (events : List Event) (last : State) → Run program (first_state program input) events last → Scoped (program_form program) last
 state_nested program well nest input events last run =
-    run_nested program (first_state program input) last events (first_nested program well nest input) run
+    run_nested program well (first_state program input) last events (first_nested program well nest input) run

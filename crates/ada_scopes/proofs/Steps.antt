@@ -10,7 +10,7 @@ use Rattle.ada_program.specs.Form.{ActualForm, in_value, in_null, in_access, in_
 use Rattle.ada_program.specs.Handling.{some_takes, handler_of}
 use Rattle.ada_parts.specs.declared.tasks.Direction.TheVariants.{PartsFirst}
 use Rattle.ada_parts.specs.Task.{next as task_next}
-use Rattle.ada_program.specs.Controlled.{shapes_of}
+use Rattle.ada_program.specs.Controlled.{OverridesNothing}
 use Rattle.ada_meaning.specs.declared.event.Birth.{Birth}
 use Rattle.ada_meaning.specs.declared.event.Birth.TheVariants.{Creation, Copy}
 use Rattle.ada_program.specs.ProgramForm.{TypeForm, BodyForm}
@@ -22,7 +22,7 @@ use Rattle.ada_meaning.specs.declared.state.Value.TheVariants.{Null, Names}
 use Rattle.ada_meaning.specs.declared.state.Mode.{Mode}
 use Rattle.ada_meaning.specs.declared.state.Mode.TheVariants.{Running, Raising, Exiting, Returning}
 use Rattle.ada_meaning.specs.Event.{Quiet}
-use Rattle.ada_meaning.specs.Frame.{Frame, is_master, is_loop, is_return, Landing, passes_on, goes_behind, goes_in, handler_landing, landing}
+use Rattle.ada_meaning.specs.Frame.{Frame, is_master, is_loop, is_return, Landing, passes_on, goes_behind, goes_in, breaks_off, escapes, operation_landing, handler_landing, landing}
 use Rattle.ada_meaning.specs.Frame as frame
 use Rattle.ada_meaning.specs.State.{collection, record_object, storage_pool, Master, height, home_of, pools_in, pool_for}
 use Rattle.ada_meaning.specs.Heap.{Cell, Found, on_null, on_gone, on_other, finds}
@@ -61,7 +61,7 @@ module _ (types : List TypeForm) (callees : Callees) (bodies : List BodyForm) (n
   store_good o c v (finds cell) s h = stored_good o c v (slice_get cell.values c) s h
 
   frees_good : (definitions : List TypeDefinition) (cs : List ℕ) (access x : ℕ) (s : State) → Stands types callees s → Good types callees (frees_next named definitions cs access x s)
-  frees_good definitions [] access x s h = free_good types callees definitions access x (held named s x) (look s.heap (held named s x)) s h
+  frees_good definitions [] access x s h = free_good types callees definitions access x (held named s x) (named.standing s.heap (held named s x)) s h
   frees_good definitions (c ∷ cs) access x s h = holder_good types callees c cs x (λ last. frame.FreesIn access last) s (λ n. (tt, h.1)) h
 
   branches_good : (branches : BranchesForm) (s : State) (around : List ℕ) → Alike around (all_of (scopes s.masters)) → BranchesNest types callees around branches → Stands types callees s → Good types callees (branches_next named branches s)
@@ -210,7 +210,7 @@ module _ (types : List TypeForm) (callees : Callees) (bodies : List BodyForm) (n
   made_good definitions x t by values s opens some h =
       standing
       (whole_recorded types (height s.masters) t s.masters s.heap (record_cell named definitions t (height s.masters) values) opens.0 some refl refl refl opens.1 opens.2.0 opens.2.1 h.0)
-      (nests_treating types callees (scopes (owning (record { number = height s.masters; owned = record_object t }) s.masters)) (Names (record { 0 = length s.heap })) (frame.begins by) (all_tasks definitions t PartsFirst) s.control
+      (nests_treating types callees (scopes (owning (record { number = height s.masters; owned = record_object t }) s.masters)) (Names (record { 0 = length s.heap })) (frame.begins by []) (all_tasks definitions t PartsFirst) s.control
       (nests_recorded types callees (height s.masters) t s.masters s.control h.1))
 
   record_good : (definitions : List TypeDefinition) (x t : ℕ) (initial : Option (List ItemForm)) (s : State) → RecordHere types (all_of (scopes s.masters)) t → HasOne (scopes s.masters) → Stands types callees s → Good types callees (record_next named definitions x t initial s)
@@ -229,69 +229,74 @@ module _ (types : List TypeForm) (callees : Callees) (bodies : List BodyForm) (n
       (w, ((nest.0, (nest.1.0, nest.1.1, (nest.1.2.0, nest.1.2.1, open_there.2)), nest.2), n))
 
   -- Each frame that is taken off.
-  frame_good : (definitions : List TypeDefinition) (f : Frame Value) (s : State) → s.mode ≡ Running → Whole types s.masters s.heap → FrameNests types callees (scopes s.masters) f → Nests types callees (behind (is_master f) (scopes s.masters)) s.control → Good types callees (frame_next named definitions bodies f s)
-  frame_good definitions (frame.Elaborates ds fs hs) s runs w nest n = elaborated_good definitions ds fs hs s w nest n
-  frame_good definitions (frame.Does fs) s runs w nest n = stmts_good definitions fs s runs nest (w, n)
-  frame_good definitions (frame.Decides fs branches) s runs w nest n = decided_good fs branches (reads_boolean (newest named s)) (popped s) nest (w, n)
-  frame_good definitions (frame.Repeats condition fs) s runs w nest n = repeats_good condition fs s nest (w, n)
-  frame_good definitions (frame.Turns condition fs) s runs w nest n = turned_good condition fs (reads_boolean (newest named s)) (popped s) nest (w, n)
-  frame_good definitions (frame.Ranges x fs) s runs w nest n = ranges_good x fs (reads_integer (newest named (popped s))) (reads_integer (newest named s)) (popped (popped s)) nest (w, n)
-  frame_good definitions (frame.Counts x value last fs) s runs w nest n = counting_good (int_le value last) x value last fs s nest (w, n)
-  frame_good definitions frame.Exits s runs w nest n = exited_good (reads_boolean (newest named s)) (popped s) (w, n)
-  frame_good definitions (frame.Handles hs) s runs w nest n = standing w n
-  frame_good definitions frame.Closes s runs w nest n = parting (whole_parts types s.masters s.heap w) runs n
-  frame_good definitions (frame.Leaves mode) s runs w nest n = absurd nest
-  frame_good definitions (frame.Calls procedure b actuals) s runs w nest n = body_begins procedure b actuals (newest_ones named (operand_count actuals) s) s runs nest (w, n)
-  frame_good definitions (frame.Returns actuals references) s runs w nest n = standing w (storing_nests references (scopes s.masters) s.control n)
-  frame_good definitions (frame.Evaluates right) s runs w nest n = right_good types callees definitions right s (w, n)
-  frame_good definitions (frame.Computes e) s runs w nest n = expression_good types callees e s (w, n)
-  frame_good definitions (frame.Follows cs) s runs w nest n = path_good types callees cs (newest named s) (popped s) (w, n)
-  frame_good definitions (frame.TestsNull equal) s runs w nest n = null_test_good types callees equal (reads_null (newest named s)) (popped s) (w, n)
-  frame_good definitions (frame.Refers p) s runs w nest n =
+  frame_good : (definitions : List TypeDefinition) → OverridesNothing definitions → (f : Frame Value) (s : State) → s.mode ≡ Running → Whole types s.masters s.heap → FrameNests types callees (scopes s.masters) f → Nests types callees (behind (is_master f) (scopes s.masters)) s.control → Good types callees (frame_next named definitions bodies f s)
+  frame_good definitions inherits (frame.Elaborates ds fs hs) s runs w nest n = elaborated_good definitions ds fs hs s w nest n
+  frame_good definitions inherits (frame.Does fs) s runs w nest n = stmts_good definitions fs s runs nest (w, n)
+  frame_good definitions inherits (frame.Decides fs branches) s runs w nest n = decided_good fs branches (reads_boolean (newest named s)) (popped s) nest (w, n)
+  frame_good definitions inherits (frame.Repeats condition fs) s runs w nest n = repeats_good condition fs s nest (w, n)
+  frame_good definitions inherits (frame.Turns condition fs) s runs w nest n = turned_good condition fs (reads_boolean (newest named s)) (popped s) nest (w, n)
+  frame_good definitions inherits (frame.Ranges x fs) s runs w nest n = ranges_good x fs (reads_integer (newest named (popped s))) (reads_integer (newest named s)) (popped (popped s)) nest (w, n)
+  frame_good definitions inherits (frame.Counts x value last fs) s runs w nest n = counting_good (int_le value last) x value last fs s nest (w, n)
+  frame_good definitions inherits frame.Exits s runs w nest n = exited_good (reads_boolean (newest named s)) (popped s) (w, n)
+  frame_good definitions inherits (frame.Handles hs) s runs w nest n = standing w n
+  frame_good definitions inherits frame.Closes s runs w nest n = parting (whole_parts types s.masters s.heap w) runs n
+  frame_good definitions inherits (frame.Leaves mode) s runs w nest n = absurd nest
+  frame_good definitions inherits (frame.Calls procedure b actuals) s runs w nest n = body_begins procedure b actuals (newest_ones named (operand_count actuals) s) s runs nest (w, n)
+  frame_good definitions inherits (frame.Returns actuals references) s runs w nest n = standing w (storing_nests references (scopes s.masters) s.control n)
+  frame_good definitions inherits (frame.Evaluates right) s runs w nest n = right_good types callees definitions right s (w, n)
+  frame_good definitions inherits (frame.Computes e) s runs w nest n = expression_good types callees e s (w, n)
+  frame_good definitions inherits (frame.Follows cs) s runs w nest n = path_good types callees cs (newest named s) (popped s) (w, n)
+  frame_good definitions inherits (frame.TestsNull equal) s runs w nest n = null_test_good types callees equal (reads_null (newest named s)) (popped s) (w, n)
+  frame_good definitions inherits (frame.Refers p) s runs w nest n =
       record_holder_good types callees p (λ place. frame.RefersIn place p.record_type) s (λ place. (tt, n)) (w, n)
-  frame_good definitions (frame.RefersIn place t) s runs w nest n =
+  frame_good definitions inherits (frame.RefersIn place t) s runs w nest n =
       refers_good types callees (newest named s) place (width_of definitions t) (look s.heap (newest named s)) (popped s) (w, n)
-  frame_good definitions (frame.Opens path) s runs w nest n = open_good types callees path.selectors path.root s (w, n)
-  frame_good definitions (frame.OpensIn c) s runs w nest n = opens_good types callees (newest named s) c (look s.heap (newest named s)) (popped s) (w, n)
-  frame_good definitions (frame.Continues links) s runs w nest n = links_good types callees links s (w, n)
-  frame_good definitions (frame.Applies operator) s runs w nest n = outcome_good types callees (binary_given operator (newest named (popped s)) (newest named s)) (popped (popped s)) (w, n)
-  frame_good definitions (frame.AppliesAlone operator) s runs w nest n = outcome_good types callees (unary_given operator (newest named s)) (popped s) (w, n)
-  frame_good definitions (frame.Fills items) s runs w nest n = items_good types callees items s (w, n)
-  frame_good definitions (frame.Copies first t) s runs w nest n = copies_good types callees (newest named s) first (width_of definitions t) (look s.heap (newest named s)) (popped s) (w, n)
-  frame_good definitions (frame.Creates access count) s runs w nest n = new_good types callees definitions access count (words_of definitions access) (home_of access s.masters) s refl (w, n)
-  frame_good definitions (frame.Stores x) s runs w nest n = standing w n
-  frame_good definitions (frame.Declares x) s runs w nest n =
+  frame_good definitions inherits (frame.Opens path) s runs w nest n = open_good types callees path.selectors path.root s (w, n)
+  frame_good definitions inherits (frame.OpensIn c) s runs w nest n = opens_good types callees (newest named s) c (look s.heap (newest named s)) (popped s) (w, n)
+  frame_good definitions inherits (frame.Continues links) s runs w nest n = links_good types callees links s (w, n)
+  frame_good definitions inherits (frame.Applies operator) s runs w nest n = outcome_good types callees (binary_given operator (newest named (popped s)) (newest named s)) (popped (popped s)) (w, n)
+  frame_good definitions inherits (frame.AppliesAlone operator) s runs w nest n = outcome_good types callees (unary_given operator (newest named s)) (popped s) (w, n)
+  frame_good definitions inherits (frame.Fills items) s runs w nest n = items_good types callees items s (w, n)
+  frame_good definitions inherits (frame.Copies first t) s runs w nest n = copies_good types callees (newest named s) first (width_of definitions t) (look s.heap (newest named s)) (popped s) (w, n)
+  frame_good definitions inherits (frame.Creates access count) s runs w nest n = new_good types callees definitions access count (words_of definitions access) (home_of access s.masters) s refl (w, n)
+  frame_good definitions inherits (frame.Stores x) s runs w nest n = standing w n
+  frame_good definitions inherits (frame.Declares x) s runs w nest n =
       standing (whole_declared types (height s.masters) x s.masters s.heap w) (nests_declared types callees (height s.masters) x s.masters s.control n)
-  frame_good definitions (frame.Treats v treatment tasks) s runs w nest n =
-      treats_good types callees (shapes_of definitions) v treatment tasks (task_next tasks) s (w, n)
-  frame_good definitions frame.Writes s runs w nest n = line_good (reads_integer (newest named s)) (popped s) (w, n)
-  frame_good definitions (frame.Ends v) s runs w nest n = end_good types callees v (look s.heap v) s (w, n)
-  frame_good definitions (frame.GivesBack v cause pool) s runs w nest n = back_good types callees v cause pool (lent s.heap v) s (w, n)
-  frame_good definitions (frame.Clears x) s runs w nest n = standing w n
-  frame_good definitions (frame.Targets c right) s runs w nest n = target_good (newest named s) c right (look s.heap (newest named s)) (popped s) (w, n)
-  frame_good definitions (frame.StoresIn o c) s runs w nest n = store_good o c (newest named s) (look s.heap o) (popped s) (w, n)
-  frame_good definitions (frame.TargetsRecord first t items) s runs w nest n =
+  frame_good definitions inherits (frame.Treats v treatment tasks) s runs w nest n =
+      treats_good types callees definitions inherits bodies v treatment tasks (task_next tasks) s (w, n)
+  frame_good definitions inherits (frame.Awaits v by done of part tasks) s runs w nest n = absurd nest
+  frame_good definitions inherits frame.Confines s runs w nest n = absurd nest
+  frame_good definitions inherits (frame.Resumes mode) s runs w nest n = absurd nest
+  frame_good definitions inherits frame.Writes s runs w nest n = line_good (reads_integer (newest named s)) (popped s) (w, n)
+  frame_good definitions inherits (frame.Ends v) s runs w nest n = end_good types callees v (look s.heap v) s (w, n)
+  frame_good definitions inherits (frame.GivesBack v cause pool) s runs w nest n = back_good types callees v cause pool (lent s.heap v) s (w, n)
+  frame_good definitions inherits (frame.Clears x) s runs w nest n = standing w n
+  frame_good definitions inherits (frame.Targets c right) s runs w nest n = target_good (newest named s) c right (look s.heap (newest named s)) (popped s) (w, n)
+  frame_good definitions inherits (frame.StoresIn o c) s runs w nest n = store_good o c (newest named s) (look s.heap o) (popped s) (w, n)
+  frame_good definitions inherits (frame.TargetsRecord first t items) s runs w nest n =
       record_target_good types callees (newest named s) first (width_of definitions t) items (look s.heap (newest named s)) (popped s) (w, n)
-  frame_good definitions (frame.StoresRecord o first count) s runs w nest n = store_record_good types callees o first count (look s.heap o) s (w, n)
-  frame_good definitions (frame.Assigns t) s runs w nest n =
+  frame_good definitions inherits (frame.StoresRecord o first count) s runs w nest n = store_record_good types callees o first count (look s.heap o) s (w, n)
+  frame_good definitions inherits (frame.Assigns t) s runs w nest n =
       let target = newest named (popped s) in
       let source = newest named s in
       assigns_good types callees definitions t target source (same target source) (popped (popped s)) (w, n)
-  frame_good definitions (frame.DeclaresRecord x t) s runs w nest n =
+  frame_good definitions inherits (frame.DeclaresRecord x t) s runs w nest n =
       made_good definitions x t Copy (newest_ones named (words_of definitions t) s) (without_newest named (words_of definitions t) s) nest.0 nest.1 (w, n)
-  frame_good definitions (frame.Receives c) s runs w nest n = receive_good (newest named s) c (look s.heap (newest named s)) (popped s) (w, n)
-  frame_good definitions (frame.FreesIn access c) s runs w nest n = free_in_good types callees definitions access (newest named s) c (look s.heap (newest named s)) (popped s) (w, n)
-  frame_good definitions (frame.ClearsIn o c) s runs w nest n = store_good o c Null (look s.heap o) s (w, n)
+  frame_good definitions inherits (frame.Receives c) s runs w nest n = receive_good (newest named s) c (look s.heap (newest named s)) (popped s) (w, n)
+  frame_good definitions inherits (frame.FreesIn access c) s runs w nest n = free_in_good types callees definitions access (newest named s) c (look s.heap (newest named s)) (popped s) (w, n)
+  frame_good definitions inherits (frame.ClearsIn o c) s runs w nest n = store_good o c Null (look s.heap o) s (w, n)
 
-  stands_good : (definitions : List TypeDefinition) (k : List (Frame Value)) (s : State) → s.mode ≡ Running → Whole types s.masters s.heap → Nests types callees (scopes s.masters) k → Good types callees (running_next named definitions bodies k s)
-  stands_good definitions [] s runs w n = tt
-  stands_good definitions (f ∷ k) s runs w n = frame_good definitions f (at k s) runs w n.0 n.1
+  stands_good : (definitions : List TypeDefinition) → OverridesNothing definitions → (k : List (Frame Value)) (s : State) → s.mode ≡ Running → Whole types s.masters s.heap → Nests types callees (scopes s.masters) k → Good types callees (running_next named definitions bodies k s)
+  stands_good definitions inherits [] s runs w n = tt
+  stands_good definitions inherits (f ∷ k) s runs w n = frame_good definitions inherits f (at k s) runs w n.0 n.1
 
   -- A jump: what it passes, and where it lands.
-  abbrev LandsHere : List ℕ → Landing → Type 0
+  abbrev LandsHere : List ℕ → Landing Value → Type 0
   LandsHere us passes_on = Unit {0}
   LandsHere us goes_behind = Unit {0}
   LandsHere us (goes_in fs) = Where us (λ around. StatementsNest types callees around fs)
+  LandsHere us (breaks_off v by done) = ⊥
+  LandsHere us escapes = ⊥
 
   handler_here : (us around : List ℕ) (takes : Bool) (fs : StmtsForm) (later : Option StmtsForm) → Alike around us → StatementsNest types callees around fs → LandsHere us (handler_landing later) → LandsHere us (handler_landing (if takes then Some fs else later))
   handler_here us around true fs later alike nest h = (around, alike, nest)
@@ -304,30 +309,39 @@ module _ (types : List TypeForm) (callees : Callees) (bodies : List BodyForm) (n
 
   raised_lands : (ss : Scopes) (e : Exception) (f : Frame Value) → FrameNests types callees ss f → LandsHere (all_of ss) (landing (Raising e) f)
   raised_lands ss e (frame.Handles hs) nest = handlers_land (all_of ss) nest.0 e hs nest.1 nest.2
+  raised_lands ss e (frame.Awaits v by done of part tasks) nest = absurd nest
+  raised_lands ss e frame.Confines nest = absurd nest
   raised_lands ss e f nest = tt
 
-  exit_lands : (us : List ℕ) (loop : Bool) → LandsHere us (if loop then goes_behind else passes_on)
-  exit_lands us true = tt
-  exit_lands us false = tt
+  none_lands : (ss : Scopes) (f : Frame Value) → FrameNests types callees ss f → LandsHere (all_of ss) (operation_landing f)
+  none_lands ss (frame.Awaits v by done of part tasks) nest = absurd nest
+  none_lands ss frame.Confines nest = absurd nest
+  none_lands ss f nest = tt
+
+  exit_lands : (us : List ℕ) (ends_here : Bool) (otherwise_at : Landing Value) → LandsHere us otherwise_at → LandsHere us (if ends_here then goes_behind else otherwise_at)
+  exit_lands us true otherwise_at lands = tt
+  exit_lands us false otherwise_at lands = lands
 
   lands : (ss : Scopes) (mode : Mode) (f : Frame Value) → FrameNests types callees ss f → LandsHere (all_of ss) (landing mode f)
   lands ss Running f nest = tt
   lands ss (Raising e) f nest = raised_lands ss e f nest
-  lands ss Exiting f nest = exit_lands (all_of ss) (is_loop f)
-  lands ss Returning f nest = exit_lands (all_of ss) (is_return f)
+  lands ss Exiting f nest = exit_lands (all_of ss) (is_loop f) (operation_landing f) (none_lands ss f nest)
+  lands ss Returning f nest = exit_lands (all_of ss) (is_return f) (operation_landing f) (none_lands ss f nest)
 
-  landed_good : (l : Landing) (s : State) → LandsHere (all_of (scopes s.masters)) l → Stands types callees s → Good types callees (landed named l s)
-  landed_good passes_on s lands h = standing h.0 h.1
-  landed_good goes_behind s lands h = standing h.0 h.1
-  landed_good (goes_in no_stmts) s lands h = tt
-  landed_good (goes_in (a_stmt f fs)) s lands h = standing h.0 (lands, h.1)
+  landed_good : (l : Landing Value) (mode : Mode) (s : State) → LandsHere (all_of (scopes s.masters)) l → Stands types callees s → Good types callees (landed named l mode s)
+  landed_good passes_on mode s lands h = standing h.0 h.1
+  landed_good goes_behind mode s lands h = standing h.0 h.1
+  landed_good (goes_in no_stmts) mode s lands h = tt
+  landed_good (goes_in (a_stmt f fs)) mode s lands h = standing h.0 (lands, h.1)
+  landed_good (breaks_off v by done) mode s lands h = absurd lands
+  landed_good escapes mode s lands h = absurd lands
 
-  pass_good : (master : Bool) (l : Landing) (mode : Mode) (s : State) → LandsHere (all_of (scopes s.masters)) l → Whole types s.masters s.heap → Nests types callees (behind master (scopes s.masters)) s.control → Good types callees (pass_next named master l mode s)
+  pass_good : (master : Bool) (l : Landing Value) (mode : Mode) (s : State) → LandsHere (all_of (scopes s.masters)) l → Whole types s.masters s.heap → Nests types callees (behind master (scopes s.masters)) s.control → Good types callees (pass_next named master l mode s)
   pass_good true l mode s lands w n = parting (whole_parts types s.masters s.heap w) refl n
-  pass_good false l mode s lands w n = landed_good l s lands (w, n)
+  pass_good false l mode s lands w n = landed_good l mode s lands (w, n)
 
   -- The end of a call changes the activations, and behind a normal one components get something back.
-  left_good : (mode : Mode) (actuals : List ActualForm) (references : List Value) (l : Landing) (s : State) → LandsHere (all_of (scopes s.masters)) l → Whole types s.masters s.heap → Nests types callees (scopes s.masters) s.control → Good types callees (pass_next named false l mode (left_by named mode actuals references s))
+  left_good : (mode : Mode) (actuals : List ActualForm) (references : List Value) (l : Landing Value) (s : State) → LandsHere (all_of (scopes s.masters)) l → Whole types s.masters s.heap → Nests types callees (scopes s.masters) s.control → Good types callees (pass_next named false l mode (left_by named mode actuals references s))
   left_good Running actuals references l s here w n = pass_good false l Running (resumed s) here w n
   left_good (Raising e) actuals references l s here w n = pass_good false l (Raising e) (resumed s) here w n
   left_good Exiting actuals references l s here w n = pass_good false l Exiting (resumed s) here w n
@@ -343,11 +357,11 @@ module _ (types : List TypeForm) (callees : Callees) (bodies : List BodyForm) (n
   jump_good mode [] s w n = tt
   jump_good mode (f ∷ k) s w n = unwound_good f mode (at k s) (lands (scopes s.masters) mode f n.0) w n.1
 
-  standing_good : (definitions : List TypeDefinition) (mode : Mode) (s : State) → s.mode ≡ mode → Stands types callees s → Good types callees (mode_next named definitions bodies mode s)
-  standing_good definitions Running s is h = stands_good definitions s.control s is h.0 h.1
-  standing_good definitions (Raising e) s is h = jump_good (Raising e) s.control s h.0 h.1
-  standing_good definitions Exiting s is h = jump_good Exiting s.control s h.0 h.1
-  standing_good definitions Returning s is h = jump_good Returning s.control s h.0 h.1
+  standing_good : (definitions : List TypeDefinition) → OverridesNothing definitions → (mode : Mode) (s : State) → s.mode ≡ mode → Stands types callees s → Good types callees (mode_next named definitions bodies mode s)
+  standing_good definitions inherits Running s is h = stands_good definitions inherits s.control s is h.0 h.1
+  standing_good definitions inherits (Raising e) s is h = jump_good (Raising e) s.control s h.0 h.1
+  standing_good definitions inherits Exiting s is h = jump_good Exiting s.control s h.0 h.1
+  standing_good definitions inherits Returning s is h = jump_good Returning s.control s h.0 h.1
 
   -- A part begins: its collections are created before its first variable.
   all_objects : (ds : List DeclarationForm) → list_all is_object ds ≡ true → collected ds ≡ []
@@ -446,11 +460,11 @@ module _ (types : List TypeForm) (callees : Callees) (bodies : List BodyForm) (n
   beginning_good definitions s b = begins_good definitions b.ds b.fs b.hs b.m b.rest b.there (at b.k s) b.masters b.runs b.growing b.statements b.handlers b.nests
 
   -- A state that nests.
-  pub next_good : (definitions : List TypeDefinition) (s : State) → Nested types callees s → Good types callees (next definitions bodies s)
+  pub next_good : (definitions : List TypeDefinition) → OverridesNothing definitions → (s : State) → Nested types callees s → Good types callees (next definitions bodies s)
   unfolding next
-  next_good definitions s (standing w n) = standing_good definitions s.mode s refl (w, n)
-  next_good definitions s (beginning b) =
+  next_good definitions inherits s (standing w n) = standing_good definitions inherits s.mode s refl (w, n)
+  next_good definitions inherits s (beginning b) =
       subst (λ (mode : Mode). Good types callees (mode_next named definitions bodies mode s)) (sym b.runs)
       (subst (λ (k : List (Frame Value)). Good types callees (running_next named definitions bodies k s)) (sym b.control) (beginning_good definitions s b))
-  next_good definitions s (parting p runs goes) =
-      subst (λ (mode : Mode). Good types callees (mode_next named definitions bodies mode s)) (sym runs) (parts_good types callees bodies definitions s.control s runs p goes)
+  next_good definitions inherits s (parting p runs goes) =
+      subst (λ (mode : Mode). Good types callees (mode_next named definitions bodies mode s)) (sym runs) (parts_good types callees bodies definitions inherits s.control s runs p goes)

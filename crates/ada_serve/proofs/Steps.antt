@@ -4,6 +4,7 @@ use Rattle.std.proofs.Common.{◌≡◌, ◌⊎◌, inl, inr, ℕ, ℤ, zero, su
 use Rattle.std.specs.Prelude.{IfOk}
 use Rattle.std.proofs.lemmas.Grind.{flat_map-append}
 use Rattle.std.specs.Io.KnownBytes.{Appends}
+use Rattle.ada_program.specs.Controlled.{OverridesNothing}
 use Rattle.ada_program.specs.ProgramForm.{body_forms}
 use Rattle.ada_program.specs.declared.program.Program.{Program}
 use Rattle.ada_meaning.specs.declared.request.Request.{Request as Asked}
@@ -15,7 +16,7 @@ use Rattle.ada_meaning.specs.Step.{halts, moves, tells, asks, picks}
 use Rattle.ada_meaning.specs.Named.{State, Next, next}
 use Rattle.ada_meaning.specs.Run.{Event, Choice, settled, grants, takes, Leads, Step, Halts, first_state}
 use Rattle.ada_meaning.specs.Chosen.{begun_with, begun, goes_on}
-use Rattle.ada_meaning.specs.Ending.{weight, GoesOn, StepsMakeLighter, StatesGoOn}
+use Rattle.ada_meaning.specs.Ending.{weight, GoesOn, StepsMakeLighter, NothingIsCalled, StatesGoOn}
 use Rattle.ada_interpreter.specs.declared.machine.Machine.{Machine}
 use Rattle.ada_interpreter.specs.CommonSteps.{GoesQuietly, stays, goes_on as goes_quietly_on}
 use Rattle.ada_interpreter.specs.Machine.{Answers, Makes, EndsRun, program_of, state_in}
@@ -147,29 +148,39 @@ by_step goes program trace numbers limit start statements s within later before 
       | steps choice event after mid is leads ↦ one_before program trace numbers limit start before event (later choice event mid leads (before ++ event ∷ []) after (run_more program start (first_state program numbers) s mid statements runner after before choice event run is leads))
     ]
 
+-- Each step of a program that begins no statement makes the state lighter.
+abbrev pub Lightens : Program → Type 0
+Lightens program =
+    (s : State) (choice : Choice) (event : Event) (after : State) → begins s ≡ false → Step program s choice event after → weight program.types.items after < weight program.types.items s
+
+-- So it is where no type overrides an operation: then none is called.
+pub steps_lighten : StepsMakeLighter → NothingIsCalled → (program : Program) → OverridesNothing program.types.items → Lightens program
+steps_lighten lighter nothing program inherits s choice event after b step =
+    lighter program s choice event after b (nothing program.types.items s inherits) step
+
 -- So it goes on from each state if it does from each that begins a statement, since the steps before it make the state lighter.
-up_to_statement : StepsMakeLighter → StatesGoOn → (program : Program) (trace : Bool) (numbers : List ℤ) (limit : ℕ) (start : Runner) (statements : ℕ) → statements ≤ limit → ((s : State) → begins s ≡ true → GoesOnFrom program trace numbers limit start statements s) → (n : ℕ) (s : State) (starts : Bool) → begins s ≡ starts → weight program.types.items s < n → GoesOnFrom program trace numbers limit start statements s
-up_to_statement lightens goes program trace numbers limit start statements within at_statement n s true b lighter = at_statement s b
-up_to_statement lightens goes program trace numbers limit start statements within at_statement zero s false b lighter = absurd (omega (arith, lighter))
-up_to_statement lightens goes program trace numbers limit start statements within at_statement (suc n) s false b lighter =
+up_to_statement : StatesGoOn → (program : Program) → Lightens program → (trace : Bool) (numbers : List ℤ) (limit : ℕ) (start : Runner) (statements : ℕ) → statements ≤ limit → ((s : State) → begins s ≡ true → GoesOnFrom program trace numbers limit start statements s) → (n : ℕ) (s : State) (starts : Bool) → begins s ≡ starts → weight program.types.items s < n → GoesOnFrom program trace numbers limit start statements s
+up_to_statement goes program lightens trace numbers limit start statements within at_statement n s true b lighter = at_statement s b
+up_to_statement goes program lightens trace numbers limit start statements within at_statement zero s false b lighter = absurd (omega (arith, lighter))
+up_to_statement goes program lightens trace numbers limit start statements within at_statement (suc n) s false b lighter =
     by_step goes program trace numbers limit start statements s within (λ choice event mid step.
-    rw b (up_to_statement lightens goes program trace numbers limit start statements within at_statement n mid (begins mid) refl (omega (arith, lighter, lightens program s choice event mid b step))))
+    rw b (up_to_statement goes program lightens trace numbers limit start statements within at_statement n mid (begins mid) refl (omega (arith, lighter, lightens s choice event mid b step))))
 
 -- And there it goes on, or is stopped.
-goes_on_from : StepsMakeLighter → StatesGoOn → (program : Program) (trace : Bool) (numbers : List ℤ) (limit : ℕ) (start : Runner) (statements left : ℕ) → statements + left ≡ limit → (s : State) → GoesOnFrom program trace numbers limit start statements s
-goes_on_from lightens goes program trace numbers limit start statements zero count s =
-    up_to_statement lightens goes program trace numbers limit start statements (omega (arith, count)) (λ s b before runner run.
+goes_on_from : StatesGoOn → (program : Program) → Lightens program → (trace : Bool) (numbers : List ℤ) (limit : ℕ) (start : Runner) (statements left : ℕ) → statements + left ≡ limit → (s : State) → GoesOnFrom program trace numbers limit start statements s
+goes_on_from goes program lightens trace numbers limit start statements zero count s =
+    up_to_statement goes program lightens trace numbers limit start statements (omega (arith, count)) (λ s b before runner run.
     let all : statements ≡ limit = omega (arith, count) in
     record { tail = stopped_text limit; status = Stopped; is = stopped before runner s (subst (λ (n : ℕ). RunnerRun program start (first_state program numbers) n before runner s) all run) b refl refl }) (suc (weight program.types.items s)) s (begins s) refl (omega arith)
-goes_on_from lightens goes program trace numbers limit start statements (suc left) count s =
-    up_to_statement lightens goes program trace numbers limit start statements (omega (arith, count)) (λ s b.
+goes_on_from goes program lightens trace numbers limit start statements (suc left) count s =
+    up_to_statement goes program lightens trace numbers limit start statements (omega (arith, count)) (λ s b.
     by_step goes program trace numbers limit start statements s (omega (arith, count)) (λ choice event mid step.
-    rw b (goes_on_from lightens goes program trace numbers limit start (statements + 1) left (omega (arith, count)) mid))) (suc (weight program.types.items s)) s (begins s) refl (omega arith)
+    rw b (goes_on_from goes program lightens trace numbers limit start (statements + 1) left (omega (arith, count)) mid))) (suc (weight program.types.items s)) s (begins s) refl (omega arith)
 
 -- Where a front of the lines of a run is written, a front of its whole text is.
-begins_run : StepsMakeLighter → StatesGoOn → (program : Program) (trace : Bool) (numbers : List ℤ) (limit : ℕ) (start : Runner) (statements : ℕ) (runner : Runner) (s : State) (events : List Event) (front rest : List ℕ) (old new : Option (List ℕ)) → statements ≤ limit → RunnerRun program start (first_state program numbers) statements events runner s → lines_of program trace events ≡ front ++ rest → Appends old new front → Begins (HasRun program trace numbers limit start) old new
-begins_run lightens goes program trace numbers limit start statements runner s events front rest old new within run split written =
-    let c = goes_on_from lightens goes program trace numbers limit start statements (limit - statements) (omega (arith, within)) s events runner run in
+begins_run : StatesGoOn → (program : Program) → Lightens program → (trace : Bool) (numbers : List ℤ) (limit : ℕ) (start : Runner) (statements : ℕ) (runner : Runner) (s : State) (events : List Event) (front rest : List ℕ) (old new : Option (List ℕ)) → statements ≤ limit → RunnerRun program start (first_state program numbers) statements events runner s → lines_of program trace events ≡ front ++ rest → Appends old new front → Begins (HasRun program trace numbers limit start) old new
+begins_run goes program lightens trace numbers limit start statements runner s events front rest old new within run split written =
+    let c = goes_on_from goes program lightens trace numbers limit start statements (limit - statements) (omega (arith, within)) s events runner run in
     record {
       text = lines_of program trace events ++ c.tail;
       status = c.status;
@@ -187,16 +198,16 @@ front_more lines old mid new text h a = record {
 }
 
 -- A turn broke off.
-broken : StepsMakeLighter → StatesGoOn → (program : Program) (trace : Bool) (numbers : List ℤ) (limit : ℕ) (start : Runner) (statements : ℕ) (runner : Runner) (s : State) (old mid new : Option (List ℕ)) → HasWritten program trace start (first_state program numbers) statements runner s old mid → statements ≤ limit → begun_with (begins s) statements ≤ limit → BreaksOff program trace runner s mid new → Begins (HasRun program trace numbers limit start) old new
-broken lightens goes program trace numbers limit start statements runner s old mid new h within later (before_it a) =
+broken : StatesGoOn → (program : Program) → Lightens program → (trace : Bool) (numbers : List ℤ) (limit : ℕ) (start : Runner) (statements : ℕ) (runner : Runner) (s : State) (old mid new : Option (List ℕ)) → HasWritten program trace start (first_state program numbers) statements runner s old mid → statements ≤ limit → begun_with (begins s) statements ≤ limit → BreaksOff program trace runner s mid new → Begins (HasRun program trace numbers limit start) old new
+broken goes program lightens trace numbers limit start statements runner s old mid new h within later (before_it a) =
     let f = front_more (lines_of program trace h.events) old mid new [] h.lines a in
-    begins_run lightens goes program trace numbers limit start statements runner s h.events f.front f.rest old new within h.run (sym (append-nil (lines_of program trace h.events)) ∙ f.split) f.written
-broken lightens goes program trace numbers limit start statements runner s old mid new h within later (in_line choice event after last is step a) =
+    begins_run goes program lightens trace numbers limit start statements runner s h.events f.front f.rest old new within h.run (sym (append-nil (lines_of program trace h.events)) ∙ f.split) f.written
+broken goes program lightens trace numbers limit start statements runner s old mid new h within later (in_line choice event after last is step a) =
     let f = front_more (lines_of program trace h.events) old mid new (event_text program trace event) h.lines a in
-    begins_run lightens goes program trace numbers limit start (begun_with (begins s) statements) after last (h.events ++ event ∷ []) f.front f.rest old new later
+    begins_run goes program lightens trace numbers limit start (begun_with (begins s) statements) after last (h.events ++ event ∷ []) f.front f.rest old new later
     (run_more program start (first_state program numbers) s last statements runner after h.events choice event h.run is step)
     (lines_more program trace h.events event ∙ f.split) f.written
-broken lightens goes program trace numbers limit start statements runner s old mid new h within later (in_end halt is a) = record {
+broken goes program lightens trace numbers limit start statements runner s old mid new h within later (in_end halt is a) = record {
   text = lines_of program trace h.events ++ end_text (exceptions_of program) halt;
   status = status_of halt;
   is = ended statements h.events runner s halt within h.run is refl refl;
@@ -258,16 +269,16 @@ room : (starts : Bool) (statements left limit : ℕ) → statements + left ≡ l
 room true statements left limit count h = omega (arith, count, h)
 room false statements left limit count h = omega (arith, count)
 
-reaches_broken : StepsMakeLighter → StatesGoOn → (program : Program) (trace : Bool) (numbers : List ℤ) (limit : ℕ) (start : Runner) (left : ℕ) (runner : Runner) (s : State) (starts : Bool) (old mid new : Option (List ℕ)) → Reaches program trace numbers limit start left runner s old mid → begins s ≡ starts → begun_with starts 0 ≤ left → BreaksOff program trace runner s mid new → Begins (HasRun program trace numbers limit start) old new
-reaches_broken lightens goes program trace numbers limit start left runner s starts old mid new h b some m =
+reaches_broken : StatesGoOn → (program : Program) → Lightens program → (trace : Bool) (numbers : List ℤ) (limit : ℕ) (start : Runner) (left : ℕ) (runner : Runner) (s : State) (starts : Bool) (old mid new : Option (List ℕ)) → Reaches program trace numbers limit start left runner s old mid → begins s ≡ starts → begun_with starts 0 ≤ left → BreaksOff program trace runner s mid new → Begins (HasRun program trace numbers limit start) old new
+reaches_broken goes program lightens trace numbers limit start left runner s starts old mid new h b some m =
     let later : begun_with (begins s) h.statements ≤ limit = rw b (room starts h.statements left limit h.count some) in
-    broken lightens goes program trace numbers limit start h.statements runner s old mid new h.written (omega (arith, h.count)) later m
+    broken goes program lightens trace numbers limit start h.statements runner s old mid new h.written (omega (arith, h.count)) later m
 
-pub step_broken : StepsMakeLighter → StatesGoOn → (program : Program) (trace : Bool) (numbers : List ℤ) (limit : ℕ) (start : Runner) (left : ℕ) (runner : Runner) (s : State) (old mid new : Option (List ℕ)) → Reaches program trace numbers limit start left runner s old mid → begins s ≡ false → BreaksOff program trace runner s mid new → Begins (HasRun program trace numbers limit start) old new
-step_broken lightens goes program trace numbers limit start left runner s old mid new h b m = reaches_broken lightens goes program trace numbers limit start left runner s false old mid new h b (omega arith) m
+pub step_broken : StatesGoOn → (program : Program) → Lightens program → (trace : Bool) (numbers : List ℤ) (limit : ℕ) (start : Runner) (left : ℕ) (runner : Runner) (s : State) (old mid new : Option (List ℕ)) → Reaches program trace numbers limit start left runner s old mid → begins s ≡ false → BreaksOff program trace runner s mid new → Begins (HasRun program trace numbers limit start) old new
+step_broken goes program lightens trace numbers limit start left runner s old mid new h b m = reaches_broken goes program lightens trace numbers limit start left runner s false old mid new h b (omega arith) m
 
-pub statement_broken : StepsMakeLighter → StatesGoOn → (program : Program) (trace : Bool) (numbers : List ℤ) (limit : ℕ) (start : Runner) (left : ℕ) (runner : Runner) (s : State) (old mid new : Option (List ℕ)) → Reaches program trace numbers limit start left runner s old mid → begins s ≡ true → 0 < left → BreaksOff program trace runner s mid new → Begins (HasRun program trace numbers limit start) old new
-statement_broken lightens goes program trace numbers limit start left runner s old mid new h b some m = reaches_broken lightens goes program trace numbers limit start left runner s true old mid new h b (omega (arith, some)) m
+pub statement_broken : StatesGoOn → (program : Program) → Lightens program → (trace : Bool) (numbers : List ℤ) (limit : ℕ) (start : Runner) (left : ℕ) (runner : Runner) (s : State) (old mid new : Option (List ℕ)) → Reaches program trace numbers limit start left runner s old mid → begins s ≡ true → 0 < left → BreaksOff program trace runner s mid new → Begins (HasRun program trace numbers limit start) old new
+statement_broken goes program lightens trace numbers limit start left runner s old mid new h b some m = reaches_broken goes program lightens trace numbers limit start left runner s true old mid new h b (omega (arith, some)) m
 
 -- The end, and the limit.
 pub reaches_end : (program : Program) (trace : Bool) (numbers : List ℤ) (limit : ℕ) (start : Runner) (left : ℕ) (runner : Runner) (s : State) (ending : Status) (old mid new : Option (List ℕ)) → Reaches program trace numbers limit start left runner s old mid → EndsIn program s mid new ending → Says (HasRun program trace numbers limit start) old new ending
@@ -309,7 +320,7 @@ reaches_quietly program trace numbers limit start left after runner s last old n
 }
 
 -- A fault between two turns.
-pub reaches_fault : StepsMakeLighter → StatesGoOn → (program : Program) (trace : Bool) (numbers : List ℤ) (limit : ℕ) (start : Runner) (left : ℕ) (runner : Runner) (s : State) (old new : Option (List ℕ)) → Reaches program trace numbers limit start left runner s old new → Begins (HasRun program trace numbers limit start) old new
-reaches_fault lightens goes program trace numbers limit start left runner s old new h =
+pub reaches_fault : StatesGoOn → (program : Program) → Lightens program → (trace : Bool) (numbers : List ℤ) (limit : ℕ) (start : Runner) (left : ℕ) (runner : Runner) (s : State) (old new : Option (List ℕ)) → Reaches program trace numbers limit start left runner s old new → Begins (HasRun program trace numbers limit start) old new
+reaches_fault goes program lightens trace numbers limit start left runner s old new h =
     let lines : List ℕ = lines_of program trace h.written.events in
-    begins_run lightens goes program trace numbers limit start h.statements runner s h.written.events lines [] old new (omega (arith, h.count)) h.written.run (sym (append-nil lines)) h.written.lines
+    begins_run goes program lightens trace numbers limit start h.statements runner s h.written.events lines [] old new (omega (arith, h.count)) h.written.run (sym (append-nil lines)) h.written.lines

@@ -6,7 +6,7 @@ use Rattle.std.specs.Io.KnownBytes.{Appends}
 use Rattle.ada_program.specs.ProgramForm.{body_forms}
 use Rattle.ada_program.specs.declared.program.Program.{Program}
 use Rattle.ada_meaning.specs.declared.event.Halt.{Halt}
-use Rattle.ada_meaning.specs.declared.event.Halt.TheVariants.{Finished, Unhandled, Erroneous, Stuck, Memory}
+use Rattle.ada_meaning.specs.declared.event.Halt.TheVariants.{Finished, Unhandled, Escaped, Erroneous, Stuck, Memory}
 use Rattle.ada_meaning.specs.Event.{Born, Finalized, Back, Followed, Left, Line, Quiet}
 use Rattle.ada_meaning.specs.State.{begins}
 use Rattle.ada_meaning.specs.Step.{halts, moves, tells, asks, picks}
@@ -58,10 +58,12 @@ event_text program trace Quiet = []
 abbrev pub lines_of : Program → (trace : Bool) → List Event → List ℕ
 lines_of program trace events = flat_map (event_text program trace) events
 
--- The last line of a run that comes to its end, and its status. No run of an accepted program comes to an erroneous action, or gets stuck.
+-- The last line of a run that comes to its end, and its status. No run of an accepted program comes to an erroneous action, gets stuck, or has an exception
+-- leave an Adjust or a Finalize.
 abbrev pub end_text : (exceptions : List (List ℕ)) → Halt → List ℕ
 end_text exceptions Finished = finished_text
 end_text exceptions (Unhandled e) = unhandled_text exceptions e
+end_text exceptions (Escaped e) = erroneous_text
 end_text exceptions (Erroneous why) = erroneous_text
 end_text exceptions Stuck = erroneous_text
 end_text exceptions Memory = []
@@ -70,6 +72,7 @@ end_text exceptions Memory = []
 abbrev pub status_of : Halt → Status
 status_of Finished = status.Finished
 status_of (Unhandled e) = status.Unhandled
+status_of (Escaped e) = status.Erroneous
 status_of (Erroneous why) = status.Erroneous
 status_of Stuck = status.Erroneous
 status_of Memory = status.Erroneous

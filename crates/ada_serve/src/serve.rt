@@ -7,13 +7,14 @@ ghost use Rattle.ada_meaning.specs.Event.{event_of};
 ghost use Rattle.ada_meaning.specs.Safe.{Safe};
 ghost use Rattle.ada_meaning.specs.Run.{first_state};
 ghost use Rattle.ada_pools.specs.View.{runner_of};
+ghost use Rattle.ada_program.specs.Controlled.{OverridesNothing};
 ghost use Rattle.ada_serve.specs.Answer.{IsRefusal, IsProgramAnswer, GivesNumbers};
 ghost use Rattle.ada_serve.specs.Calls.{IsRead, IsKept, FaultReads, OnlyWrites, WriterEnds};
 ghost use Rattle.ada_serve.specs.Runner.{runner_before, end_text, status_of, event_text, TurnsOn, HasRun};
 ghost use Rattle.ada_serve.specs.Served.{PromisesSafe, IsOfInput, FaultGives, InputTurns, ReadersEnd, Serves, TellsPools};
 ghost use Rattle.ada_serve.specs.Texts.{exceptions_of, stopped_text};
 ghost use Rattle.ada_serve.specs.Written.{Writes, SaysFront};
-ghost use Rattle.ada_typed.specs.Stuck.{NeverStuck};
+ghost use Rattle.ada_typed.specs.Stuck.{NeverStuck, NothingEscapes};
 
 use crate::output::write_all;
 use crate::settings::Options;
@@ -25,7 +26,7 @@ use ada_meaning::laws::{states_go_on, steps_make_lighter};
 use ada_meaning::{Event, Halt};
 use ada_pools::{PoolChoices, name_pools};
 use ada_program::Program;
-use ada_typed::laws::well_formed_programs_are_never_stuck;
+use ada_typed::laws::{nothing_escapes_well_formed_programs, well_formed_programs_are_never_stuck};
 use ada_verdict::{Accepted, Verdict, check};
 use std::alloc::{AllocError, AllocFailed, Global};
 use thiserror::Error;
@@ -39,7 +40,8 @@ pub enum Status {
     Unhandled,
     /// The limit of statements stopped the run.
     Stopped,
-    /// The next action would be erroneous, or has no meaning; no accepted program comes to one.
+    /// The next action would be erroneous, or has no meaning, or an exception would leave an Adjust or a Finalize; no
+    /// accepted program comes to that.
     Erroneous,
 }
 
@@ -157,6 +159,7 @@ pub fn serve<S: ByteReader, I: ByteReader, W: ByteWriter>(
 }
 
 /// Writes the answer to an accepted source.
+#[tactic(auto, using(ada_program::proofs::Overridden::nothing_overridden))]
 fn answer<I: ByteReader, W: ByteWriter>(
     alloc: Global,
     accepted: &Accepted,
@@ -173,8 +176,10 @@ fn answer<I: ByteReader, W: ByteWriter>(
     ensures sizes { TellsPools accepted.now options.now result }
     ensures safe { Safe accepted.now }
     ensures typed { NeverStuck accepted.now }
+    ensures confined { NothingEscapes accepted.now }
 {
     well_formed_programs_are_never_stuck();
+    nothing_escapes_well_formed_programs();
     let program = accepted.program();
     if options.run {
         if !name_pools(program, &options.sizes) {
@@ -243,8 +248,8 @@ fn refuse<W: ByteWriter>(
     Ok(Status::Refused)
 }
 
-/// Runs a program on these numbers, and writes its lines and how it ended. Its pools have the sizes that are asked for,
-/// one request for storage is refused, or none, and so many statements may begin.
+/// Runs a program whose types override no operation on these numbers, and writes its lines and how it ended. Its pools have
+/// the sizes that are asked for, one request for storage is refused, or none, and so many statements may begin.
 fn run<W: ByteWriter>(
     alloc: Global,
     program: &Program,
@@ -252,6 +257,7 @@ fn run<W: ByteWriter>(
     options: &Options,
     out: &mut W,
 ) -> Result<Status, ServeFault>
+    requires inherits { OverridesNothing program.now.types.items }
     ensures text { SaysFront (HasRun program.now options.now.trace numbers.items options.now.steps
         (runner_before program.now options.now)) (W.contents out.old) (W.contents out.new) result }
     ensures writer { OnlyWrites W.writes out.old out.new result }
@@ -279,6 +285,7 @@ fn take_turns<W: ByteWriter>(
     requires first { state_in machine.old ≡ first_state program.now (state_in machine.old).input }
     requires runs { halt_of machine.old ≡ None }
     requires same { program_of machine.old ≡ program.now }
+    requires inherits { OverridesNothing program.now.types.items }
     ensures text { SaysFront (HasRun program.now options.now.trace (state_in machine.old).input options.now.steps
         (runner_of (choices_of machine.old))) (W.contents out.old) (W.contents out.new) result }
     ensures writer { OnlyWrites W.writes out.old out.new result }
@@ -381,7 +388,7 @@ fn finish<W: ByteWriter>(
             write_all(out, page)?;
             Ok(Status::Unhandled)
         }
-        Halt::Erroneous(_) | Halt::Stuck => {
+        Halt::Escaped(_) | Halt::Erroneous(_) | Halt::Stuck => {
             write_all(out, b"erroneous\n")?;
             Ok(Status::Erroneous)
         }

@@ -1,6 +1,5 @@
 -- Objects end, their words go back, and masters are left.
 
-use Rattle.std.proofs.lemmas.Bool.{eq-eqb}
 use Rattle.std.proofs.Common.{◌≡◌, ◌≢◌, ℕ, zero, suc, Bool, true, false, List, [], ◌∷◌, ◌++◌, refl, sym, ap, ◌∙◌, inl, inr}
 use Rattle.std.specs.Prelude.{Option, Some, None}
 use Rattle.std.specs.List.{slice_set, slice_index_or}
@@ -19,7 +18,7 @@ use Rattle.ada_meaning.specs.declared.event.Cause.TheVariants.{Leaving, Freeing,
 use Rattle.ada_meaning.specs.Frame.{Leaves, Ends, GivesBack, Clears, ClearsIn, ends}
 use Rattle.ada_meaning.specs.Event.{Back, Left, Quiet}
 use Rattle.ada_meaning.specs.State.{Owned, declared, collection, record_object, storage_pool, Item, Master, Activation}
-use Rattle.ada_meaning.specs.Step.{all_tasks, taken_out, same_pool, told_back, end_next, back_next, members_next, item_leave_next, master_leave_next, leave_next}
+use Rattle.ada_meaning.specs.Step.{all_tasks, taken_out, told_back, end_next, back_next, members_next, item_leave_next, master_leave_next, leave_next}
 use Rattle.ada_meaning.specs.Named.{Object, State, object_at, look, lent, members, named, parted, finished, returned, filled, store}
 use Rattle.ada_meaning.specs.Run.{Event}
 use Rattle.ada_meaning.specs.Law.{leaving_by, LeavesHome, items_of}
@@ -27,6 +26,7 @@ use Rattle.ada_owners.proofs.Changes.{store_is}
 use Rattle.ada_owners.proofs.Objects.{at_other}
 use Rattle.ada_sound.proofs.Objects.{set_here}
 use Rattle.ada_sound.proofs.Items.{Houses, newest_is}
+use Rattle.ada_sound.proofs.Homes.{same_one}
 use Rattle.ada_sound.proofs.Stored.{Stored, IsTaken, stored_part, stored_finish, stored_back, stored_shorter, stored_older, exists_out, none_is_left, taken_is}
 use Rattle.ada_sound.proofs.Fits.{Fit, none_spared, going, weaker_fit, part_fit, finish_fit, back_fit, going_set, going_shorter, going_left}
 use Rattle.ada_sound.proofs.Alters.{alters_set}
@@ -66,13 +66,6 @@ freed_works stored c = record { rooms = c.rooms; holds = c.holds; stored = store
 
 freed_parts : {known : Known} {heap : List Object} {places : List Value} {ms : List Master} {more : Rooms → Holds → Type 0} → Stored None heap ms → Freed known (going heap (innermost ms)) heap places ms more → Parting known heap places ms more
 freed_parts stored c = record { rooms = c.rooms; holds = c.holds; stored = stored; roomed = c.roomed; fit = c.fit; rest = c.rest }
-
--- One pool is the same one.
-same_one : (p q : Option ℕ) → p ≡ q → same_pool p q ≡ true
-same_one None None e = refl
-same_one None (Some m) e = absurd (cc e)
-same_one (Some n) None e = absurd (cc e)
-same_one (Some n) (Some m) e = eq-eqb n m (cc e)
 
 -- What an item is the home of is of a type that it may own.
 among_by : (owned : Owned) (access : ℕ) (pool : Option ℕ) (types : List ℕ) → Houses owned access pool → OwnedAmong owned types → is_among types (Some access) ≡ true

@@ -102,4 +102,4 @@ misplacing_frees = frees_others_by misplacing misplacing_stmts no_handlers mispl
 pub misplaces : HaltsAfter [] (Erroneous GivesElsewhere) misplacing
 unfolding next expression_form
 misplaces =
-    halts_after misplacing misplacing_stmts no_handlers misplacing_form refl [] (steps 16 ++ grants true ∷ steps 3) [] (Erroneous GivesElsewhere) refl refl refl
+    halts_after misplacing misplacing_stmts no_handlers misplacing_form refl [] (steps 16 ++ grants true ∷ steps 1) [] (Erroneous GivesElsewhere) refl refl refl

@@ -18,10 +18,10 @@ use Rattle.ada_meaning.specs.Frame.{Does, Ends, GivesBack, Clears, ends}
 use Rattle.ada_meaning.specs.Event.{Quiet}
 use Rattle.ada_meaning.specs.State.{Activation, home_of, pool_freed_to}
 use Rattle.ada_meaning.specs.Step.{all_tasks, free_next}
-use Rattle.ada_meaning.specs.Named.{State, look, named, parted}
+use Rattle.ada_meaning.specs.Named.{State, named, parted}
 use Rattle.ada_sound.proofs.Fits.{NoOuterAlias, is_object, IsOwn, IsSaid, place_at, null_fit, behind_fit, freed_unnamed, part_fit}
 use Rattle.ada_sound.proofs.Objects.{set_here}
-use Rattle.ada_sound.proofs.Homes.{HaveHomes, freed_home}
+use Rattle.ada_sound.proofs.Homes.{HaveHomes, same_one, freed_home}
 use Rattle.ada_sound.proofs.Stored.{stored_part}
 use Rattle.ada_sound.proofs.Alters.{alters_set}
 use Rattle.ada_sound.proofs.Taken.{root_access}
@@ -42,15 +42,16 @@ module _ (known : Known) (a : Activation Value) (rest : List (Activation Value))
   free_null is more = runs_on known (Does fs ∷ k) a rest s (record { rooms = w.rooms; holds = freed known.program.variables x w.holds; stored = w.stored; roomed = w.roomed; fit = null_fit x none is (behind_fit (variable_access known.program.variables x) w.fit); rest = more }) Quiet tt
 
   -- X owns an object: that leaves its collection, and nothing relies on it then.
-  free_value : (v : Value) → place_at a.places x ≡ v → IsOwn (hold_at w.holds x) → RunsOn known (Does fs ∷ k) w.rooms (freed known.program.variables x w.holds) → Fine known s.heap s.masters (free_next named types access x v (look s.heap v) (running (Does fs ∷ k) a rest s))
+  free_value : (v : Value) → place_at a.places x ≡ v → IsOwn (hold_at w.holds x) → RunsOn known (Does fs ∷ k) w.rooms (freed known.program.variables x w.holds) → Fine known s.heap s.masters (free_next named types access x v (named.standing s.heap v) (running (Does fs ∷ k) a rest s))
   free_value Null is own more = free_null is more
   free_value (Names o) is own more =
       let after = freed_unnamed x o (λ t same. (let one : own_type ≡ t = cc (of_type, same) in rw (← one) (is_type, spares.0))) none own is w.fit in
       let there = after.2 in
       let found = there.1 in
       let exists = (w.stored.sane o there.0 found).listed_exists there.2 in
-      let named = root_access w.fit x spot o there.0 (own_kept (hold_at w.holds x) spot own) is found in
-      let one : own_type ≡ there.0.cell.access = cc (of_type, named) in
+      let of_own = root_access w.fit x spot o there.0 (own_kept (hold_at w.holds x) spot own) is found in
+      let one : own_type ≡ there.0.cell.access = cc (of_type, of_own) in
+      let home = freed_home access o there.0 homes w.stored found exists (rw (← one) is_type) (sym one ∙ by_own) in
       let under : Ending known o (GivesBack (Names o) (Freeing s.next) (Some (pool_freed_to (home_of access s.masters))) ∷ Clears x ∷ Does fs ∷ k) (slice_set s.heap o.0 (parted there.0)) a.places s.masters = record {
         object = parted there.0;
         found = set_here s.heap o.0 there.0 (parted there.0) found;
@@ -60,7 +61,7 @@ module _ (known : Known) (a : Activation Value) (rest : List (Activation Value))
         covered = subst (λ (u : ℕ). CoveredIn known.program u) one spares.1;
         rest = (
           refl,
-          freed_home access o there.0 homes w.stored found exists (rw (← one) is_type) (sym one ∙ by_own),
+          home,
           record {
             rooms = w.rooms;
             holds = freed known.program.variables x w.holds;
@@ -70,23 +71,23 @@ module _ (known : Known) (a : Activation Value) (rest : List (Activation Value))
           },
         );
       } in
-      rw (found, exists) (rw found (record {
+      rw (found, there.2, homes.stand o there.0 found there.2) (rw (same_one (Some (pool_freed_to (home_of access s.masters))) there.0.cell.home.pool home) (rw found (record {
         ready = (
           tt,
           treats_ready known (Names o) (ends (Freeing s.next)) (all_tasks types there.0.cell.access WholeFirst) (Ends (Names o) ∷ GivesBack (Names o) (Freeing s.next) (Some (pool_freed_to (home_of access s.masters))) ∷ Clears x ∷ Does fs ∷ k) (slice_set s.heap o.0 (parted there.0)) a.places a.operands s.masters (inl (refl, under)),
         );
         alters = alters_set s.heap Quiet o there.0 (parted there.0) found (refl, refl, refl) (λ h. h) (λ h. inl h);
         says = tt;
-      }))
+      })))
   free_value (Scalar n) is own more = tt
   free_value (Part object_id base) is own more = tt
 
-  free_hold : (h : Hold) → hold_at w.holds x ≡ h → Goes (released known.program.variables x spot w.holds h) (RunsOn known (Does fs ∷ k) w.rooms) (raised w.rooms) → IsSaid (place_at (outers known).given x) h (place_at a.places x) → Fine known s.heap s.masters (free_next named types access x (place_at a.places x) (look s.heap (place_at a.places x)) (running (Does fs ∷ k) a rest s))
+  free_hold : (h : Hold) → hold_at w.holds x ≡ h → Goes (released known.program.variables x spot w.holds h) (RunsOn known (Does fs ∷ k) w.rooms) (raised w.rooms) → IsSaid (place_at (outers known).given x) h (place_at a.places x) → Fine known s.heap s.masters (free_next named types access x (place_at a.places x) (named.standing s.heap (place_at a.places x)) (running (Does fs ∷ k) a rest s))
   free_hold hold.Null own more blank = rw blank (free_null blank more.0)
   free_hold (hold.Kept r) own more blank = free_value (place_at a.places x) refl (rw own tt) more.0
   free_hold (hold.Own r) own more blank = free_value (place_at a.places x) refl (rw own tt) more.0
   free_hold (hold.Alias r) own more blank = absurd more
   free_hold hold.Lost own more blank = absurd more
 
-  pub free_fine : Fine known s.heap s.masters (free_next named types access x (place_at a.places x) (look s.heap (place_at a.places x)) (running (Does fs ∷ k) a rest s))
+  pub free_fine : Fine known s.heap s.masters (free_next named types access x (place_at a.places x) (named.standing s.heap (place_at a.places x)) (running (Does fs ∷ k) a rest s))
   free_fine = free_hold (hold_at w.holds x) refl w.rest (w.fit.said x)

@@ -8,7 +8,6 @@ use Rattle.ada_program.specs.Form.{DeclarationForm, StmtsForm, BranchesForm, Han
 use Rattle.ada_program.specs.ProgramForm.{TypeForm, VariableForm}
 use Rattle.ada_flow.specs.Flow.{Holds, Outcome, goes, Around}
 use Rattle.ada_meaning.specs.declared.event.Why.{Why}
-use Rattle.ada_meaning.specs.declared.event.Why.TheVariants.{FinalizesTwice}
 use Rattle.ada_meaning.specs.Named.{State}
 use Rattle.ada_meaning.specs.Run.{Event, Run, first_state}
 use Rattle.ada_meaning.specs.Law.{BackTwoObjects, FinalizedTwoValues, FollowedBeforeBack, InReverseOrder, IsBackHome, items_of, Falls, MastersFall}
@@ -35,8 +34,7 @@ module _ (program : Program) (accepted : IsChecked program) where
   agrees input events last run begins = agrees_at program last (sound_last input events last run) begins
 
   pub never : (why : Why) → NeverErroneous why program
-  never FinalizesTwice input events last run halted = finalization.never_finalizes_twice program input events last run halted
-  never why input events last run halted = absurd (runs.none_is_next program last why (sound_last input events last run) halted)
+  never why input events last run halted = runs.none_is_next program last why (sound_last input events last run) halted
 
   pub back_once : InEveryRun program (λ events last. AllPairs BackTwoObjects events)
   back_once input events last run = runs.back_once run (first input)

@@ -9,10 +9,12 @@ use Rattle.ada_program.specs.WellFormed.{is_access}
 use Rattle.ada_meaning.specs.declared.state.Id.{Id}
 use Rattle.ada_meaning.specs.declared.state.Stage.TheVariants.{Existing}
 use Rattle.ada_meaning.specs.State.{Owned, declared, collection, record_object, storage_pool, Item, Master, Destination, destination, collection_in, home_among, home_of, pool_freed_to}
+use Rattle.ada_meaning.specs.Step.{same_pool}
 use Rattle.ada_meaning.specs.Named.{Object, object_at}
 use Rattle.ada_meaning.specs.Law.{Differ, items_of}
 use Rattle.ada_scopes.specs.Scopes.{type_collected, CollectTwoTypes}
 use Rattle.ada_sound.proofs.Items.{Houses, HasItem}
+use Rattle.ada_sound.proofs.Standing.{AllStand}
 use Rattle.ada_sound.proofs.Stored.{Stored, exists_out}
 
 -- The newest collection of an access type among all items.
@@ -66,14 +68,23 @@ among n access pool (i ∷ is) lone (inr h) =
     ap pool_freed_to (passed access i i.owned (home_among access is None) (apart n access pool i is lone h))
     ∙ among n access pool is (λ j k d lt short. lone (suc j) (suc k) d (omega (arith, lt)) (omega (arith, short))) h
 
+-- One pool is the same one.
+pub same_one : (p q : Option ℕ) → p ≡ q → same_pool p q ≡ true
+same_one None None e = refl
+same_one None (Some m) e = absurd (cc e)
+same_one (Some n) None e = absurd (cc e)
+same_one (Some n) (Some m) e = eq-eqb n m (cc e)
+
 -- An object of an access type is from some pool.
 abbrev pub Pooled : List TypeForm → List Object → Type 0
 Pooled types heap = (o : Id) (object : Object) → object_at heap o ≡ Some object → is_access types object.cell.access ≡ true → (pool : ℕ) × (object.cell.home.pool ≡ Some pool)
 
--- Objects of access types are from pools, and no access type has two open collections.
+-- Objects of access types are from pools, and no access type has two open collections; and those that are in their collections have the values of all
+-- their parts.
 pub record HaveHomes (types : List TypeForm) (heap : List Object) (masters : List Master) : Type 0 where
   pub pooled : Pooled types heap
   pub lone : AllPairs CollectTwoTypes (items_of masters)
+  pub stand : AllStand heap
 
 -- What is freed by the instance for its own access type goes back to its own pool.
 pub freed_home : {types : List TypeForm} {heap : List Object} {masters : List Master} (access : ℕ) (o : Id) (x : Object) → HaveHomes types heap masters → Stored None heap masters → object_at heap o ≡ Some x → x.stage ≡ Existing → is_access types x.cell.access ≡ true → x.cell.access ≡ access → Some (pool_freed_to (home_of access masters)) ≡ x.cell.home.pool

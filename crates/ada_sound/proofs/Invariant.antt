@@ -28,10 +28,9 @@ use Rattle.ada_meaning.specs.declared.state.Mode.TheVariants.{Running, Raising, 
 use Rattle.ada_meaning.specs.declared.event.Cause.{Cause}
 use Rattle.ada_meaning.specs.declared.event.Cause.TheVariants.{Leaving, Freeing, Assigning, Undoing}
 use Rattle.ada_meaning.specs.declared.event.Halt.{Halt}
-use Rattle.ada_meaning.specs.declared.event.Halt.TheVariants.{Finished, Unhandled, Erroneous, Stuck, Memory}
-use Rattle.ada_meaning.specs.declared.event.Why.{Why}
-use Rattle.ada_meaning.specs.declared.event.Why.TheVariants.{FollowsGone, EndsTwice, GivesElsewhere, FinalizesTwice}
+use Rattle.ada_meaning.specs.declared.event.Halt.TheVariants.{Finished, Unhandled, Escaped, Erroneous, Stuck, Memory}
 use Rattle.ada_meaning.specs.Frame.{Frame, Elaborates, Does, Decides, Repeats, Turns, Ranges, Counts, Exits, Handles, Closes, Leaves, Calls, Returns, Evaluates, Computes, Follows, TestsNull, Refers, RefersIn, Opens, OpensIn, Continues, Applies, AppliesAlone, Fills, Copies, Creates, Stores, Targets, StoresIn, TargetsRecord, StoresRecord, Assigns, Receives, FreesIn, Declares, DeclaresRecord, Treats, Writes, Ends, GivesBack, Clears, ClearsIn, Treatment, begins, ends}
+use Rattle.ada_meaning.specs.Frame as frame
 use Rattle.ada_meaning.specs.Event.{Born, Finalized, Back, Followed, Left, Line, Quiet}
 use Rattle.ada_meaning.specs.State.{Activation, Owned, declared, collection, record_object, storage_pool, Item, Master, height}
 use Rattle.ada_meaning.specs.Heap.{Home, finds}
@@ -355,7 +354,7 @@ returning p (w ∷ ws) actuals references k = record {
   returned = λ holds. (actuals ≡ w.actuals) × (references ≡ w.references) × (k ≡ w.control) × (all_give_back (owed_in p) holds ≡ true);
 }
 
--- What is left to do, by the mode that it is come to in. A form that waits for a value is passed by a jump alone.
+-- What is left to do, by the mode that it is come to in. A form that waits for a value is passed by a jump alone. No operation of a controlled type is called.
 abbrev pub ways : Known → Control → Rooms → Ways
 ways known [] [] = at_end known.callers
 ways known [] (gone ∷ rooms) = nowhere
@@ -379,6 +378,9 @@ ways known (Closes ∷ k) [] = nowhere
 ways known (Closes ∷ k) (gone ∷ rooms) = Outside known.program.variables gone (ways known k rooms)
 ways known (Leaves mode ∷ k) [] = nowhere
 ways known (Leaves mode ∷ k) (gone ∷ rooms) = record nowhere { normal = λ holds. NamesNone known.program.variables gone.types holds × To (By mode (ways known k rooms)) holds }
+ways known (frame.Awaits v by done of part tasks ∷ k) rooms = nowhere
+ways known (frame.Confines ∷ k) rooms = nowhere
+ways known (frame.Resumes mode ∷ k) rooms = nowhere
 ways known (f ∷ k) rooms = record (ways known k rooms) { normal = λ holds. ⊥ }
 
 -- What runs on is known in these rooms.
@@ -585,7 +587,7 @@ pub record Giving (known : Known) (todo : List ItemForm) (k : Control) (rooms : 
 -- What is left goes on, perhaps behind the adjustment of a record that was assigned to (7.6).
 abbrev pub RunsBehind : Known → Control → Rooms → Holds → Type 0
 RunsBehind known [] rooms holds = RunsOn known [] rooms holds
-RunsBehind known (Treats v (begins by) tasks ∷ k) rooms holds = RunsOn known k rooms holds
+RunsBehind known (Treats v (begins by done) tasks ∷ k) rooms holds = RunsOn known k rooms holds
 RunsBehind known (Treats v (ends cause) tasks ∷ k) rooms holds = ⊥
 RunsBehind known (f ∷ k) rooms holds = RunsOn known (f ∷ k) rooms holds
 
@@ -1065,7 +1067,7 @@ CopiesBehind known (f ∷ k) heap places operands masters = ⊥
 
 -- An object is treated (7.6, 7.6.1): whatever is left of that, what is behind is ready.
 abbrev pub TreatsBy : Known → Value → Treatment → Control → List Object → (places operands : List Value) → List Master → Type 0
-TreatsBy known v (begins by) k heap places operands masters = BegunTo known k heap places operands masters
+TreatsBy known v (begins by done) k heap places operands masters = BegunTo known k heap places operands masters
 TreatsBy known v (ends cause) k heap places operands masters = EndsTo known v k heap places masters ⊎ CopiesBehind known k heap places operands masters
 
 -- What holds where a frame is next. What is awaited counts as stored already.
@@ -1121,6 +1123,9 @@ ReadyBy known (Declares x) k heap places operands masters =
     Working known heap (slice_set places x (first_or Null operands)) masters (λ rooms holds. HasRoom rooms × RunsOn known k rooms holds)
 ReadyBy known (DeclaresRecord x t) k heap places operands masters = Working known heap places masters (Recording known x t k)
 ReadyBy known (Treats v treatment tasks) k heap places operands masters = TreatsBy known v treatment k heap places operands masters
+ReadyBy known (frame.Awaits v by done of part tasks) k heap places operands masters = ⊥
+ReadyBy known frame.Confines k heap places operands masters = ⊥
+ReadyBy known (frame.Resumes mode) k heap places operands masters = ⊥
 ReadyBy known Writes k heap places operands masters = Working known heap places masters (RunsOn known k)
 ReadyBy known (Ends v) k heap places operands masters = EndingBy known v k heap places masters
 ReadyBy known (GivesBack v cause pool) k heap places operands masters = BackingBy known v cause pool k heap places masters
@@ -1263,18 +1268,12 @@ pub record Stepped (known : Known) (before : List Object) (e : Event) (after : S
   pub alters : Alters before e after.heap
   pub says : Says known.program e before after
 
--- No erroneous action is next but perhaps that a value is finalized twice, of which a law for all programs says that it never is (7.6.1).
-abbrev pub MayBeNext : Why → Type 0
-MayBeNext FollowsGone = ⊥
-MayBeNext EndsTwice = ⊥
-MayBeNext GivesElsewhere = ⊥
-MayBeNext FinalizesTwice = Unit {0}
-
--- No run ends at another erroneous action; where one comes to its end, no master is left.
+-- No run ends at an erroneous action, or by an exception that leaves an operation; where one comes to its end, no master is left.
 abbrev pub EndsWell : Halt → List Object → List Master → Type 0
 EndsWell Finished heap masters = Stored None heap masters × NoMaster masters
 EndsWell (Unhandled e) heap masters = Stored None heap masters × NoMaster masters
-EndsWell (Erroneous why) heap masters = MayBeNext why
+EndsWell (Escaped e) heap masters = ⊥
+EndsWell (Erroneous why) heap masters = ⊥
 EndsWell Stuck heap masters = Unit {0}
 EndsWell Memory heap masters = Unit {0}
 

@@ -10,6 +10,7 @@ use Rattle.ada_meaning.specs.declared.state.Value.{Value}
 use Rattle.ada_meaning.specs.declared.state.Mode.{Mode}
 use Rattle.ada_meaning.specs.declared.state.Mode.TheVariants.{Running, Raising, Exiting, Returning}
 use Rattle.ada_meaning.specs.Frame.{Frame, Elaborates, Does, Repeats, Counts, Handles, Closes, Leaves, Returns, is_master, is_return, landing, handler_landing}
+use Rattle.ada_meaning.specs.Frame as frame
 use Rattle.ada_meaning.specs.Event.{Quiet}
 use Rattle.ada_meaning.specs.State.{Activation}
 use Rattle.ada_meaning.specs.Step.{pass_next, unwound}
@@ -80,6 +81,9 @@ module _ (known : Known) (k : Control) where
     raising_fine e (Handles hs) stays w = handled_fine e (handler_of e hs) (at_work w w.rest)
     raising_fine e (Leaves mode) stays w = absurd (raised_leaves mode e w.rooms w.holds w.rest)
     raising_fine e (Returns actuals references) stays w = absurd (cc stays)
+    raising_fine e (frame.Awaits v by done of part tasks) stays w = absurd (w.rest)
+    raising_fine e frame.Confines stays w = absurd (w.rest)
+    raising_fine e (frame.Resumes mode) stays w = absurd (w.rest)
     raising_fine e f stays w = goes_in_mode known k a rest s (Raising e) (at_work w w.rest)
 
     pub exiting_fine : (f : Frame Value) → is_return f ≡ false → Working known s.heap a.places s.masters (GoesOn known Exiting (f ∷ k)) → Fine known s.heap s.masters (pass_next named (is_master f) (landing Exiting f) Exiting (unwound named Exiting f (in_mode Exiting k a rest s)))
@@ -89,6 +93,9 @@ module _ (known : Known) (k : Control) where
     exiting_fine (Counts x next last body) stays w = runs_on known k a rest s (at_less w w.rest) Quiet tt
     exiting_fine (Leaves mode) stays w = absurd (exited_leaves mode w.rooms w.holds w.rest)
     exiting_fine (Returns actuals references) stays w = absurd (cc stays)
+    exiting_fine (frame.Awaits v by done of part tasks) stays w = absurd (w.rest)
+    exiting_fine frame.Confines stays w = absurd (w.rest)
+    exiting_fine (frame.Resumes mode) stays w = absurd (w.rest)
     exiting_fine f stays w = goes_in_mode known k a rest s Exiting (at_work w w.rest)
 
     pub returning_fine : (f : Frame Value) → is_return f ≡ false → Working known s.heap a.places s.masters (GoesOn known Returning (f ∷ k)) → Fine known s.heap s.masters (pass_next named (is_master f) (landing Returning f) Returning (unwound named Returning f (in_mode Returning k a rest s)))
@@ -96,4 +103,7 @@ module _ (known : Known) (k : Control) where
     returning_fine Closes stays w = closes_fine Returning w
     returning_fine (Leaves mode) stays w = absurd (returned_leaves mode w.rooms w.holds w.rest)
     returning_fine (Returns actuals references) stays w = absurd (cc stays)
+    returning_fine (frame.Awaits v by done of part tasks) stays w = absurd (w.rest)
+    returning_fine frame.Confines stays w = absurd (w.rest)
+    returning_fine (frame.Resumes mode) stays w = absurd (w.rest)
     returning_fine f stays w = goes_in_mode known k a rest s Returning (at_work w w.rest)

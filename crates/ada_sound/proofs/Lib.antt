@@ -14,6 +14,8 @@ pub mod Keepings
 pub mod Stored
 -- where a Free gives words back to
 pub mod Homes
+-- what the laws of finalization leave of a step
+pub mod Standing
 -- pools that exist
 pub mod Pools
 -- back from a heap in which a component was written

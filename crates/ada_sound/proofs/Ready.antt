@@ -84,12 +84,12 @@ module _ (known : Known) where
 
   pub behind_ready : (k : Control) (heap : List Object) (places operands : List Value) (ms : List Master) → Working known heap places ms (RunsBehind known k) → ReadyIn known Running k heap places operands ms
   behind_ready [] heap places operands ms w = runs_ready [] heap places operands ms w
-  behind_ready (Treats v (begins by) tasks ∷ k) heap places operands ms w = inl w
+  behind_ready (Treats v (begins by done) tasks ∷ k) heap places operands ms w = inl w
   behind_ready (Treats v (ends cause) tasks ∷ k) heap places operands ms w = absurd (w.rest)
   behind_ready (f ∷ k) heap places operands ms w = runs_ready (f ∷ k) heap places operands ms w
 
   -- It does so behind the adjustment of a record, or at once, where nothing is to be adjusted.
-  pub treating_behind : (v : Value) (by : Birth) (tasks : List Task) (k : Control) (rooms : Rooms) (holds : Holds) → RunsOn known k rooms holds → RunsBehind known (treating v (begins by) tasks k) rooms holds
+  pub treating_behind : (v : Value) (by : Birth) (tasks : List Task) (k : Control) (rooms : Rooms) (holds : Holds) → RunsOn known k rooms holds → RunsBehind known (treating v (begins by []) tasks k) rooms holds
   treating_behind v by [] k rooms holds r = runs_behind k rooms holds r
   treating_behind v by (task ∷ tasks) k rooms holds r = r
 
@@ -161,7 +161,7 @@ module _ (known : Known) where
 
   -- An object is treated first, if anything is to be done.
   pub treats_ready : (v : Value) (treatment : Treatment) (tasks : List Task) (k : Control) (heap : List Object) (places operands : List Value) (ms : List Master) → TreatsBy known v treatment k heap places operands ms → ReadyIn known Running (treating v treatment tasks k) heap places operands ms
-  treats_ready v (begins by) [] k heap places operands ms r = begun_ready k heap places operands ms r
+  treats_ready v (begins by done) [] k heap places operands ms r = begun_ready k heap places operands ms r
   treats_ready v (ends cause) [] k heap places operands ms (inl r) = ends_ready v k heap places operands ms r
   treats_ready v (ends cause) [] k heap places operands ms (inr r) = copies_ready k heap places operands ms r
   treats_ready v treatment (task ∷ tasks) k heap places operands ms r = r

@@ -159,7 +159,7 @@ module _ (known : Known) (a : Activation Value) (rest : List (Activation Value))
   module _ (types : List TypeDefinition) (reaches : Reaches known types) (k : Control) where
     begins_assigning : (t : ℕ) (v u : Value) (below : List Value) (kinds : List ComponentKind) → record_components known.program.types t ≡ Some kinds → IsTarget known s.heap (length kinds) v → IsSource s.heap u → Working known s.heap a.places s.masters (RunsOn known k) → Fine known s.heap s.masters (moves Quiet (assigning named types t v u (running k (record a { operands = below }) rest s)))
     begins_assigning t v u below kinds is (o, place, to, plain) (p, other, from, there) w =
-        let adjusts = treating (whole v) (begins (Adjustment s.next)) (record_tasks types t PartsFirst (part_base v)) k in
+        let adjusts = treating (whole v) (begins (Adjustment s.next) []) (record_tasks types t PartsFirst (part_base v)) k in
         let stores = StoresRecord (whole v) (base v) (width_of types t) ∷ adjusts in
         let holder : IsHolder s.heap (whole u) = rw from there in
         let gets : IsPlainIn known s.heap (whole v) (base v) (width_of types t) = rw (width_is known types reaches k a rest s t kinds is, to) plain in

@@ -142,7 +142,7 @@ module _ (known : Known) (rest : List (Activation Value)) (s : State) (types : L
         rest = w.rest.1;
       } in
       record {
-        ready = (tt, treats_ready known (created s.heap words) (begins by) (all_tasks types t PartsFirst) k (create s.heap words cell) (slice_set a.places x (created s.heap words)) a.operands (owning (record { number = height s.masters; owned = record_object t }) s.masters) (inl after));
+        ready = (tt, treats_ready known (created s.heap words) (begins by []) (all_tasks types t PartsFirst) k (create s.heap words cell) (slice_set a.places x (created s.heap words)) a.operands (owning (record { number = height s.masters; owned = record_object t }) s.masters) (inl after));
         alters = alters_new s.heap Quiet (new_object cell) refl;
         says = tt;
       }

@@ -36,7 +36,7 @@ use Rattle.ada_sound.proofs.Objects.{set_here}
 use Rattle.ada_sound.proofs.Stored.{stored_part}
 use Rattle.ada_sound.proofs.Alters.{alters_set}
 use Rattle.ada_sound.proofs.Assigned.{this_is, freed_at}
-use Rattle.ada_sound.proofs.Homes.{HaveHomes, freed_home}
+use Rattle.ada_sound.proofs.Homes.{HaveHomes, same_one, freed_home}
 use Rattle.ada_sound.proofs.Invariant.{Spares, CoveredIn, begun, outers, Known, Control, Goes, Raised, RunsOn, PassesNone, Releasing, Working, Ending, Stepped, Fine, ways}
 use Rattle.ada_sound.proofs.Ready.{running, at_work, stays, runs_ready, jumps_less, treats_ready}
 use Rattle.ada_sound.proofs.Outcomes.{ends_goes}
@@ -166,7 +166,7 @@ module _ (known : Known) (a : Activation Value) (rest : List (Activation Value))
         let one : is_this t (Some u) ≡ true = eq-eqb u t same in
         cc (rw here at passes, one)
 
-    ends_next : (o : Id) (object : Object) (p : Id) (t : ℕ) → object_at s.heap o ≡ Some object → object.listed ≡ true → slice_get object.cell.values c ≡ Some (Names p) → (w : Working known s.heap a.places s.masters (Releasing known s.heap (Names o) [] access c k)) → w.rest.access ≡ Some t → access_at s.heap p ≡ Some t → Fine known s.heap s.masters (freed_next named types access (Names o) c (Names p) (look s.heap (Names p)) (running k (record a { operands = below }) rest s))
+    ends_next : (o : Id) (object : Object) (p : Id) (t : ℕ) → object_at s.heap o ≡ Some object → object.listed ≡ true → slice_get object.cell.values c ≡ Some (Names p) → (w : Working known s.heap a.places s.masters (Releasing known s.heap (Names o) [] access c k)) → w.rest.access ≡ Some t → access_at s.heap p ≡ Some t → Fine known s.heap s.masters (freed_next named types access (Names o) c (Names p) (named.standing s.heap (Names p)) (running k (record a { operands = below }) rest s))
     ends_next o object p t found listed at w is_t of_t =
         let there = listed_at s.heap p t of_t in
         let exists = (w.stored.sane p there.object there.found).listed_exists there.listed in
@@ -179,6 +179,7 @@ module _ (known : Known) (a : Activation Value) (rest : List (Activation Value))
         let after = part_fit p there.object elsewhere.1 unnamed.1 unnamed.2 unnamed.0 in
         let runs = rw is_t at w.rest.runs in
         let by_own : t ≡ access = let own = w.rest.frees_own in cc (is_t, own) in
+        let home = freed_home access p there.object homes w.stored there.found exists (rw there.access (w.rest.own t is_t)) (there.access ∙ by_own) in
         let under : Ending known p (GivesBack (Names p) (Freeing s.next) (Some (pool_freed_to (home_of access s.masters))) ∷ ClearsIn (Names o) c ∷ k) (slice_set s.heap p.0 (parted there.object)) a.places s.masters = record {
           object = parted there.object;
           found = set_here s.heap p.0 there.object (parted there.object) there.found;
@@ -188,7 +189,7 @@ module _ (known : Known) (a : Activation Value) (rest : List (Activation Value))
           covered = subst (λ (u : ℕ). CoveredIn known.program u) (sym there.access) (w.rest.covered t is_t);
           rest = (
             refl,
-            freed_home access p there.object homes w.stored there.found exists (rw there.access (w.rest.own t is_t)) (there.access ∙ by_own),
+            home,
             (
               (object, elsewhere.0, listed),
               record {
@@ -201,19 +202,19 @@ module _ (known : Known) (a : Activation Value) (rest : List (Activation Value))
             ),
           );
         } in
-        rw (there.found, exists) (rw there.found (record {
+        rw (there.found, there.listed, homes.stand p there.object there.found there.listed) (rw (same_one (Some (pool_freed_to (home_of access s.masters))) there.object.cell.home.pool home) (rw there.found (record {
           ready = (
             tt,
             treats_ready known (Names p) (ends (Freeing s.next)) (all_tasks types there.object.cell.access WholeFirst) (Ends (Names p) ∷ GivesBack (Names p) (Freeing s.next) (Some (pool_freed_to (home_of access s.masters))) ∷ ClearsIn (Names o) c ∷ k) (slice_set s.heap p.0 (parted there.object)) a.places below s.masters (inl (refl, under)),
           );
           alters = alters_set s.heap (Followed (Names o)) p there.object (parted there.object) there.found (refl, refl, refl) (λ h. h) (λ h. inl h);
           says = followed o (object, found, listed) w.stored;
-        }))
+        })))
 
-    object_freed : (o : Id) (object : Object) (p : Id) → object_at s.heap o ≡ Some object → object.listed ≡ true → slice_get object.cell.values c ≡ Some (Names p) → (w : Working known s.heap a.places s.masters (Releasing known s.heap (Names o) [] access c k)) → Fine known s.heap s.masters (freed_next named types access (Names o) c (Names p) (look s.heap (Names p)) (running k (record a { operands = below }) rest s))
+    object_freed : (o : Id) (object : Object) (p : Id) → object_at s.heap o ≡ Some object → object.listed ≡ true → slice_get object.cell.values c ≡ Some (Names p) → (w : Working known s.heap a.places s.masters (Releasing known s.heap (Names o) [] access c k)) → Fine known s.heap s.masters (freed_next named types access (Names o) c (Names p) (named.standing s.heap (Names p)) (running k (record a { operands = below }) rest s))
     object_freed o object p found listed at w = by w.rest.access refl (named_type o object p found listed at w)
       where
-        by : (kind : Option ℕ) → w.rest.access ≡ kind → IsOf (access_at s.heap) kind p → Fine known s.heap s.masters (freed_next named types access (Names o) c (Names p) (look s.heap (Names p)) (running k (record a { operands = below }) rest s))
+        by : (kind : Option ℕ) → w.rest.access ≡ kind → IsOf (access_at s.heap) kind p → Fine known s.heap s.masters (freed_next named types access (Names o) c (Names p) (named.standing s.heap (Names p)) (running k (record a { operands = below }) rest s))
         by None is of = absurd of
         by (Some t) is of = ends_next o object p t found listed at w is of
 

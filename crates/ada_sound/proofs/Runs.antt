@@ -1,6 +1,6 @@
 -- Runs keep the invariant, and what each step tells of objects adds up.
 
-use Rattle.std.proofs.Common.{◌≡◌, ℕ, suc, ◌≤◌, Bool, true, false, List, [], ◌∷◌, refl, sym, ap, subst, ◌∙◌, ◌⊎◌, inl, inr, arith, reverse}
+use Rattle.std.proofs.Common.{◌≡◌, ℕ, suc, ◌≤◌, Bool, true, false, List, [], ◌∷◌, ◌++◌, refl, sym, ap, subst, ◌∙◌, ◌⊎◌, inl, inr, arith, reverse}
 use Rattle.std.specs.Prelude.{◌↔◌, Option, Some, None}
 use Rattle.std.specs.List.{All, AllPairs, slice_get, slice_index_or}
 use Rattle.std.proofs.lemmas.Option.{slice_get-get_or}
@@ -16,7 +16,7 @@ use Rattle.ada_meaning.specs.declared.state.Id.{Id}
 use Rattle.ada_meaning.specs.declared.state.Value.{Value}
 use Rattle.ada_meaning.specs.declared.state.Value.TheVariants.{Names}
 use Rattle.ada_meaning.specs.declared.event.Halt.{Halt}
-use Rattle.ada_meaning.specs.declared.event.Halt.TheVariants.{Finished, Unhandled, Erroneous, Stuck, Memory}
+use Rattle.ada_meaning.specs.declared.event.Halt.TheVariants.{Finished, Unhandled, Escaped, Erroneous, Stuck, Memory}
 use Rattle.ada_meaning.specs.declared.event.Why.{Why}
 use Rattle.ada_meaning.specs.Event.{Born, Finalized, Back, Followed, Left, Line, Quiet}
 use Rattle.ada_meaning.specs.State.{Activation, Master}
@@ -29,7 +29,7 @@ use Rattle.ada_program.specs.WellFormed.{record_components, reached_components}
 use Rattle.ada_program.specs.Typed.{components_of, reached_of}
 use Rattle.ada_meaning.specs.Step.{halts, moves, tells, asks, picks, older, frame_next, pass_next, jump_next, mode_next}
 use Rattle.ada_meaning.specs.Named.{Object, State, Next, named, object_at, next}
-use Rattle.ada_meaning.specs.Run.{Event, Choice, settled, grants, takes, Leads, Step, Run, here, there, Halts}
+use Rattle.ada_meaning.specs.Run.{Event, Choice, settled, grants, takes, Leads, Step, Run, here, there, Halts, run_more}
 use Rattle.ada_meaning.specs.Law.{named_by, back_of, followed_of, Differ, BackTwoObjects, FollowedBeforeBack, leaving_by, IsBackHome, GoesHome, GivesBackOf, Happened, IsBack, HasEnded, items_of}
 use Rattle.ada_typed.specs.Holding.{cells_of}
 use Rattle.ada_typed.proofs.Values.{AreFilled, filled_at, active_placed}
@@ -39,6 +39,7 @@ use Rattle.ada_typed.proofs.Evaluations as typing
 use Rattle.ada_typed.proofs.Bodies.{seen_fits, sees, own_bodies}
 use Rattle.ada_typed.proofs.Kept.{crosses, Keeps, Each}
 use Rattle.ada_typed.proofs.KeptSteps.{frame_keeps, pass_keeps}
+use Rattle.ada_typed.proofs.Overriding.{well_formed_overrides_nothing}
 use Rattle.ada_typed.proofs.Runs.{step_typed}
 use Rattle.ada_scopes.specs.Scopes.{InnermostHeldInside}
 use Rattle.ada_scopes.proofs.Components.{AreOfKinds, collect_two, held_outside, held_inside}
@@ -47,7 +48,7 @@ use Rattle.ada_sound.proofs.Defaults.{reached_same, Reaches}
 use Rattle.ada_sound.proofs.Items.{NoMaster, items_fall}
 use Rattle.ada_sound.proofs.Stored.{Stored}
 use Rattle.ada_sound.proofs.Alters.{BackIn, StaysItself, Alters}
-use Rattle.ada_sound.proofs.Invariant.{Known, Control, Caller, AreSuspended, Working, RunsOn, CallsOn, Spares, AllWait, LieBelow, Says, Stepped, MayBeNext, EndsWell, Fine, outers, ArePassed}
+use Rattle.ada_sound.proofs.Invariant.{Known, Control, Caller, AreSuspended, Working, RunsOn, CallsOn, Spares, AllWait, LieBelow, Says, Stepped, EndsWell, Fine, outers, ArePassed}
 use Rattle.ada_sound.proofs.Callers.{Suspension, rest_of, callers_of, known_in, AreOf, Stands}
 use Rattle.ada_sound.proofs.Bodies.{IsBody, seen_is, callee_get}
 use Rattle.ada_sound.proofs.Returns.{Crosses, same_types, left_fine}
@@ -63,7 +64,8 @@ use Rattle.ada_sound.proofs.Scalars.{scalars_lost}
 use Rattle.ada_sound.proofs.CallStatements.{MayCall}
 use Rattle.ada_sound.proofs.Steps as inside
 use Rattle.ada_sound.proofs.StoredStates.{IsStored, ready_stored}
-use Rattle.ada_sound.proofs.Starts.{Sound, body_obeys, none_out, none_on}
+use Rattle.ada_sound.proofs.Finalization.{finalizes_in}
+use Rattle.ada_sound.proofs.Starts.{IsReached, Sound, body_obeys, none_out, none_on}
 
 -- An object whose words are out.
 OutIn : List Object → Id → Type 0
@@ -300,7 +302,7 @@ unfolding next
 ordinary program s sound inner n is same =
     let known = known_in program (running_procedure s) sound.suspensions in
     fine_in program s sound.suspensions sound.stands n same
-    (subst (λ (coming : Next). Fine known s.heap s.masters coming) is (inside.fine known program.types.items (reaches_in program (running_procedure s) sound.suspensions) (body_forms program) (may_call program (running_procedure s) sound.suspensions sound.well) s inner sound.typed.inside (own_bodies (program_form program) sound.frees_own (running_procedure s)) (collect_two (program_form program) s sound.nested) (held_inside_it program s sound)
+    (subst (λ (coming : Next). Fine known s.heap s.masters coming) is (inside.fine known program.types.items (well_formed_overrides_nothing program sound.well) (reaches_in program (running_procedure s) sound.suspensions) (body_forms program) (may_call program (running_procedure s) sound.suspensions sound.well) s inner sound.typed.inside (own_bodies (program_form program) sound.frees_own (running_procedure s)) (collect_two (program_form program) s sound.nested) (finalizes_in program sound.well s sound.reached) (held_inside_it program s sound)
     (λ left behind runs at_leaving. named_below known s.heap sound.stands.standing.waiting sound.stands.standing.low left behind s.masters (rw (runs, at_leaving) at (sound.ready.1)))
     sound.ready))
 
@@ -318,7 +320,7 @@ module _ (program : Program) (a : Activation Value) (rest : List (Activation Val
   crossing_none : (f : Frame Value) → crosses f ≡ false → Sound program (state_with Running (f ∷ k) (a ∷ rest) s) → FineIn program (state_with Running (f ∷ k) (a ∷ rest) s) (frame_next named program.types.items (body_forms program) f (state_with Running k (a ∷ rest) s))
   crossing_none f none sound =
       ordinary program (state_with Running (f ∷ k) (a ∷ rest) s) sound none _ refl
-      (each_same (state_with Running (f ∷ k) (a ∷ rest) s) (state_with Running k (a ∷ rest) s) _ refl refl (frame_keeps program.types.items (body_forms program) f (state_with Running k (a ∷ rest) s) none))
+      (each_same (state_with Running (f ∷ k) (a ∷ rest) s) (state_with Running k (a ∷ rest) s) _ refl refl (frame_keeps program.types.items (well_formed_overrides_nothing program sound.well) (body_forms program) f (state_with Running k (a ∷ rest) s) none))
 
   passing_none : (mode : Mode) (f : Frame Value) → inside.crosses mode (f ∷ k) ≡ false → (n : Next) → mode_next named program.types.items (body_forms program) mode (state_with mode (f ∷ k) (a ∷ rest) s) ≡ n → n ≡ pass_next named (is_master f) (landing mode f) mode (state_with mode k (a ∷ rest) s) → Sound program (state_with mode (f ∷ k) (a ∷ rest) s) → FineIn program (state_with mode (f ∷ k) (a ∷ rest) s) n
   passing_none mode f none n is passes sound =
@@ -389,10 +391,14 @@ crossed program s choice e after r step = leads_fine program s (next program.typ
 pub stepped : (program : Program) (s : State) (choice : Choice) (e : Event) (after : State) → Sound program s → Step program s choice e after → Does s.heap e after
 stepped program s choice e after r step = let st = (crossed program s choice e after r step).stepped in record { body = (known_in program (running_procedure after) (crossed program s choice e after r step).suspensions).program; alters = st.alters; says = st.says }
 
+reached_then : (program : Program) (s : State) (choice : Choice) (e : Event) (after : State) → IsReached program s → Step program s choice e after → IsReached program after
+reached_then program s choice e after (input, events, run) step = (input, events ++ e ∷ [], run_more e choice after run step)
+
 pub sound_step : (program : Program) (s : State) (choice : Choice) (e : Event) (after : State) → Sound program s → Step program s choice e after → Sound program after
 sound_step program s choice e after r step =
     let c = crossed program s choice e after r step in
     record {
+      reached = reached_then program s choice e after r.reached step;
       well = r.well;
       frees_own = r.frees_own;
       obeys = r.obeys;
@@ -400,15 +406,15 @@ sound_step program s choice e after r step =
       ready = c.stepped.ready;
       stands = c.stands;
       typed = step_typed program r.well s after choice e r.typed step;
-      nested = step_nested program s after choice e r.nested step;
+      nested = step_nested program r.well s after choice e r.nested step;
     }
 
 pub sound_run : {program : Program} {s last : State} {events : List Event} → Run program s events last → Sound program s → Sound program last
 sound_run here r = r
 sound_run {program} {s = s} (there {event = e} choice mid step run) r = sound_run run (sound_step program s choice e mid r step)
 
--- No erroneous action is next, but perhaps that a value is finalized twice.
-pub none_is_next : (program : Program) (s : State) (why : Why) → Sound program s → Halts program s (Erroneous why) → MayBeNext why
+-- No erroneous action is next.
+pub none_is_next : (program : Program) (s : State) (why : Why) → Sound program s → Halts program s (Erroneous why) → ⊥
 none_is_next program s why r e = rw e at (step_fine program s r)
 
 -- Where a run has come to its end, no master is left, and so all words are back.
@@ -429,6 +435,7 @@ back_at_end heap stored k d lt = go (slice_index_or heap k d) (slice_get-get_or 
 ends_by : (halt : Halt) (heap : List Object) (ms : List Master) → EndsWell halt heap ms → HasEnded halt → (ms ≡ []) × All IsBack heap
 ends_by Finished heap ms w e = let none = no_master ms w.1 in (none, back_at_end heap (rw none at w.0))
 ends_by (Unhandled x) heap ms w e = let none = no_master ms w.1 in (none, back_at_end heap (rw none at w.0))
+ends_by (Escaped x) heap ms w e = absurd e
 ends_by (Erroneous why) heap ms w e = absurd e
 ends_by Stuck heap ms w e = absurd e
 ends_by Memory heap ms w e = absurd e

@@ -13,7 +13,7 @@ use Rattle.ada_flow.specs.declared.rule.Hold.TheVariants as hold
 use Rattle.ada_flow.specs.Flow.{hold_at, keeping_of, body_flow, first_holds, gone_with, have_exit, handlers_have_exit, ObeysRules}
 use Rattle.ada_meaning.specs.Step.{blanks}
 use Rattle.ada_meaning.specs.Named.{State, named}
-use Rattle.ada_meaning.specs.Run.{first_state}
+use Rattle.ada_meaning.specs.Run.{Event, Run, here, first_state}
 use Rattle.ada_sound.specs.Agreement.{running_procedure}
 use Rattle.ada_typed.proofs.Bodies.{seen_fits}
 use Rattle.ada_typed.proofs.Control as typed
@@ -27,9 +27,14 @@ use Rattle.ada_sound.proofs.Invariant.{Ready}
 use Rattle.ada_sound.proofs.Callers.{Suspension, known_in, Stands}
 use Rattle.ada_sound.proofs.Returns.{same_types}
 
+-- A run of the program comes to this state.
+abbrev pub IsReached : Program → State → Type 0
+IsReached program s = (input : List ℤ) × (events : List Event) × Run program (first_state program input) events s
+
 -- What every state of a run keeps: the invariant, for the body that runs and those that have called it, that values are of their kinds, and that
 -- collections nest.
 pub record Sound (program : Program) (s : State) : Type 0 where
+  pub reached : IsReached program s
   pub well : IsWellFormed (program_form program)
   pub frees_own : FreesItsOwn (program_form program)
   pub obeys : ObeysRules program
@@ -78,6 +83,7 @@ ready_first program input well obeys =
 
 pub sound_first : (program : Program) (input : List ℤ) → IsWellFormed (program_form program) → CollectionsNest (program_form program) → FreesItsOwn (program_form program) → ObeysRules program → Sound program (first_state program input)
 sound_first program input well nest own obeys = record {
+  reached = (input, [], here);
   well = well;
   frees_own = own;
   obeys = obeys;

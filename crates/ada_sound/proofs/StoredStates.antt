@@ -10,6 +10,7 @@ use Rattle.ada_meaning.specs.declared.state.Value.{Value}
 use Rattle.ada_meaning.specs.declared.state.Value.TheVariants.{Null, Names, Scalar, Part}
 use Rattle.ada_meaning.specs.declared.state.Mode.{Mode}
 use Rattle.ada_meaning.specs.declared.state.Mode.TheVariants.{Running, Raising, Exiting, Returning}
+use Rattle.ada_meaning.specs.Frame as frame
 use Rattle.ada_meaning.specs.Frame.{Frame, Elaborates, Does, Decides, Repeats, Turns, Ranges, Counts, Exits, Handles, Closes, Leaves, Calls, Returns, Evaluates, Computes, Follows, TestsNull, Refers, RefersIn, Opens, OpensIn, Continues, Applies, AppliesAlone, Fills, Copies, Creates, Stores, Targets, StoresIn, TargetsRecord, StoresRecord, Assigns, Receives, FreesIn, Declares, DeclaresRecord, Treats, Writes, Ends, GivesBack, Clears, ClearsIn, Treatment, begins, ends}
 use Rattle.ada_meaning.specs.State.{Master}
 use Rattle.ada_meaning.specs.Step.{first_or}
@@ -109,7 +110,7 @@ module _ (known : Known) where
   copies_stored (f ∷ k) heap places operands ms r = absurd r
 
   treats_stored : (v : Value) (treatment : Treatment) (k : Control) (heap : List Object) (places operands : List Value) (ms : List Master) → TreatsBy known v treatment k heap places operands ms → IsStored heap ms
-  treats_stored v (begins by) k heap places operands ms r = begun_stored k heap places operands ms r
+  treats_stored v (begins by done) k heap places operands ms r = begun_stored k heap places operands ms r
   treats_stored v (ends cause) k heap places operands ms (inl r) = ends_stored v k heap places ms r
   treats_stored v (ends cause) k heap places operands ms (inr r) = copies_stored k heap places operands ms r
 
@@ -153,6 +154,9 @@ module _ (known : Known) where
   frame_stored (Declares x) k heap places operands ms r = (None, r.stored)
   frame_stored (DeclaresRecord x t) k heap places operands ms r = (None, r.stored)
   frame_stored (Treats v treatment tasks) k heap places operands ms r = treats_stored v treatment k heap places operands ms r
+  frame_stored (frame.Awaits v by done of part tasks) k heap places operands ms r = absurd r
+  frame_stored frame.Confines k heap places operands ms r = absurd r
+  frame_stored (frame.Resumes mode) k heap places operands ms r = absurd r
   frame_stored Writes k heap places operands ms r = (None, r.stored)
   frame_stored (Ends v) k heap places operands ms r = value_stored v k heap places ms r
   frame_stored (GivesBack v cause pool) k heap places operands ms r = words_stored v cause pool k heap places ms r

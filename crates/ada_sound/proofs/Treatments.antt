@@ -5,8 +5,11 @@ use Rattle.std.specs.Prelude.{◌==◌, if◌then◌else◌, Option, Some, None}
 use Rattle.std.specs.List.{slice_get, slice_set}
 use Rattle.ada_parts.specs.declared.tasks.Next.{Next as Follows}
 use Rattle.ada_parts.specs.declared.tasks.Next.TheVariants.{Done, Pick, Perform}
-use Rattle.ada_parts.specs.Shape.{Shape}
+use Rattle.ada_parts.specs.Part as parts
 use Rattle.ada_parts.specs.Task.{Task, performed}
+use Rattle.ada_program.specs.declared.program.TypeDefinition.{TypeDefinition}
+use Rattle.ada_program.specs.Controlled.{OverridesNothing, shapes_of}
+use Rattle.ada_program.specs.ProgramForm.{BodyForm}
 use Rattle.ada_flow.specs.Flow.{Holds}
 use Rattle.ada_meaning.specs.declared.event.Birth.{Birth}
 use Rattle.ada_meaning.specs.declared.event.Cause.{Cause}
@@ -19,9 +22,10 @@ use Rattle.ada_meaning.specs.Event.{Finalized, Quiet}
 use Rattle.ada_meaning.specs.Frame.{Copies, Stores, StoresIn, StoresRecord, Declares, Ends, GivesBack, Treatment, begins, ends}
 use Rattle.ada_meaning.specs.Heap.{PartState, Cell, Found, on_null, on_gone, on_other, finds}
 use Rattle.ada_meaning.specs.State.{Activation, Master, counted}
-use Rattle.ada_meaning.specs.Step.{picked_task, first_or, halts, moves, picks, direction_of, treated_on, born_next, finalized_next, performed_next, treats_next}
-use Rattle.ada_meaning.specs.Named.{Object, State, object_at, look, named, changed, on_object, store, filled, treated, born_part, finalized_part}
+use Rattle.ada_meaning.specs.Step.{picked_task, at, treating, first_or, halts, moves, picks, direction_of, treated_on, begun_next, finalized_next, performed_next, treats_next}
+use Rattle.ada_meaning.specs.Named.{Object, State, Next, object_at, look, named, changed, on_object, store, filled, treated, born_part, finalized_part}
 use Rattle.ada_meaning.specs.Run.{Event}
+use Rattle.ada_typed.proofs.Overriding.{begins_alone, ends_alone}
 use Rattle.ada_owners.specs.Keeping.{IsThere}
 use Rattle.ada_owners.proofs.Kernel.{same_id}
 use Rattle.ada_owners.proofs.Objects.{at_other}
@@ -189,7 +193,7 @@ module _ (change : PartState → PartState) (part : ℕ) where
     copies_set places operands (f ∷ k) r = absurd r
 
     treats_set : (v : Value) (treatment : Treatment) (places operands : List Value) (k : Control) → v ≡ Names o → TreatsBy known v treatment k heap places operands ms → TreatsBy known v treatment k (slice_set heap o.0 (treated change part x)) places operands ms
-    treats_set v (begins by) places operands k is r = begun_set places operands k r
+    treats_set v (begins by done) places operands k is r = begun_set places operands k r
     treats_set v (ends cause) places operands k is (inl r) = inl (ends_set heap o x found known ms v places k is r)
     treats_set v (ends cause) places operands k is (inr r) = inr (copies_set places operands k r)
 
@@ -198,34 +202,44 @@ module _ (change : PartState → PartState) (part : ℕ) where
       changed_or_same (λ objects. TreatsBy known v treatment k objects places operands ms) heap v r
       (λ o x is found. treats_set known ms heap o x found v treatment places operands k is r)
 
--- The next step of a treatment: one of some components is picked, or a part comes to have a value, or its value is finalized; or nothing is left.
-module _ (known : Known) (a : Activation Value) (rest : List (Activation Value)) (s : State) (shapes : List Shape) (v : Value) (k : Control) where
+-- A value is finalized that exists, or not.
+abbrev ends_next : (alive : Bool) → Event → State → Next
+ends_next alive event after = if alive then moves event after else halts (Erroneous FinalizesTwice)
+
+-- The next step of a treatment: one of some components is picked, or a part comes to have a value, or its value is finalized; or nothing is left. No type
+-- overrides an operation.
+module _ (known : Known) (a : Activation Value) (rest : List (Activation Value)) (s : State) (types : List TypeDefinition) (inherits : OverridesNothing types) (bodies : List BodyForm) (v : Value) (k : Control) where
   -- What is left goes on.
   goes_on : (treatment : Treatment) (tasks : List Task) → TreatsBy known v treatment k s.heap a.places a.operands s.masters → Stepped known s.heap Quiet (treated_on named v treatment tasks (running k a rest s))
   goes_on treatment tasks r =
       stays known Quiet (treated_on named v treatment tasks (running k a rest s))
       (tt, treats_ready known v treatment tasks k s.heap a.places a.operands s.masters r) tt
 
-  born_fine : (by : Birth) (of part : ℕ) (tasks : List Task) (state : Option PartState) → TreatsBy known v (begins by) k s.heap a.places a.operands s.masters → Fine known s.heap s.masters (born_next named v of part by state (treated_on named v (begins by) tasks (running k a rest s)))
-  born_fine by of part tasks None r = tt
-  born_fine by of part tasks (Some p) r =
+  born_fine : (by : Birth) (done : List parts.Part) (of part : ℕ) (tasks : List Task) (state : Option PartState) → TreatsBy known v (begins by done) k s.heap a.places a.operands s.masters → Fine known s.heap s.masters (begun_next named bodies v by done of part tasks None state (running k a rest s))
+  born_fine by done of part tasks None r = tt
+  born_fine by done of part tasks (Some p) r =
       let change = born_part (counted s.born) in
+      let treatment = begins by (record { of = of; number = part } ∷ done) in
       record {
         ready = (
           tt,
-          treats_ready known v (begins by) tasks k (on_object (treated change part) s.heap v) a.places a.operands s.masters
-              (treats_changed change part known s.masters s.heap v (begins by) a.places a.operands k r),
+          treats_ready known v treatment tasks k (on_object (treated change part) s.heap v) a.places a.operands s.masters
+              (treats_changed change part known s.masters s.heap v treatment a.places a.operands k r),
         );
         alters = alters_treated change part s.heap _ v;
         says = tt;
       }
 
-  finalized_fine : (cause : Cause) (of part : ℕ) (tasks : List Task) (state : Option PartState) → TreatsBy known v (ends cause) k s.heap a.places a.operands s.masters → Fine known s.heap s.masters (finalized_next named v of part cause state (treated_on named v (ends cause) tasks (running k a rest s)))
-  finalized_fine cause of part tasks None r = tt
-  finalized_fine cause of part tasks (Some p) r = by p.alive
+  -- A value that is finalized exists.
+  finalized_fine : (cause : Cause) (of part : ℕ) (tasks : List Task) (state : Option PartState) → (finalized_next named bodies v cause of part tasks None state (running k a rest s) ≡ halts (Erroneous FinalizesTwice) → ⊥) → TreatsBy known v (ends cause) k s.heap a.places a.operands s.masters → Fine known s.heap s.masters (finalized_next named bodies v cause of part tasks None state (running k a rest s))
+  finalized_fine cause of part tasks None once r = tt
+  finalized_fine cause of part tasks (Some p) once r = by p.alive once
     where
-      after : Stepped known s.heap (Finalized v part p.turn of p.number cause) (record (treated_on named v (ends cause) tasks (running k a rest s)) { heap = named.finalize s.heap v part })
-      after = record {
+      after : State
+      after = at (treating v (ends cause) tasks k) (record (running k a rest s) { heap = on_object (treated finalized_part part) s.heap v })
+
+      ended : Stepped known s.heap (Finalized v part p.turn of p.number cause) after
+      ended = record {
         ready = (
           tt,
           treats_ready known v (ends cause) tasks k (on_object (treated finalized_part part) s.heap v) a.places a.operands s.masters
@@ -235,22 +249,26 @@ module _ (known : Known) (a : Activation Value) (rest : List (Activation Value))
         says = tt;
       }
 
-      by : (alive : Bool) → Fine known s.heap s.masters (if alive then moves (Finalized v part p.turn of p.number cause) (record (treated_on named v (ends cause) tasks (running k a rest s)) { heap = named.finalize s.heap v part }) else halts (Erroneous FinalizesTwice))
-      by true = after
-      by false = tt
+      by : (alive : Bool) → (ends_next alive (Finalized v part p.turn of p.number cause) after ≡ halts (Erroneous FinalizesTwice) → ⊥) → Fine known s.heap s.masters (ends_next alive (Finalized v part p.turn of p.number cause) after)
+      by true once = ended
+      by false once = absurd (once refl)
 
-  performed_fine : (treatment : Treatment) (of part : ℕ) (tasks : List Task) (found : Found (Cell Value)) → TreatsBy known v treatment k s.heap a.places a.operands s.masters → Fine known s.heap s.masters (performed_next named v treatment of part found (treated_on named v treatment tasks (running k a rest s)))
-  performed_fine treatment of part tasks on_null r = tt
-  performed_fine treatment of part tasks on_gone r = tt
-  performed_fine treatment of part tasks on_other r = tt
-  performed_fine (begins by) of part tasks (finds cell) r = born_fine by of part tasks (slice_get cell.parts part) r
-  performed_fine (ends cause) of part tasks (finds cell) r = finalized_fine cause of part tasks (slice_get cell.parts part) r
+  performed_fine : (treatment : Treatment) (of part : ℕ) (tasks : List Task) (found : Found (Cell Value)) → (performed_next named types bodies v treatment of part tasks found (running k a rest s) ≡ halts (Erroneous FinalizesTwice) → ⊥) → TreatsBy known v treatment k s.heap a.places a.operands s.masters → Fine known s.heap s.masters (performed_next named types bodies v treatment of part tasks found (running k a rest s))
+  performed_fine treatment of part tasks on_null once r = tt
+  performed_fine treatment of part tasks on_gone once r = absurd (once refl)
+  performed_fine treatment of part tasks on_other once r = tt
+  performed_fine (begins by done) of part tasks (finds cell) once r =
+      subst (λ (operation : Option ℕ). Fine known s.heap s.masters (begun_next named bodies v by done of part tasks operation (slice_get cell.parts part) (running k a rest s))) (sym (begins_alone types inherits by of))
+      (born_fine by done of part tasks (slice_get cell.parts part) r)
+  performed_fine (ends cause) of part tasks (finds cell) once r =
+      subst (λ (operation : Option ℕ). (finalized_next named bodies v cause of part tasks operation (slice_get cell.parts part) (running k a rest s) ≡ halts (Erroneous FinalizesTwice) → ⊥) → Fine known s.heap s.masters (finalized_next named bodies v cause of part tasks operation (slice_get cell.parts part) (running k a rest s))) (sym (ends_alone types inherits of))
+      (λ goes_well. finalized_fine cause of part tasks (slice_get cell.parts part) goes_well r) once
 
-  pub treats_fine : (n : Follows) (treatment : Treatment) (tasks : List Task) → TreatsBy known v treatment k s.heap a.places a.operands s.masters → Fine known s.heap s.masters (treats_next named shapes v treatment tasks n (running k a rest s))
-  treats_fine Done treatment tasks r = goes_on treatment [] r
-  treats_fine (Perform of part) treatment tasks r = performed_fine treatment of part (performed tasks) (look s.heap v) r
-  treats_fine (Pick count) treatment tasks r = by (count == 0)
+  pub treats_fine : (n : Follows) (treatment : Treatment) (tasks : List Task) → (treats_next named types bodies v treatment tasks n (running k a rest s) ≡ halts (Erroneous FinalizesTwice) → ⊥) → TreatsBy known v treatment k s.heap a.places a.operands s.masters → Fine known s.heap s.masters (treats_next named types bodies v treatment tasks n (running k a rest s))
+  treats_fine Done treatment tasks once r = goes_on treatment [] r
+  treats_fine (Perform of part) treatment tasks once r = performed_fine treatment of part (performed tasks) (look s.heap v) once r
+  treats_fine (Pick count) treatment tasks once r = by (count == 0)
     where
-      by : (b : Bool) → Fine known s.heap s.masters (if b then halts Stuck else picks count (λ i. treated_on named v treatment (picked_task shapes (direction_of treatment) tasks i) (running k a rest s)))
+      by : (b : Bool) → Fine known s.heap s.masters (if b then halts Stuck else picks count (λ i. treated_on named v treatment (picked_task (shapes_of types) (direction_of treatment) tasks i) (running k a rest s)))
       by true = tt
-      by false = λ i lt. goes_on treatment (picked_task shapes (direction_of treatment) tasks i) r
+      by false = λ i lt. goes_on treatment (picked_task (shapes_of types) (direction_of treatment) tasks i) r

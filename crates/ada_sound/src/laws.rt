@@ -38,8 +38,8 @@ pub fn never_gives_elsewhere()
     ensures { (program : Program) → IsChecked program → NeverErroneous GivesElsewhere program }
 {}
 
-/// No run comes to an erroneous action of any kind. One kind, that a controlled value is finalized which does not exist
-/// (7.6.1), cannot occur in any program, whether or not it is accepted.
+/// No run comes to an erroneous action of any kind: nothing is followed that is gone, nothing ends twice, no words go
+/// back elsewhere, and no controlled value is finalized that does not exist (7.6.1, 13.11.2).
 pub fn never_erroneous()
     ensures { (program : Program) → IsChecked program → (why : Why) → NeverErroneous why program }
 {}

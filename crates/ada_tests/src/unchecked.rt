@@ -23,6 +23,7 @@ fn text_of(alloc: Global, program: &Program, halt: Halt) -> Result<String, Fail>
     let text = match halt {
         Halt::Finished => String::from_str(alloc, "finished")?,
         Halt::Unhandled(exception) => String::from_str(alloc, exception.name(program))?,
+        Halt::Escaped(_) => String::from_str(alloc, "escaped")?,
         Halt::Erroneous(why) => format!(in alloc; "{why}")?,
         Halt::Stuck => String::from_str(alloc, "stuck")?,
         Halt::Memory => String::from_str(alloc, "memory")?,

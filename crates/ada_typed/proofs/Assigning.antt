@@ -16,7 +16,7 @@ use Rattle.ada_program.specs.Controlled.{number_in, number_of, shapes_of}
 use Rattle.ada_program.specs.Form.{RecordPathForm, ItemForm, null_item, item_of_path, item_of_value, item_of_record}
 use Rattle.ada_program.specs.ProgramForm.{TypeForm, record_of, access_to, object_of, ProgramForm, type_form}
 use Rattle.ada_program.specs.Typed.{width_of}
-use Rattle.ada_program.specs.WellFormed.{kind_fits, finalization_in, finalization_of, parts_in_order, is_of_earlier, parent_first, says_parts, is_numbered_alone, type_fits, components_reached, reached_components, record_components, has_record_at, has_parts_from, part_count, is_record_path, item_fits, item_width, begins_with_record, is_none_left, items_fit, is_filled, item_owns, is_copy, copies_whole, record_fits, object_fits}
+use Rattle.ada_program.specs.WellFormed.{kind_fits, finalization_in, finalization_of, parts_in_order, is_of_earlier, parent_first, says_parts, is_numbered_alone, overrides_nothing, type_fits, components_reached, reached_components, record_components, has_record_at, has_parts_from, part_count, is_record_path, item_fits, item_width, begins_with_record, is_none_left, items_fit, is_filled, item_owns, is_copy, copies_whole, record_fits, object_fits}
 use Rattle.ada_program.proofs.Shapes.{same_number}
 use Rattle.ada_meaning.specs.declared.event.Birth.TheVariants.{Adjustment}
 use Rattle.ada_meaning.specs.declared.event.Cause.TheVariants.{Assigning}
@@ -45,10 +45,12 @@ parts_in types (Some (record_of name parts components finalization)) f fit is =
     let kinds = list_all (kind_fits types) components in
     let first = parent_first parts in
     let says = λ (o : Option Finalization). says_parts types o parts in
-    let fits = fit (record_of name parts components finalization) refl in
+    let alone = is_numbered_alone types finalization in
+    let nothing = overrides_nothing finalization in
+    let fits = and_left (kinds && first && says finalization && alone) nothing (fit (record_of name parts components finalization) refl) in
     let said : says (Some f) ≡ true =
     subst (λ (o : Option Finalization). says o ≡ true) is
-    (and_right (kinds && first) (says finalization) (and_left (kinds && first && says finalization) (is_numbered_alone types finalization) fits)) in
+    (and_right (kinds && first) (says finalization) (and_left (kinds && first && says finalization) alone fits)) in
     let some = nat_lt 0 f.parts in
     let ordered = parts_in_order types f.parts 0 parts in
     ltb-true 0 f.parts (and_left some ordered (and_left (some && ordered) (list_all (λ q. is_of_earlier types f.number.0 q.kind) parts) said))
@@ -150,7 +152,7 @@ module _ (p : ProgramForm) (types : List TypeDefinition) (shown : map type_form 
       let own = target.0.access in
       let other = source.0.access in
       let ending = frame.ends (Assigning s.next) in
-      let beginning = frame.begins (Adjustment s.next) in
+      let beginning = frame.begins (Adjustment s.next) [] in
       let adjusts = treating (Names o) beginning (record_tasks types t PartsFirst to.part) s.control in
       let copies = frame.Copies from.component t ∷ frame.StoresRecord (Names o) to.component (width_of types t) ∷ adjusts in
       let finalizes = treating (Names o) ending (record_tasks types t WholeFirst to.part) copies in

@@ -22,6 +22,7 @@ use Rattle.ada_typed.proofs.Later.{waiting_later}
 use Rattle.ada_typed.proofs.Evaluations.{Comes, Fine, ready_at}
 use Rattle.ada_typed.proofs.Bodies.{SeenFits, seen_fits, sees, types_seen, seen_as}
 use Rattle.ada_typed.proofs.Actuals.{AreGiven, AreFirst, given, held_given, formals_held, GiveBack, gives_back, held_back, stored_held, computed_before, depth_storing, storing_fits}
+use Rattle.ada_typed.proofs.Overriding.{nothing_overridden}
 use Rattle.ada_typed.proofs.Kept.{Behind, behind_call, Keeps, Each}
 use Rattle.ada_typed.proofs.KeptSteps.{frame_keeps, pass_keeps}
 use Rattle.ada_typed.proofs.Steps.{frame_fine}
@@ -180,7 +181,7 @@ module _ (p : ProgramForm) (well : IsWellFormed p) where
       let own = procedure_of s.activations in
       inside_comes p s (frame_next named types p.bodies f s) waiting
       (frame_fine (seen_now p s) (seen_fits p well own) p.bodies (sees p own) types (shown ∙ sym (types_seen p own)) f refl s kinds ready deep fits)
-      (frame_keeps types p.bodies f s refl)
+      (frame_keeps types (nothing_overridden types p.types shown well.types_fit) p.bodies f s refl)
 
   running_comes : (types : List TypeDefinition) → map type_form types ≡ p.types → (k : List (Frame Value)) (s : State) (kinds : List OperandKind) → s.control ≡ k → Ready (seen_now p s) kinds s → Fits (seen_now p s) (cells_of s.heap) kinds k → Waiting p (cells_of s.heap) (procedure_of s.activations) k (older s.activations) → Comes (Typed p) (running_next named types p.bodies k s)
   running_comes types shown [] s kinds is ready fits waiting = tt

@@ -143,6 +143,18 @@ abbrev pub AtHandlers : ProgramForm → Option HandlersForm → (lands behind fu
 AtHandlers p None lands behind further = further
 AtHandlers p (Some hs) lands behind further = (inside : Bool) × FitHandlers p inside hs × WhereInside inside lands × behind
 
+-- A frame of the call of an operation of a controlled type, or of what a jump out of one leaves (7.6, 7.6.1): nothing that fits comes to one.
+abbrev pub is_operation : Frame Value → Bool
+is_operation (frame.Awaits v by done of part tasks) = true
+is_operation frame.Confines = true
+is_operation (frame.Resumes mode) = true
+is_operation f = false
+
+-- What holds at a frame where no operation is called.
+abbrev pub NoOperation : (operation : Bool) → Type 0 → Type 0
+NoOperation true holds = ⊥
+NoOperation false holds = holds
+
 -- How it goes on behind a master that is left: what is behind it fits; or an exception comes to handlers that fit, and an exit to a loop.
 abbrev pub FitsBehind : Mode → (behind lands catches : Type 0) → Type 0
 FitsBehind Running behind lands catches = behind
@@ -151,7 +163,7 @@ FitsBehind Exiting behind lands catches = lands × catches
 FitsBehind Returning behind lands catches = catches
 
 abbrev mutual
-  -- Operands of these kinds are there; what is left of the running body fits them. Where statements begin, no operand is there.
+  -- Operands of these kinds are there; what is left of the running body fits them. Where statements begin, no operand is there. No operation is called.
   pub Fits : ProgramForm → Cells → List OperandKind → List (Frame Value) → Type 0
   Fits p cells kinds [] = Unit {0}
   Fits p cells kinds (frame.Elaborates ds fs hs ∷ k) = (kinds ≡ []) × (inside : Bool) × (list_all (initial_fits p.types p.variables) ds ≡ true) × FitStmts p inside fs × FitHandlers p inside hs × WhereInside inside (Lands p cells k) × Fits p cells [] k
@@ -192,6 +204,9 @@ abbrev mutual
   Fits p cells kinds (frame.Declares x ∷ k) = (ks : List OperandKind) × (kind : VariableKind) × (kinds ≡ of_kind kind ∷ ks) × (variable_kind p.variables x ≡ Some kind) × Fits p cells ks k
   Fits p cells kinds (frame.DeclaresRecord x t ∷ k) = (ks : List OperandKind) × (object : TypeNo) × (cs : List ComponentKind) × (kinds ≡ onto cs ks) × (variable_kind p.variables x ≡ Some (variable.Record object)) × (t ≡ object.0) × (reached_components p.types t ≡ Some cs) × (is_access p.types t ≡ false) × Fits p cells ks k
   Fits p cells kinds (frame.Treats v treatment tasks ∷ k) = IsTreated p.types cells v tasks × Fits p cells kinds k
+  Fits p cells kinds (frame.Awaits v by done of part tasks ∷ k) = ⊥
+  Fits p cells kinds (frame.Confines ∷ k) = ⊥
+  Fits p cells kinds (frame.Resumes mode ∷ k) = ⊥
   Fits p cells kinds (frame.Writes ∷ k) = (ks : List OperandKind) × (kinds ≡ of_kind variable.Integer ∷ ks) × Fits p cells ks k
   Fits p cells kinds (frame.Ends v ∷ k) = IsName v × Fits p cells kinds k
   Fits p cells kinds (frame.GivesBack v cause pool ∷ k) = IsName v × Fits p cells kinds k
@@ -203,10 +218,13 @@ abbrev mutual
   Lands p cells [] = ⊥
   Lands p cells (f ∷ k) = AtReturn (is_return f) ⊥ (AtLoop (is_loop f) (Fits p cells [] k) (Lands p cells k))
 
-  -- Behind the first handlers of the running body, if there are some, what is left of it fits where no operand is there (11.4).
+  -- Behind the first handlers of the running body, if there are some, what is left of it fits where no operand is there (11.4); and in front of them no
+  -- operation is called.
   pub Catches : ProgramForm → Cells → List (Frame Value) → Type 0
   Catches p cells [] = Unit {0}
-  Catches p cells (f ∷ k) = AtReturn (is_return f) (Unit {0}) (AtHandlers p (handlers_in f) (Lands p cells k) (Fits p cells [] k) (Catches p cells k))
+  Catches p cells (f ∷ k) =
+      AtReturn (is_return f) (Unit {0})
+      (NoOperation (is_operation f) (AtHandlers p (handlers_in f) (Lands p cells k) (Fits p cells [] k) (Catches p cells k)))
 
 -- How many masters what is left to do belongs to.
 abbrev pub depth : List (Frame Value) → ℕ
@@ -249,6 +267,9 @@ depth (frame.FreesIn access c ∷ k) = depth k
 depth (frame.Declares x ∷ k) = depth k
 depth (frame.DeclaresRecord x t ∷ k) = depth k
 depth (frame.Treats v treatment tasks ∷ k) = depth k
+depth (frame.Awaits v by done of part tasks ∷ k) = depth k
+depth (frame.Confines ∷ k) = depth k
+depth (frame.Resumes mode ∷ k) = depth k
 depth (frame.Writes ∷ k) = depth k
 depth (frame.Ends v ∷ k) = depth k
 depth (frame.GivesBack v cause pool ∷ k) = depth k
@@ -294,6 +315,9 @@ depth_behind (frame.FreesIn access c) k = omega arith
 depth_behind (frame.Declares x) k = omega arith
 depth_behind (frame.DeclaresRecord x t) k = omega arith
 depth_behind (frame.Treats v treatment tasks) k = omega arith
+depth_behind (frame.Awaits v by done of part tasks) k = omega arith
+depth_behind frame.Confines k = omega arith
+depth_behind (frame.Resumes mode) k = omega arith
 depth_behind frame.Writes k = omega arith
 depth_behind (frame.Ends v) k = omega arith
 depth_behind (frame.GivesBack v cause pool) k = omega arith
@@ -418,6 +442,9 @@ module _ (p : ProgramForm) where
   catches cells (frame.Declares x ∷ k) kinds fits = catches cells k fits.0 fits.4
   catches cells (frame.DeclaresRecord x t ∷ k) kinds fits = catches cells k fits.0 fits.8
   catches cells (frame.Treats v treatment tasks ∷ k) kinds fits = catches cells k kinds fits.1
+  catches cells (frame.Awaits v by done of part tasks ∷ k) kinds fits = absurd fits
+  catches cells (frame.Confines ∷ k) kinds fits = absurd fits
+  catches cells (frame.Resumes mode ∷ k) kinds fits = absurd fits
   catches cells (frame.Writes ∷ k) kinds fits = catches cells k fits.0 fits.2
   catches cells (frame.Ends v ∷ k) kinds fits = catches cells k kinds fits.1
   catches cells (frame.GivesBack v cause pool ∷ k) kinds fits = catches cells k kinds fits.1

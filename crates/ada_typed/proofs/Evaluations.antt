@@ -331,7 +331,7 @@ module _ (p : ProgramForm) where
       let more = ready_more kinds s cell cs ready reached have (λ access. absurd (cc)) (new_held types p.types t shown) in
       let holding = record s { heap = s.heap ++ new_object cell ∷ [] } in
       let name = Names (record { 0 = length s.heap }) in
-      ready_treated kinds (owned (record_object t) (put x name holding)) name (frame.begins by) (all_tasks types t PartsFirst)
+      ready_treated kinds (owned (record_object t) (put x name holding)) name (frame.begins by []) (all_tasks types t PartsFirst)
       (ready_owning kinds (put x name holding) (record_object t) (put_in kinds holding x (variable.Record object) name more is (cell, named_newest s.heap cell, own)))
 
   -- A jump begins: operands are dropped.
@@ -627,14 +627,14 @@ module _ (p : ProgramForm) where
       let name = Names (record { 0 = length s.heap }) in
       let tasks = all_tasks types access PartsFirst in
       let same : cells_of (s.heap ++ new_object cell ∷ []) ≡ cells_of s.heap ++ cell ∷ [] = cells_more s.heap (new_object cell) in
-      let as_deep = treating_deep name (frame.begins Creation) tasks s.control in
+      let as_deep = treating_deep name (frame.begins Creation []) tasks s.control in
       running (of_kind (variable.Access (record { 0 = access })) ∷ ks) (record {
         filled = subst (λ (xs : Cells). AreFilled p.types xs xs) (sym same) (filled_new p.types (cells_of s.heap) cell cs ready.filled reached (active_values (cells_of s.heap) cs ks s.activations ready.active) (λ is. (home.pool, refl)) (new_held types p.types access shown));
         active = subst (λ (xs : Cells). IsActive p.types xs p.variables (of_kind (variable.Access (record { 0 = access })) ∷ ks) (with_operands (Names (record { 0 = length s.heap }) ∷ drop (length cs) (operands s)) s.activations)) (sym same)
             (active_new (cells_of s.heap) cell cs ks (record { 0 = access }) s.activations (length s.heap) refl (sym (length_cells s.heap)) ready.active);
         runs = ready.runs;
         deep = omega (arith, ready.deep, as_deep);
-      }) (treating_fits p (cells_of (s.heap ++ new_object cell ∷ [])) (of_kind (variable.Access (record { 0 = access })) ∷ ks) name (frame.begins Creation) tasks s.control
+      }) (treating_fits p (cells_of (s.heap ++ new_object cell ∷ [])) (of_kind (variable.Access (record { 0 = access })) ∷ ks) name (frame.begins Creation []) tasks s.control
       (access, (cell, named_newest s.heap cell, refl), all_within types p.types access PartsFirst shown)
       (fits_more (of_kind (variable.Access (record { 0 = access })) ∷ ks) s.control s.heap cell fits))
   answered_fine types shown access words home s ks cs ready reached fits false = raises (onto cs ks) (of_kind (variable.Access (record { 0 = access })) ∷ ks) StorageError s ready fits

@@ -18,6 +18,7 @@ use Rattle.ada_program.specs.declared.program.TypeDefinition.{TypeDefinition}
 use Rattle.ada_program.specs.declared.program.TypeDefinition.TheVariants as definition
 use Rattle.ada_program.specs.declared.program.Variable.{Variable}
 use Rattle.ada_program.specs.declared.program.VariableKind.TheVariants as variable
+use Rattle.ada_program.specs.Controlled.{no_operations}
 use Rattle.ada_program.specs.Form.{expression_form, stmt_form}
 use Rattle.ada_program.specs.ProgramForm.{program_form}
 use Rattle.ada_program.specs.WellFormed.{IsWellFormed}
@@ -46,7 +47,7 @@ parts =
     ∷ []
 
 abbrev guard : Finalization
-guard = record { number = record { 0 = 0 }; parts = 1; limited = false }
+guard = record { number = record { 0 = 0 }; parts = 1; limited = false; operations = no_operations }
 
 abbrev types : List TypeDefinition
 types =

@@ -1,13 +1,15 @@
--- Each step that neither begins a call nor ends one keeps the running body and what waits for it, whatever the state.
+-- Each step that neither begins a call nor ends one keeps the running body and what waits for it, whatever the state, where no type overrides an operation.
 
-use Rattle.std.proofs.Common.{◌≡◌, ℕ, ℤ, int_le, not, if◌then◌else◌, Bool, true, false, List, [], ◌∷◌, length, drop, Option, Some, None, Result, Ok, Err, refl, ap, ◌∙◌}
+use Rattle.std.proofs.Common.{◌≡◌, ℕ, ℤ, int_le, not, if◌then◌else◌, Bool, true, false, List, [], ◌∷◌, length, map, drop, Option, Some, None, Result, Ok, Err, refl, ap, ◌∙◌}
 use Rattle.std.specs.List.{slice_get, slice_index_or, slice_set}
 use Rattle.ada_program.specs.declared.program.Exception.TheVariants.{ConstraintError, StorageError, EndError}
 use Rattle.ada_program.specs.declared.program.TypeDefinition.{TypeDefinition}
 use Rattle.ada_program.specs.Form.{RecordPathForm, ActualForm, in_value, in_null, in_access, in_record, in_out_path, in_out_access, in_out_component, in_out_record, ExpressionForm, integer, boolean, reads, is_null, applied_to, chained, LinksForm, no_more_links, a_link, ItemForm, null_item, item_of_path, item_of_value, item_of_record, RightForm, nothing, value_of, allocates, allocates_default, computes, StmtForm, skips, assigns, assigns_record, frees, gets, writes, writes_text, chooses, repeats, counts, exits, calls, returns, raises as raises_it, encloses, StmtsForm, no_stmts, a_stmt, BranchesForm, otherwise, a_branch, HandlersForm, DeclarationForm, creates_pool, collects, declares, declares_record}
 use Rattle.ada_parts.specs.declared.tasks.Direction.TheVariants.{PartsFirst, WholeFirst}
-use Rattle.ada_parts.specs.Task.{next as task_next}
-use Rattle.ada_program.specs.Controlled.{shapes_of}
+use Rattle.ada_parts.specs.Part.{Part}
+use Rattle.ada_parts.specs.Task.{performs, next as task_next}
+use Rattle.ada_program.specs.Controlled.{OverridesNothing}
+use Rattle.ada_program.specs.declared.program.Exception.{Exception}
 use Rattle.ada_program.specs.ProgramForm.{BodyForm}
 use Rattle.ada_program.specs.Typed.{reached_of, words_of, width_of}
 use Rattle.ada_values.specs.declared.operator.BinaryOperator.{BinaryOperator}
@@ -16,21 +18,23 @@ use Rattle.ada_values.specs.declared.fault.OperatorFault.TheVariants.{Overflow, 
 use Rattle.ada_meaning.specs.declared.state.Value.{Value}
 use Rattle.ada_meaning.specs.declared.state.Value.TheVariants.{Null, Names}
 use Rattle.ada_meaning.specs.declared.state.Mode.{Mode}
-use Rattle.ada_meaning.specs.declared.state.Mode.TheVariants.{Raising, Exiting, Returning}
+use Rattle.ada_meaning.specs.declared.state.Mode.TheVariants.{Running, Raising, Exiting, Returning}
 use Rattle.ada_meaning.specs.declared.event.Cause.{Cause}
-use Rattle.ada_meaning.specs.declared.event.Cause.TheVariants.{Leaving, Freeing, Assigning}
+use Rattle.ada_meaning.specs.declared.event.Cause.TheVariants.{Leaving, Freeing, Assigning, Undoing}
+use Rattle.ada_meaning.specs.declared.event.Halt.TheVariants.{Erroneous}
+use Rattle.ada_meaning.specs.declared.event.Why.TheVariants.{GivesElsewhere}
 use Rattle.ada_meaning.specs.declared.event.Birth.{Birth}
 use Rattle.ada_meaning.specs.declared.event.Birth.TheVariants.{Creation, Copy, Adjustment}
 use Rattle.ada_meaning.specs.declared.state.Place.{Place}
-use Rattle.ada_meaning.specs.Event.{Event, Quiet}
-use Rattle.ada_meaning.specs.Frame.{Frame, Treatment, is_return, Landing, passes_on, goes_behind, goes_in}
+use Rattle.ada_meaning.specs.Event.{Event, Followed, Quiet}
+use Rattle.ada_meaning.specs.Frame.{Frame, is_return, Landing, passes_on, goes_behind, goes_in, breaks_off, escapes}
 use Rattle.ada_meaning.specs.Frame as frame
 use Rattle.ada_meaning.specs.State.{Owned, declared, collection, record_object, storage_pool, Item, Master, Destination, height, home_of, pool_freed_to}
 use Rattle.ada_meaning.specs.Heap.{Cell, Found, on_null, on_gone, on_other, finds}
-use Rattle.ada_meaning.specs.Step.{moves, at, operands, places, popped, owned, put, before_last, last_of, in_front, record_in, held, newest, reading, component_next, follow_next, path_next, selected, named_next, holder_next, record_holder_next, place_in, computed, referred_next, refers_next, open_next, opened_next, opens_next, expression_next, null_test_next, is_decided, link_next, links_next, outcome_next, item_next, items_next, copied_next, copies_next, newest_ones, without_newest, new_cell, answered, new_next, initial_values, right_next, freeing, free_next, end_next, same_pool, told_back, given_back, back_next, assign_next, target_next, has_parts, record_tasks, treating, copy_next, record_assign_next, assigns_next, stored_next, store_next, record_target_next, record_stored_next, store_record_next, all_tasks, taken_out, frees_next, freed_next, free_component_next, free_in_next, branches_next, decided_next, turn_next, repeats_next, turned_next, count_turn_next, ranges_next, gets_next, received_next, receive_next, exit_next, exited_next, computing, call_next, stmt_next, stmts_next, line_next, record_cell, made, record_next, declaration_next, declarations_next, members_next, item_leave_next, master_leave_next, leave_next, frame_next, landed, pass_next}
-use Rattle.ada_meaning.specs.Named.{State, Next, named, refer, whole, base, part_base, same, inside, look, lent, on_object, parted, finished, returned, new_object, members, reads_integer, reads_boolean, reads_null, unary_given, binary_given}
+use Rattle.ada_meaning.specs.Step.{halts, moves, at, operands, places, popped, owned, put, before_last, last_of, in_front, record_in, held, newest, reading, component_next, follow_next, path_next, selected, named_next, holder_next, record_holder_next, place_in, computed, referred_next, refers_next, open_next, opened_next, opens_next, expression_next, null_test_next, is_decided, link_next, links_next, outcome_next, item_next, items_next, copied_next, copies_next, newest_ones, without_newest, new_cell, answered, new_next, initial_values, right_next, freeing, freeing_next, free_next, end_next, same_pool, told_back, given_back, back_next, assign_next, target_next, has_parts, record_tasks, treating, copy_next, record_assign_next, assigns_next, stored_next, store_next, record_target_next, record_stored_next, store_record_next, all_tasks, taken_out, frees_next, freed_next, free_component_next, free_in_next, branches_next, decided_next, turn_next, repeats_next, turned_next, count_turn_next, ranges_next, gets_next, received_next, receive_next, exit_next, exited_next, computing, call_next, stmt_next, stmts_next, line_next, record_cell, made, record_next, declaration_next, declarations_next, members_next, item_leave_next, master_leave_next, leave_next, frame_next, undo_next, broken_next, broken_off, landed, pass_next}
+use Rattle.ada_meaning.specs.Named.{State, Next, named, refer, whole, base, part_base, same, inside, look, standing, lent, on_object, parted, finished, returned, new_object, members, reads_integer, reads_boolean, reads_null, unary_given, binary_given}
 use Rattle.ada_typed.proofs.Control.{actuals_at, references_at}
-use Rattle.ada_typed.proofs.KeptTreatments.{treats_keeps}
+use Rattle.ada_typed.proofs.KeptTreatments.{awaited_keeps, treats_keeps}
 use Rattle.ada_typed.proofs.Kept.{behind_call, behind_treating, crosses, Keeps, Each, altered, each_after, jumping_keeps, keeps_all, older_operands, older_places, operated, placed, popped_keeps, procedure_operands, procedure_places, put_keeps, stay_more, stay_on, stay_stored, stay_stored_from, still}
 
 -- Paths and expressions.
@@ -152,7 +156,7 @@ answered_keeps types access count words home s true = record {
   stay = stay_more s.heap (new_object (new_cell named types access count home s));
   procedure = procedure_operands (Names (record { 0 = length s.heap }) ∷ drop count (operands s)) s.activations;
   suspended = older_operands (Names (record { 0 = length s.heap }) ∷ drop count (operands s)) s.activations;
-  behind = behind_treating (Names (record { 0 = length s.heap })) (frame.begins Creation) (all_tasks types access PartsFirst) s.control;
+  behind = behind_treating (Names (record { 0 = length s.heap })) (frame.begins Creation []) (all_tasks types access PartsFirst) s.control;
 }
 answered_keeps types access count words home s false = jumping_keeps (Raising StorageError) s
 
@@ -175,21 +179,28 @@ freeing_keeps types access v cell clears s none =
     (behind_treating v (frame.ends (Freeing s.next)) (all_tasks types cell.access WholeFirst) (frame.Ends v ∷ back ∷ clears ∷ s.control)
     ∙ ap (λ (return : Bool). if return then Some (record { actuals = actuals_at clears; references = references_at clears; left = s.control }) else behind_call s.control) none)
 
+freeing_next_keeps : (types : List TypeDefinition) (access : ℕ) (v : Value) (cell : Cell Value) (clears : Frame Value) (event : Event Value) (s : State) → is_return clears ≡ false → Each (Keeps s) (freeing_next named types access v cell clears event s)
+freeing_next_keeps types access v cell clears event s none = by_pool (same_pool (Some (pool_freed_to (home_of access s.masters))) cell.home.pool)
+  where
+    by_pool : (own : Bool) → Each (Keeps s) (if own then moves event (freeing named types access v cell clears s) else halts (Erroneous GivesElsewhere))
+    by_pool true = freeing_keeps types access v cell clears s none
+    by_pool false = tt
+
 free_keeps : (types : List TypeDefinition) (access x : ℕ) (v : Value) (found : Found (Cell Value)) (s : State) → Each (Keeps s) (free_next named types access x v found s)
 free_keeps types access x v on_null s = still refl refl refl
 free_keeps types access x v on_gone s = tt
 free_keeps types access x v on_other s = tt
-free_keeps types access x v (finds cell) s = freeing_keeps types access v cell (frame.Clears x) s refl
+free_keeps types access x v (finds cell) s = freeing_next_keeps types access v cell (frame.Clears x) Quiet s refl
 
 freed_keeps : (types : List TypeDefinition) (access : ℕ) (o : Value) (c : ℕ) (v : Value) (found : Found (Cell Value)) (s : State) → Each (Keeps s) (freed_next named types access o c v found s)
 freed_keeps types access o c v on_null s = still refl refl refl
 freed_keeps types access o c v on_gone s = tt
 freed_keeps types access o c v on_other s = tt
-freed_keeps types access o c v (finds cell) s = freeing_keeps types access v cell (frame.ClearsIn o c) s refl
+freed_keeps types access o c v (finds cell) s = freeing_next_keeps types access v cell (frame.ClearsIn o c) (Followed o) s refl
 
 free_component_keeps : (types : List TypeDefinition) (access : ℕ) (o : Value) (c : ℕ) (found : Option Value) (s : State) → Each (Keeps s) (free_component_next named types access o c found s)
 free_component_keeps types access o c None s = tt
-free_component_keeps types access o c (Some v) s = freed_keeps types access o c v (look s.heap v) s
+free_component_keeps types access o c (Some v) s = freed_keeps types access o c v (standing s.heap v) s
 
 free_in_keeps : (types : List TypeDefinition) (access : ℕ) (o : Value) (c : ℕ) (found : Found (Cell Value)) (s : State) → Each (Keeps s) (free_in_next named types access o c found s)
 free_in_keeps types access o c on_null s = jumping_keeps (Raising ConstraintError) s
@@ -198,7 +209,7 @@ free_in_keeps types access o c on_other s = tt
 free_in_keeps types access o c (finds cell) s = free_component_keeps types access o c (slice_get cell.values c) s
 
 frees_keeps : (types : List TypeDefinition) (cs : List ℕ) (access x : ℕ) (s : State) → Each (Keeps s) (frees_next named types cs access x s)
-frees_keeps types [] access x s = free_keeps types access x (held named s x) (look s.heap (held named s x)) s
+frees_keeps types [] access x s = free_keeps types access x (held named s x) (standing s.heap (held named s x)) s
 frees_keeps types (c ∷ cs) access x s = holder_keeps c cs x (λ last. frame.FreesIn access last) s (λ last. refl)
 
 end_keeps : (v : Value) (found : Found (Cell Value)) (s : State) → Each (Keeps s) (end_next named v found s)
@@ -278,10 +289,10 @@ assigns_keeps : (types : List TypeDefinition) (t : ℕ) (target source : Value) 
 assigns_keeps types t target source None s = tt
 assigns_keeps types t target source (Some true) s = still refl refl refl
 assigns_keeps types t target source (Some false) s =
-    let adjusting = treating (whole target) (frame.begins (Adjustment s.next)) (record_tasks types t PartsFirst (part_base target)) s.control in
+    let adjusting = treating (whole target) (frame.begins (Adjustment s.next) []) (record_tasks types t PartsFirst (part_base target)) s.control in
     operated (whole source ∷ operands s) refl refl
     (behind_treating (whole target) (frame.ends (Assigning s.next)) (record_tasks types t WholeFirst (part_base target)) (frame.Copies (base source) t ∷ frame.StoresRecord (whole target) (base target) (width_of types t) ∷ adjusting)
-    ∙ behind_treating (whole target) (frame.begins (Adjustment s.next)) (record_tasks types t PartsFirst (part_base target)) s.control)
+    ∙ behind_treating (whole target) (frame.begins (Adjustment s.next) []) (record_tasks types t PartsFirst (part_base target)) s.control)
 
 -- Statements.
 branches_keeps : (branches : BranchesForm) (s : State) → Each (Keeps s) (branches_next named branches s)
@@ -394,7 +405,7 @@ made_keeps types x t by values s =
       stay = stay_more s.heap (new_object (record_cell named types t (height s.masters) values));
       procedure = procedure_places (slice_set (places s) x name) s.activations;
       suspended = older_places (slice_set (places s) x name) s.activations;
-      behind = behind_treating name (frame.begins by) (all_tasks types t PartsFirst) s.control;
+      behind = behind_treating name (frame.begins by []) (all_tasks types t PartsFirst) s.control;
     }
 
 record_keeps : (types : List TypeDefinition) (x t : ℕ) (initial : Option (List ItemForm)) (s : State) → Each (Keeps s) (record_next named types x t initial s)
@@ -451,92 +462,123 @@ without_one s n keeps = each_after s (popped s) n (popped_keeps s) keeps
 without_two : (s : State) (n : Next) → Each (Keeps (popped (popped s))) n → Each (Keeps s) n
 without_two s n keeps = without_one s n (without_one (popped s) n keeps)
 
--- Each frame that is taken off, where no call begins or ends.
-pub frame_keeps : (types : List TypeDefinition) (bodies : List BodyForm) (f : Frame Value) (s : State) → crosses f ≡ false → Each (Keeps s) (frame_next named types bodies f s)
-frame_keeps types bodies (frame.Elaborates ds fs hs) s stays = declarations_keeps types ds fs hs s
-frame_keeps types bodies (frame.Does fs) s stays = stmts_keeps types bodies fs s
-frame_keeps types bodies (frame.Decides fs branches) s stays =
+-- Each frame that is taken off, where no call begins or ends, and no type overrides an operation.
+pub frame_keeps : (types : List TypeDefinition) → OverridesNothing types → (bodies : List BodyForm) (f : Frame Value) (s : State) → crosses f ≡ false → Each (Keeps s) (frame_next named types bodies f s)
+frame_keeps types inherits bodies (frame.Elaborates ds fs hs) s stays = declarations_keeps types ds fs hs s
+frame_keeps types inherits bodies (frame.Does fs) s stays = stmts_keeps types bodies fs s
+frame_keeps types inherits bodies (frame.Decides fs branches) s stays =
     without_one s (decided_next named fs branches (reads_boolean (newest named s)) (popped s)) (decided_keeps fs branches (reads_boolean (newest named s)) (popped s))
-frame_keeps types bodies (frame.Repeats condition fs) s stays = repeats_keeps condition fs s
-frame_keeps types bodies (frame.Turns condition fs) s stays =
+frame_keeps types inherits bodies (frame.Repeats condition fs) s stays = repeats_keeps condition fs s
+frame_keeps types inherits bodies (frame.Turns condition fs) s stays =
     without_one s (turned_next named condition fs (reads_boolean (newest named s)) (popped s)) (turned_keeps condition fs (reads_boolean (newest named s)) (popped s))
-frame_keeps types bodies (frame.Ranges x fs) s stays =
+frame_keeps types inherits bodies (frame.Ranges x fs) s stays =
     let low = reads_integer (newest named (popped s)) in
     let high = reads_integer (newest named s) in
     without_two s (ranges_next named x fs low high (popped (popped s))) (ranges_keeps x fs low high (popped (popped s)))
-frame_keeps types bodies (frame.Counts x value last fs) s stays = counts_keeps (int_le value last) x value last fs s
-frame_keeps types bodies frame.Exits s stays =
+frame_keeps types inherits bodies (frame.Counts x value last fs) s stays = counts_keeps (int_le value last) x value last fs s
+frame_keeps types inherits bodies frame.Exits s stays =
     without_one s (exited_next named (reads_boolean (newest named s)) (popped s)) (exited_keeps (reads_boolean (newest named s)) (popped s))
-frame_keeps types bodies (frame.Handles hs) s stays = still refl refl refl
-frame_keeps types bodies frame.Closes s stays = still refl refl refl
-frame_keeps types bodies (frame.Leaves mode) s stays = leave_keeps types mode s.masters s
-frame_keeps types bodies (frame.Calls procedure b actuals) s stays = absurd (cc)
-frame_keeps types bodies (frame.Returns actuals references) s stays = absurd (cc)
-frame_keeps types bodies (frame.Evaluates right) s stays = right_keeps types right s
-frame_keeps types bodies (frame.Computes e) s stays = expression_keeps e s
-frame_keeps types bodies (frame.Follows cs) s stays = without_one s (path_next named cs (newest named s) (popped s)) (path_keeps cs (newest named s) (popped s))
-frame_keeps types bodies (frame.TestsNull equal) s stays =
+frame_keeps types inherits bodies (frame.Handles hs) s stays = still refl refl refl
+frame_keeps types inherits bodies frame.Closes s stays = still refl refl refl
+frame_keeps types inherits bodies (frame.Leaves mode) s stays = leave_keeps types mode s.masters s
+frame_keeps types inherits bodies (frame.Calls procedure b actuals) s stays = absurd (cc)
+frame_keeps types inherits bodies (frame.Returns actuals references) s stays = absurd (cc)
+frame_keeps types inherits bodies (frame.Evaluates right) s stays = right_keeps types right s
+frame_keeps types inherits bodies (frame.Computes e) s stays = expression_keeps e s
+frame_keeps types inherits bodies (frame.Follows cs) s stays = without_one s (path_next named cs (newest named s) (popped s)) (path_keeps cs (newest named s) (popped s))
+frame_keeps types inherits bodies (frame.TestsNull equal) s stays =
     without_one s (null_test_next named equal (reads_null (newest named s)) (popped s)) (null_test_keeps equal (reads_null (newest named s)) (popped s))
-frame_keeps types bodies (frame.Refers p) s stays = record_holder_keeps p (λ place. frame.RefersIn place p.record_type) s (λ place. refl)
-frame_keeps types bodies (frame.RefersIn place t) s stays =
+frame_keeps types inherits bodies (frame.Refers p) s stays = record_holder_keeps p (λ place. frame.RefersIn place p.record_type) s (λ place. refl)
+frame_keeps types inherits bodies (frame.RefersIn place t) s stays =
     let found = look s.heap (newest named s) in
     without_one s (refers_next named (newest named s) place (width_of types t) found (popped s)) (refers_keeps (newest named s) place (width_of types t) found (popped s))
-frame_keeps types bodies (frame.Opens path) s stays = open_keeps path.selectors path.root s
-frame_keeps types bodies (frame.OpensIn c) s stays =
+frame_keeps types inherits bodies (frame.Opens path) s stays = open_keeps path.selectors path.root s
+frame_keeps types inherits bodies (frame.OpensIn c) s stays =
     let found = look s.heap (newest named s) in
     without_one s (opens_next named (newest named s) c found (popped s)) (opens_keeps (newest named s) c found (popped s))
-frame_keeps types bodies (frame.Continues links) s stays = links_keeps links s
-frame_keeps types bodies (frame.Applies operator) s stays =
+frame_keeps types inherits bodies (frame.Continues links) s stays = links_keeps links s
+frame_keeps types inherits bodies (frame.Applies operator) s stays =
     let outcome = binary_given operator (newest named (popped s)) (newest named s) in
     without_two s (outcome_next named outcome (popped (popped s))) (outcome_keeps outcome (popped (popped s)))
-frame_keeps types bodies (frame.AppliesAlone operator) s stays =
+frame_keeps types inherits bodies (frame.AppliesAlone operator) s stays =
     let outcome = unary_given operator (newest named s) in
     without_one s (outcome_next named outcome (popped s)) (outcome_keeps outcome (popped s))
-frame_keeps types bodies (frame.Fills items) s stays = items_keeps items s
-frame_keeps types bodies (frame.Copies first t) s stays =
+frame_keeps types inherits bodies (frame.Fills items) s stays = items_keeps items s
+frame_keeps types inherits bodies (frame.Copies first t) s stays =
     let found = look s.heap (newest named s) in
     without_one s (copies_next named (newest named s) first (width_of types t) found (popped s)) (copies_keeps (newest named s) first (width_of types t) found (popped s))
-frame_keeps types bodies (frame.Creates access count) s stays = new_keeps types access count (words_of types access) (home_of access s.masters) s
-frame_keeps types bodies (frame.Stores x) s stays = keeps_all s (popped s) (put x (newest named s) (popped s)) (popped_keeps s) (put_keeps x (newest named s) (popped s))
-frame_keeps types bodies (frame.Targets c right) s stays =
+frame_keeps types inherits bodies (frame.Creates access count) s stays = new_keeps types access count (words_of types access) (home_of access s.masters) s
+frame_keeps types inherits bodies (frame.Stores x) s stays = keeps_all s (popped s) (put x (newest named s) (popped s)) (popped_keeps s) (put_keeps x (newest named s) (popped s))
+frame_keeps types inherits bodies (frame.Targets c right) s stays =
     let found = look s.heap (newest named s) in
     without_one s (target_next named (newest named s) c right found (popped s)) (target_keeps (newest named s) c right found (popped s))
-frame_keeps types bodies (frame.StoresIn o c) s stays =
+frame_keeps types inherits bodies (frame.StoresIn o c) s stays =
     without_one s (store_next named o c (newest named s) (look s.heap o) (popped s)) (store_keeps o c (newest named s) (look s.heap o) (popped s))
-frame_keeps types bodies (frame.TargetsRecord first t items) s stays =
+frame_keeps types inherits bodies (frame.TargetsRecord first t items) s stays =
     let found = look s.heap (newest named s) in
     without_one s (record_target_next named (newest named s) first (width_of types t) items found (popped s)) (record_target_keeps (newest named s) first (width_of types t) items found (popped s))
-frame_keeps types bodies (frame.StoresRecord o first count) s stays = store_record_keeps o first count (look s.heap o) s
-frame_keeps types bodies (frame.Assigns t) s stays =
+frame_keeps types inherits bodies (frame.StoresRecord o first count) s stays = store_record_keeps o first count (look s.heap o) s
+frame_keeps types inherits bodies (frame.Assigns t) s stays =
     let target = newest named (popped s) in
     let source = newest named s in
     without_two s (assigns_next named types t target source (same target source) (popped (popped s))) (assigns_keeps types t target source (same target source) (popped (popped s)))
-frame_keeps types bodies (frame.Receives c) s stays =
+frame_keeps types inherits bodies (frame.Receives c) s stays =
     let found = look s.heap (newest named s) in
     without_one s (receive_next named (newest named s) c found (popped s)) (receive_keeps (newest named s) c found (popped s))
-frame_keeps types bodies (frame.FreesIn access c) s stays =
+frame_keeps types inherits bodies (frame.FreesIn access c) s stays =
     let found = look s.heap (newest named s) in
     without_one s (free_in_next named types access (newest named s) c found (popped s)) (free_in_keeps types access (newest named s) c found (popped s))
-frame_keeps types bodies (frame.Declares x) s stays =
+frame_keeps types inherits bodies (frame.Declares x) s stays =
     keeps_all s (popped s) (owned (declared x) (put x (newest named s) (popped s))) (popped_keeps s) (placed (slice_set (places (popped s)) x (newest named s)) refl refl refl)
-frame_keeps types bodies (frame.DeclaresRecord x t) s stays =
+frame_keeps types inherits bodies (frame.DeclaresRecord x t) s stays =
     let without = without_newest named (words_of types t) s in
     keeps_all s without (made named types x t Copy (newest_ones named (words_of types t) s) without) (operated (drop (words_of types t) (operands s)) refl refl refl)
     (made_keeps types x t Copy (newest_ones named (words_of types t) s) without)
-frame_keeps types bodies (frame.Treats v treatment tasks) s stays = treats_keeps (shapes_of types) v treatment tasks (task_next tasks) s
-frame_keeps types bodies frame.Writes s stays = without_one s (line_next named (reads_integer (newest named s)) (popped s)) (line_keeps (reads_integer (newest named s)) (popped s))
-frame_keeps types bodies (frame.Ends v) s stays = end_keeps v (look s.heap v) s
-frame_keeps types bodies (frame.GivesBack v cause pool) s stays = back_keeps v cause pool (lent s.heap v) s
-frame_keeps types bodies (frame.Clears x) s stays = put_keeps x Null s
-frame_keeps types bodies (frame.ClearsIn o c) s stays = store_keeps o c Null (look s.heap o) s
+frame_keeps types inherits bodies (frame.Treats v treatment tasks) s stays = treats_keeps types inherits bodies v treatment tasks (task_next tasks) s
+frame_keeps types inherits bodies (frame.Awaits v by done of part tasks) s stays = awaited_keeps v by done of part tasks (look s.heap v) s
+frame_keeps types inherits bodies frame.Confines s stays = still refl refl refl
+frame_keeps types inherits bodies (frame.Resumes mode) s stays = still refl refl refl
+frame_keeps types inherits bodies frame.Writes s stays = without_one s (line_next named (reads_integer (newest named s)) (popped s)) (line_keeps (reads_integer (newest named s)) (popped s))
+frame_keeps types inherits bodies (frame.Ends v) s stays = end_keeps v (look s.heap v) s
+frame_keeps types inherits bodies (frame.GivesBack v cause pool) s stays = back_keeps v cause pool (lent s.heap v) s
+frame_keeps types inherits bodies (frame.Clears x) s stays = put_keeps x Null s
+frame_keeps types inherits bodies (frame.ClearsIn o c) s stays = store_keeps o c Null (look s.heap o) s
+
+-- An exception comes out of an Initialize: its object is undone.
+undo_keeps : (e : Exception) (v : Value) (done : List Part) (found : Found (Cell Value)) (s : State) → Each (Keeps s) (undo_next named e v done found s)
+undo_keeps e v done on_null s = tt
+undo_keeps e v done on_gone s = tt
+undo_keeps e v done on_other s = tt
+undo_keeps e v done (finds cell) s =
+    let tasks = map (λ (p : Part). performs p.of p.number) done in
+    let behind = frame.Ends v ∷ frame.GivesBack v (Undoing s.next) cell.home.pool ∷ frame.Resumes (Raising e) ∷ s.control in
+    record {
+      stay = stay_on parted s.heap v (λ x. refl);
+      procedure = procedure_operands [] s.activations;
+      suspended = older_operands [] s.activations;
+      behind = behind_treating v (frame.ends (Undoing s.next)) tasks behind;
+    }
+
+broken_keeps : (e : Exception) (v : Value) (by : Birth) (done : List Part) (s : State) → Each (Keeps s) (broken_next named e v by done s)
+broken_keeps e v Creation done s = undo_keeps e v done (look s.heap v) s
+broken_keeps e v Copy done s = tt
+broken_keeps e v (Adjustment number) done s = tt
+
+broken_off_keeps : (mode : Mode) (v : Value) (by : Birth) (done : List Part) (s : State) → Each (Keeps s) (broken_off named mode v by done s)
+broken_off_keeps Running v by done s = tt
+broken_off_keeps (Raising e) v by done s = broken_keeps e v by done s
+broken_off_keeps Exiting v by done s = tt
+broken_off_keeps Returning v by done s = tt
 
 -- Jumps inside the running body.
-landed_keeps : (landing : Landing) (s : State) → Each (Keeps s) (landed named landing s)
-landed_keeps passes_on s = still refl refl refl
-landed_keeps goes_behind s = still refl refl refl
-landed_keeps (goes_in no_stmts) s = tt
-landed_keeps (goes_in (a_stmt f fs)) s = still refl refl refl
+landed_keeps : (landing : Landing Value) (mode : Mode) (s : State) → Each (Keeps s) (landed named landing mode s)
+landed_keeps passes_on mode s = still refl refl refl
+landed_keeps goes_behind mode s = still refl refl refl
+landed_keeps (goes_in no_stmts) mode s = tt
+landed_keeps (goes_in (a_stmt f fs)) mode s = still refl refl refl
+landed_keeps (breaks_off v by done) mode s = broken_off_keeps mode v by done s
+landed_keeps escapes mode s = tt
 
-pub pass_keeps : (master : Bool) (landing : Landing) (mode : Mode) (s : State) → Each (Keeps s) (pass_next named master landing mode s)
+pub pass_keeps : (master : Bool) (landing : Landing Value) (mode : Mode) (s : State) → Each (Keeps s) (pass_next named master landing mode s)
 pass_keeps true landing mode s = still refl refl refl
-pass_keeps false landing mode s = landed_keeps landing s
+pass_keeps false landing mode s = landed_keeps landing mode s

@@ -15,7 +15,7 @@ use Rattle.ada_meaning.specs.Frame as frame
 use Rattle.ada_meaning.specs.State.{Activation}
 use Rattle.ada_meaning.specs.Step.{procedure_of, older}
 use Rattle.ada_typed.proofs.Values.{OperandKind, of_kind, refers_to, StayDesignated, access_later, refers_later, held_later, kind_of}
-use Rattle.ada_typed.proofs.Control.{onto, IsTreated, AtReturn, AtLoop, WhereInside, handlers_in, AtHandlers, Fits, Lands, Catches, actuals_at, references_at, kinds_in, stored_kinds, AreReferences, WaitsFirst, Waiting}
+use Rattle.ada_typed.proofs.Control.{onto, IsTreated, AtReturn, AtLoop, WhereInside, handlers_in, AtHandlers, is_operation, NoOperation, Fits, Lands, Catches, actuals_at, references_at, kinds_in, stored_kinds, AreReferences, WaitsFirst, Waiting}
 
 inside_later : (inside : Bool) (lands later : Type 0) → (lands → later) → WhereInside inside lands → WhereInside inside later
 inside_later true lands later f h = f h
@@ -32,6 +32,10 @@ loop_later false behind further behind_later further_later f g h = g h
 handlers_later : (p : ProgramForm) (o : Option HandlersForm) (lands behind further lands_after behind_after further_after : Type 0) → (lands → lands_after) → (behind → behind_after) → (further → further_after) → AtHandlers p o lands behind further → AtHandlers p o lands_after behind_after further_after
 handlers_later p None lands behind further lands_after behind_after further_after f g i h = i h
 handlers_later p (Some hs) lands behind further lands_after behind_after further_after f g i h = (h.0, h.1, inside_later h.0 lands lands_after f h.2, g h.3)
+
+operation_later : (operation : Bool) (holds later : Type 0) → (holds → later) → NoOperation operation holds → NoOperation operation later
+operation_later true holds later f h = h
+operation_later false holds later f h = f h
 
 treated_later : (types : List TypeForm) (cells after : Cells) → StayDesignated cells after → (v : Value) (tasks : List Task) → IsTreated types cells v tasks → IsTreated types after v tasks
 treated_later types cells after stay Null tasks h = h
@@ -84,6 +88,9 @@ module _ (p : ProgramForm) (cells after : Cells) (stay : StayDesignated cells af
     fits_later (frame.Declares x ∷ k) kinds h = (h.0, h.1, h.2, h.3, fits_later k h.0 h.4)
     fits_later (frame.DeclaresRecord x t ∷ k) kinds h = (h.0, h.1, h.2, h.3, h.4, h.5, h.6, h.7, fits_later k h.0 h.8)
     fits_later (frame.Treats v treatment tasks ∷ k) kinds h = (treated_later p.types cells after stay v tasks h.0, fits_later k kinds h.1)
+    fits_later (frame.Awaits v by done of part tasks ∷ k) kinds h = h
+    fits_later (frame.Confines ∷ k) kinds h = h
+    fits_later (frame.Resumes mode ∷ k) kinds h = h
     fits_later (frame.Writes ∷ k) kinds h = (h.0, h.1, fits_later k h.0 h.2)
     fits_later (frame.Ends v ∷ k) kinds h = (h.0, fits_later k kinds h.1)
     fits_later (frame.GivesBack v cause pool ∷ k) kinds h = (h.0, fits_later k kinds h.1)
@@ -96,7 +103,12 @@ module _ (p : ProgramForm) (cells after : Cells) (stay : StayDesignated cells af
 
     catches_later : (k : List (Frame Value)) → Catches p cells k → Catches p after k
     catches_later [] h = tt
-    catches_later (f ∷ k) h = return_later (is_return f) (Unit {0}) (AtHandlers p (handlers_in f) (Lands p cells k) (Fits p cells [] k) (Catches p cells k)) (Unit {0}) (AtHandlers p (handlers_in f) (Lands p after k) (Fits p after [] k) (Catches p after k)) (λ yes. yes) (handlers_later p (handlers_in f) (Lands p cells k) (Fits p cells [] k) (Catches p cells k) (Lands p after k) (Fits p after [] k) (Catches p after k) (lands_later k) (fits_later k []) (catches_later k)) h
+    catches_later (f ∷ k) h =
+        let here = AtHandlers p (handlers_in f) (Lands p cells k) (Fits p cells [] k) (Catches p cells k) in
+        let there = AtHandlers p (handlers_in f) (Lands p after k) (Fits p after [] k) (Catches p after k) in
+        let caught = handlers_later p (handlers_in f) (Lands p cells k) (Fits p cells [] k) (Catches p cells k) (Lands p after k) (Fits p after [] k) (Catches p after k) (lands_later k) (fits_later k []) (catches_later k) in
+        return_later (is_return f) (Unit {0}) (NoOperation (is_operation f) here) (Unit {0}) (NoOperation (is_operation f) there) (λ yes. yes)
+        (operation_later (is_operation f) here there caught) h
 
 -- Activations wait as well.
 module _ (p : ProgramForm) (cells after : Cells) (stay : StayDesignated cells after) where

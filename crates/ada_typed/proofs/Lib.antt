@@ -6,6 +6,8 @@ pub mod Parts
 pub mod Values
 -- operators and the types of their operands
 pub mod Operators
+-- no type overrides an operation
+pub mod Overriding
 -- what is left to do fits what is there
 pub mod Control
 -- records that lie in objects

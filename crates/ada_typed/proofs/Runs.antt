@@ -6,11 +6,11 @@ use Rattle.ada_program.specs.declared.program.Program.{Program}
 use Rattle.ada_program.specs.ProgramForm.{TypeForm, ProgramForm, program_form, type_form, variable_form, body_forms}
 use Rattle.ada_program.specs.declared.program.VariableKind.{VariableKind}
 use Rattle.ada_program.specs.WellFormed.{IsWellFormed, variable_kind}
-use Rattle.ada_meaning.specs.declared.event.Halt.TheVariants.{Stuck}
+use Rattle.ada_meaning.specs.declared.event.Halt.TheVariants.{Escaped, Stuck}
 use Rattle.ada_meaning.specs.Step.{procedure_of, halts, moves, tells, asks, picks}
 use Rattle.ada_meaning.specs.Named.{State, Next, next}
 use Rattle.ada_meaning.specs.Run.{Event, Choice, settled, grants, takes, Leads, Step, Run, here, there, first_state}
-use Rattle.ada_typed.specs.Stuck.{WellFormedProgramsAreNeverStuck, WellFormedProgramsEndByTheLanguage}
+use Rattle.ada_typed.specs.Stuck.{WellFormedProgramsAreNeverStuck, NothingEscapesWellFormedPrograms, WellFormedProgramsEndByTheLanguage}
 use Rattle.ada_typed.proofs.Parts.{parts_counted}
 use Rattle.ada_typed.proofs.Values.{OperandKind, AreFilled, IsActive, active_placed, active_held, held_blank, filled_at, parts_at}
 use Rattle.ada_typed.proofs.Control.{Typed, TypedIn, running, on_jump}
@@ -65,6 +65,9 @@ ends_by_the_language program well input events last halt run halted =
 
 pub never_stuck : WellFormedProgramsAreNeverStuck
 never_stuck program well input events last run stuck = ends_by_the_language program well input events last Stuck run stuck
+
+pub nothing_escapes : NothingEscapesWellFormedPrograms
+nothing_escapes program well input events last e run out = ends_by_the_language program well input events last (Escaped e) run out
 
 filled_in : (own : ProgramForm) (s : State) → TypedIn own s → AreFilled own.types (cells_of s.heap) (cells_of s.heap)
 filled_in own s (running kinds ready fits) = ready.filled

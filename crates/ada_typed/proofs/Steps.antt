@@ -24,7 +24,7 @@ use Rattle.ada_meaning.specs.declared.state.Value.TheVariants.{Null, Names, Scal
 use Rattle.ada_meaning.specs.declared.state.Mode.TheVariants.{Running, Exiting, Returning}
 use Rattle.ada_program.specs.declared.program.Exception.TheVariants.{EndError}
 use Rattle.ada_meaning.specs.Event.{Quiet}
-use Rattle.ada_meaning.specs.Frame.{Frame, is_master, is_loop, is_return, Landing, passes_on, goes_behind, handler_landing, exception_landing, landing}
+use Rattle.ada_meaning.specs.Frame.{Frame}
 use Rattle.ada_meaning.specs.Frame as frame
 use Rattle.ada_meaning.specs.State.{declared, collection, storage_pool, height, home_of, pools_in, pool_for}
 use Rattle.ada_meaning.specs.Step.{moves, has_parts, all_tasks, at, popped, jumping, put, held, newest, new_next, initial_values, copies_next, refers_next, open_next, newest_ones, without_newest, record_target_next, store_record_next, record_cell, made, record_next, assign_next, frees_next, branches_next, decided_next, turn_next, repeats_next, turned_next, count_turn_next, ranges_next, gets_next, exit_next, exited_next, computing, call_next, stmt_next, stmts_next, line_next, declarations_next, frame_next}
@@ -34,6 +34,7 @@ use Rattle.ada_typed.proofs.Values.{OperandKind, of_kind, refers_to, lies_in, ki
 use Rattle.ada_typed.proofs.Objects.{kind_there, object_reached, own_object, record_no_access}
 use Rattle.ada_typed.proofs.Operators.{and_left, and_right, typed, unary_gives, binary_gives}
 use Rattle.ada_typed.proofs.Targets.{target_fine, store_fine, receive_fine, opens_fine}
+use Rattle.ada_typed.proofs.Overriding.{nothing_overridden}
 use Rattle.ada_typed.proofs.Treating.{all_within, treating_fits}
 use Rattle.ada_typed.proofs.Treatments.{treats_fine}
 use Rattle.ada_typed.proofs.Assigning.{object_filled, record_assign_fine, assigns_fine}
@@ -298,7 +299,7 @@ module _ (p : ProgramForm) (fit : SeenFits p) (bodies : List BodyForm) (sees : S
       let cell = record_cell named types t (height s.masters) values in
       let heap = s.heap ++ new_object cell ∷ [] in
       running kinds (ready_made p types shown x t by object cs values kinds s have ready is own reached never)
-      (treating_fits p (cells_of heap) kinds (Names (record { 0 = length s.heap })) (frame.begins by) (all_tasks types t PartsFirst) s.control
+      (treating_fits p (cells_of heap) kinds (Names (record { 0 = length s.heap })) (frame.begins by []) (all_tasks types t PartsFirst) s.control
       (t, (cell, named_newest p s.heap cell, refl), all_within types p.types t PartsFirst shown) (fits_more p kinds s.control s.heap cell fits))
 
   -- What holds of a record object where it is declared.
@@ -450,7 +451,11 @@ module _ (p : ProgramForm) (fit : SeenFits p) (bodies : List BodyForm) (sees : S
       let words : words_of types t ≡ length fits.2 = words_shown types t fits.2 shown fits.6 in
       subst (λ (m : ℕ). TypedIn p (made named types x t Copy (newest_ones named m s) (without_newest named m s))) (sym words)
       (made_fine types shown x t Copy fits.1 fits.2 (newest_ones named (length fits.2) s) fits.0 (without_newest named (length fits.2) s) (newest_have p fits.2 fits.0 s taken) (ready_without p fits.2 fits.0 s taken) fits.4 fits.5 fits.6 fits.7 fits.8)
-  frame_fine types shown (frame.Treats v treatment tasks) stays s kinds ready deep fits = treats_fine p types shown v treatment tasks s kinds ready fits.0 fits.1
+  frame_fine types shown (frame.Treats v treatment tasks) stays s kinds ready deep fits =
+      treats_fine p types shown (nothing_overridden types p.types shown fit.types_fit) bodies v treatment tasks s kinds ready fits.0 fits.1
+  frame_fine types shown (frame.Awaits v by done of part tasks) stays s kinds ready deep fits = absurd fits
+  frame_fine types shown frame.Confines stays s kinds ready deep fits = absurd fits
+  frame_fine types shown (frame.Resumes mode) stays s kinds ready deep fits = absurd fits
   frame_fine types shown frame.Writes stays s kinds ready deep fits =
       let taken = ready_kinds p kinds (of_kind variable.Integer ∷ fits.0) s fits.1 ready in
       line_fine (newest named s) (popped s) fits.0 (cells_of s.heap) (newest_of p variable.Integer fits.0 s taken) (ready_pop p variable.Integer fits.0 s taken) fits.2

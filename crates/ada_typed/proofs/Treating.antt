@@ -1,28 +1,28 @@
 -- Objects whose controlled parts are treated before what comes behind (7.6, 7.6.1).
 
 use Rattle.ada_typed.specs.Holding.{Cells}
-use Rattle.std.proofs.Common.{◌≡◌, ℕ, false, List, [], ◌∷◌, length, map, arith, refl, sym, ◌∙◌, subst}
-use Rattle.std.proofs.lemmas.List.{length-replicate}
+use Rattle.std.proofs.Common.{◌≡◌, ℕ, List, [], ◌∷◌, length, map, arith, refl, sym, ◌∙◌, subst}
+use Rattle.std.proofs.lemmas.List.{length-map}
 use Rattle.ada_parts.specs.declared.tasks.Direction.{Direction}
 use Rattle.ada_parts.specs.Shape.{Shape}
 use Rattle.ada_parts.specs.Task.{Task}
 use Rattle.ada_program.specs.declared.program.TypeDefinition.{TypeDefinition}
-use Rattle.ada_program.specs.Controlled.{number_reached, shapes_of}
+use Rattle.ada_program.specs.Controlled.{number_reached, shapes_of, part_firsts}
 use Rattle.ada_program.specs.ProgramForm.{TypeForm, ProgramForm, type_form}
 use Rattle.ada_meaning.specs.declared.state.Value.{Value}
 use Rattle.ada_meaning.specs.Frame.{Frame, Treatment}
-use Rattle.ada_meaning.specs.Heap.{PartState}
-use Rattle.ada_meaning.specs.Step.{parts_held, all_tasks, new_parts, treating}
+use Rattle.ada_meaning.specs.Step.{all_tasks, new_part, new_parts, treating}
+use Rattle.ada_program.proofs.Firsts.{as_many_firsts}
 use Rattle.ada_meaning.proofs.Treatments.{are_table}
 use Rattle.ada_typed.proofs.Parts.{shown_shapes, parts_known, shapes_shown, parts_shown, Within, within_all}
 use Rattle.ada_typed.proofs.Values.{OperandKind}
 use Rattle.ada_typed.proofs.Control.{IsTreated, Fits, depth}
 
 -- A new object has as many controlled parts as its type says.
-pub new_held : (types : List TypeDefinition) (forms : List TypeForm) (access : ℕ) → map type_form types ≡ forms → length (new_parts (parts_held types access)) ≡ parts_known forms access
+pub new_held : (types : List TypeDefinition) (forms : List TypeForm) (access : ℕ) → map type_form types ≡ forms → length (new_parts types access) ≡ parts_known forms access
 new_held types forms access shown =
-    let none : PartState = record { alive = false; turn = 0; number = 0 } in
-    length-replicate (parts_held types access) none ∙ sym (parts_shown types forms access shown)
+    let number = number_reached types access in
+    length-map (part_firsts types number) new_part ∙ as_many_firsts types number ∙ sym (parts_shown types forms access shown)
 
 -- All that is to be done for an object speaks of its parts.
 pub all_within : (types : List TypeDefinition) (forms : List TypeForm) (access : ℕ) (direction : Direction) → map type_form types ≡ forms → Within (shown_shapes forms) (parts_known forms access) (all_tasks types access direction)

@@ -2,12 +2,13 @@
 
 use Rattle.std.specs.Prelude.{◌≡◌, ℕ, ℤ, List, [], ◌∷◌}
 use Rattle.ada_program.specs.declared.program.Choice.TheVariants as choice
+use Rattle.ada_program.specs.declared.program.Exception.{Exception}
 use Rattle.ada_program.specs.declared.program.Program.{Program}
 use Rattle.ada_program.specs.Form.{no_stmts, no_handlers, a_handler, handler_forms}
 use Rattle.ada_program.specs.ProgramForm.{program_form}
 use Rattle.ada_program.specs.WellFormed.{IsWellFormed}
 use Rattle.ada_meaning.specs.declared.event.Halt.{Halt}
-use Rattle.ada_meaning.specs.declared.event.Halt.TheVariants.{Finished, Unhandled, Erroneous, Stuck, Memory}
+use Rattle.ada_meaning.specs.declared.event.Halt.TheVariants.{Finished, Unhandled, Escaped, Erroneous, Stuck, Memory}
 use Rattle.ada_meaning.specs.declared.state.Mode.TheVariants.{Running}
 use Rattle.ada_meaning.specs.declared.state.Value.{Value}
 use Rattle.ada_meaning.specs.Frame.{Frame}
@@ -23,11 +24,21 @@ NeverStuck program = (input : List ℤ) (events : List Event) (last : State) →
 abbrev pub WellFormedProgramsAreNeverStuck : Type 0
 WellFormedProgramsAreNeverStuck = (program : Program) → IsWellFormed (program_form program) → NeverStuck program
 
+-- No run of the program, whatever its input and whatever is granted and picked, has an exception leave an Adjust or a Finalize (7.6.1).
+abbrev pub NothingEscapes : Program → Type 0
+NothingEscapes program =
+    (input : List ℤ) (events : List Event) (last : State) (e : Exception) → Run program (first_state program input) events last → Halts program last (Escaped e) → ⊥
+
+-- That holds of each program that is well formed, since its types override no operation.
+abbrev pub NothingEscapesWellFormedPrograms : Type 0
+NothingEscapesWellFormedPrograms = (program : Program) → IsWellFormed (program_form program) → NothingEscapes program
+
 -- A run ends in one of the ways that the language knows: the main procedure is left, or by an exception (11.4), or the next action would be
--- erroneous (13.11.2).
+-- erroneous (13.11.2). No exception would leave an Adjust or a Finalize, since no type of a well-formed program overrides one so far.
 abbrev pub EndsByTheLanguage : Halt → Type 0
 EndsByTheLanguage Finished = Unit {0}
 EndsByTheLanguage (Unhandled e) = Unit {0}
+EndsByTheLanguage (Escaped e) = ⊥
 EndsByTheLanguage (Erroneous why) = Unit {0}
 EndsByTheLanguage Stuck = ⊥
 EndsByTheLanguage Memory = ⊥

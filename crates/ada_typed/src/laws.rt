@@ -2,11 +2,16 @@
 
 ghost use Rattle.ada_typed.specs.Freeing.{ObjectsAreFreedByTheirTypes, AProgramFreesItsOwn, AProgramFreesAnother};
 ghost use Rattle.ada_typed.specs.Holding.{ObjectsHaveTheirKinds, ObjectsHaveTheirParts, VariablesHaveTheirKinds};
-ghost use Rattle.ada_typed.specs.Stuck.{WellFormedProgramsAreNeverStuck, WellFormedProgramsEndByTheLanguage, AWellFormedProgramFinishes, AWellFormedProgramAssignsParts, AnIllTypedProgramGetsStuck, AnEmptyHandlerGetsStuck};
+ghost use Rattle.ada_typed.specs.Stuck.{WellFormedProgramsAreNeverStuck, NothingEscapesWellFormedPrograms, WellFormedProgramsEndByTheLanguage, AWellFormedProgramFinishes, AWellFormedProgramAssignsParts, AnIllTypedProgramGetsStuck, AnEmptyHandlerGetsStuck};
 
 /// A well-formed program is never stuck: in each of its runs the next action has a meaning.
 pub fn well_formed_programs_are_never_stuck()
     ensures { WellFormedProgramsAreNeverStuck }
+{}
+
+/// In no run of a well-formed program does an exception leave an Adjust or a Finalize.
+pub fn nothing_escapes_well_formed_programs()
+    ensures { NothingEscapesWellFormedPrograms }
 {}
 
 /// So each of its runs ends in a way that the language knows: the main procedure is left, or by an exception, or the next

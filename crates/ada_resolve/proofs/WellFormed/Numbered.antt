@@ -10,12 +10,13 @@ use Rattle.ada_program.specs.declared.program.Finalization.{Finalization}
 use Rattle.ada_program.specs.declared.program.ComponentKind.{ComponentKind}
 use Rattle.ada_program.specs.declared.program.PartKind.{PartKind}
 use Rattle.ada_program.specs.declared.program.PartKind.TheVariants as part
+use Rattle.ada_program.specs.Controlled.{no_operations}
 use Rattle.ada_program.specs.ProgramForm.{PartForm, TypeForm, record_of, access_to, object_of}
 use Rattle.ada_program.specs.WellFormed as fits
 use Rattle.ada_resolve.specs.Records.{Composition, counted, finalization_made}
 use Rattle.ada_resolve.proofs.WellFormed.Forms.{AreIn, bare, forms, same_at}
 use Rattle.ada_resolve.proofs.WellFormed.Laid.{OfParts, RecordHas, record_has, IsLaid, AreRecordsLaid, Avoids, IsUnused}
-use Rattle.ada_resolve.proofs.WellFormed.Tables.{both_parts, first_part, second_part, all_weaker, all_more, all_get, get_more, get_other, Keeps, is_plain, is_counted, type_both, plain_of, counted_of, plains_kept}
+use Rattle.ada_resolve.proofs.WellFormed.Tables.{both_parts, first_part, second_part, all_weaker, all_more, all_get, get_more, get_other, Keeps, is_plain, is_counted, type_both, plain_of, counted_of, counted_first, counted_says, counted_alone, counted_overrides, plains_kept}
 
 -- how much a test counts
 abbrev one_if : Bool → ℕ
@@ -118,12 +119,13 @@ says_alike types more (Some f) ps h = rw (order_alike types more f.parts 0 ps h,
 counted_stays : (types more : List TypeForm) (x : TypeForm) → NumbersStay types more → IsAlike types more x → is_counted types x ≡ true → is_counted more x ≡ true
 counted_stays types more (record_of name ps cs final) w a e =
     let first = fits.parent_first ps in
-    let says : Bool = fits.says_parts types final ps in
-    let alone : Bool = fits.is_numbered_alone types final in
-    let front = first_part (first && says) alone e in
-    both_parts (first && fits.says_parts more final ps) (fits.is_numbered_alone more final)
-    (both_parts first (fits.says_parts more final ps) (first_part first says front) (says_alike types more final ps a ∙ second_part first says front))
-    (alone_stays types more final w (second_part (first && says) alone e))
+    let says : Bool = fits.says_parts more final ps in
+    let alone : Bool = fits.is_numbered_alone more final in
+    both_parts (first && says && alone) (fits.overrides_nothing final)
+    (both_parts (first && says) alone
+    (both_parts first says (counted_first types name ps cs final e) (says_alike types more final ps a ∙ counted_says types name ps cs final e))
+    (alone_stays types more final w (counted_alone types name ps cs final e)))
+    (counted_overrides types name ps cs final e)
 counted_stays types more (access_to name d pool) w a e = refl
 counted_stays types more (object_of r) w a e = refl
 
@@ -200,7 +202,7 @@ below_next types (record_of name ps cs None) e = refl
 below_next types (record_of name ps cs (Some f)) e =
     let n = f.number.0 in
     let all = fits.numbered_types types in
-    let alone = second_part (fits.parent_first ps && fits.says_parts types (Some f) ps) (fits.is_numbered_alone types (Some f)) e in
+    let alone = counted_alone types name ps cs (Some f) e in
     let less = ltb-true n all (first_part (nat_lt n all) (eqb (having n types) 1) alone) in
     ne_eqb n all (omega (arith, less))
 below_next types (access_to name d pool) e = refl
@@ -237,7 +239,7 @@ earlier_there types t all = by_form (slice_get types t) refl
     by_form : (o : Option TypeForm) → slice_get types t ≡ o → fits.is_numbered_below (fits.numbered_types types) (fits.finalization_in o) ≡ true
     by_form None is = refl
     by_form (Some (record_of name ps cs final)) is =
-        by_final final (second_part (fits.parent_first ps && fits.says_parts types final ps) (fits.is_numbered_alone types final) (counted_there types t (record_of name ps cs final) all is))
+        by_final final (counted_alone types name ps cs final (counted_there types t (record_of name ps cs final) all is))
     by_form (Some (access_to name d pool)) is = refl
     by_form (Some (object_of r)) is = refl
 
@@ -275,9 +277,7 @@ said_order types (Some f) ps e =
 pub part_lies : (types : List TypeForm) (t : ℕ) (name : List ℕ) (ps : List PartForm) (cs : List ComponentKind) (final : Option Finalization) (i : ℕ) (c : PartForm) → list_all (fits.type_fits types) types ≡ true → slice_get types t ≡ Some (record_of name ps cs final) → slice_get ps i ≡ Some c → c.part + fits.parts_within types c.kind ≤ fits.part_count types t
 part_lies types t name ps cs final i c all is at =
     let counted = counted_there types t (record_of name ps cs final) all is in
-    let first = fits.parent_first ps in
-    let says : Bool = fits.says_parts types final ps in
-    let h = order_lies types (fits.count_said final) 0 ps i c (said_order types final ps (second_part first says (first_part (first && says) (fits.is_numbered_alone types final) counted))) at in
+    let h = order_lies types (fits.count_said final) 0 ps i c (said_order types final ps (counted_says types name ps cs final counted)) at in
     let count : fits.part_count types t ≡ fits.count_said final = ap (λ (o : Option TypeForm). fits.count_said (fits.finalization_in o)) is in
     omega (arith, h, count)
 
@@ -393,14 +393,21 @@ positive (suc n) off = omega arith
 pub made_next : (n : ℕ) (made : Composition) → IsNext n (finalization_made n made)
 made_next n made = by_count (eqb made.controlled 0)
   where
-    by_count : (b : Bool) → IsNext n (cond b None (Some (record { number = record { 0 = n }; parts = made.controlled; limited = made.limited })))
+    by_count : (b : Bool) → IsNext n (cond b None (Some (record { number = record { 0 = n }; parts = made.controlled; limited = made.limited; operations = no_operations })))
     by_count true = tt
+    by_count false = refl
+
+pub made_overrides : (n : ℕ) (made : Composition) → fits.overrides_nothing (finalization_made n made) ≡ true
+made_overrides n made = by_count (eqb made.controlled 0)
+  where
+    by_count : (b : Bool) → fits.overrides_nothing (cond b None (Some (record { number = record { 0 = n }; parts = made.controlled; limited = made.limited; operations = no_operations }))) ≡ true
+    by_count true = refl
     by_count false = refl
 
 pub made_says : (types : List TypeForm) (n : ℕ) (made : Composition) → list_all (fits.type_fits types) types ≡ true → n ≡ fits.numbered_types types → fits.parts_in_order types made.controlled 0 made.parts ≡ true → fits.says_parts types (finalization_made n made) made.parts ≡ true
 made_says types n made all next e = by_count (eqb made.controlled 0) refl
   where
-    by_count : (b : Bool) → eqb made.controlled 0 ≡ b → fits.says_parts types (cond b None (Some (record { number = record { 0 = n }; parts = made.controlled; limited = made.limited }))) made.parts ≡ true
+    by_count : (b : Bool) → eqb made.controlled 0 ≡ b → fits.says_parts types (cond b None (Some (record { number = record { 0 = n }; parts = made.controlled; limited = made.limited; operations = no_operations }))) made.parts ≡ true
     by_count true on = subst (λ (count : ℕ). fits.parts_in_order types count 0 made.parts ≡ true) (eqb-true made.controlled 0 on) e
     by_count false off =
         let some = nat_lt 0 made.controlled in
@@ -409,16 +416,20 @@ made_says types n made all next e = by_count (eqb made.controlled 0) refl
         (both_parts some in_order (lt-ltb 0 made.controlled (positive made.controlled off)) e)
         (subst (λ (m : ℕ). list_all (λ (p : PartForm). fits.is_of_earlier types m p.kind) made.parts ≡ true) (sym next) (all_of_earlier types made.parts all))
 
--- a record type of these components says how many controlled parts it has, with the next number
+-- a record type of these components says how many controlled parts it has, with the next number, and overrides nothing
 abbrev pub SaysParts : List TypeForm → List PartForm → Option Finalization → Type 0
-SaysParts types ps final = IsNext (fits.numbered_types types) final × (fits.parent_first ps ≡ true) × (fits.says_parts types final ps ≡ true)
+SaysParts types ps final =
+    IsNext (fits.numbered_types types) final × (fits.parent_first ps ≡ true) × (fits.says_parts types final ps ≡ true) × (fits.overrides_nothing final ≡ true)
 
 -- so it is counted where it is one more type
 pub record_counted : (types more : List TypeForm) (name : List ℕ) (ps : List PartForm) (cs : List ComponentKind) (final : Option Finalization) → list_all (fits.type_fits types) types ≡ true → OneMore types more final → IsAlike types more (record_of name ps cs final) → SaysParts types ps final → is_counted more (record_of name ps cs final) ≡ true
 record_counted types more name ps cs final all one alike w =
-    both_parts (fits.parent_first ps && fits.says_parts more final ps) (fits.is_numbered_alone more final)
-    (both_parts (fits.parent_first ps) (fits.says_parts more final ps) w.1 (says_alike types more final ps alike ∙ w.2))
-    (next_alone types more final all one w.0)
+    let first = fits.parent_first ps in
+    let says : Bool = fits.says_parts more final ps in
+    let alone : Bool = fits.is_numbered_alone more final in
+    both_parts (first && says && alone) (fits.overrides_nothing final)
+    (both_parts (first && says) alone (both_parts first says w.1 (says_alike types more final ps alike ∙ w.2)) (next_alone types more final all one w.0))
+    w.3
 
 -- as many types are counted as there are then
 pub counts_on : (types more : List TypeForm) (final : Option Finalization) (n : ℕ) → OneMore types more final → n ≡ fits.numbered_types types → counted final n ≡ fits.numbered_types more

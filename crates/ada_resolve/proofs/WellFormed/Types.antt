@@ -27,7 +27,7 @@ use Rattle.ada_resolve.specs.Records.{kind_in, kind_of_component, kinds_within, 
 use Rattle.ada_resolve.specs.Derived.{parent_part, with_parent}
 use Rattle.ada_resolve.specs.Types.{record_in, record_found}
 use Rattle.ada_resolve.proofs.WellFormed.Remarks.{Quiet}
-use Rattle.ada_resolve.proofs.WellFormed.Numbered.{IsNext, SaysParts, order_last, first_last, made_next, made_says}
+use Rattle.ada_resolve.proofs.WellFormed.Numbered.{IsNext, SaysParts, order_last, first_last, made_next, made_overrides, made_says}
 use Rattle.ada_resolve.proofs.WellFormed.Tables.{both_parts, all_more, all_get, each_more, plain_of}
 use Rattle.ada_resolve.proofs.WellFormed.Laid.{OfParts, RecordHas, IsLaid, laid_more}
 use Rattle.ada_resolve.proofs.WellFormed.Names.{EntityFits, PartsFit, visible_fits}
@@ -178,6 +178,7 @@ made_counted k before cs begun all next =
       subst (λ (n : ℕ). IsNext n (finalization_made k.controlled made)) next (made_next k.controlled made),
       composed_first k before cs (begun_first before begun),
       made_says k.types k.controlled made all next (made_order k before cs begun),
+      made_overrides k.controlled made,
     )
 
 -- a record type that is found is the one that the name stands for

@@ -8,3 +8,6 @@ returns-clause-inside_begun c program input events last run = (runs.finalization
 
 pub returns-clause-all_stand : goal.returns-clause-all_stand
 returns-clause-all_stand c = standing.all_stand
+
+pub returns-clause-nothing_treated : goal.returns-clause-nothing_treated
+returns-clause-nothing_treated c = standing.nothing_treated

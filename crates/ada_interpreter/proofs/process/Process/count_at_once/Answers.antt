@@ -19,7 +19,7 @@ returns-then-value-last-clause-steps c program runs =
     let first : s.control ≡ frame.Counts w.parameter.0 value w.last fs ∷ k = same_control c.requires ∙ ap (λ ks. frame.Counts w.parameter.0 value w.last fs ∷ ks) (older_control c.args.self.now.frames) in
     let past : int_le value w.last ≡ false = grind (arith, common_steps, c.if-value-last.true) in
     rw (c.shorten.ensures, older_control c.args.self.now.frames)
-    (comes_to program s (frame.Counts w.parameter.0 value w.last fs) k runs first refl (passed s)
+    (comes_to program s (frame.Counts w.parameter.0 value w.last fs) k runs first refl refl (passed s)
     (goes_once (sym (counts_done w.parameter.0 value w.last fs (passed s) past))))
 
 pub returns-clause-steps : goal.returns-clause-steps
@@ -33,6 +33,6 @@ returns-clause-steps c program runs =
     let up : int_le value w.last ≡ true = grind (arith, common_steps, c.if-value-last.false) in
     let some : (length w.statements.now == 0) ≡ false = sym c.is_empty.ensures ∙ c.if-is_empty.false in (
       grind (arith, common_steps, some),
-      comes_to program s (frame.Counts w.parameter.0 value w.last fs) k runs first refl (pushed (frame.Does fs) (state_of c.put.new.self))
+      comes_to program s (frame.Counts w.parameter.0 value w.last fs) k runs first refl refl (pushed (frame.Does fs) (state_of c.put.new.self))
           (goes_once (grind (arith, common_steps, c.put.ensures.state, c.set_count.ensures, c.requires, older_control c.args.self.now.frames, counts_turn w.parameter.0 value w.last w.statements.now (passed s) up some))),
     )

@@ -14,13 +14,14 @@ statements-init c = record {
 pub steps-smaller : goal.steps-smaller
 steps-smaller c =
     let starts : begins (state_of c.steps.self) ≡ false = sym c.begins.ensures ∙ c.steps-test.true in
-    let made = rw c.if-not-branch.false at (c.in_ok-make_common_step.ensures c.args.program.now) in
-    lighter_behind c.steps_make_lighter.ensures c.args.program.now (state_of c.steps.self) (state_of c.make_common_step.new.self) made starts
+    let made = rw c.if-not-branch.false at (c.in_ok-make_common_step.ensures.steps c.args.program.now) in
+    let calls = rw c.if-not-branch.false at (c.in_ok-make_common_step.ensures.calls c.args.program.now) in
+    lighter_behind c.steps_make_lighter.ensures.lighter c.args.program.now (state_of c.steps.self) (state_of c.make_common_step.new.self) made starts calls
 
 pub steps-preserved : goal.steps-preserved
 steps-preserved c =
     let starts : begins (state_of c.steps.self) ≡ false = sym c.begins.ensures ∙ c.steps-test.true in
-    let made = rw c.if-not-branch.false at (c.in_ok-make_common_step.ensures c.args.program.now) in
+    let made = rw c.if-not-branch.false at (c.in_ok-make_common_step.ensures.steps c.args.program.now) in
     record {
       steps = more_steps c.steps.invariant.steps made starts;
       left = c.steps.invariant.left;
@@ -28,7 +29,7 @@ steps-preserved c =
 
 pub returns-then-not-branch-clause-steps : goal.returns-then-not-branch-clause-steps
 returns-then-not-branch-clause-steps c =
-    let same : c.make_common_step.new.self ≡ c.steps.self = rw c.if-not-branch.true at (c.in_ok-make_common_step.ensures c.args.program.now) in
+    let same : c.make_common_step.new.self ≡ c.steps.self = rw c.if-not-branch.true at (c.in_ok-make_common_step.ensures.steps c.args.program.now) in
     rw same c.steps.invariant.steps
 
 pub returns-in-None-clause-steps : goal.returns-in-None-clause-steps

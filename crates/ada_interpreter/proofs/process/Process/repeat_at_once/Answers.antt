@@ -20,7 +20,7 @@ returns-in_default-clause-steps c program runs =
     let some : (length c.args.statements.now == 0) ≡ false = sym c.is_empty.ensures ∙ c.if-is_empty.false in (
       grind (arith, common_steps, some),
       subst (λ (k' : List (Frame Value)). ComesTo program s (step.at (frame.Does fs ∷ k') s)) (sym first)
-          (comes_to program s (frame.Repeats None fs) k runs first refl _ (goes_once (sym (begins_turn None c.args.statements.now (passed s) some)))),
+          (comes_to program s (frame.Repeats None fs) k runs first refl refl _ (goes_once (sym (begins_turn None c.args.statements.now (passed s) some)))),
     )
 
 pub returns-in-Some-true-clause-steps : goal.returns-in-Some-true-clause-steps
@@ -34,7 +34,7 @@ returns-in-Some-true-clause-steps c program runs =
     let some : (length c.args.statements.now == 0) ≡ false = sym c.is_empty.ensures ∙ c.if-is_empty.false in (
       grind (arith, common_steps, some),
       subst (λ (k' : List (Frame Value)). ComesTo program s (step.at (frame.Does fs ∷ k') s)) (sym first)
-          (comes_to program s (frame.Repeats (Some e) fs) k runs first refl _
+          (comes_to program s (frame.Repeats (Some e) fs) k runs first refl refl _
           (turned program (passed s) e true runs known.0 known.1 fs _ (begins_turn (Some e) c.args.statements.now (passed s) some))),
     )
 
@@ -47,5 +47,5 @@ returns-in-Some-false-clause-steps c program runs =
     let first : s.control ≡ frame.Repeats (Some e) fs ∷ k = rw c.in-Some.is at c.requires in
     let known = rw (c.in-Some-false.is, c.in-Some-false.field-0-test) at c.truth_at_once.ensures in
     rw (c.shorten.ensures, older_control c.args.self.now.frames)
-    (comes_to program s (frame.Repeats (Some e) fs) k runs first refl (passed s)
+    (comes_to program s (frame.Repeats (Some e) fs) k runs first refl refl (passed s)
     (turned program (passed s) e false runs known.0 known.1 fs (passed s) refl))
