@@ -12,6 +12,7 @@ use Rattle.ada_values.specs.Outcome.{outcome_of, unary_outcome_of}
 use Rattle.ada_program.specs.declared.program.Branch.{Branch}
 use Rattle.ada_program.specs.declared.program.Program.{Program}
 use Rattle.ada_program.specs.declared.program.Stmt.{Stmt}
+use Rattle.ada_program.specs.declared.program.TypeDefinition.{TypeDefinition}
 use Rattle.ada_program.specs.declared.program.VariableNo.{VariableNo}
 use Rattle.ada_program.specs.Form.{PathForm, ExpressionForm, integer, boolean, reads, is_null, applied_to, chained, LinksForm, no_more_links, a_link, RightForm, nothing, value_of, allocates, allocates_default, computes, StmtsForm, no_stmts, a_stmt, BranchesForm, a_branch, branches_form, stmts_form, StmtForm, stmt_form}
 use Rattle.ada_program.specs.ProgramForm.{body_forms}
@@ -22,7 +23,7 @@ use Rattle.ada_meaning.specs.declared.state.Mode.TheVariants.{Running}
 use Rattle.ada_meaning.specs.Frame.{Frame, begins_by}
 use Rattle.ada_meaning.specs.Frame as frame
 use Rattle.ada_meaning.specs.Event.{Quiet}
-use Rattle.ada_meaning.specs.Ending.{frame_calls, calls_among, calls_operation}
+use Rattle.ada_meaning.specs.Ending.{frame_calls, calls_among, calls_in, calls_operation}
 use Rattle.ada_meaning.specs.State.{Activation, begins, begins_in, begins_among}
 use Rattle.ada_meaning.specs.Step.{moves, is_decided, named_next, null_test_next, outcome_next, link_next, assign_next, branches_next, decided_next, repeats_next, turned_next, turn_next, exit_next, exited_next, frame_next, running_next, mode_next, at, first_or, older, places_of, operands_of, with_operands, places, newest, computed, popped, put, stmt_next, counts_next}
 use Rattle.ada_meaning.specs.Named.{State, next, named, boolean_in, reads_boolean, reads_null, as_value, whole, an_integer}
@@ -272,6 +273,11 @@ frame_comes program s f k runs first =
 none_begins : (s : State) (f : Frame Value) (k : List (Frame Value)) → s.mode ≡ Running → s.control ≡ f ∷ k → begins_by f ≡ false → begins s ≡ false
 none_begins s f k runs first starts = ap (λ (m : Mode). begins_in m s.control) runs ∙ (ap (λ (c : List (Frame Value)). begins_among c) first ∙ starts)
 
+-- and calls no operation, unless it is a treatment's
+none_calls : (types : List TypeDefinition) (s : State) (f : Frame Value) (k : List (Frame Value)) → s.mode ≡ Running → s.control ≡ f ∷ k → frame_calls types f ≡ false → calls_operation types s ≡ false
+none_calls types s f k runs first calls =
+    ap (λ (m : Mode). calls_in types m s.control) runs ∙ (ap (λ (c : List (Frame Value)). calls_among types c) first ∙ calls)
+
 -- some statements are left to do
 pub some_left : (statements : List Stmt) (k : List (Frame Value)) → (length statements == 0) ≡ false → frame.Does (stmts_form statements) ∷ k ≡ statements_left (stmts_form statements) k
 some_left [] k some = absurd (cc some)
@@ -280,7 +286,8 @@ some_left (f ∷ fs) k some = refl
 -- statements of which none is left are passed
 pub done_within : (program : Program) (fs : StmtsForm) (k : List (Frame Value)) (s : State) → s.mode ≡ Running → GoesWithin program (at (frame.Does fs ∷ k) s) (at (statements_left fs k) s)
 done_within program no_stmts k s runs =
-    one_within program (at (frame.Does no_stmts ∷ k) s) (at k s) (none_begins (at (frame.Does no_stmts ∷ k) s) (frame.Does no_stmts) k runs refl refl) refl
+    one_within program (at (frame.Does no_stmts ∷ k) s) (at k s) (none_begins (at (frame.Does no_stmts ∷ k) s) (frame.Does no_stmts) k runs refl refl)
+    (none_calls program.types.items (at (frame.Does no_stmts ∷ k) s) (frame.Does no_stmts) k runs refl refl)
     (frame_comes program (at (frame.Does no_stmts ∷ k) s) (frame.Does no_stmts) k runs refl)
 done_within program (a_stmt f fs) k s runs = stays_within
 
@@ -289,7 +296,8 @@ module _ (program : Program) (s : State) (e : ExpressionForm) (v : ScalarValue) 
   value_then : (f : Frame Value) (k : List (Frame Value)) (last : State) → begins_by f ≡ false → frame_calls program.types.items f ≡ false → frame_next named program.types.items (body_forms program) f (computed (Scalar v) (at k s)) ≡ moves Quiet last → GoesWithin program (at (frame.Computes e ∷ f ∷ k) s) last
   value_then f k last starts calls comes =
       joined (goes_to_value program s e v (f ∷ k) runs some is)
-      (one_within program (computed (Scalar v) (at (f ∷ k) s)) last (none_begins (computed (Scalar v) (at (f ∷ k) s)) f k runs refl starts) calls
+      (one_within program (computed (Scalar v) (at (f ∷ k) s)) last (none_begins (computed (Scalar v) (at (f ∷ k) s)) f k runs refl starts)
+      (none_calls program.types.items (computed (Scalar v) (at (f ∷ k) s)) f k runs refl calls)
       (frame_comes program (computed (Scalar v) (at (f ∷ k) s)) f k runs refl ∙ comes))
 
   -- A variable gets it (5.2).
@@ -300,7 +308,8 @@ module _ (program : Program) (s : State) (e : ExpressionForm) (v : ScalarValue) 
     behind =
         joined
         (one_within program (at (frame.Evaluates (computes e) ∷ frame.Stores x ∷ s.control) s) (at (frame.Computes e ∷ frame.Stores x ∷ s.control) s)
-        (none_begins (at (frame.Evaluates (computes e) ∷ frame.Stores x ∷ s.control) s) (frame.Evaluates (computes e)) (frame.Stores x ∷ s.control) runs refl refl) refl
+        (none_begins (at (frame.Evaluates (computes e) ∷ frame.Stores x ∷ s.control) s) (frame.Evaluates (computes e)) (frame.Stores x ∷ s.control) runs refl refl)
+        (none_calls program.types.items (at (frame.Evaluates (computes e) ∷ frame.Stores x ∷ s.control) s) (frame.Evaluates (computes e)) (frame.Stores x ∷ s.control) runs refl refl)
         (frame_comes program (at (frame.Evaluates (computes e) ∷ frame.Stores x ∷ s.control) s) (frame.Evaluates (computes e)) (frame.Stores x ∷ s.control) runs refl))
         (value_then (frame.Stores x) s.control (put x (Scalar v) s) refl refl
         (ap (λ (w : Value). moves Quiet (put x w (popped (computed (Scalar v) s)))) (newest_computed (Scalar v) s some) ∙ ap (λ (t : State). moves Quiet (put x (Scalar v) t)) (popped_computed (Scalar v) s)));
@@ -378,7 +387,7 @@ behind_done program first t fs k statements runs so_far = quietly_within so_far 
 pub comes_to : (program : Program) (s : State) (f : Frame Value) (k : List (Frame Value)) → s.mode ≡ Running → s.control ≡ f ∷ k → begins_by f ≡ false → frame_calls program.types.items f ≡ false → (last : State) → GoesOn program (frame_next named program.types.items (body_forms program) f (at k s)) last → ComesTo program s last
 comes_to program s f k runs first starts calls last on = (
   none_begins s f k runs first starts,
-  ap (λ (c : List (Frame Value)). calls_among program.types.items c) first ∙ calls,
+  none_calls program.types.items s f k runs first calls,
   record {
     mid = on.mid;
     comes = ap (λ (c : List (Frame Value)). running_next named program.types.items (body_forms program) c s) first ∙ on.comes;
