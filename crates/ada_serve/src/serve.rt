@@ -159,7 +159,6 @@ pub fn serve<S: ByteReader, I: ByteReader, W: ByteWriter>(
 }
 
 /// Writes the answer to an accepted source.
-#[tactic(auto, using(ada_program::proofs::Overridden::nothing_overridden))]
 fn answer<I: ByteReader, W: ByteWriter>(
     alloc: Global,
     accepted: &Accepted,

@@ -1,4 +1,8 @@
+use Rattle.std.proofs.Common.{sym, subst}
 use Rattle.std.proofs.lemmas.Result.{err_from_is_err_and}
+use Rattle.ada_program.specs.declared.program.Program.{Program}
+use Rattle.ada_program.specs.Controlled.{OverridesNothing}
+use Rattle.ada_program.proofs.Overridden.{nothing_overridden}
 use Rattle.ada_serve.specs.Calls.{IsRead}
 use Rattle.ada_serve.proofs.Answering.{input_unwritten, answers_run}
 use Rattle.ada_serve.proofs.serve.answer.Goals as goal
@@ -11,3 +15,10 @@ returns-in_err-numbers-clause-writer g c =
 pub returns-then-options-clause-text : goal.returns-then-options-clause-text
 returns-then-options-clause-text g c =
     answers_run (IsRead g.I.ByteReader.remaining g.I.ByteReader.reads c.args.input.now c.read_numbers.new.input) c.args.accepted.now c.program-program.result.now c.in_ok-numbers.numbers.items c.args.options.now (g.W.ByteWriter.contents c.args.out.now) (g.W.ByteWriter.contents c.run.new.out) c.run.result c.if-options.true c.program-program.ensures.program c.in_ok-numbers.ensures.numbers c.run.ensures.text
+
+pub run-requires : goal.run-requires
+run-requires g c = record {
+  inherits =
+      subst (λ (p : Program). OverridesNothing p.types.items) (sym c.program-program.ensures.program)
+      (nothing_overridden c.args.accepted.now c.program-program.ensures.formed);
+}
