@@ -1,0 +1,12 @@
+-- where more is known, more is done
+pub mod More
+-- the nodes of callees
+pub mod Numbering
+-- edges that are added
+pub mod Edges
+-- the graph of calls, node by node, and what is reached in it
+pub mod Calling
+-- the marks of all deeds of a program
+pub mod Exact
+-- the example
+pub mod Example

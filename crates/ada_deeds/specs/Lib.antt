@@ -1,0 +1,20 @@
+-- The definitions of this crate, in the order in which they are read.
+
+-- of which access types the evaluation of a form follows values
+pub mod Follows
+-- what forms do, where this is known of what they call
+pub mod Forms
+-- what does a deed
+pub mod Does
+-- laws of what does a deed
+pub mod Laws
+-- two procedures that call one another, and a third one
+pub mod Example
+-- what the values of the code stand for
+pub mod View
+-- the graph of calls
+pub mod Graph
+-- what the code keeps of the deeds of a program
+pub mod Rows
+-- what the bodies of operations must not do
+pub mod Operations

@@ -1,0 +1,45 @@
+//! What a body may do beside its normal end, and what it may call.
+
+use ada_program::program::Exception;
+use ada_program::{ProcedureNo, TypeNo};
+
+/// What a body may do beside its normal end.
+#[derive(Clone, Copy, Debug, PartialEq, Eq)]
+pub enum Deed {
+    /// An exception comes out of it (11.4).
+    Raises(Exception),
+    /// An object of an access type is freed (13.11.2).
+    Frees(TypeNo),
+    /// A value of an access type is followed to its object (4.1).
+    Follows(TypeNo),
+    /// An object is created by an allocator (4.8).
+    Allocates,
+}
+
+/// An operation of a controlled type (7.6).
+#[derive(Clone, Copy, Debug, PartialEq, Eq)]
+pub enum Operation {
+    Initialize,
+    Adjust,
+    Finalize,
+}
+
+/// What is called.
+#[derive(Clone, Copy, Debug, PartialEq, Eq)]
+pub enum Callee {
+    /// A procedure, by a statement (6.4).
+    Procedure(ProcedureNo),
+    /// An operation of the controlled parts of an object of a record type, implicitly (7.6).
+    Parts(Operation, TypeNo),
+}
+
+/// A rule on the bodies that override operations of controlled types.
+#[derive(Clone, Copy, Debug, PartialEq, Eq)]
+pub enum OperationRule {
+    /// S8: Adjust or Finalize uses objects of an access type whose collection may have ended.
+    FinalizeOrder,
+    /// S9: an exception may come out of Adjust or Finalize.
+    MayPropagate,
+    /// S10: Finalize creates an object.
+    FinalizeAllocates,
+}

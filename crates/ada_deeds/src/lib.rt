@@ -1,0 +1,22 @@
+//! Deeds: what the calls of procedures may do beside their normal end, where calls may go in circles.
+//!
+//! A deed is done by a procedure where its body does it itself, or calls what does it: by a statement, or implicitly, where
+//! objects of controlled types are created, copied, assigned to or ended. What does a deed is the least set for which this holds.
+#![tactic(auto)]
+
+mod callees;
+mod callers;
+mod deed;
+mod deeds;
+mod doers;
+mod evaluations;
+mod follows;
+mod found;
+pub mod laws;
+mod nodes;
+mod statements;
+mod walk;
+
+pub use crate::deed::{Callee, Deed, Operation, OperationRule};
+pub use crate::deeds::Deeds;
+pub use crate::statements::{declaration_does, ending_does, statement_does};
