@@ -48,6 +48,7 @@ initialize = record {
   declarations = vec [] (omega arith);
   statements = vec (stmt.Raise ConstraintError ∷ []) (omega arith);
   handlers = vec [] (omega arith);
+  start = spot;
   end = spot;
 }
 

@@ -40,13 +40,15 @@ controlled_stmts =
     no_handlers)
     no_stmts
 
--- The objects X and Y, and the one that is allocated.
+-- The object X.
 abbrev pub object_x : Value
 object_x = Names (record { 0 = 0 })
 
+-- The object Y.
 abbrev pub object_y : Value
 object_y = Names (record { 0 = 1 })
 
+-- The object of the allocator.
 abbrev pub object_new : Value
 object_new = Names (record { 0 = 2 })
 
@@ -97,6 +99,7 @@ raising_initialize = record {
   declarations = [];
   statements = a_stmt (raises ConstraintError) no_stmts;
   handlers = no_handlers;
+  start_spot = record { line = 1; column = 1 };
   end_spot = record { line = 1; column = 1 };
 }
 

@@ -33,7 +33,7 @@ use Rattle.ada_program.specs.declared.program.Variable.{Variable}
 use Rattle.ada_program.specs.declared.program.VariableKind.{VariableKind}
 use Rattle.ada_program.specs.declared.program.VariableNo.{VariableNo}
 use Rattle.ada_program.specs.Form.{PathForm, ItemForm, ExpressionForm, StmtsForm, branches_form, HandlersForm, no_handlers, a_handler, condition_form, declaration_form, handlers_form, path_form, right_form, stmts_form}
-use Rattle.ada_program.specs.ProgramForm.{TypeForm, type_form, VariableForm, variable_form, BodyForm}
+use Rattle.ada_program.specs.ProgramForm.{TypeForm, type_form, VariableForm, variable_form, BodyForm, nowhere}
 use Rattle.ada_program.specs.WellFormed.{access_of}
 use Rattle.ada_effects.specs.Effects.{Effect, passes}
 use Rattle.ada_effects.specs.Found.{effects_in as effects_held}
@@ -305,7 +305,7 @@ abbrev pub kept_judgement : Outcome → List FormalMode → Result Keeping (Spot
 kept_judgement (faults spot rule) modes = Err (spot, rule)
 kept_judgement (goes normal raising) modes = Ok (kept_from raising 0 modes)
 
--- A body, as the code keeps its parts.
+-- A body, as the code keeps its parts. No rule of flow asks where its first token stands.
 abbrev pub body_in : List FormalMode → List Variable → List Declaration → List Stmt → List Handler → (end_spot : Spot) → BodyForm
 body_in modes variables declarations statements handlers end_spot = record {
   formals = modes;
@@ -313,6 +313,7 @@ body_in modes variables declarations statements handlers end_spot = record {
   declarations = map declaration_form declarations;
   statements = stmts_form statements;
   handlers = handlers_form handlers;
+  start_spot = nowhere;
   end_spot = end_spot;
 }
 

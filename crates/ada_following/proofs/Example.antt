@@ -138,6 +138,7 @@ raising = record {
   declarations = vec [] (omega arith);
   statements = vec (stmt.Raise ConstraintError ∷ []) (omega arith);
   handlers = vec [] (omega arith);
+  start = spot;
   end = spot;
 }
 

@@ -34,6 +34,7 @@ abbrev pub inner_at : (first : ℕ) → (number : Option ℕ) → List Inner
 inner_at first None = []
 inner_at first (Some n) = record { first = first; of = n } ∷ []
 
+-- The same of a declared component that begins with this one.
 abbrev pub inner_by : List TypeDefinition → (first : ℕ) → PartKind → List Inner
 inner_by types first (part.Elementary kind) = []
 inner_by types first (part.Record t) = inner_at first (number_of types (Some t.0))

@@ -93,6 +93,7 @@ operation formal statement = record {
   declarations = vec [] (omega arith);
   statements = vec (statement ∷ []) (omega arith);
   handlers = vec [] (omega arith);
+  start = spot;
   end = spot;
 }
 
@@ -229,6 +230,8 @@ well_formed : IsWellFormed (program_form plain)
 unfolding expression_form stmt_form
 well_formed = record {
   types_fit = refl;
+  components_lie = refl;
+  operations_fit = refl;
   pools_fit = refl;
   variables_fit = refl;
   creates_in_order = refl;

@@ -21,7 +21,7 @@ use Rattle.ada_program.specs.declared.program.TypeDefinition.TheVariants as defi
 use Rattle.ada_program.specs.declared.program.TypeNo.{TypeNo}
 use Rattle.ada_program.specs.Controlled.{number_in, number_by, number_of, is_number, type_numbered, parts_by, has_parent, is_parent, has_parts, operations_in, operations_by, firsts_in, firsts_from, firsts_of_kind, own_first, firsts_by, firsts_up_to, part_firsts}
 use Rattle.ada_program.specs.ProgramForm.{PartForm, TypeForm, record_of, access_to, object_of, part_form, type_form, program_form}
-use Rattle.ada_program.specs.WellFormed.{IsWellFormed, finalization_in, finalization_of, count_said, kind_fits, says_parts, is_numbered_alone, part_count, parts_within, is_parent as is_parent_form, is_numbered_below, is_of_earlier, parts_in_order, parent_first, has_number, numbered_types, type_fits, overrides_nothing}
+use Rattle.ada_program.specs.WellFormed.{IsWellFormed, finalization_in, finalization_of, count_said, kind_fits, says_parts, is_numbered_alone, part_count, parts_within, is_parent as is_parent_form, is_numbered_below, is_of_earlier, parts_in_order, parent_first, has_number, numbered_types, type_fits}
 use Rattle.ada_program.proofs.Firsts.{firsts_length, as_many_firsts}
 use Rattle.ada_program.proofs.Shapes.{TypesFit, same_number, same_types, parts_said}
 use Rattle.ada_meaning.specs.Places.{Declares, RecordsBeginThemselves, PartsBeginWithComponents, PartsAreCounted, NumbersAreAlone, TypesHaveTheirOperations}
@@ -123,12 +123,12 @@ stands types t name ps components f declared = go (slice_get types t) refl (sym 
     go (Some (definition.Object record_type)) at is = absurd (cc is)
 
 -- What a well-formed program says of it.
-record Says (types : List TypeDefinition) (ps : List PartForm) (f : Finalization) : Type 0 where
-  parents : parent_first ps ≡ true
-  in_order : parts_in_order (map type_form types) f.parts 0 ps ≡ true
-  earlier : list_all (λ p. is_of_earlier (map type_form types) f.number.0 p.kind) ps ≡ true
-  below : f.number.0 < count_by has_parts types
-  alone : count_by (λ u. has_number f.number.0 (finalization_in (Some u))) (map type_form types) ≡ 1
+pub record Says (types : List TypeDefinition) (ps : List PartForm) (f : Finalization) : Type 0 where
+  pub parents : parent_first ps ≡ true
+  pub in_order : parts_in_order (map type_form types) f.parts 0 ps ≡ true
+  pub earlier : list_all (λ p. is_of_earlier (map type_form types) f.number.0 p.kind) ps ≡ true
+  pub below : f.number.0 < count_by has_parts types
+  pub alone : count_by (λ u. has_number f.number.0 (finalization_in (Some u))) (map type_form types) ≡ 1
 
 says_of : (types : List TypeDefinition) (name : List ℕ) (ps : List PartForm) (components : List ComponentKind) (f : Finalization)
     → type_fits (map type_form types) (record_of name ps components (Some f)) ≡ true → Says types ps f
@@ -150,9 +150,7 @@ says_of types name ps components f fits = record {
     earlier_parts = list_all (λ p. is_of_earlier forms f.number.0 p.kind) ps
 
     apart : (((kinds && parent_first ps) && says_parts forms (Some f) ps) ≡ true) × (is_numbered_alone forms (Some f) ≡ true)
-    apart =
-        both ((kinds && parent_first ps) && says_parts forms (Some f) ps) (is_numbered_alone forms (Some f))
-        (both ((kinds && parent_first ps && says_parts forms (Some f) ps) && is_numbered_alone forms (Some f)) (overrides_nothing (Some f)) fits).0
+    apart = both ((kinds && parent_first ps) && says_parts forms (Some f) ps) (is_numbered_alone forms (Some f)) fits
 
     saying : ((kinds && parent_first ps) ≡ true) × (says_parts forms (Some f) ps ≡ true)
     saying = both (kinds && parent_first ps) (says_parts forms (Some f) ps) apart.0
@@ -172,12 +170,12 @@ says program t ps f well (name, components, declared) =
 
 -- A type with a number is declared, with components.
 pub record IsDeclared (program : Program) (t n : ℕ) : Type 0 where
-  ps : List PartForm
-  f : Finalization
-  declares : Declares program t ps f
-  numbered : f.number.0 ≡ n
+  pub ps : List PartForm
+  pub f : Finalization
+  pub declares : Declares program t ps f
+  pub numbered : f.number.0 ≡ n
 
-is_declared : (program : Program) (t n : ℕ) → number_of program.types.items (Some t) ≡ Some n → IsDeclared program t n
+pub is_declared : (program : Program) (t n : ℕ) → number_of program.types.items (Some t) ≡ Some n → IsDeclared program t n
 is_declared program t n is = go (slice_get (map type_form program.types.items) t) refl (sym (same_number program.types.items t) ∙ is)
   where
     go : (o : Option TypeForm) → slice_get (map type_form program.types.items) t ≡ o → number_in (finalization_in o) ≡ Some n → IsDeclared program t n
@@ -372,17 +370,19 @@ controlled_so (p ∷ ps) (suc i) q at is = later (is_parent p.kind) (controlled_
     later false some = some
 
 -- What is known of a type that is declared.
-record Known (program : Program) (t : ℕ) (ps : List PartForm) (f : Finalization) : Type 0 where
-  qs : List Part
-  forms : ps ≡ map part_form qs
-  says_so : Says program.types.items (map part_form qs) f
-  firsts : part_firsts program.types.items (Some f.number.0) ≡ firsts_by program.types.items (firsts_up_to program.types.items f.number.0) qs
+pub record Known (program : Program) (t : ℕ) (ps : List PartForm) (f : Finalization) : Type 0 where
+  pub qs : List Part
+  pub forms : ps ≡ map part_form qs
+  pub lists : parts_by (type_numbered program.types.items f.number.0) ≡ qs
+  pub says_so : Says program.types.items (map part_form qs) f
+  pub firsts : part_firsts program.types.items (Some f.number.0) ≡ firsts_by program.types.items (firsts_up_to program.types.items f.number.0) qs
 
-known : (program : Program) (t : ℕ) (ps : List PartForm) (f : Finalization) → IsWellFormed (program_form program) → Declares program t ps f
+pub known : (program : Program) (t : ℕ) (ps : List PartForm) (f : Finalization) → IsWellFormed (program_form program) → Declares program t ps f
     → Known program t ps f
 known program t ps f well (name, components, declared) = record {
   qs = s.qs;
   forms = s.forms;
+  lists = ap parts_by found ∙ s.lists;
   says_so = subst (λ (rs : List PartForm). Says program.types.items rs f) s.forms so;
   firsts =
       own_firsts program.types.items f.number.0 so.below

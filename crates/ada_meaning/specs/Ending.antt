@@ -260,6 +260,7 @@ abbrev pub frame_calls : {V : Type 0} → List TypeDefinition → Frame V → Bo
 frame_calls types (frame.Treats v treatment tasks) = task_calls types treatment (task_next tasks)
 frame_calls types f = false
 
+-- Does the first of these frames, which is next, call one?
 abbrev pub calls_among : {V : Type 0} → List TypeDefinition → List (Frame V) → Bool
 calls_among types [] = false
 calls_among types (f ∷ k) = frame_calls types f

@@ -117,14 +117,15 @@ pub data Visits (program : Program) : State → List Premise → List Event → 
       {s last : State} {premise : Premise} {premises : List Premise} {events : List Event} → Meets program premise s
       → Visits program s premises events last → Visits program s (premise ∷ premises) events last
 
--- What three types override, by their numbers: type First is new Controlled with record V : Integer; end record; overrides Initialize; type Second is new
--- Controlled with null record; overrides Finalize; type Both is new Controlled with record A : First; B : Second; end record; overrides Initialize.
+-- type First is new Controlled with record V : Integer; end record; which overrides Initialize.
 abbrev pub operations_first : Operations
 operations_first = record { initialize = Some (record { 0 = 0 }); adjust = None; finalize = None }
 
+-- type Second is new Controlled with null record; which overrides Finalize.
 abbrev pub operations_second : Operations
 operations_second = record { initialize = None; adjust = None; finalize = Some (record { 0 = 1 }) }
 
+-- type Both is new Controlled with record A : First; B : Second; end record; which overrides Initialize.
 abbrev pub operations_both : Operations
 operations_both = record { initialize = Some (record { 0 = 2 }); adjust = None; finalize = None }
 

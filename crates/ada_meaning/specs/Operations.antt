@@ -204,6 +204,7 @@ pub record IsUndone (e : Exception) (done : List Part) (o : Id) (object : Object
             (frame.Ends (Names o) ∷ frame.GivesBack (Names o) (Undoing before.next) object.cell.home.pool ∷ frame.Resumes (Raising e) ∷ outer);
       }
 
+-- So it is in each step that an exception makes out of an Initialize.
 abbrev pub FailedInitializesAreUndone : Type 0
 FailedInitializesAreUndone =
     (program : Program) (e : Exception) (done : List Part) (tasks : List Task) (of part : ℕ) (o : Id) (object : Object) (outer : List (Frame Value))

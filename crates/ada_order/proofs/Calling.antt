@@ -50,6 +50,7 @@ procedure = record {
   declarations = vec [] (omega arith);
   statements = vec (block ∷ stmt.PutImage (Integer (pos 9)) ∷ []) (omega arith);
   handlers = vec [] (omega arith);
+  start = spot;
   end = spot;
 }
 

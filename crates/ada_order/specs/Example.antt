@@ -114,6 +114,7 @@ returning_body = record {
   declarations = [];
   statements = a_stmt returning_block (a_stmt (writes (integer (pos 9))) no_stmts);
   handlers = no_handlers;
+  start_spot = record { line = 1; column = 1 };
   end_spot = record { line = 1; column = 1 };
 }
 

@@ -1,4 +1,4 @@
--- The types of a well-formed program override no operation (7.6).
+-- The types of a program override no operation, where its form says so (7.6).
 
 use Rattle.std.proofs.Common.{◌≡◌, Bool, true, false, ◌&&◌, if◌then◌else◌, ◌∙◌, List, [], ◌∷◌, map, Option, Some, None, refl, ap}
 use Rattle.std.specs.Prelude.{find}
@@ -10,9 +10,8 @@ use Rattle.ada_program.specs.declared.program.ProcedureNo.{ProcedureNo}
 use Rattle.ada_program.specs.declared.program.TypeDefinition.{TypeDefinition}
 use Rattle.ada_program.specs.declared.program.TypeDefinition.TheVariants as definition
 use Rattle.ada_program.specs.Controlled.{number_by, is_number, no_operations, operations_in, operations_by, OverridesNothing}
-use Rattle.ada_program.specs.ProgramForm.{TypeForm, part_form, type_form, program_form}
-use Rattle.ada_program.specs.WellFormed.{kind_fits, parent_first, says_parts, is_numbered_alone, is_inherited, overrides_nothing, type_fits, IsWellFormed}
-use Rattle.ada_program.proofs.Shapes.{TypesFit}
+use Rattle.ada_program.specs.ProgramForm.{TypeForm, type_form, program_form}
+use Rattle.ada_program.specs.WellFormed.{finalization_in, is_inherited, overrides_nothing, overrides_none}
 
 -- Both tests are passed where their conjunction is.
 left_of : (a b : Bool) → (a && b) ≡ true → a ≡ true
@@ -42,15 +41,14 @@ nothing_in : (f : Option Finalization) → overrides_nothing f ≡ true → oper
 nothing_in None e = refl
 nothing_in (Some f) e = all_inherited f.operations e
 
--- A type that fits overrides nothing.
-nothing_by : (forms : List TypeForm) (t : TypeDefinition) → type_fits forms (type_form t) ≡ true → operations_by (Some t) ≡ no_operations
-nothing_by forms (definition.Record name parts components finalization) e =
-    nothing_in finalization
-    (right_of
-    (list_all (kind_fits forms) components.items && parent_first (map part_form parts.items) && says_parts forms finalization (map part_form parts.items)
-    && is_numbered_alone forms finalization) (overrides_nothing finalization) e)
-nothing_by forms (definition.Access name designated pool) e = refl
-nothing_by forms (definition.Object record_type) e = refl
+-- Whether a type overrides nothing.
+abbrev is_plain : TypeForm → Bool
+is_plain t = overrides_nothing (finalization_in (Some t))
+
+nothing_by : (t : TypeDefinition) → is_plain (type_form t) ≡ true → operations_by (Some t) ≡ no_operations
+nothing_by (definition.Record name parts components finalization) e = nothing_in finalization e
+nothing_by (definition.Access name designated pool) e = refl
+nothing_by (definition.Object record_type) e = refl
 
 -- So does the first of some types that is found.
 found_here : (passes : Bool) (t : TypeDefinition) (found : Option TypeDefinition) → operations_by (Some t) ≡ no_operations → operations_by found ≡ no_operations
@@ -58,17 +56,17 @@ found_here : (passes : Bool) (t : TypeDefinition) (found : Option TypeDefinition
 found_here true t found here later = here
 found_here false t found here later = later
 
-nothing_found : (forms : List TypeForm) (test : TypeDefinition → Bool) (types : List TypeDefinition) → list_all (type_fits forms) (map type_form types) ≡ true
+nothing_found : (test : TypeDefinition → Bool) (types : List TypeDefinition) → list_all is_plain (map type_form types) ≡ true
     → operations_by (find test types) ≡ no_operations
-nothing_found forms test [] fit = refl
-nothing_found forms test (t ∷ types) fit =
-    let here = type_fits forms (type_form t) in
-    let later = list_all (type_fits forms) (map type_form types) in
-    found_here (test t) t (find test types) (nothing_by forms t (left_of here later fit)) (nothing_found forms test types (right_of here later fit))
+nothing_found test [] plain = refl
+nothing_found test (t ∷ types) plain =
+    let here = is_plain (type_form t) in
+    let later = list_all is_plain (map type_form types) in
+    found_here (test t) t (find test types) (nothing_by t (left_of here later plain)) (nothing_found test types (right_of here later plain))
 
-pub types_override_nothing : (types : List TypeDefinition) → TypesFit types → OverridesNothing types
-types_override_nothing types fit n = nothing_found (map type_form types) (λ t. is_number n (number_by (Some t))) types fit
+pub types_override_nothing : (types : List TypeDefinition) → list_all is_plain (map type_form types) ≡ true → OverridesNothing types
+types_override_nothing types plain n = nothing_found (λ t. is_number n (number_by (Some t))) types plain
 
--- No type of a well-formed program overrides an operation.
-pub nothing_overridden : (program : Program) → IsWellFormed (program_form program) → OverridesNothing program.types.items
-nothing_overridden program well = types_override_nothing program.types.items well.types_fit
+-- No type of the program overrides an operation.
+pub nothing_overridden : (program : Program) → overrides_none (program_form program) ≡ true → OverridesNothing program.types.items
+nothing_overridden program plain = types_override_nothing program.types.items plain

@@ -22,7 +22,7 @@ use Rattle.ada_program.specs.declared.program.TypeDefinition.{TypeDefinition}
 use Rattle.ada_program.specs.declared.program.TypeDefinition.TheVariants as definition
 use Rattle.ada_program.specs.Controlled.{number_in, number_by, number_of, is_number, type_numbered, parts_by, has_parent, if_parts, with_parts, components_with_parts, shape_by, shapes_up_to, has_parts, shapes_of}
 use Rattle.ada_program.specs.ProgramForm.{PartForm, TypeForm, record_of, part_form, type_form}
-use Rattle.ada_program.specs.WellFormed.{finalization_in, finalization_of, count_said, kind_fits, says_parts, is_numbered_alone, part_count, parts_within, is_parent, is_numbered_below, is_of_earlier, parts_in_order, parent_first, has_number, numbered_types, type_fits, overrides_nothing}
+use Rattle.ada_program.specs.WellFormed.{finalization_in, finalization_of, count_said, kind_fits, says_parts, is_numbered_alone, part_count, parts_within, is_parent, is_numbered_below, is_of_earlier, parts_in_order, parent_first, has_number, numbered_types, type_fits}
 use Rattle.ada_program.proofs.Viewed.{count_viewed}
 
 -- How many parts a record type has by its number, if it is known to have some.
@@ -148,7 +148,7 @@ says_of types name ps components f fits = record {
     apart : (((kinds && parent_first parts) && says_parts forms (Some f) parts) ≡ true) × (is_numbered_alone forms (Some f) ≡ true)
     apart =
         both ((kinds && parent_first parts) && says_parts forms (Some f) parts) (is_numbered_alone forms (Some f))
-        (both ((kinds && parent_first parts && says_parts forms (Some f) parts) && is_numbered_alone forms (Some f)) (overrides_nothing (Some f)) fits).0
+        fits
 
     saying : ((kinds && parent_first parts) ≡ true) × (says_parts forms (Some f) parts ≡ true)
     saying = both (kinds && parent_first parts) (says_parts forms (Some f) parts) apart.0

@@ -49,13 +49,14 @@ pub record VariableForm : Type 0 where
   pub borrows : Bool
 
 -- A body of a procedure (6.3): the modes of its formal parameters, which are the first of its variables (6.2); its variables, its declarations (3.11), its
--- statements and their handlers (11.2); and where its last `end` stands.
+-- statements and their handlers (11.2); and where its first token and its last `end` stand.
 pub record BodyForm : Type 0 where
   pub formals : List FormalMode
   pub variables : List VariableForm
   pub declarations : List DeclarationForm
   pub statements : StmtsForm
   pub handlers : HandlersForm
+  pub start_spot : Spot
   pub end_spot : Spot
 
 -- A program: types, pools, procedures, texts and exceptions by their numbers; and of its main procedure the variables by their numbers, the declarations (3.11),
@@ -73,6 +74,7 @@ pub record ProgramForm : Type 0 where
   pub declarations : List DeclarationForm
   pub statements : StmtsForm
   pub handlers : HandlersForm
+  pub start_spot : Spot
   pub end_spot : Spot
 
 -- No place in the text.
@@ -111,6 +113,7 @@ body_form b = record {
   declarations = map declaration_form b.declarations.items;
   statements = stmts_form b.statements.items;
   handlers = handlers_form b.handlers.items;
+  start_spot = b.start;
   end_spot = b.end;
 }
 
@@ -131,6 +134,7 @@ program_form p = record {
   declarations = declaration_forms p;
   statements = stmt_forms p;
   handlers = handler_forms p;
+  start_spot = nowhere;
   end_spot = nowhere;
 }
 
@@ -142,6 +146,7 @@ main_body p = record {
   declarations = p.declarations;
   statements = p.statements;
   handlers = p.handlers;
+  start_spot = p.start_spot;
   end_spot = p.end_spot;
 }
 
@@ -154,6 +159,7 @@ seen_by number b p = record p {
   declarations = b.declarations;
   statements = b.statements;
   handlers = b.handlers;
+  start_spot = b.start_spot;
   end_spot = b.end_spot;
 }
 

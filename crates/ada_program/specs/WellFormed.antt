@@ -153,7 +153,7 @@ abbrev pub is_inherited : Option ProcedureNo → Bool
 is_inherited None = true
 is_inherited (Some procedure) = false
 
--- A type overrides no operation: no rule of flow speaks of their calls so far.
+-- A type overrides no operation.
 abbrev pub overrides_nothing : Option Finalization → Bool
 overrides_nothing None = true
 overrides_nothing (Some f) = is_inherited f.operations.initialize && is_inherited f.operations.adjust && is_inherited f.operations.finalize
@@ -177,7 +177,6 @@ is_numbered_alone types (Some f) =
 abbrev pub type_fits : List TypeForm → TypeForm → Bool
 type_fits types (record_of name parts components finalization) =
     list_all (kind_fits types) components && parent_first parts && says_parts types finalization parts && is_numbered_alone types finalization
-    && overrides_nothing finalization
 type_fits types (access_to name designated pool) = is_record types designated
 type_fits types (object_of record_type) = is_record types record_type
 
@@ -526,6 +525,22 @@ begins_with_record components (Some ks) = begins_with components ks
 abbrev pub has_record_at : Option (List ComponentKind) → (first : ℕ) → Option (List ComponentKind) → Bool
 has_record_at None first ks = false
 has_record_at (Some components) first ks = begins_with_record (drop first components) ks
+
+-- The elementary components of a declared component (3.8): itself, or those of its record type. The parent part has none (7.6).
+abbrev pub components_within : List TypeForm → PartKind → Option (List ComponentKind)
+components_within types (part.Elementary kind) = Some (kind ∷ [])
+components_within types (part.Record t) = record_components types t.0
+components_within types part.Parent = Some []
+
+-- Where a declared component says that it lies among the components of its record type, these are its elementary components (3.8).
+abbrev pub component_lies : List TypeForm → List ComponentKind → PartForm → Bool
+component_lies types components p = has_record_at (Some components) p.first (components_within types p.kind)
+
+-- Each declared component of a type lies where it says.
+abbrev pub components_lie : List TypeForm → TypeForm → Bool
+components_lie types (record_of name parts components finalization) = list_all (component_lies types components) parts
+components_lie types (access_to name designated pool) = true
+components_lie types (object_of record_type) = true
 
 -- The components of the object to which a path leads, where it is a record object or an access value.
 abbrev pub object_components : List TypeForm → Option ℕ → Option (List ComponentKind)
@@ -888,6 +903,46 @@ profile_of b = record { kinds = formal_kinds b; modes = b.formals }
 abbrev pub callable_in : ProgramForm → List Profile
 callable_in p = map profile_of p.bodies
 
+-- Operations of controlled types (7.6).
+
+-- A formal parameter stands for a record of the type of a number (6.2).
+abbrev pub stands_for : List TypeForm → (record_type : ℕ) → VariableKind → Bool
+stands_for types t variable.Integer = false
+stands_for types t variable.Boolean = false
+stands_for types t (variable.Access access) = false
+stands_for types t (variable.Record object) = is_this t (object_in (slice_get types object.0))
+
+-- These are the formal parameters of an operation of the record type of a number: there is one, of mode `in out`, which stands for a record of the type.
+abbrev pub operates_on : List TypeForm → (record_type : ℕ) → List VariableKind → List FormalMode → Bool
+operates_on types t (kind ∷ []) (InOut ∷ []) = stands_for types t kind
+operates_on types t kinds modes = false
+
+-- There is a procedure with this profile, and it is one.
+abbrev pub is_operation : List TypeForm → (record_type : ℕ) → Option Profile → Bool
+is_operation types t None = false
+is_operation types t (Some profile) = operates_on types t profile.kinds profile.modes
+
+-- An operation of the type is inherited, or the procedure that overrides it is one.
+abbrev pub overrides_rightly : List TypeForm → (callable : List Profile) → (record_type : ℕ) → Option ProcedureNo → Bool
+overrides_rightly types callable t None = true
+overrides_rightly types callable t (Some procedure) = is_operation types t (slice_get callable procedure.0)
+
+-- So it is for each operation of the type.
+abbrev pub has_operations : List TypeForm → (callable : List Profile) → (record_type : ℕ) → Option Finalization → Bool
+has_operations types callable t None = true
+has_operations types callable t (Some f) =
+    overrides_rightly types callable t f.operations.initialize && overrides_rightly types callable t f.operations.adjust
+    && overrides_rightly types callable t f.operations.finalize
+
+-- So it is for each of these types, of which the first has this number.
+abbrev pub have_operations : List TypeForm → (callable : List Profile) → (number : ℕ) → List TypeForm → Bool
+have_operations types callable n [] = true
+have_operations types callable n (t ∷ ts) = has_operations types callable n (finalization_in (Some t)) && have_operations types callable (1 + n) ts
+
+-- No type of a program overrides an operation.
+abbrev pub overrides_none : ProgramForm → Bool
+overrides_none p = list_all (λ t. overrides_nothing (finalization_in (Some t))) p.types
+
 -- A part creates its collections first, each of an access type, and its variables, whose initial values fit (3.11).
 abbrev pub declarations_fit : List TypeForm → List VariableForm → List DeclarationForm → Bool
 declarations_fit types variables ds =
@@ -956,14 +1011,20 @@ bodies_fit types texts exceptions callable [] = true
 bodies_fit types texts exceptions callable (b ∷ bs) =
     body_fits types texts exceptions callable b && bodies_fit types texts exceptions (callable ++ profile_of b ∷ []) bs
 
--- The types of a program fit, with their pools and their collections (3.8, 3.10, 13.11, 7.6.1).
+-- The types of a program fit, with where their components lie, their operations, their pools and their collections (3.8, 3.10, 7.6, 13.11, 7.6.1).
 abbrev pub tables_fit : ProgramForm → Bool
-tables_fit p = list_all (type_fits p.types) p.types && pools_fit p && has_collections (all_creations p) 0 p.types
+tables_fit p =
+    list_all (type_fits p.types) p.types && list_all (components_lie p.types) p.types && have_operations p.types (callable_in p) 0 p.types && pools_fit p
+    && has_collections (all_creations p) 0 p.types
 
 -- A well-formed program.
 pub record IsWellFormed (p : ProgramForm) : Type 0 where
   -- components and designated types are types of the program of the right kind (3.8, 3.10)
   pub types_fit : list_all (type_fits p.types) p.types ≡ true
+  -- the components of each declared component are among those of its record type, where it says that it lies (3.8)
+  pub components_lie : list_all (components_lie p.types) p.types ≡ true
+  -- what overrides an operation of a controlled type is a procedure for records of the type (7.6)
+  pub operations_fit : have_operations p.types (callable_in p) 0 p.types ≡ true
   -- the declared pools of access types, and those that are created, are pools of the program (13.11)
   pub pools_fit : pools_fit p ≡ true
   -- variables are Integers or Booleans, of access types, or record objects (3.3.1), and only those of access types are borrowers

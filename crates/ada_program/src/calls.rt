@@ -52,7 +52,7 @@ fn suits(
 }
 
 /// The formal parameters of a procedure: the first of its variables (6.1).
-fn formals_of<'p>(procedure: &'p Procedure) -> &'p [Variable]
+pub(crate) fn formals_of<'p>(procedure: &'p Procedure) -> &'p [Variable]
     ensures { result.now ≡ take (length procedure.now.formals.items) procedure.now.variables.items }
 {
     match procedure.variables.get(..procedure.formals.len()) {

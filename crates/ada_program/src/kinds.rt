@@ -7,7 +7,7 @@ ghost use Rattle.ada_program.specs.Kept.{types_in, variables_in};
 ghost use Rattle.ada_program.specs.WellFormed as fits;
 
 use crate::lookup::{is_access, is_object_type, is_record};
-use crate::parts::{is_numbered_alone, overrides_nothing, parent_first, says_parts};
+use crate::parts::{is_numbered_alone, parent_first, says_parts};
 use crate::program::{ComponentKind, TypeDefinition, Variable, VariableKind};
 
 /// Whether each component and each designated type is of the right kind (3.8, 3.10).
@@ -56,8 +56,7 @@ fn type_fits(types: &[TypeDefinition], definition: &TypeDefinition) -> bool
         } => components_fit(types, components)
             && parent_first(parts)
             && says_parts(types, *finalization, parts)
-            && is_numbered_alone(types, *finalization)
-            && overrides_nothing(*finalization),
+            && is_numbered_alone(types, *finalization),
         TypeDefinition::Access {
             name: _,
             designated,

@@ -17,7 +17,7 @@ pub fn finalization_of(types: &[TypeDefinition], number: usize) -> Option<Finali
 }
 
 /// How objects of a type are finalized. None, if it is no record type whose objects have controlled parts.
-fn finalization_in(definition: &TypeDefinition) -> Option<Finalization>
+pub(crate) fn finalization_in(definition: &TypeDefinition) -> Option<Finalization>
     ensures { result ≡ fits.finalization_in (Some (type_form definition.now)) }
 {
     match definition {
@@ -147,18 +147,6 @@ pub(crate) fn is_numbered_alone(
         None => true,
         Some(finalization) => finalization.number.0 < numbered_types(types)
             && types_of_number(types, finalization.number) == 1,
-    }
-}
-
-/// Whether a type overrides no operation (7.6).
-pub(crate) fn overrides_nothing(finalization: Option<Finalization>) -> bool
-    ensures { result ≡ fits.overrides_nothing finalization }
-{
-    match finalization {
-        None => true,
-        Some(finalization) => finalization.operations.initialize.is_none()
-            && finalization.operations.adjust.is_none()
-            && finalization.operations.finalize.is_none(),
     }
 }
 

@@ -73,6 +73,8 @@ pub struct Procedure {
     pub statements: Vec<Stmt>,
     /// What handles the exceptions that the statements raise (11.2).
     pub handlers: Vec<Handler>,
+    /// Where its first token stands: `procedure`, or `overriding`.
+    pub start: Spot,
     /// Where its last `end` stands.
     pub end: Spot,
 }

@@ -63,7 +63,7 @@ pub(crate) fn parts_named(types: &[TypeDefinition], access: usize) -> usize
 }
 
 /// The components behind the first ones.
-fn behind<'p>(components: &'p [ComponentKind], count: usize) -> &'p [ComponentKind]
+pub(crate) fn behind<'p>(components: &'p [ComponentKind], count: usize) -> &'p [ComponentKind]
     ensures { result.now ≡ drop count components.now }
 {
     match components.get(count..) {
@@ -73,7 +73,10 @@ fn behind<'p>(components: &'p [ComponentKind], count: usize) -> &'p [ComponentKi
 }
 
 /// Whether the first of some components are those of a record type.
-fn begins_with_record(components: &[ComponentKind], wanted: Option<&[ComponentKind]>) -> bool
+pub(crate) fn begins_with_record(
+    components: &[ComponentKind],
+    wanted: Option<&[ComponentKind]>,
+) -> bool
     ensures { result ≡ fits.begins_with_record components.now (option_copied wanted.entry) }
 {
     match wanted {
@@ -83,7 +86,7 @@ fn begins_with_record(components: &[ComponentKind], wanted: Option<&[ComponentKi
 }
 
 /// Whether the first of some components are those of a record, in order.
-fn begins_with(components: &[ComponentKind], wanted: &[ComponentKind]) -> bool
+pub(crate) fn begins_with(components: &[ComponentKind], wanted: &[ComponentKind]) -> bool
     ensures { result ≡ fits.begins_with components.now wanted.now }
 {
     for (at, kind) in wanted.iter().enumerate() {

@@ -5,7 +5,7 @@ ghost use Rattle.std.specs.List.{list_all};
 ghost use Rattle.ada_program.specs.Form.{StmtsForm, stmts_form};
 ghost use Rattle.ada_program.specs.ProgramForm.{program_form};
 ghost use Rattle.ada_program.specs.Kept as kept;
-ghost use Rattle.ada_program.specs.Kept.{texts_in};
+ghost use Rattle.ada_program.specs.Kept.{texts_in, types_in};
 ghost use Rattle.ada_program.specs.WellFormed as fits;
 
 use crate::bodies::{bodies_fit, main_fits};
@@ -14,7 +14,9 @@ use crate::calls::call_fits;
 use crate::creations::{has_collections, pools_fit};
 use crate::declarations::declarations_fit;
 use crate::kinds::types_fit;
+use crate::layout::components_lie;
 use crate::lookup::{path_access, path_kind, scalar_of, variable_kind};
+use crate::operations::have_operations;
 use crate::program::{
     Branch, Choice, Exception, Expression, Handler, Procedure, Program, ScalarType, Stmt,
     TypeDefinition, Variable,
@@ -37,12 +39,25 @@ impl Program {
     }
 }
 
-/// Whether the types of a program fit, with their pools and their collections (3.8, 3.10, 13.11, 7.6.1).
+/// Whether the types of a program fit, with where their components lie, their operations, their pools and their collections
+/// (3.8, 3.10, 7.6, 13.11, 7.6.1).
 #[tactic(auto, using(std::proofs::lemmas::Grind::common_steps, crate::proofs::Viewed::views))]
 fn tables_fit(program: &Program) -> bool
     ensures { result ≡ fits.tables_fit (program_form program.now) }
 {
-    types_fit(&program.types) && pools_fit(program) && has_collections(program)
+    definitions_fit(&program.types)
+        && have_operations(&program.types, &program.procedures)
+        && pools_fit(program)
+        && has_collections(program)
+}
+
+/// Whether types fit, and their components lie where they say (3.8, 3.10).
+#[tactic(auto, using(std::proofs::lemmas::Grind::common_steps, crate::proofs::Viewed::views))]
+fn definitions_fit(types: &[TypeDefinition]) -> bool
+    ensures { let forms = types_in types.now in
+        result ≡ (list_all (fits.type_fits forms) forms && list_all (fits.components_lie forms) forms) }
+{
+    types_fit(types) && components_lie(types)
 }
 
 /// Whether each statement names variables and texts, has the types that it wants, and calls

@@ -10,7 +10,7 @@ use Rattle.ada_tree.specs.Names.{Ident, NameTree}
 use Rattle.ada_tree.specs.Records.{ComponentTree, RecordTree}
 use Rattle.ada_tree.specs.Declarations.{AspectTree, HeadTree, SizeTree, number_size, named_size}
 use Rattle.ada_resolve.specs.Procedures.{body_head_remark}
-use Rattle.ada_resolve.specs.Spots.{end_of, first_or}
+use Rattle.ada_resolve.specs.Spots.{end_of, first_or, head_spot}
 use Rattle.ada_tree.specs.Expressions.{RightTree}
 use Rattle.ada_tree.specs.Statements.{DeclarationTree, exception_declaration, constant_declaration, pool_declaration, attribute_clause, incomplete_type, access_type, record_type, derived_type, instance, body_declaration, SequenceTree, object_declaration, borrower_declaration, DeclarationsTree, no_declarations, a_declaration}
 use Rattle.ada_program.specs.declared.program.Exception.TheVariants as exception
@@ -48,6 +48,7 @@ use Rattle.ada_resolve.specs.Objects.{missing_collections, ends_types, after_typ
 use Rattle.ada_resolve.specs.Resolution.{gives, At, known_at, declaration_remark, declaration_known, single_told, declaration_told, declarations_told}
 use Rattle.ada_resolve.specs.Naming.{Context, Place, Meaning, an_incomplete_type, a_type, a_number, an_exception, a_pool, an_instance, a_variable, meaning_among, is_one_of, IsTypeRead, IsInstanceRead, IsNumberNamed, IsPoolNamed, IsSizeRead, IsLabelRead, IsPoolRead, IsAspectRead, IsClauseRead, AreComponentsRead, AreNamedApart, AreLaidOut, IsFinalized}
 use Rattle.ada_resolve.specs.Reading.{read_at, IsNew, with_binding, with_incomplete_type, with_new_type, with_new_exception, with_new_variable, with_new_record, with_new_pool, with_placed, with_aspect, with_complete, AreObjectsRead, AreCompleted, IsTypeDeclared, by_completion, by_new_type, DoTypesEnd, IsPartRead}
+use Rattle.ada_resolve.proofs.WellFormed.Inherits.{type_stands}
 use Rattle.ada_resolve.proofs.WellFormed.Forms.{forms, get_form, access_there, object_stays, record_there}
 use Rattle.ada_resolve.proofs.WellFormed.Placed.{none_defined, none_more, placed_forms, placed_length, placed_pool, placed_there, pool_placed, some_defined}
 use Rattle.ada_resolve.proofs.WellFormed.Remarks.{Quiet, quiet_if, quiet_unless}
@@ -417,7 +418,7 @@ body_back head ds body end_name at next d s c text t is =
     let k = after_types at.0 in
     let none = new_slot k head.name (first_or head.overriding head.spot) (head_new k head d.quiet) in
     let there : named text k.here.names ≡ Some (entity.Incomplete t) = ap (λ (ns : List Named). named text ns) (after_names at.0) ∙ is in
-    c text t (ap (λ (v : Known). named text v.here.names) d.known ∙ body_ended_names k d.done.1.0 head d.done.0.0 d.done.0.1 (end_of body) none stays.done_in text (entity.Incomplete t) there)
+    c text t (ap (λ (v : Known). named text v.here.names) d.known ∙ body_ended_names k d.done.1.0 head d.done.0.0 d.done.0.1 (head_spot head) (end_of body) none stays.done_in text (entity.Incomplete t) there)
 
 -- and the types have ended behind it
 pub body_late : (head : HeadTree) (ds : DeclarationsTree) (body : SequenceTree) (end_name : Option Ident) (at next : At) (d : ProcedureDone head ds body end_name at next) → Sound at.0 → types_go_on next.0 ≡ false
@@ -430,7 +431,7 @@ body_late head ds body end_name at next d s = right_off (no_variable_yet next.0)
     some : no_body_yet next.0 ≡ true → ⊥
     some on =
         let stays = body_stays head ds body end_name at next d s in
-        body_ended_some (around_body (after_types at.0) head) d.done.1.0 head.name d.done.0.0 d.done.0.1 (end_of body) (around_sound (after_types at.0) head stays.before) stays.done_in
+        body_ended_some (around_body (after_types at.0) head) d.done.1.0 head.name d.done.0.0 d.done.0.1 (head_spot head) (end_of body) (around_sound (after_types at.0) head stays.before) stays.done_in
         (ap (λ (v : Known). no_body_yet v) (sym d.known) ∙ on)
 
 pub complete_back : (ds : DeclarationsTree) (at after : At) → Sound at.0 → types_go_on at.0 ≡ false → declarations_told ds at ≡ gives after → Complete after.0 → Complete at.0
@@ -769,7 +770,7 @@ aspect_read k m p (Some aspect) t name d pool w q lasts there last =
     let own : pool ≡ Some done.read.pool.0 = sym (ap (λ (o : Option TypeForm). pool_by o) last) ∙ has in
     (done.read.pool.0, own, text_same aspect.name.text (codes "STORAGE_POOL") done.on, done.read.named_so)
 
-access_type_read : (k m : Known) (p : Context) (spot : Spot) (name designated : Ident) (aspect : Option AspectTree) → Legible k p → Lasts m p → IsSlot k name.text (completed_type k name) → list_all (well.type_fits p.types) p.types ≡ true → Quiet (aspect_remark k aspect) → AccessDone k m p name designated aspect → IsTypeRead p (access_type spot name designated aspect) (number_of (completed_type k name) k.types).0
+access_type_read : (k m : Known) (p : Context) (spot : Spot) (name designated : Ident) (aspect : Option AspectTree) → Legible k p → Lasts m p → IsSlot k name.text (completed_type k name) → list_all (type_stands p.types) p.types ≡ true → Quiet (aspect_remark k aspect) → AccessDone k m p name designated aspect → IsTypeRead p (access_type spot name designated aspect) (number_of (completed_type k name) k.types).0
 access_type_read k m p spot name designated aspect w lasts slot fit q r =
     let c = completed_type k name in
     let t = (number_of c k.types).0 in
@@ -880,7 +881,7 @@ instance_first k m z p spot name generic object access ds r new own on = record 
   agrees = on.agrees;
 }
 
-instance_read : (k : Known) (p : Context) (generic : NameTree) (object access : Ident) (t : TypeNo) → Legible k p → list_all (well.type_fits p.types) p.types ≡ true → Quiet (generic_remark k generic) → FoundAccess k p access object (Some t) → IsInstanceRead p generic object access t.0
+instance_read : (k : Known) (p : Context) (generic : NameTree) (object access : Ident) (t : TypeNo) → Legible k p → list_all (type_stands p.types) p.types ≡ true → Quiet (generic_remark k generic) → FoundAccess k p access object (Some t) → IsInstanceRead p generic object access t.0
 instance_read k p generic object access t w fit q (named_so, d, pool, there, form, typed) =
     let last = access_there p.types t.0 access.text d (w.lasts.accesses t.0 access.text d (get_form k.types t.0 (access_to access.text d pool) there)) in
     (generic_read k generic q, (named_so, d, last.0, last.1, designated_read p access.text object.text t.0 d last.0 fit last.1 (w.lasts.type_names d object.text form) typed))
@@ -1033,11 +1034,11 @@ clause_done k m p spot name attribute value s w q is =
 -- how the declarations behind one are read
 abbrev pub ReadsRest : DeclarationsTree → At → Type 0
 ReadsRest ds after =
-    (q : Context) (next : At) → Sound next.0 → Agrees next.0 q.place → types_go_on next.0 ≡ true → Ahead after.0 q → list_all (well.type_fits q.types) q.types ≡ true →
+    (q : Context) (next : At) → Sound next.0 → Agrees next.0 q.place → types_go_on next.0 ≡ true → Ahead after.0 q → list_all (type_stands q.types) q.types ≡ true →
     declarations_told ds next ≡ gives after → PartRead q ds next.0 after.0
 
 -- a record type, and what follows it
-record_first : (p : Context) (d : DeclarationTree) (ds : DeclarationsTree) (at after : At) (name : Ident) (spot : Spot) (made : Composition) → IsFullType d → ((t : ℕ) (ps : List ℕ) → names_pool d t ps ≡ ps) → Sound at.0 → Agrees at.0 p.place → types_go_on at.0 ≡ true → Ahead after.0 p → list_all (well.type_fits p.types) p.types ≡ true → (next : Next d ds at after) → next.then.0 ≡ with_record at.0 name made → Quiet (new_unless (completed_type at.0 name) (new_name_remark at.0 name spot)) → IsSlot at.0 name.text (completed_type at.0 name) → IsTypeRead p d (number_of (completed_type at.0 name) at.0.types).0 → slice_get p.types (number_of (completed_type at.0 name) at.0.types).0 ≡ Some (type_made at.0.controlled name made) → ((collected : List ℕ) (place : Place) → IsTypeDeclared p d name place → (forms : List DeclarationForm) (end : Place) → IsPartRead (read_at place p) (Some collected) ds forms end → IsPartRead p (Some collected) (a_declaration d ds) forms end) → ReadsRest ds after → PartRead p (a_declaration d ds) at.0 after.0
+record_first : (p : Context) (d : DeclarationTree) (ds : DeclarationsTree) (at after : At) (name : Ident) (spot : Spot) (made : Composition) → IsFullType d → ((t : ℕ) (ps : List ℕ) → names_pool d t ps ≡ ps) → Sound at.0 → Agrees at.0 p.place → types_go_on at.0 ≡ true → Ahead after.0 p → list_all (type_stands p.types) p.types ≡ true → (next : Next d ds at after) → next.then.0 ≡ with_record at.0 name made → Quiet (new_unless (completed_type at.0 name) (new_name_remark at.0 name spot)) → IsSlot at.0 name.text (completed_type at.0 name) → IsTypeRead p d (number_of (completed_type at.0 name) at.0.types).0 → slice_get p.types (number_of (completed_type at.0 name) at.0.types).0 ≡ Some (type_made at.0.controlled name made) → ((collected : List ℕ) (place : Place) → IsTypeDeclared p d name place → (forms : List DeclarationForm) (end : Place) → IsPartRead (read_at place p) (Some collected) ds forms end → IsPartRead p (Some collected) (a_declaration d ds) forms end) → ReadsRest ds after → PartRead p (a_declaration d ds) at.0 after.0
 record_first p d ds at after name spot made full unplaced s w none ahead fit next is q slot own there more rest =
     let k = at.0 in
     let completes = completed_type k name in
@@ -1052,7 +1053,7 @@ record_first p d ds at after name spot made full unplaced s w none ahead fit nex
     (λ collected m. more collected place (type_first k p name completes d spot final w slot q own (ap (λ (o : Option TypeForm). well.finalization_in o) there)) on.forms on.end m)
 
 -- a declaration with no others in it, where the types go on
-pub part_first : (p : Context) (d : DeclarationTree) (ds : DeclarationsTree) (at after : At) → IsSingle d → Sound at.0 → Agrees at.0 p.place → types_go_on at.0 ≡ true → Complete after.0 → Ahead after.0 p → list_all (well.type_fits p.types) p.types ≡ true → declarations_told (a_declaration d ds) at ≡ gives after → ReadsRest ds after → PartRead p (a_declaration d ds) at.0 after.0
+pub part_first : (p : Context) (d : DeclarationTree) (ds : DeclarationsTree) (at after : At) → IsSingle d → Sound at.0 → Agrees at.0 p.place → types_go_on at.0 ≡ true → Complete after.0 → Ahead after.0 p → list_all (type_stands p.types) p.types ≡ true → declarations_told (a_declaration d ds) at ≡ gives after → ReadsRest ds after → PartRead p (a_declaration d ds) at.0 after.0
 part_first p (body_declaration head inner body end_name) ds at after single s w none c ahead fit e rest = absurd single
 part_first p (incomplete_type spot name) ds at after single s w none c ahead fit e rest =
     let next = next_of (incomplete_type spot name) ds at after tt s e in

@@ -387,9 +387,9 @@ stands_again ns bs name a e meaning own old text =
     (ap (λ (o : Option Entity). cond (bytes_eq text name.text) (Some e) o) (named_entered ns name.text text a) ∙ twice_is (bytes_eq text name.text) e a (named text ns))))
     (stands_more (bytes_eq text name.text) e meaning (named text ns) (meaning_among text bs) own (old text))
 
-pub ended_agrees : (k z : Known) (head : HeadTree) (fs : StmtsForm) (hs : HandlersForm) (last : Spot) (place done : Place) → InBody (around_body k head) z → Agrees k place → Agrees z done → Agrees (body_ended head.name fs hs last z) (behind_body head.name place done)
-ended_agrees k z head fs hs last place done f w v =
-    subst (λ (u : Known). Agrees u (behind_body head.name place done)) (sym (ended_is (around_body k head) z head.name fs hs last f)) (record {
+pub ended_agrees : (k z : Known) (head : HeadTree) (fs : StmtsForm) (hs : HandlersForm) (start last : Spot) (place done : Place) → InBody (around_body k head) z → Agrees k place → Agrees z done → Agrees (body_ended head.name fs hs start last z) (behind_body head.name place done)
+ended_agrees k z head fs hs start last place done f w v =
+    subst (λ (u : Known). Agrees u (behind_body head.name place done)) (sym (ended_is (around_body k head) z head.name fs hs start last f)) (record {
       here = stands_again k.here.names place.here head.name entity.Procedure (entity.Callable (next_procedure z)) (a_procedure done.bodies)
           (ap (λ (n : ℕ). Some (a_procedure n)) (sym v.bodies)) w.here;
       outer = w.outer;
@@ -397,7 +397,7 @@ ended_agrees k z head fs hs last place done f w v =
       types = v.types;
       pools = v.pools;
       placed = v.placed;
-      bodies = ap (λ (n : ℕ). n + 1) v.bodies ∙ sym (length-append z.bodies (body_of z fs hs last ∷ []));
+      bodies = ap (λ (n : ℕ). n + 1) v.bodies ∙ sym (length-append z.bodies (body_of z fs hs start last ∷ []));
       variables = w.variables;
       exceptions = v.exceptions;
       texts = v.texts;
@@ -405,11 +405,11 @@ ended_agrees k z head fs hs last place done f w v =
     })
 
 -- the tables within a body
-pub ahead_within : (k z : Known) (head : HeadTree) (fs : StmtsForm) (hs : HandlersForm) (last : Spot) (p : Context) → InBody (around_body k head) z → Ahead (body_ended head.name fs hs last z) p → Ahead z (in_body head.name (body_of z fs hs last) p)
-ahead_within k z head fs hs last p f w =
-    let b = body_of z fs hs last in
+pub ahead_within : (k z : Known) (head : HeadTree) (fs : StmtsForm) (hs : HandlersForm) (start last : Spot) (p : Context) → InBody (around_body k head) z → Ahead (body_ended head.name fs hs start last z) p → Ahead z (in_body head.name (body_of z fs hs start last) p)
+ahead_within k z head fs hs start last p f w =
+    let b = body_of z fs hs start last in
     let v : Ahead (declared (left_body (around_body k head) z b) head.name.text (entity.Callable (next_procedure z))) p =
-    subst (λ (u : Known). Ahead u p) (ended_is (around_body k head) z head.name fs hs last f) w in
+    subst (λ (u : Known). Ahead u p) (ended_is (around_body k head) z head.name fs hs start last f) w in
     record {
       types = v.types;
       placed = v.placed;
@@ -421,9 +421,9 @@ ahead_within k z head fs hs last p f w =
     }
 
 -- the body is that of the program
-pub body_there : (k z : Known) (head : HeadTree) (fs : StmtsForm) (hs : HandlersForm) (last : Spot) (p : Context) (done : Place) → InBody (around_body k head) z → Ahead (body_ended head.name fs hs last z) p → Agrees z done → slice_get p.bodies done.bodies ≡ Some (body_of z fs hs last)
-body_there k z head fs hs last p done f w v =
-    let b = body_of z fs hs last in
+pub body_there : (k z : Known) (head : HeadTree) (fs : StmtsForm) (hs : HandlersForm) (start last : Spot) (p : Context) (done : Place) → InBody (around_body k head) z → Ahead (body_ended head.name fs hs start last z) p → Agrees z done → slice_get p.bodies done.bodies ≡ Some (body_of z fs hs start last)
+body_there k z head fs hs start last p done f w v =
+    let b = body_of z fs hs start last in
     let last : Ahead (declared (left_body (around_body k head) z b) head.name.text (entity.Callable (next_procedure z))) p =
-    subst (λ (u : Known). Ahead u p) (ended_is (around_body k head) z head.name fs hs last f) w in
+    subst (λ (u : Known). Ahead u p) (ended_is (around_body k head) z head.name fs hs start last f) w in
     ap (λ (n : ℕ). slice_get p.bodies n) v.bodies ∙ last.bodies (length z.bodies) b (get_last z.bodies b)

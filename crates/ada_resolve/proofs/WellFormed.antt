@@ -4,6 +4,8 @@
 pub mod Remarks
 -- types but for their pools
 pub mod Forms
+-- types that override no operation
+pub mod Inherits
 -- what stays of lists and types as more of them are declared
 pub mod Tables
 -- the components of record types lie one behind the other
@@ -28,6 +30,8 @@ pub mod Freed
 pub mod Selected
 -- what an expression means
 pub mod Meanings
+-- components lie where they say
+pub mod ComponentsLie
 -- the items of aggregates
 pub mod Items
 -- what is assigned
@@ -65,12 +69,15 @@ use Rattle.std.proofs.lemmas.List.{append-nil}
 use Rattle.ada_tree.specs.Statements.{UnitTree}
 use Rattle.ada_program.specs.Freed.{FreesItsOwn}
 use Rattle.ada_program.specs.ProgramForm.{TypeForm, VariableForm, ProgramForm}
-use Rattle.ada_program.specs.WellFormed.{IsWellFormed, has_known_pool, creates_known_pool, creations, created_in_all, Creation, creates_from, has_collections, collections_first, collection_fits, initial_fits}
+use Rattle.ada_program.specs.WellFormed.{IsWellFormed, callable_in, overrides_none, has_known_pool, creates_known_pool, creations, created_in_all, Creation, creates_from, has_collections, collections_first, collection_fits, initial_fits}
 use Rattle.ada_resolve.specs.declared.library.Withs.{Withs}
-use Rattle.ada_resolve.specs.Known.{Known}
+use Rattle.ada_resolve.specs.Known.{Known, parts}
 use Rattle.ada_resolve.specs.Resolution.{SequenceForm, known_first, program_of, Resolves}
 use Rattle.ada_resolve.proofs.Standing.{Sound, Complete, Keeps, first_sound, declarations_keep, sequence_stays, BodyDone, body_done, before_sound, behind_sound}
 use Rattle.ada_resolve.proofs.WellFormed.Forms.{forms}
+use Rattle.ada_resolve.proofs.WellFormed.Names.{laid_in}
+use Rattle.ada_resolve.proofs.WellFormed.ComponentsLie.{components_lie}
+use Rattle.ada_resolve.proofs.WellFormed.Inherits.{stand_fit, stand_bare, none_have}
 use Rattle.ada_resolve.proofs.WellFormed.Tables.{all_more, both_parts, first_part, second_part}
 use Rattle.ada_resolve.proofs.WellFormed.Created.{accesses, bodies_collect, collected_both, Creates, has_each}
 use Rattle.ada_resolve.proofs.WellFormed.Elaborated.{InOrder, first_order}
@@ -113,7 +120,9 @@ program_fits k m z body no_types no_variables no_bodies first_type first_variabl
     let creates : Creates k z (creations p) =
     f.creates k (λ i x is. absurd (not_there (forms k.types) i x (ap (λ ts. forms ts) no_types) is)) (λ i x is. absurd (not_there k.bodies i x no_bodies is)) first_type first_variable first_body in
     record {
-      types_fit = w.types_fit;
+      types_fit = stand_fit z.types z.types w.types_fit;
+      components_lie = components_lie z.types (laid_in z.types z.variables (parts z) w.names);
+      operations_fit = none_have z.types (callable_in p) 0 z.types (stand_bare z.types z.types w.types_fit);
       pools_fit = both_parts (list_all (has_known_pool (length z.pools)) z.types) (list_all known (created_in_all z.bodies ++ creations p)) w.housed
           (all_more known (created_in_all z.bodies) (creations p) e.pools creates.pools);
       variables_fit = w.variables_fit;
@@ -171,3 +180,10 @@ frees_own tree program e =
     let p = program_of b.done.1.0 b.done.0.0 b.done.0.1 in
     let free : FreesItsOwn p = record { statements = a.fits.own_frees; handlers = a.fits.handled_frees; bodies = ended_free b.done.1.0 a.ended } in
     subst FreesItsOwn (sym b.form) free
+
+-- and its types override no operation
+pub overrides_nothing : (tree : UnitTree) (program : ProgramForm) → Resolves tree program → overrides_none program ≡ true
+overrides_nothing tree program e =
+    let b = body_done tree program e in
+    let z = b.done.1.0 in
+    subst (λ (p : ProgramForm). overrides_none p ≡ true) (sym b.form) (stand_bare z.types z.types (at_end tree program b).sound.types_fit)

@@ -15,7 +15,6 @@ use Rattle.ada_tree.specs.Declarations.{HeadTree}
 use Rattle.ada_program.specs.Form.{calls, DeclarationForm, ExpressionForm, StmtForm, skips, assigns, assigns_record, frees, gets, writes, writes_text, exits, returns, raises, chooses, repeats, counts, encloses, StmtsForm, no_stmts, a_stmt, BranchesForm, otherwise, HandlersForm}
 use Rattle.ada_program.specs.Form as form
 use Rattle.ada_program.specs.ProgramForm.{TypeForm, VariableForm, BodyForm, ProgramForm}
-use Rattle.ada_program.specs.WellFormed as well
 use Rattle.ada_resolve.specs.Clauses.{pool_of}
 use Rattle.ada_resolve.specs.Known.{Known, Part, with_part, left_to, without_part, no_variable_yet, no_body_yet, types_go_on}
 use Rattle.ada_resolve.specs.Instances.{is_collected}
@@ -23,10 +22,11 @@ use Rattle.ada_resolve.specs.Objects.{after_types, ends_types, missing_collectio
 use Rattle.ada_resolve.specs.Procedures.{no_formals, with_formals, behind_head, body_of, body_ended}
 use Rattle.ada_resolve.specs.Statements.{bound_meant, condition_meant, text_in, simple_texts, with_texts}
 use Rattle.ada_resolve.specs.Resolution.{gives, At, LoopHead, loop_of, behind_loop, with_parameter, declarations_told, SequenceForm, sequence_told, Others, simple_told, statement_told, statements_told, branches_told, handlers_told, program_of, known_first, Resolves}
-use Rattle.ada_resolve.specs.Spots.{end_of}
+use Rattle.ada_resolve.specs.Spots.{end_of, head_spot}
 use Rattle.ada_resolve.specs.declared.library.Withs.{Withs}
 use Rattle.ada_resolve.specs.Naming.{Context, Place, is_one_of}
 use Rattle.ada_resolve.specs.Reading.{read_at, inside, behind, with_new_constant, IsPartRead, IsExpressionRead, IsCallRead, IsSimpleRead, behind_simple, AreChoicesRead, IsStatementRead, AreStatementsRead, AreBranchesRead, AreHandlersRead, IsSequenceRead, IsHeadRead, AreFormalsRead, IsNextBody, IsEndName, in_body, behind_body, first_place, first_context, IsReadAs}
+use Rattle.ada_resolve.proofs.WellFormed.Inherits.{type_stands}
 use Rattle.ada_resolve.proofs.WellFormed.Tables.{get_last, both_parts}
 use Rattle.ada_resolve.proofs.Standing.{Grows, Keeps, complete_grows, gives_same, SequenceStays, sequence_stays, BodyStays, body_stays, ProcedureDone, procedure_done, declarations_done, told_sound, told_keeps, declarations_keep, ended_keeps, head_formals, around_body, ended_is, behind_sound, Sound, Complete, Stays, OthersStay, made_from, first_sound, if_done, loop_done, LoopDone, HeadIs, block_done, declare_done, SequenceDone, sequence_done, statements_done, branch_done, handler_done, simple_done, ended_sound, declarations_sound, begin_complete, part_sound, parameter_sound, parameter_complete, texts_stay, statement_stays, statements_stay, branches_stay, handlers_stay, body_done, BodyDone}
 use Rattle.ada_resolve.proofs.Agreeing.{Agrees, Ahead, Readable, agrees_same, agrees_inside, agrees_parameter, agrees_behind, not_predefined}
@@ -39,7 +39,7 @@ record Here (k : Known) (p : Context) : Type 0 where
   sound : Sound k
   complete : Complete k
   agrees : Agrees k p.place
-  fit : list_all (well.type_fits p.types) p.types ≡ true
+  fit : list_all (type_stands p.types) p.types ≡ true
 
 -- what is read at a place, and what is known behind it
 record StatementRead (p : Context) (s : StatementTree) (f : StmtForm) (k : Known) : Type 0 where
@@ -71,7 +71,7 @@ here_as k m p same w = subst (λ v. Here v p) (sym same) w
 ahead_as : (k m : Known) (p : Context) → k ≡ m → Ahead k p → Ahead m p
 ahead_as k m p same w = subst (λ v. Ahead v p) same w
 
-here_behind : (k m : Known) (p : Context) (end : Place) → Stays k m → list_all (well.type_fits p.types) p.types ≡ true → Agrees m end → Here m (read_at end p)
+here_behind : (k m : Known) (p : Context) (end : Place) → Stays k m → list_all (type_stands p.types) p.types ≡ true → Agrees m end → Here m (read_at end p)
 here_behind k m p end f fit agrees = record { sound = f.sound; complete = f.complete; agrees = agrees; fit = fit }
 
 -- an inner part ends: tables stay
@@ -185,7 +185,7 @@ record SequenceRead (p : Context) (body : SequenceTree) (fs : SequenceForm) (k :
 record Begun (k : Known) (p : Context) : Type 0 where
   sound : Sound k
   agrees : Agrees k p.place
-  fit : list_all (well.type_fits p.types) p.types ≡ true
+  fit : list_all (type_stands p.types) p.types ≡ true
 
 -- how the parts of a body are read, wherever it stands
 abbrev ReadsPart : DeclarationsTree → Type 0
@@ -275,7 +275,7 @@ record ProcedureRead (p : Context) (head : HeadTree) (inner : DeclarationsTree) 
   formals_so : AreFormalsRead (in_body head.name b p) p.place head.formals b.formals formals
   part_so : IsPartRead (read_at formals (in_body head.name b p)) (Some []) inner b.declarations declared
   body_so : IsSequenceRead (read_at declared (in_body head.name b p)) body b.statements b.handlers done
-  next_so : IsNextBody p b body formals done
+  next_so : IsNextBody p b head body formals done
   end_so : IsEndName head.name.text end_name
   agrees : Agrees m (behind_body head.name p.place done)
 
@@ -303,10 +303,10 @@ procedure_read p head inner body end_name at next w ahead d part_so sequence_so 
   formals_so = subst (λ (ms : List FormalMode). AreFormalsRead q p.place head.formals ms first.end) (sym same_modes) first.read;
   part_so = subst (λ (es : List DeclarationForm). IsPartRead (read_at first.end q) (Some []) inner es part.end) (sym elaborated) (part.read [] nothing_yet);
   body_so = sequence.read;
-  next_so = (body_there k z head d.done.0.0 d.done.0.1 (end_of body) p sequence.end stays.done_in next_ahead sequence.agrees, formals_count, sym sequence.agrees.variables, refl);
+  next_so = (body_there k z head d.done.0.0 d.done.0.1 (head_spot head) (end_of body) p sequence.end stays.done_in next_ahead sequence.agrees, formals_count, sym sequence.agrees.variables, refl, refl);
   end_so = d.end_so;
   agrees = subst (λ v. Agrees v (behind_body head.name p.place sequence.end)) (sym d.known)
-      (ended_agrees k z head d.done.0.0 d.done.0.1 (end_of body) p.place sequence.end stays.done_in agrees sequence.agrees);
+      (ended_agrees k z head d.done.0.0 d.done.0.1 (head_spot head) (end_of body) p.place sequence.end stays.done_in agrees sequence.agrees);
 }
   where
     k : Known
@@ -316,7 +316,7 @@ procedure_read p head inner body end_name at next w ahead d part_so sequence_so 
     z = d.done.1.0
 
     b : BodyForm
-    b = body_of z d.done.0.0 d.done.0.1 (end_of body)
+    b = body_of z d.done.0.0 d.done.0.1 (head_spot head) (end_of body)
 
     q : Context
     q = in_body head.name b p
@@ -327,11 +327,11 @@ procedure_read p head inner body end_name at next w ahead d part_so sequence_so 
     agrees : Agrees k p.place
     agrees = after_agrees at.0 p.place w.agrees
 
-    next_ahead : Ahead (body_ended head.name d.done.0.0 d.done.0.1 (end_of body) z) p
-    next_ahead = ahead_as next.0 (body_ended head.name d.done.0.0 d.done.0.1 (end_of body) z) p d.known ahead
+    next_ahead : Ahead (body_ended head.name d.done.0.0 d.done.0.1 (head_spot head) (end_of body) z) p
+    next_ahead = ahead_as next.0 (body_ended head.name d.done.0.0 d.done.0.1 (head_spot head) (end_of body) z) p d.known ahead
 
     z_ahead : Ahead z q
-    z_ahead = ahead_within k z head d.done.0.0 d.done.0.1 (end_of body) p stays.done_in next_ahead
+    z_ahead = ahead_within k z head d.done.0.0 d.done.0.1 (head_spot head) (end_of body) p stays.done_in next_ahead
 
     behind_ahead : Ahead d.behind.0 q
     behind_ahead = ahead_before d.behind.0 q (ahead_on (after_types d.behind.0) z q stays.sequence.stays.grows z_ahead)
@@ -399,7 +399,7 @@ body_later p head inner body end_name ds at next after late same r on = record {
 body_elaborates : (head : HeadTree) (inner : DeclarationsTree) (body : SequenceTree) (end_name : Option Ident) (at next : At) (d : ProcedureDone head inner body end_name at next) → Sound at.0 → next.0.here.elaborated ≡ (after_types at.0).here.elaborated
 body_elaborates head inner body end_name at next d s =
     let stays = body_stays head inner body end_name at next d s in
-    ap (λ (v : Known). v.here.elaborated) (d.known ∙ ended_is (around_body (after_types at.0) head) d.done.1.0 head.name d.done.0.0 d.done.0.1 (end_of body) stays.done_in)
+    ap (λ (v : Known). v.here.elaborated) (d.known ∙ ended_is (around_body (after_types at.0) head) d.done.1.0 head.name d.done.0.0 d.done.0.1 (head_spot head) (end_of body) stays.done_in)
 
 -- a loop over the values of a parameter
 range_read : (p : Context) (inside_loop : Bool) (spot : Spot) (name : Ident) (low high : ExpressionTree) (ss : StatementsTree) (last : Spot) (at : At) (done : StmtForm × At) → Here at.0 p → Ahead done.1.0 p → Stays at.0 done.1.0 → (d : LoopDone spot (for_scheme name low high) ss last at done) → ReadsStatements p true ss → StatementRead p (loop_statement spot (for_scheme name low high) ss last) done.0 done.1.0

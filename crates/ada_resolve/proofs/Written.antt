@@ -41,6 +41,7 @@ use Rattle.ada_resolve.specs.Naming.{Context, IsNumberNamed, IsStaticRead, IsKin
 use Rattle.ada_resolve.specs.Reading.{AreInitialItems, IsInitialRead}
 use Rattle.ada_resolve.specs.Rights.{Assigned, a_value, a_whole}
 use Rattle.ada_resolve.specs.Paths.{name_of_type, elementary_of}
+use Rattle.ada_resolve.proofs.WellFormed.Inherits.{type_stands}
 use Rattle.ada_resolve.proofs.WellFormed.Remarks.{Quiet, quiet_if, quiet_unless}
 use Rattle.ada_resolve.proofs.WellFormed.Names.{EntityFits, PartsFit, same_text, visible_fits}
 use Rattle.ada_resolve.proofs.WellFormed.Laid.{OfParts, RecordHas, append_none, elementary_same, laid_stays}
@@ -269,9 +270,9 @@ record_there types text d (Some (record_of name ps cs final)) there same is =
 record_there types text d (Some (access_to name u pool)) there same is = absurd (cc is)
 record_there types text d (Some (object_of record_type)) there same is = absurd (cc is)
 
-pub designated_read : (p : Context) (text designated : List ℕ) (t d : ℕ) (pool : Option ℕ) → list_all (well.type_fits p.types) p.types ≡ true → slice_get p.types t ≡ Some (access_to text d pool) → HasName p.types designated d → IsTypeNamed p designated d → IsRecordNamed p designated d
+pub designated_read : (p : Context) (text designated : List ℕ) (t d : ℕ) (pool : Option ℕ) → list_all (type_stands p.types) p.types ≡ true → slice_get p.types t ≡ Some (access_to text d pool) → HasName p.types designated d → IsTypeNamed p designated d → IsRecordNamed p designated d
 designated_read p text designated t d pool all there same named_so =
-    let is = record_there p.types designated d (slice_get p.types d) refl same (all_at (well.type_fits p.types) p.types t (access_to text d pool) all there) in (named_so, is.0, is.1, is.2, is.3)
+    let is = record_there p.types designated d (slice_get p.types d) refl same (all_at (type_stands p.types) p.types t (access_to text d pool) all there) in (named_so, is.0, is.1, is.2, is.3)
 
 -- the access type of an instance
 abbrev pub FoundAccess : Known → Context → Ident → Ident → Option TypeNo → Type 0

@@ -346,10 +346,11 @@ begun_with name formals = body_begun (ident_of name) (formals_in formals)
 abbrev pub at_work_again : Option (Vec Variable) → Known → Known
 at_work_again around known = record known { variables = variables_around (optional_variables around) }
 
--- What is known once a body has ended, whose statements and handlers these are, and whose last `end` stands here.
-abbrev pub without_body_of : Sequence → (last : Spot) → Known → Known
-without_body_of body last known = with_procedure (body_of known (statements_in body.statements) (handlers_in body.handlers) last) (without_body known)
+-- What is known once a body has ended, whose statements and handlers these are, and whose first token and last `end` stand here.
+abbrev pub without_body_of : Sequence → (start last : Spot) → Known → Known
+without_body_of body start last known =
+    with_procedure (body_of known (statements_in body.statements) (handlers_in body.handlers) start last) (without_body known)
 
--- What is known behind the body of a procedure of this name, whose statements and handlers these are, and whose last `end` stands here.
-abbrev pub ended_with : Identifier → Sequence → (last : Spot) → Known → Known
-ended_with name body last = body_ended (ident_of name) (statements_in body.statements) (handlers_in body.handlers) last
+-- What is known behind the body of a procedure of this name, whose statements and handlers these are, and whose first token and last `end` stand here.
+abbrev pub ended_with : Identifier → Sequence → (start last : Spot) → Known → Known
+ended_with name body start last = body_ended (ident_of name) (statements_in body.statements) (handlers_in body.handlers) start last

@@ -169,14 +169,15 @@ abbrev pub variables_around : Option (List VariableForm) → List VariableForm
 variables_around (Some variables) = variables
 variables_around None = []
 
--- What a body is, where these are its statements and its handlers, and its last `end` stands here (6.3).
-abbrev pub body_of : Known → StmtsForm → HandlersForm → (last : Spot) → BodyForm
-body_of known forms handled last = record {
+-- What a body is, where these are its statements and its handlers, and its first token and its last `end` stand here (6.3).
+abbrev pub body_of : Known → StmtsForm → HandlersForm → (start last : Spot) → BodyForm
+body_of known forms handled start last = record {
   formals = known.here.modes;
   variables = known.variables;
   declarations = known.here.elaborated;
   statements = forms;
   handlers = handled;
+  start_spot = start;
   end_spot = last;
 }
 
@@ -188,7 +189,7 @@ without_body known = record (left_to known.outer known) { variables = variables_
 abbrev pub with_procedure : BodyForm → Known → Known
 with_procedure body known = record known { bodies = known.bodies ++ body ∷ [] }
 
--- Behind a body, whose last `end` stands here, its name stands for the procedure, which may be called.
-abbrev pub body_ended : Ident → StmtsForm → HandlersForm → (last : Spot) → Known → Known
-body_ended name forms handled last known =
-    declared (with_procedure (body_of known forms handled last) (without_body known)) name.text (entity.Callable (next_procedure known))
+-- Behind a body, whose first token and whose last `end` stand here, its name stands for the procedure, which may be called.
+abbrev pub body_ended : Ident → StmtsForm → HandlersForm → (start last : Spot) → Known → Known
+body_ended name forms handled start last known =
+    declared (with_procedure (body_of known forms handled start last) (without_body known)) name.text (entity.Callable (next_procedure known))

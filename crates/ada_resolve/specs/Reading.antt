@@ -32,7 +32,7 @@ use Rattle.ada_resolve.specs.Known.{parts_of}
 use Rattle.ada_resolve.specs.Operators.{joined}
 use Rattle.ada_resolve.specs.Paths.{follows_to, follows_value}
 use Rattle.ada_resolve.specs.Records.{counted}
-use Rattle.ada_resolve.specs.Spots.{end_of}
+use Rattle.ada_resolve.specs.Spots.{end_of, head_spot}
 use Rattle.ada_resolve.specs.Statics.{at_most_greatest, integer_of}
 
 -- The type of the objects behind a value (3.10): none, if it is no access value.
@@ -611,11 +611,11 @@ abbrev pub IsHeadRead : Context → HeadTree → Type 0
 IsHeadRead p head = IsNew p.place head.name × (head.overriding ≡ None)
 
 -- The bodies of a program and what the text up to a place tells of one (6.3): it is the next one that ends, has as many formal parameters and
--- variables, and ends where its last `end` stands.
-abbrev pub IsNextBody : Context → BodyForm → SequenceTree → (formals end : Place) → Type 0
-IsNextBody p b body formals end =
+-- variables, begins where its first token stands, and ends where its last `end` does.
+abbrev pub IsNextBody : Context → BodyForm → HeadTree → SequenceTree → (formals end : Place) → Type 0
+IsNextBody p b head body formals end =
     (slice_get p.bodies end.bodies ≡ Some b) × (length b.formals ≡ formals.variables) × (length b.variables ≡ end.variables) ×
-    (b.end_spot ≡ end_of body)
+    (b.start_spot ≡ head_spot head) × (b.end_spot ≡ end_of body)
 
 -- Where the types of a part end, all are completed, and the first of these declarations, up to the rest, create the collections of the access types
 -- that have none yet (7.6.1). Where they have ended before, nothing is created.
@@ -660,7 +660,7 @@ abbrev mutual
       AreFormalsRead (in_body head.name b p) p.place head.formals b.formals formals ×
       IsPartRead (read_at formals (in_body head.name b p)) (Some []) inner b.declarations declared ×
       IsSequenceRead (read_at declared (in_body head.name b p)) body b.statements b.handlers done ×
-      IsNextBody p b body formals done × IsEndName head.name.text end_name ×
+      IsNextBody p b head body formals done × IsEndName head.name.text end_name ×
       IsPartRead (read_at (behind_body head.name p.place done) p) None ds rest end
   IsPartRead p made ds forms end = (rest : List DeclarationForm) × DoTypesEnd p made forms rest × AreObjectsRead p ds rest end
 

@@ -22,7 +22,7 @@ use Rattle.ada_resolve.specs.declared.scope.Entity.TheVariants as entity
 use Rattle.ada_resolve.specs.Known.{Known, Named, declared, part_from, with_part, without_part, next_variable}
 use Rattle.ada_resolve.specs.Library.{is_taken, is_primitive, library_name}
 use Rattle.ada_resolve.specs.Remark.{Remark, fine, wrong, node, ◌also◌, wrong_if, noted}
-use Rattle.ada_resolve.specs.Spots.{declaration_spot, end_of}
+use Rattle.ada_resolve.specs.Spots.{declaration_spot, end_of, head_spot}
 use Rattle.ada_resolve.specs.Borrowers.{borrower_known, borrower_remark}
 use Rattle.ada_resolve.specs.Clauses.{clause_known, clause_remark}
 use Rattle.ada_resolve.specs.Derived.{derived_type_known, derived_type_remark}
@@ -272,10 +272,11 @@ abbrev pub same_name : {X : Type 0} → List ℕ → Option Ident → X → Told
 same_name procedure (Some name) x = if bytes_eq name.text procedure then gives x else broken name.spot UnknownName
 same_name procedure None x = gives x
 
--- The body of a procedure ends behind its handlers (6.3), where its last `end` stands: the part ends, and the procedure may be called.
-abbrev pub ended_body : Ident → (last : Spot) → Option Ident → Told (SequenceForm × At) → Told At
-ended_body name last end_name (broken spot rule) = broken spot rule
-ended_body name last end_name (gives done) = same_name name.text end_name (body_ended name done.0.0 done.0.1 last done.1.0, done.1.1)
+-- The body of a procedure, whose head this is, ends behind its handlers (6.3), where its last `end` stands: the part ends, and the procedure may be called.
+abbrev pub ended_body : HeadTree → (last : Spot) → Option Ident → Told (SequenceForm × At) → Told At
+ended_body head last end_name (broken spot rule) = broken spot rule
+ended_body head last end_name (gives done) =
+    same_name head.name.text end_name (body_ended head.name done.0.0 done.0.1 (head_spot head) last done.1.0, done.1.1)
 
 -- What is wrong with the statements of a loop or of a handler, which begins at the spot: there is one (5.1).
 abbrev pub body_remark : Spot → StatementsTree → Remark
@@ -305,7 +306,7 @@ abbrev mutual
   declaration_told (body_declaration head declarations body end_name) at =
       and_then (body_head_told head at)
       (λ inner. and_then (declarations_told declarations inner)
-      (λ behind. ended_body head.name (end_of body) end_name (sequence_told false body behind)))
+      (λ behind. ended_body head (end_of body) end_name (sequence_told false body behind)))
   declaration_told declaration at = single_told declaration at
 
   -- The declarations, in order (3.11).
@@ -384,6 +385,7 @@ program_of known forms handled = record {
   declarations = known.here.elaborated;
   statements = forms;
   handlers = handled;
+  start_spot = nowhere;
   end_spot = nowhere;
 }
 

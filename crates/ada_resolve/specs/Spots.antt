@@ -2,6 +2,7 @@
 
 use Rattle.std.specs.Prelude.{Option, Some, None}
 use Rattle.ada_text.specs.declared.spot.Spot.{Spot}
+use Rattle.ada_tree.specs.Declarations.{HeadTree}
 use Rattle.ada_tree.specs.Expressions.{ExpressionTree, number_expression, null_expression, path_expression, aggregate_expression, enclosed_expression, unary_expression, binary_expression, RightTree, expression_right, allocator_right, creation_right, ArgumentTree, expression_argument, text_argument, attribute_argument}
 use Rattle.ada_tree.specs.Statements.{DeclarationTree, exception_declaration, constant_declaration, pool_declaration, object_declaration, borrower_declaration, incomplete_type, access_type, record_type, derived_type, attribute_clause, specification, body_declaration, instance, begin_of, StatementTree, null_statement, assignment, call, if_statement, loop_statement, exit_statement, return_statement, raise_statement, block, declare_block, SequenceTree, a_sequence}
 
@@ -31,6 +32,10 @@ argument_spot (attribute_argument prefix attribute value) = prefix.spot
 abbrev pub first_or : Option Spot → Spot → Spot
 first_or (Some overriding) procedure = overriding
 first_or None procedure = procedure
+
+-- Where a specification or a body of a procedure begins (6.1, 6.3).
+abbrev pub head_spot : HeadTree → Spot
+head_spot head = first_or head.overriding head.spot
 
 -- Where a declaration begins (3.1).
 unfoldable pub declaration_spot : DeclarationTree → Spot

@@ -103,7 +103,8 @@ impl<'t> Components<'t> {
         })
     }
 
-    /// How objects of a record type that is made of these are finalized, where it is the next to be numbered. It overrides nothing.
+    /// How objects of a record type that is made of these are finalized, where it is the next to be numbered. It overrides
+    /// nothing.
     #[tactic(auto, unfolding(crate::specs::Kept::composition_in))]
     pub(crate) fn finalization(&self, number: usize) -> Option<Finalization>
         ensures { result ≡ finalization_made number (composition_in self.now) }

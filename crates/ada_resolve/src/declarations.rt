@@ -11,7 +11,7 @@ use crate::instances::Instance;
 use crate::notes::Notes;
 use crate::procedures::same_name;
 use crate::resolver::Resolver;
-use crate::spots::declaration_spot;
+use crate::spots::{declaration_spot, head_spot};
 use ada_program::Spot;
 use ada_tree::declarations::Declaration;
 
@@ -53,7 +53,7 @@ impl<'t> Resolver<'t> {
                 self.declarations(declarations, notes)?;
                 let made = self.sequence(body, false, notes)?;
                 same_name(head.name, *end_name)?;
-                self.end_body(head.name, body.end, made)
+                self.end_body(head.name, head_spot(head), body.end, made)
             }
             Declaration::Exception { .. }
             | Declaration::Constant { .. }

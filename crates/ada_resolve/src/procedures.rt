@@ -59,18 +59,20 @@ impl<'t> Resolver<'t> {
         self.enter_body(formals)
     }
 
-    /// The body of a procedure ends behind its handlers (6.3), where its last `end` stands: the procedure may be called.
+    /// The body of a procedure, whose first token and whose last `end` stand there, ends behind its handlers (6.3): the procedure
+    /// may be called.
     pub(crate) fn end_body(
         &mut self,
         name: Identifier<'t>,
+        start: Spot,
         end: Spot,
         body: Sequence,
     ) -> Result<(), NameFault>
-        ensures known { OnOk result (Changes self (ended_with name.entry body end)) }
+        ensures known { OnOk result (Changes self (ended_with name.entry body start end)) }
         ensures memory { IfErr result (λ e. e ≡ NameFault.NoMemory) }
     {
         let number = self.next_procedure();
-        self.leave_body(end, body)?;
+        self.leave_body(start, end, body)?;
         self.declare(name.text, Entity::Callable(number))
     }
 

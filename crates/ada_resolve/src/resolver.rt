@@ -155,11 +155,16 @@ impl<'t> Resolver<'t> {
         Ok(())
     }
 
-    /// The body of a procedure ends, whose statements and handlers these are, and whose last `end` stands there: the body
-    /// around is at work again.
+    /// The body of a procedure ends, whose statements and handlers these are, and whose first token and last `end` stand
+    /// there: the body around is at work again.
     #[tactic(auto, using(std::proofs::lemmas::Grind::common_steps, crate::proofs::Profiles::left_variables))]
-    pub(crate) fn leave_body(&mut self, end: Spot, body: Sequence) -> Result<(), NameFault>
-        ensures known { OnOk result (Changes self (without_body_of body end)) }
+    pub(crate) fn leave_body(
+        &mut self,
+        start: Spot,
+        end: Spot,
+        body: Sequence,
+    ) -> Result<(), NameFault>
+        ensures known { OnOk result (Changes self (without_body_of body start end)) }
         ensures memory { IfErr result (λ e. e ≡ NameFault.NoMemory) }
     {
         let Contents {
@@ -174,6 +179,7 @@ impl<'t> Resolver<'t> {
             declarations,
             statements: body.statements,
             handlers: body.handlers,
+            start,
             end,
         })
     }

@@ -1,12 +1,13 @@
 //! Where a construct begins: the spot of its first token.
 
 ghost use Rattle.std.specs.Prelude.{◌≡◌};
+ghost use Rattle.ada_tree.specs.Declarations.{head_of};
 ghost use Rattle.ada_tree.specs.ExpressionView.{expression_of, right_of, argument_of};
 ghost use Rattle.ada_tree.specs.StatementView.{declaration_of, statement_of};
-ghost use Rattle.ada_resolve.specs.Spots.{expression_spot, right_spot, argument_spot, declaration_spot, statement_spot, first_or};
+ghost use Rattle.ada_resolve.specs.Spots.{expression_spot, right_spot, argument_spot, declaration_spot, statement_spot, first_or, head_spot};
 
 use ada_program::Spot;
-use ada_tree::declarations::Declaration;
+use ada_tree::declarations::{Declaration, ProcedureHead};
 use ada_tree::expressions::{Argument, Expression, Right};
 use ada_tree::statements::Statement;
 
@@ -65,10 +66,15 @@ pub(crate) fn declaration_spot(declaration: &Declaration<'_>) -> Spot
         | Declaration::DerivedType { spot, .. }
         | Declaration::Clause { spot, .. }
         | Declaration::Instance { spot, .. } => *spot,
-        Declaration::Specification(head) | Declaration::Body { head, .. } => {
-            first_or(head.overriding, head.spot)
-        }
+        Declaration::Specification(head) | Declaration::Body { head, .. } => head_spot(head),
     }
+}
+
+/// Where a specification or a body of a procedure begins (6.1, 6.3).
+pub(crate) fn head_spot(head: &ProcedureHead<'_>) -> Spot
+    ensures { result ≡ head_spot (head_of head.now) }
+{
+    first_or(head.overriding, head.spot)
 }
 
 /// Where a procedure begins: at `overriding`, where that is written (8.3.1).

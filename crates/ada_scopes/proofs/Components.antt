@@ -1,16 +1,18 @@
 -- What nested states say of objects and their components.
 
-use Rattle.std.proofs.Common.{◌≡◌, ℕ, zero, suc, ◌+◌, ◌≤◌, ◌<◌, ◌==◌, ◌||◌, Bool, true, false, if◌then◌else◌, List, [], ◌∷◌, ◌++◌, Option, Some, arith, refl, sym, ap, ◌∙◌, subst, ◌⊎◌, inl, inr}
+use Rattle.std.proofs.Common.{◌≡◌, not, ℕ, zero, suc, ◌+◌, ◌≤◌, ◌<◌, ◌==◌, ◌||◌, Bool, true, false, if◌then◌else◌, List, [], ◌∷◌, ◌++◌, Option, Some, arith, refl, sym, ap, ◌∙◌, subst, ◌⊎◌, inl, inr}
 use Rattle.std.proofs.lemmas.Bool.{eqb-true, eq-eqb}
 use Rattle.std.specs.List.{slice_get, All, AllPairs, Contains}
 use Rattle.std.proofs.lemmas.List.Elements.{All-nil, All-cons}
 use Rattle.std.proofs.lemmas.List.Kept.{AllPairs-cons}
 use Rattle.ada_program.specs.declared.program.ComponentKind.{ComponentKind}
 use Rattle.ada_program.specs.declared.program.ComponentKind.TheVariants as component
+use Rattle.ada_program.specs.declared.program.Program.{Program}
 use Rattle.ada_program.specs.declared.program.TypeNo.{TypeNo}
 use Rattle.ada_program.specs.declared.program.VariableKind.TheVariants as variable
+use Rattle.ada_program.specs.Form.{DeclarationForm}
 use Rattle.ada_program.specs.ProgramForm.{TypeForm, ProgramForm, program_form}
-use Rattle.ada_program.specs.WellFormed.{is_access, reached_components, held_kind, component_kind, kind_among}
+use Rattle.ada_program.specs.WellFormed.{IsWellFormed, is_access, overrides_none, reached_components, held_kind, component_kind, kind_among}
 use Rattle.ada_program.specs.Nested.{Callees, are_open, callees_of}
 use Rattle.ada_meaning.specs.declared.state.Id.{Id}
 use Rattle.ada_meaning.specs.declared.state.Value.{Value}
@@ -26,24 +28,54 @@ use Rattle.ada_typed.specs.Holding.{Cells, Designates, HasKind, HaveKinds, IsFil
 use Rattle.ada_typed.proofs.Evaluations.{cell_at}
 use Rattle.ada_typed.proofs.Runs.{objects_have_their_kinds}
 use Rattle.ada_order.proofs.Orders as orders
-use Rattle.ada_scopes.specs.Scopes.{type_collected, CollectTwoTypes, TypesHaveOneCollection, is_number_of, lasting, IsOpenIn, is_leaving, is_innermost, IsGoing, IsListed, ObjectsLieInCollections, HoldsNames, ComponentsAreOutlived, HeldOutside, NamesStayOutside, InnermostHeldInside, InnermostIsNotNamed}
-use Rattle.ada_scopes.proofs.Counts.{one, times, times_append, target_open, opened_by, opened, Scopes, scopes, all_of, opened_all}
-use Rattle.ada_scopes.proofs.Homes.{HasItem, has_split, HasHome, home_item, opened_here, opened_later, ItemsFit, fit_before, fit_after, opened_fits, has_opened, Housed, housed_after}
-use Rattle.ada_scopes.proofs.Control.{Goes, NeedsOpen, AreOpen, RecordNeeds, RecordsNeed, RecordsOpen, Lone, Begins, Nested, standing, beginning, parting}
-use Rattle.ada_scopes.proofs.Runs.{Scoped, state_nested}
+use Rattle.ada_scopes.specs.Scopes.{InItsRuns, type_collected, CollectTwoTypes, TypesHaveOneCollection, is_number_of, lasting, IsOpenIn, departures, some_departure, departs, OnlyInnermostIsLeft, is_innermost, IsListed, ObjectsLieInCollections, HoldsNames, ComponentsAreOutlived, HaveTheirKinds, HeldOutside, NamesStayOutside, TypedNamesStayOutside, InnermostHeldInside, InnermostIsNotNamed, TypedInnermostIsNotNamed}
+use Rattle.ada_scopes.proofs.Counts.{one, times, times_append, target_open, opened_by, opened, Scopes, scopes, all_of, opened_all, scopes_older}
+use Rattle.ada_scopes.proofs.Homes.{HasItem, has_split, HasHome, home_item, opened_here, opened_later, ItemsFit, fit_before, fit_after, has_opened, Housed, housed_after}
+use Rattle.ada_scopes.proofs.Control.{OwnsAll, Nests, Goes, NeedsOpen, AreOpen, RecordNeeds, RecordsNeed, RecordsOpen, Covers, covers_older, covers_fewer, Lone, lone_older, Whole, Growing, Begins, Nested, standing, beginning, parting}
+use Rattle.ada_scopes.proofs.Operations.{none_nests}
+use Rattle.ada_scopes.proofs.Runs.{calls_in, Scoped, state_nested}
+
+-- The masters whose collections have all been created: all, or the outer ones, where the innermost is creating its own. No object lies in those.
+record Settled (types : List TypeForm) (s : State) : Type 0 where
+  ss : Scopes
+  own : List Master
+  ms : List Master
+  masters : s.masters ≡ own ++ ms
+  whole : Whole types ss ms s.heap
+
+outer_whole : (types : List TypeForm) (ss : Scopes) (m : Master) (rest : List Master) (heap : List Object) (ds : List DeclarationForm) (there : List ℕ) → Growing types ss m rest heap ds there → Whole types ss rest heap
+outer_whole types ss m rest heap ds there g = record {
+  lone = λ t. let once = g.once t in let all = g.all t in omega (arith, once, all);
+  needs = g.outer;
+  housed = g.housed;
+  fit = fit_after types m.items (items_of rest) g.fit;
+  records = g.records;
+  covers = g.covers;
+  known = g.known;
+}
+
+settled : (types : List TypeForm) (callees : Callees) (calling : Bool) (s : State) → Nested types callees calling s → Settled types s
+settled types callees calling s (standing ss w n) = record { ss = ss; own = []; ms = s.masters; masters = refl; whole = w }
+settled types callees calling s (beginning b) =
+    record { ss = b.ss; own = b.m ∷ []; ms = b.rest; masters = b.masters; whole = outer_whole types b.ss b.m b.rest s.heap b.ds b.there b.growing }
+settled types callees calling s (parting ss w runs goes) = record { ss = ss; own = []; ms = s.masters; masters = refl; whole = w }
 
 -- No access type is opened twice.
-lone_begun : (types : List TypeForm) (callees : Callees) (s : State) (b : Begins types callees s) → Lone (scopes (b.m ∷ b.rest))
-lone_begun types callees s b t =
+lone_covered : (ss : Scopes) (ms : List Master) → Covers ss (scopes ms) → Lone ss → Lone (scopes ms)
+lone_covered ss ms covers lone t = let all = lone t in let fewer = covers_fewer t ss (scopes ms) covers in omega (arith, all, fewer)
+
+lone_begun : (types : List TypeForm) (callees : Callees) (calling : Bool) (s : State) (b : Begins types callees calling s) → Lone (scopes (b.m ∷ b.rest))
+lone_begun types callees calling s b t =
     let once = b.growing.once t in
     let all = b.growing.all t in
+    let fewer = covers_fewer t b.ss (scopes b.rest) b.growing.covers in
     let sum = times_append t (opened b.m.items) (all_of (scopes b.rest)) in
-    omega (arith, once, all, sum)
+    omega (arith, once, all, fewer, sum)
 
-lone_in : (types : List TypeForm) (callees : Callees) (s : State) → Nested types callees s → Lone (scopes s.masters)
-lone_in types callees s (standing w n) = w.lone
-lone_in types callees s (beginning b) = subst (λ (ms : List Master). Lone (scopes ms)) (sym b.masters) (lone_begun types callees s b)
-lone_in types callees s (parting p runs goes) = p.lone
+lone_in : (types : List TypeForm) (callees : Callees) (calling : Bool) (s : State) → Nested types callees calling s → Lone (scopes s.masters)
+lone_in types callees calling s (standing ss w n) = lone_covered ss s.masters w.covers w.lone
+lone_in types callees calling s (beginning b) = subst (λ (ms : List Master). Lone (scopes ms)) (sym b.masters) (lone_begun types callees calling s b)
+lone_in types callees calling s (parting ss w runs goes) = lone_covered ss s.masters w.covers w.lone
 
 differ_by : (t : ℕ) (owned : Owned) (us : List ℕ) → times t (opened_by owned us) ≡ 0 → Differ (Some t) (type_collected owned)
 differ_by t (declared x) us none = tt
@@ -86,24 +118,18 @@ two_types (i ∷ is) lone = AllPairs-cons CollectTwoTypes i is (newest_alone i.o
 -- So no two items of a state are collections of one access type.
 pub collect_two : (p : ProgramForm) (s : State) → Scoped p s → AllPairs CollectTwoTypes (items_of s.masters)
 collect_two p s scoped =
-    let lone = lone_in p.types (callees_of p) s scoped.nested in
+    let lone = lone_in p.types (callees_of p) (calls_in p) s scoped.nested in
     two_types (items_of s.masters) (λ t. subst (λ (us : List ℕ). times t us ≤ 1) (sym (opened_all s.masters)) (lone t))
 
 pub one_collection : TypesHaveOneCollection
-one_collection program well nest input events last run = collect_two (program_form program) last (state_nested program well nest input events last run)
+one_collection program well nest operations input events last run = collect_two (program_form program) last (state_nested program well nest operations input events last run)
 
 -- Each object in its collection has that as its home.
-pub housed_in : (types : List TypeForm) (callees : Callees) (s : State) → Nested types callees s → Housed s.heap (items_of s.masters)
-housed_in types callees s (standing w n) = w.housed
-housed_in types callees s (beginning b) =
+pub housed_in : (types : List TypeForm) (callees : Callees) (calling : Bool) (s : State) → Nested types callees calling s → Housed s.heap (items_of s.masters)
+housed_in types callees calling s (standing ss w n) = w.housed
+housed_in types callees calling s (beginning b) =
     subst (λ (ms : List Master). Housed s.heap (items_of ms)) (sym b.masters) (housed_after s.heap b.m.items (items_of b.rest) b.growing.housed)
-housed_in types callees s (parting p runs goes) = p.housed
-
--- Items fit the types of the program.
-fit_in : (types : List TypeForm) (callees : Callees) (s : State) → Nested types callees s → ItemsFit types (items_of s.masters)
-fit_in types callees s (standing w n) = w.fit
-fit_in types callees s (beginning b) = subst (λ (ms : List Master). ItemsFit types (items_of ms)) (sym b.masters) b.growing.fit
-fit_in types callees s (parting p runs goes) = p.fit
+housed_in types callees calling s (parting ss w runs goes) = w.housed
 
 contains_home : (n access : ℕ) (pool : Option ℕ) (is : List Item) → HasHome n access pool is → (i : Item) × Contains is i × (i.number ≡ n) × (type_housed i.owned ≡ Some access) × (pool_housed i.owned ≡ pool)
 contains_home n access pool [] h = absurd h
@@ -113,9 +139,9 @@ contains_home n access pool (i ∷ is) (inr h) =
     (j.0, (suc j.1.0, omega (arith, j.1.1), j.1.2), j.2, j.3, j.4)
 
 pub in_collections : ObjectsLieInCollections
-in_collections program well nest input events last run o object listed =
+in_collections program well nest operations input events last run o object listed =
     contains_home object.cell.home.item object.cell.access object.cell.home.pool (items_of last.masters)
-    (housed_in (program_form program).types (callees_of (program_form program)) last (state_nested program well nest input events last run).nested o object listed.0 listed.1)
+    (housed_in (program_form program).types (callees_of (program_form program)) (calls_in (program_form program)) last (state_nested program well nest operations input events last run).nested o object listed.0 listed.1)
 
 -- What is opened is the collection of an item.
 abbrev HasOpened : ℕ → List Item → Type 0
@@ -212,44 +238,215 @@ item_opens types there n access (i ∷ is) needs records (inl e) = item_opens_by
 item_opens types there n access (i ∷ is) needs records (inr has) =
     item_opens types there n access is (λ t le. needs t (opened_later i.owned t (opened is) le)) records.1 has
 
--- What a component names lies in a collection of such a master.
-target_in : (types : List TypeForm) (n access c : ℕ) (target : TypeNo) (ms : List Master) → AreOpen types (scopes ms) → RecordsOpen types ms → HoldsNames types access c target → HasItem n access (items_of ms) → 1 ≤ times target.0 (all_of (scopes (lasting n ms)))
-target_in types n access c target [] opens records names has = absurd has
-target_in types n access c target (m ∷ ms) opens records names has = elim (has_split n access m.items (items_of ms) has) [ inl own ↦ here own | inr outer ↦ lasting_more n target.0 m ms (target_in types n access c target ms opens.1 records.1 names outer) ]
-  where
-    here : HasItem n access m.items → 1 ≤ times target.0 (all_of (scopes (lasting n (m ∷ ms))))
-    here own =
-        let needed = item_opens types (opened m.items ++ all_of (scopes ms)) n access m.items opens.0 records.0 own in
-        subst (λ (xs : List Master). 1 ≤ times target.0 (all_of (scopes xs))) (sym (lasting_here n m ms (has_number n access m.items own)))
-        (target_open (opened m.items ++ all_of (scopes ms)) (reached_components types access) c target names needed)
+-- What the masters have opened that last as long as an item.
+abbrev last_opened : ℕ → List Master → Scopes → Scopes
+last_opened n [] ss = []
+last_opened n (m ∷ ms) [] = []
+last_opened n (m ∷ ms) (us ∷ ss) = if is_number_of m.items n then us ∷ ss else last_opened n ms ss
 
-target_parting : (types : List TypeForm) (n access c : ℕ) (target : TypeNo) (ms : List Master) → AreOpen types (older (scopes ms)) → RecordsOpen types (older ms) → HoldsNames types access c target → HasItem n access (items_of ms) → (is_innermost ms n ≡ true) ⊎ (1 ≤ times target.0 (all_of (scopes (lasting n ms))))
-target_parting types n access c target [] opens records names has = absurd has
-target_parting types n access c target (m ∷ ms) opens records names has = elim (has_split n access m.items (items_of ms) has) [ inl own ↦ inl (has_number n access m.items own) | inr outer ↦ inr (lasting_more n target.0 m ms (target_in types n access c target ms opens records names outer)) ]
+last_here : (n : ℕ) (m : Master) (ms : List Master) (us : List ℕ) (ss : Scopes) → is_number_of m.items n ≡ true → last_opened n (m ∷ ms) (us ∷ ss) ≡ us ∷ ss
+last_here n m ms us ss is = ap (λ b. if b then us ∷ ss else last_opened n ms ss) is
 
-goes_leaving : (types : List TypeForm) (callees : Callees) (ss : Scopes) (k : List (Frame Value)) → Goes types callees ss k → is_leaving k ≡ true
-goes_leaving types callees ss [] goes = absurd goes
-goes_leaving types callees ss (frame.Leaves mode ∷ k) goes = refl
-goes_leaving types callees ss (frame.Treats v treatment tasks ∷ k) goes = goes_leaving types callees ss k goes
-goes_leaving types callees ss (frame.Ends v ∷ k) goes = goes_leaving types callees ss k goes
-goes_leaving types callees ss (frame.GivesBack v cause pool ∷ k) goes = goes_leaving types callees ss k goes
-goes_leaving types callees ss (f ∷ k) goes = absurd goes
+last_behind : (n : ℕ) (m : Master) (ms : List Master) (us : List ℕ) (ss : Scopes) → is_number_of m.items n ≡ false → last_opened n (m ∷ ms) (us ∷ ss) ≡ last_opened n ms ss
+last_behind n m ms us ss is = ap (λ b. if b then us ∷ ss else last_opened n ms ss) is
 
-target_nested : (types : List TypeForm) (callees : Callees) (s : State) (o : Id) (x : Object) (c : ℕ) (target : TypeNo) → Nested types callees s → IsListed s.heap o x → HoldsNames types x.cell.access c target → IsGoing s x.cell.home.item ⊎ (1 ≤ times target.0 (all_of (scopes (lasting x.cell.home.item s.masters))))
-target_nested types callees s o x c target (standing w n) listed names =
-    inr (target_in types x.cell.home.item x.cell.access c target s.masters w.needs w.records names (at_item s.heap (items_of s.masters) w.housed o x listed))
-target_nested types callees s o x c target (beginning b) listed names =
-    inr (subst (λ (ms : List Master). 1 ≤ times target.0 (all_of (scopes (lasting x.cell.home.item ms)))) (sym b.masters)
-    (lasting_more x.cell.home.item target.0 b.m b.rest (target_in types x.cell.home.item x.cell.access c target b.rest b.growing.outer b.growing.records names (at_item s.heap (items_of b.rest) b.growing.housed o x listed))))
-target_nested types callees s o x c target (parting p runs goes) listed names =
-    elim (target_parting types x.cell.home.item x.cell.access c target s.masters p.needs p.records names (at_item s.heap (items_of s.masters) p.housed o x listed)) [
-      | inl innermost ↦ inl (goes_leaving types callees (scopes s.masters) s.control goes, innermost)
-      | inr later ↦ inr later
+last_fewer_by : (n t : ℕ) (ms : List Master) (us : List ℕ) (ss : Scopes) (b : Bool) → times t (all_of (last_opened n ms ss)) ≤ times t (all_of ss) → times t (all_of (if b then us ∷ ss else last_opened n ms ss)) ≤ times t (all_of (us ∷ ss))
+last_fewer_by n t ms us ss true le = omega arith
+last_fewer_by n t ms us ss false le = let sum = times_append t us (all_of ss) in omega (arith, le, sum)
+
+last_fewer : (n t : ℕ) (ms : List Master) (ss : Scopes) → times t (all_of (last_opened n ms ss)) ≤ times t (all_of ss)
+last_fewer n t [] ss = omega arith
+last_fewer n t (m ∷ ms) [] = omega arith
+last_fewer n t (m ∷ ms) (us ∷ ss) = last_fewer_by n t ms us ss (is_number_of m.items n) (last_fewer n t ms ss)
+
+last_more_by : (n t : ℕ) (ms : List Master) (us : List ℕ) (ss : Scopes) (b : Bool) → 1 ≤ times t (all_of (last_opened n ms ss)) → 1 ≤ times t (all_of (if b then us ∷ ss else last_opened n ms ss))
+last_more_by n t ms us ss true le = let sum = times_append t us (all_of ss) in let fewer = last_fewer n t ms ss in omega (arith, le, sum, fewer)
+last_more_by n t ms us ss false le = le
+
+-- What a component names lies in a collection that such a master has opened.
+target_in : (types : List TypeForm) (n access c : ℕ) (target : TypeNo) (ss : Scopes) (ms : List Master) → Covers ss (scopes ms) → AreOpen types ss → RecordsOpen types ss ms → HoldsNames types access c target → HasItem n access (items_of ms) → 1 ≤ times target.0 (all_of (last_opened n ms ss))
+target_in types n access c target ss [] covers opens records names has = absurd has
+target_in types n access c target [] (m ∷ ms) covers opens records names has = absurd covers
+target_in types n access c target (us ∷ ss) (m ∷ ms) covers opens records names has =
+    elim (has_split n access m.items (items_of ms) has) [
+      | inl own ↦ here own
+      | inr outer ↦ last_more_by n target.0 ms us ss (is_number_of m.items n) (target_in types n access c target ss ms covers.1 opens.1 records.1 names outer)
     ]
+  where
+    here : HasItem n access m.items → 1 ≤ times target.0 (all_of (last_opened n (m ∷ ms) (us ∷ ss)))
+    here own =
+        let needs : NeedsOpen types (opened m.items) (us ++ all_of ss) = λ t le. opens.0 t (let fewer = covers.0 t in omega (arith, le, fewer)) in
+        let needed = item_opens types (us ++ all_of ss) n access m.items needs records.0 own in
+        subst (λ (xs : Scopes). 1 ≤ times target.0 (all_of xs)) (sym (last_here n m ms us ss (has_number n access m.items own)))
+        (target_open (us ++ all_of ss) (reached_components types access) c target names needed)
+
+-- What masters have opened is open, or one of them is being left.
+abbrev OpenOrLeft : (t : ℕ) → (vs : Scopes) → (left : Bool) → Type 0
+OpenOrLeft t vs left = (left ≡ true) ⊎ (1 ≤ times t (all_of vs))
+
+nothing_opened : (t : ℕ) (ss vs : Scopes) → Covers ss vs → vs ≡ [] → 1 ≤ times t (all_of ss) → ⊥
+nothing_opened t [] vs covers is le = omega (arith, le)
+nothing_opened t (us ∷ ss) [] covers is le = covers
+nothing_opened t (us ∷ ss) (ws ∷ vs) covers is le = cc is
+
+owned_opened : (t : ℕ) (ss vs : Scopes) (bs : List Bool) → OwnsAll ss vs → (1 ≤ times t (all_of (older ss)) → OpenOrLeft t (older vs) (some_departure bs)) → 1 ≤ times t (all_of ss) → OpenOrLeft t vs (some_departure (false ∷ bs))
+owned_opened t [] vs bs owns later le = absurd owns
+owned_opened t (us ∷ ss) [] bs owns later le = absurd owns
+owned_opened t (us ∷ ss) (ws ∷ vs) bs owns later le = split (times t us) refl
+  where
+    behind_it : OpenOrLeft t vs (some_departure bs) → OpenOrLeft t (ws ∷ vs) (some_departure (false ∷ bs))
+    behind_it (inl left) = inl left
+    behind_it (inr more) = inr (let sum = times_append t ws (all_of vs) in omega (arith, sum, more))
+
+    split : (n : ℕ) → times t us ≡ n → OpenOrLeft t (ws ∷ vs) (some_departure (false ∷ bs))
+    split zero none = behind_it (later (let sum = times_append t us (all_of ss) in omega (arith, sum, none, le)))
+    split (suc n) some = inr (let same = owns t in let sum = times_append t ws (all_of vs) in omega (arith, same, sum, some))
+
+module _ (types : List TypeForm) (callees : Callees) (calling : Bool) where
+  mutual
+    nests_opened : (t : ℕ) (ss vs : Scopes) (k : List (Frame Value)) → Covers ss vs → Nests types callees calling ss vs k → 1 ≤ times t (all_of ss) → OpenOrLeft t vs (some_departure (departures k))
+    nests_opened t ss vs [] covers n le = absurd (nothing_opened t ss vs covers n le)
+    nests_opened t ss vs (frame.Elaborates ds fs hs ∷ k) covers n le =
+        owned_opened t ss vs (departures k) n.0.2 (λ more. nests_opened t (older ss) (older vs) k (covers_older ss vs covers) n.1 more) le
+    nests_opened t ss vs (frame.Closes ∷ k) covers n le =
+        owned_opened t ss vs (departures k) n.0 (λ more. nests_opened t (older ss) (older vs) k (covers_older ss vs covers) n.1 more) le
+    nests_opened t ss vs (frame.Leaves mode ∷ k) covers n le = absurd n.0
+    nests_opened t ss vs (frame.Confines ∷ k) covers (x, inl n) le = nests_opened t ss vs k covers n le
+    nests_opened t ss vs (frame.Confines ∷ k) covers (x, inr goes) le = goes_opened t ss vs k covers goes le
+    nests_opened t ss vs (f ∷ k) covers n le = nests_opened t ss vs k covers n.1 le
+
+    goes_opened : (t : ℕ) (ss vs : Scopes) (k : List (Frame Value)) → Covers ss vs → Goes types callees calling ss vs k → 1 ≤ times t (all_of ss) → OpenOrLeft t vs (some_departure (departures k))
+    goes_opened t ss vs [] covers goes le = absurd goes
+    goes_opened t ss vs (frame.Leaves mode ∷ k) covers goes le = inl refl
+    goes_opened t ss vs (frame.Treats v (frame.begins by done) tasks ∷ k) covers goes le = absurd goes
+    goes_opened t ss vs (frame.Treats v (frame.ends cause) tasks ∷ k) covers goes le = goes_opened t ss vs k covers goes le
+    goes_opened t ss vs (frame.Ends v ∷ k) covers goes le = goes_opened t ss vs k covers goes le
+    goes_opened t ss vs (frame.GivesBack v cause pool ∷ k) covers goes le = goes_opened t ss vs k covers goes le
+    goes_opened t ss vs (f ∷ k) covers goes le = absurd goes
+
+-- Where no operation is called, no master but the innermost one is being left.
+module _ (types : List TypeForm) (callees : Callees) where
+  none_left : (ss vs : Scopes) (k : List (Frame Value)) → Nests types callees false ss vs k → some_departure (departures k) ≡ false
+  none_left ss vs [] n = refl
+  none_left ss vs (frame.Elaborates ds fs hs ∷ k) n = none_left (older ss) (older vs) k n.1
+  none_left ss vs (frame.Closes ∷ k) n = none_left (older ss) (older vs) k n.1
+  none_left ss vs (frame.Leaves mode ∷ k) n = absurd n.0
+  none_left ss vs (frame.Confines ∷ k) n = absurd (cc n.0)
+  none_left ss vs (f ∷ k) n = none_left ss vs k n.1
+
+  one_left : (ss vs : Scopes) (k : List (Frame Value)) → Goes types callees false ss vs k → some_departure (older (departures k)) ≡ false
+  one_left ss vs [] goes = absurd goes
+  one_left ss vs (frame.Leaves mode ∷ k) goes = none_left (older ss) (older vs) k goes
+  one_left ss vs (frame.Treats v (frame.begins by done) tasks ∷ k) goes = absurd goes
+  one_left ss vs (frame.Treats v (frame.ends cause) tasks ∷ k) goes = one_left ss vs k goes
+  one_left ss vs (frame.Ends v ∷ k) goes = one_left ss vs k goes
+  one_left ss vs (frame.GivesBack v cause pool ∷ k) goes = one_left ss vs k goes
+  one_left ss vs (f ∷ k) goes = absurd goes
+
+  none_older : (bs : List Bool) → some_departure bs ≡ false → some_departure (older bs) ≡ false
+  none_older [] none = none
+  none_older (true ∷ bs) none = absurd (cc none)
+  none_older (false ∷ bs) none = none
+
+  left_alone : (s : State) → Nested types callees false s → some_departure (older (departures s.control)) ≡ false
+  left_alone s (standing ss w n) = none_older (departures s.control) (none_left ss (scopes s.masters) s.control n)
+  left_alone s (parting ss w runs goes) = one_left ss (scopes s.masters) s.control goes
+  left_alone s (beginning b) =
+      subst (λ (k : List (Frame Value)). some_departure (older (departures k)) ≡ false) (sym b.control) (none_left b.ss (scopes b.rest) b.k b.nests)
+
+none_called_in : (p : ProgramForm) → overrides_none p ≡ true → calls_in p ≡ false
+none_called_in p plain = ap not plain
+
+pub innermost_alone : OnlyInnermostIsLeft
+innermost_alone program well nest plain input events last run =
+    let p = program_form program in
+    let operations = none_nests p plain in
+    left_alone p.types (callees_of p) last
+    (subst (λ (calling : Bool). Nested p.types (callees_of p) calling last) (none_called_in p plain) (state_nested program well nest operations input events last run).nested)
+
+-- So it is of those that last as long as an item.
+abbrev LastOpenOrLeft : (n t : ℕ) → List Master → List Bool → Type 0
+LastOpenOrLeft n t ms bs = OpenOrLeft t (scopes (lasting n ms)) (departs bs ms n)
+
+by_owner : (n t : ℕ) (us : List ℕ) (ss : Scopes) (m : Master) (ms : List Master) (d : Bool) (bs : List Bool) → (1 ≤ times t (all_of (us ∷ ss)) → OpenOrLeft t (scopes (m ∷ ms)) (some_departure (d ∷ bs))) → (1 ≤ times t (all_of (last_opened n ms ss)) → LastOpenOrLeft n t ms bs) → (b : Bool) → 1 ≤ times t (all_of (if b then us ∷ ss else last_opened n ms ss)) → OpenOrLeft t (scopes (if b then m ∷ ms else lasting n ms)) (if b then some_departure (d ∷ bs) else departs bs ms n)
+by_owner n t us ss m ms d bs here later true le = here le
+by_owner n t us ss m ms d bs here later false le = later le
+
+of_owner : (n t : ℕ) (ss : Scopes) (ms : List Master) (d : Bool) (bs : List Bool) → Covers ss (scopes ms) → (1 ≤ times t (all_of ss) → OpenOrLeft t (scopes ms) (some_departure (d ∷ bs))) → (1 ≤ times t (all_of (last_opened n (older ms) (older ss))) → LastOpenOrLeft n t (older ms) bs) → 1 ≤ times t (all_of (last_opened n ms ss)) → LastOpenOrLeft n t ms (d ∷ bs)
+of_owner n t ss [] d bs covers here later le = absurd (omega (arith, le))
+of_owner n t [] (m ∷ ms) d bs covers here later le = absurd covers
+of_owner n t (us ∷ ss) (m ∷ ms) d bs covers here later le = by_owner n t us ss m ms d bs here later (is_number_of m.items n) le
+
+no_masters : (n t : ℕ) (ss : Scopes) (ms : List Master) → scopes ms ≡ [] → 1 ≤ times t (all_of (last_opened n ms ss)) → ⊥
+no_masters n t ss [] is le = omega (arith, le)
+no_masters n t ss (m ∷ ms) is le = cc is
+
+module _ (types : List TypeForm) (callees : Callees) (calling : Bool) (n t : ℕ) where
+  mutual
+    nests_last : (ss : Scopes) (ms : List Master) (k : List (Frame Value)) → Covers ss (scopes ms) → Nests types callees calling ss (scopes ms) k → 1 ≤ times t (all_of (last_opened n ms ss)) → LastOpenOrLeft n t ms (departures k)
+    nests_last ss ms [] covers nest le = absurd (no_masters n t ss ms nest le)
+    nests_last ss ms (frame.Elaborates ds fs hs ∷ k) covers nest le =
+        of_owner n t ss ms false (departures k) covers (nests_opened types callees calling t ss (scopes ms) (frame.Elaborates ds fs hs ∷ k) covers nest)
+        (λ more. nests_last (older ss) (older ms) k (rw (scopes_older ms) (covers_older ss (scopes ms) covers)) (rw (scopes_older ms) nest.1) more) le
+    nests_last ss ms (frame.Closes ∷ k) covers nest le =
+        of_owner n t ss ms false (departures k) covers (nests_opened types callees calling t ss (scopes ms) (frame.Closes ∷ k) covers nest)
+        (λ more. nests_last (older ss) (older ms) k (rw (scopes_older ms) (covers_older ss (scopes ms) covers)) (rw (scopes_older ms) nest.1) more) le
+    nests_last ss ms (frame.Leaves mode ∷ k) covers nest le = absurd nest.0
+    nests_last ss ms (frame.Confines ∷ k) covers (x, inl nest) le = nests_last ss ms k covers nest le
+    nests_last ss ms (frame.Confines ∷ k) covers (x, inr goes) le = goes_last ss ms k covers goes le
+    nests_last ss ms (f ∷ k) covers nest le = nests_last ss ms k covers nest.1 le
+
+    goes_last : (ss : Scopes) (ms : List Master) (k : List (Frame Value)) → Covers ss (scopes ms) → Goes types callees calling ss (scopes ms) k → 1 ≤ times t (all_of (last_opened n ms ss)) → LastOpenOrLeft n t ms (departures k)
+    goes_last ss ms [] covers goes le = absurd goes
+    goes_last ss ms (frame.Leaves mode ∷ k) covers goes le =
+        of_owner n t ss ms true (departures k) covers (goes_opened types callees calling t ss (scopes ms) (frame.Leaves mode ∷ k) covers goes)
+        (λ more. nests_last (older ss) (older ms) k (rw (scopes_older ms) (covers_older ss (scopes ms) covers)) (rw (scopes_older ms) goes) more) le
+    goes_last ss ms (frame.Treats v (frame.begins by done) tasks ∷ k) covers goes le = absurd goes
+    goes_last ss ms (frame.Treats v (frame.ends cause) tasks ∷ k) covers goes le = goes_last ss ms k covers goes le
+    goes_last ss ms (frame.Ends v ∷ k) covers goes le = goes_last ss ms k covers goes le
+    goes_last ss ms (frame.GivesBack v cause pool ∷ k) covers goes le = goes_last ss ms k covers goes le
+    goes_last ss ms (f ∷ k) covers goes le = absurd goes
+
+-- An object of an outer master, where the innermost is creating its collections.
+departs_some : (n : ℕ) (bs : List Bool) (ms : List Master) → departs bs ms n ≡ true → some_departure bs ≡ true
+departs_some n [] ms is = is
+departs_some n (b ∷ bs) [] is = absurd (cc is)
+departs_some n (b ∷ bs) (m ∷ ms) is = by (is_number_of m.items n) (departs_some n bs ms) is
+  where
+    by : (here : Bool) → (departs bs ms n ≡ true → some_departure bs ≡ true) → (if here then some_departure (b ∷ bs) else departs bs ms n) ≡ true → some_departure (b ∷ bs) ≡ true
+    by true later e = e
+    by false later e = number_by b (some_departure bs) (later e)
+
+departs_more : (n : ℕ) (m : Master) (ms : List Master) (bs : List Bool) → departs bs ms n ≡ true → departs (false ∷ bs) (m ∷ ms) n ≡ true
+departs_more n m ms bs is = by (is_number_of m.items n)
+  where
+    by : (here : Bool) → (if here then some_departure (false ∷ bs) else departs bs ms n) ≡ true
+    by true = departs_some n bs ms is
+    by false = is
+
+outer_last : (n t : ℕ) (m : Master) (ms : List Master) (bs : List Bool) → LastOpenOrLeft n t ms bs → LastOpenOrLeft n t (m ∷ ms) (false ∷ bs)
+outer_last n t m ms bs (inl left) = inl (departs_more n m ms bs left)
+outer_last n t m ms bs (inr le) = inr (lasting_more n t m ms le)
+
+target_whole : (types : List TypeForm) (ss : Scopes) (ms : List Master) (heap : List Object) (o : Id) (x : Object) (c : ℕ) (target : TypeNo) → Whole types ss ms heap → IsListed heap o x → HoldsNames types x.cell.access c target → 1 ≤ times target.0 (all_of (last_opened x.cell.home.item ms ss))
+target_whole types ss ms heap o x c target w listed names =
+    target_in types x.cell.home.item x.cell.access c target ss ms w.covers w.needs w.records names (at_item heap (items_of ms) w.housed o x listed)
+
+target_nested : (types : List TypeForm) (callees : Callees) (calling : Bool) (s : State) (o : Id) (x : Object) (c : ℕ) (target : TypeNo) → Nested types callees calling s → IsListed s.heap o x → HoldsNames types x.cell.access c target → LastOpenOrLeft x.cell.home.item target.0 s.masters (departures s.control)
+target_nested types callees calling s o x c target (standing ss w n) listed names =
+    nests_last types callees calling x.cell.home.item target.0 ss s.masters s.control w.covers n (target_whole types ss s.masters s.heap o x c target w listed names)
+target_nested types callees calling s o x c target (parting ss w runs goes) listed names =
+    goes_last types callees calling x.cell.home.item target.0 ss s.masters s.control w.covers goes (target_whole types ss s.masters s.heap o x c target w listed names)
+target_nested types callees calling s o x c target (beginning b) listed names =
+    let n = x.cell.home.item in
+    let w = outer_whole types b.ss b.m b.rest s.heap b.ds b.there b.growing in
+    let found = nests_last types callees calling n target.0 b.ss b.rest b.k w.covers b.nests (target_whole types b.ss b.rest s.heap o x c target w listed names) in
+    subst (λ (ms : List Master). LastOpenOrLeft n target.0 ms (departures s.control)) (sym b.masters)
+    (subst (λ (k : List (Frame Value)). LastOpenOrLeft n target.0 (b.m ∷ b.rest) (departures k)) (sym b.control) (outer_last n target.0 b.m b.rest (departures b.k) found))
 
 pub outlived : ComponentsAreOutlived
-outlived program well nest input events last run o x c target listed names =
-    elim (target_nested (program_form program).types (callees_of (program_form program)) last o x c target (state_nested program well nest input events last run).nested listed names) [
+outlived program well nest operations input events last run o x c target listed names =
+    elim (target_nested (program_form program).types (callees_of (program_form program)) (calls_in (program_form program)) last o x c target (state_nested program well nest operations input events last run).nested listed names) [
       | inl going ↦ inl going
       | inr le ↦ inr (open_in target.0 (lasting x.cell.home.item last.masters) le)
     ]
@@ -271,41 +468,49 @@ component_named types cells (k ∷ cs) (v ∷ vs) zero p have is =
 component_named types cells (k ∷ cs) (v ∷ vs) (suc c) p have is = component_named types cells cs vs c p have.1 is
 
 -- The one collection of its type is where what is named lies.
-not_twice : (types : List TypeForm) (access m : ℕ) (x : Master) (ms : List Master) (le : ℕ) → ItemsFit types x.items → is_access types access ≡ true → le ≤ times access (all_of (scopes ms)) → 1 ≤ le → Lone (scopes (x ∷ ms)) → HasItem m access x.items → ⊥
-not_twice types access m x ms le fit known fewer some lone own =
-    let first = has_opened types m access x.items fit known own in
+not_twice : (types : List TypeForm) (access m : ℕ) (us : List ℕ) (ss : Scopes) (is : List Item) → ItemsFit types is → is_access types access ≡ true → times access (opened is) ≤ times access us → 1 ≤ times access (all_of ss) → Lone (us ∷ ss) → HasItem m access is → ⊥
+not_twice types access m us ss is fit known covers some lone own =
+    let first = has_opened types m access is fit known own in
     let all = lone access in
-    let sum = times_append access (opened x.items) (all_of (scopes ms)) in
-    omega (arith, some, fewer, first, all, sum)
+    let sum = times_append access us (all_of ss) in
+    omega (arith, some, covers, first, all, sum)
 
-lone_behind : (x : Master) (ms : List Master) → Lone (scopes (x ∷ ms)) → Lone (scopes ms)
-lone_behind x ms lone t = let all = lone t in let sum = times_append t (opened x.items) (all_of (scopes ms)) in omega (arith, all, sum)
+stays_in : (types : List TypeForm) (n m access : ℕ) (ss : Scopes) (ms : List Master) → Covers ss (scopes ms) → ItemsFit types (items_of ms) → is_access types access ≡ true → Lone ss → 1 ≤ times access (all_of (last_opened n ms ss)) → HasItem m access (items_of ms) → is_number_of (items_of (lasting n ms)) m ≡ true
+stays_in types n m access ss [] covers fit known lone le has = absurd has
+stays_in types n m access [] (x ∷ ms) covers fit known lone le has = absurd covers
+stays_in types n m access (us ∷ ss) (x ∷ ms) covers fit known lone le has =
+    by (is_number_of x.items n) refl
+    (λ more outer. stays_in types n m access ss ms covers.1 (fit_after types x.items (items_of ms) fit) known (lone_older (us ∷ ss) lone) more outer)
+  where
+    by : (b : Bool) → is_number_of x.items n ≡ b → (1 ≤ times access (all_of (last_opened n ms ss)) → HasItem m access (items_of ms) → is_number_of (items_of (lasting n ms)) m ≡ true) → is_number_of (items_of (lasting n (x ∷ ms))) m ≡ true
+    by true here later =
+        subst (λ (xs : List Master). is_number_of (items_of xs) m ≡ true) (sym (lasting_here n x ms here)) (has_number m access (items_of (x ∷ ms)) has)
+    by false away later =
+        let more : 1 ≤ times access (all_of (last_opened n ms ss)) = subst (λ (xs : Scopes). 1 ≤ times access (all_of xs)) (last_behind n x ms us ss away) le in
+        let fewer = last_fewer n access ms ss in
+        subst (λ (xs : List Master). is_number_of (items_of xs) m ≡ true) (sym (lasting_behind n x ms away))
+        (elim (has_split m access x.items (items_of ms) has) [
+          | inl own ↦ absurd (not_twice types access m us ss x.items (fit_before types x.items (items_of ms) fit) known (covers.0 access) (omega (arith, more, fewer)) lone own)
+          | inr outer ↦ later more outer
+        ])
 
-stays_at : (types : List TypeForm) (n m access : ℕ) (x : Master) (ms : List Master) (b : Bool) → ItemsFit types x.items → is_access types access ≡ true → is_number_of x.items n ≡ b → Lone (scopes (x ∷ ms)) → 1 ≤ times access (all_of (scopes (lasting n (x ∷ ms)))) → HasItem m access x.items ⊎ HasItem m access (items_of ms) → (1 ≤ times access (all_of (scopes (lasting n ms))) → HasItem m access (items_of ms) → is_number_of (items_of (lasting n ms)) m ≡ true) → is_number_of (items_of (lasting n (x ∷ ms))) m ≡ true
-stays_at types n m access x ms true fit known is lone le (inl own) later = subst (λ (xs : List Master). is_number_of (items_of xs) m ≡ true) (sym (lasting_here n x ms is)) (number_before m x.items (items_of ms) (has_number m access x.items own))
-stays_at types n m access x ms true fit known is lone le (inr outer) later = subst (λ (xs : List Master). is_number_of (items_of xs) m ≡ true) (sym (lasting_here n x ms is)) (number_after m x.items (items_of ms) (has_number m access (items_of ms) outer))
-stays_at types n m access x ms false fit known is lone le (inl own) later =
-    let behind : 1 ≤ times access (all_of (scopes (lasting n ms))) = subst (λ (xs : List Master). 1 ≤ times access (all_of (scopes xs))) (lasting_behind n x ms is) le in
-    absurd (not_twice types access m x ms (times access (all_of (scopes (lasting n ms)))) fit known (lasting_fewer n access ms) behind lone own)
-stays_at types n m access x ms false fit known is lone le (inr outer) later =
-    let behind : 1 ≤ times access (all_of (scopes (lasting n ms))) = subst (λ (xs : List Master). 1 ≤ times access (all_of (scopes xs))) (lasting_behind n x ms is) le in
-    subst (λ (xs : List Master). is_number_of (items_of xs) m ≡ true) (sym (lasting_behind n x ms is)) (later behind outer)
+lasting_numbers : (n m : ℕ) (ms : List Master) → is_number_of (items_of (lasting n ms)) m ≡ true → is_number_of (items_of ms) m ≡ true
+lasting_numbers n m [] is = is
+lasting_numbers n m (x ∷ ms) is = go (is_number_of x.items n) refl (lasting_numbers n m ms)
+  where
+    go : (b : Bool) → is_number_of x.items n ≡ b → (is_number_of (items_of (lasting n ms)) m ≡ true → is_number_of (items_of ms) m ≡ true) → is_number_of (items_of (x ∷ ms)) m ≡ true
+    go true here later = subst (λ (xs : List Master). is_number_of (items_of xs) m ≡ true) (lasting_here n x ms here) is
+    go false here later = number_after m x.items (items_of ms) (later (subst (λ (xs : List Master). is_number_of (items_of xs) m ≡ true) (lasting_behind n x ms here) is))
 
-stays_in : (types : List TypeForm) (n m access : ℕ) (ms : List Master) → ItemsFit types (items_of ms) → is_access types access ≡ true → Lone (scopes ms) → 1 ≤ times access (all_of (scopes (lasting n ms))) → HasItem m access (items_of ms) → is_number_of (items_of (lasting n ms)) m ≡ true
-stays_in types n m access [] fit known lone le has = absurd has
-stays_in types n m access (x ∷ ms) fit known lone le has =
-    stays_at types n m access x ms (is_number_of x.items n) (fit_before types x.items (items_of ms) fit) known refl lone le (has_split m access x.items (items_of ms) has) (λ behind outer. stays_in types n m access ms (fit_after types x.items (items_of ms) fit) known (lone_behind x ms lone) behind outer)
-
-lasting_all : (n : ℕ) (ms : List Master) → is_innermost ms n ≡ true → lasting n ms ≡ ms
-lasting_all n [] is = refl
-lasting_all n (m ∷ ms) is = lasting_here n m ms is
-
-stays_by : (types : List TypeForm) (s : State) (n m access : ℕ) → ItemsFit types (items_of s.masters) → Lone (scopes s.masters) → HasItem m access (items_of s.masters) → IsGoing s n ⊎ (1 ≤ times access (all_of (scopes (lasting n s.masters)))) → is_number_of (items_of (lasting n s.masters)) m ≡ true
-stays_by types s n m access fit lone has (inl going) = subst (λ (ms : List Master). is_number_of (items_of ms) m ≡ true) (sym (lasting_all n s.masters going.1)) (has_number m access (items_of s.masters) has)
-stays_by types s n m access fit lone has (inr le) =
-    let fewer = lasting_fewer n access s.masters in
-    let some : 1 ≤ times access (opened (items_of s.masters)) = subst (λ (us : List ℕ). 1 ≤ times access us) (sym (opened_all s.masters)) (omega (arith, le, fewer)) in
-    stays_in types n m access s.masters fit (opened_fits types access (items_of s.masters) fit some) lone le has
+stays_more : (n m : ℕ) (own ms : List Master) → is_number_of (items_of (lasting n ms)) m ≡ true → is_number_of (items_of (lasting n (own ++ ms))) m ≡ true
+stays_more n m [] ms is = is
+stays_more n m (x ∷ own) ms is = by (is_number_of x.items n) refl (stays_more n m own ms is)
+  where
+    by : (b : Bool) → is_number_of x.items n ≡ b → is_number_of (items_of (lasting n (own ++ ms))) m ≡ true → is_number_of (items_of (lasting n (x ∷ own ++ ms))) m ≡ true
+    by true here later =
+        subst (λ (xs : List Master). is_number_of (items_of xs) m ≡ true) (sym (lasting_here n x (own ++ ms) here))
+        (number_after m x.items (items_of (own ++ ms)) (lasting_numbers n m (own ++ ms) later))
+    by false away later = subst (λ (xs : List Master). is_number_of (items_of xs) m ≡ true) (sym (lasting_behind n x (own ++ ms) away)) later
 
 -- A state that nests, and in which objects have values of the kinds of their components.
 abbrev pub AreOfKinds : List TypeForm → State → Type 0
@@ -315,7 +520,7 @@ pub held_outside : (p : ProgramForm) (s : State) → Scoped p s → AreOfKinds p
 held_outside program s scoped kinds holder held holds =
     let types = program.types in
     let callees = callees_of program in
-    let nested = scoped.nested in
+    let here_settled = settled types callees (calls_in program) s scoped.nested in
     let o = holds.0 in
     let p = holds.1 in
     let listed = holds.3 in
@@ -327,14 +532,26 @@ held_outside program s scoped kinds holder held holds =
     let twice : Some named.2.0 ≡ Some held.cell = sym named.2.1 ∙ here in
     let one_cell : named.2.0 ≡ held.cell = cc in
     let access : held.cell.access ≡ named.0.0 = ap (λ (x : Cell Value). x.access) (sym one_cell) ∙ named.2.2 in
-    let has = at_item s.heap (items_of s.masters) (housed_in types callees s nested) p held own in
-    stays_by types s holder.cell.home.item held.cell.home.item named.0.0 (fit_in types callees s nested) (lone_in types callees s nested) (subst (λ (a : ℕ). HasItem held.cell.home.item a (items_of s.masters)) access has)
-    (target_nested types callees s o holder holds.2 named.0 nested listed names)
+    let w = here_settled.whole in
+    let n = holder.cell.home.item in
+    let m = held.cell.home.item in
+    let le = target_whole types here_settled.ss here_settled.ms s.heap o holder holds.2 named.0 w listed names in
+    let fewer = last_fewer n named.0.0 here_settled.ms here_settled.ss in
+    let has = subst (λ (a : ℕ). HasItem m a (items_of here_settled.ms)) access (at_item s.heap (items_of here_settled.ms) w.housed p held own) in
+    let known = w.known named.0.0 (omega (arith, le, fewer)) in
+    subst (λ (ms : List Master). is_number_of (items_of (lasting n ms)) m ≡ true) (sym here_settled.masters)
+    (stays_more n m here_settled.own here_settled.ms (stays_in types n m named.0.0 here_settled.ss here_settled.ms w.covers w.fit known w.lone le has))
+
+pub typed_outside : TypedNamesStayOutside
+typed_outside program well nest operations kinds input events last run =
+    held_outside (program_form program) last (state_nested program well nest operations input events last run) (kinds input events last run)
+
+-- Where no type overrides an operation, objects have values of those kinds.
+kinds_alone : (program : Program) → IsWellFormed (program_form program) → overrides_none (program_form program) ≡ true → InItsRuns program (HaveTheirKinds (program_form program).types)
+kinds_alone program well plain input events last run o x at = objects_have_their_kinds program well plain input events last o x run at
 
 pub outside : NamesStayOutside
-outside program well nest input events last run =
-    held_outside (program_form program) last (state_nested program well nest input events last run)
-    (λ o x at. objects_have_their_kinds program well input events last o x run at)
+outside program well nest plain = typed_outside program well nest (none_nests (program_form program) plain) (kinds_alone program well plain)
 
 -- A number belongs to one master only.
 or_by : (b c : Bool) (P : Type 0) → (b ≡ true → P) → (c ≡ true → P) → (b || c) ≡ true → P
@@ -356,14 +573,6 @@ apart n (i ∷ is) js falls here there =
     or_by (i.number == n) (is_number_of is n) ⊥ (λ same. newest_apart n i is js falls (eqb-true i.number n same) there)
     (λ later. apart n is js (λ a b d lt short. falls (suc a) (suc b) d (omega (arith, lt)) (omega (arith, short))) later there) here
 
-lasting_numbers : (n m : ℕ) (ms : List Master) → is_number_of (items_of (lasting n ms)) m ≡ true → is_number_of (items_of ms) m ≡ true
-lasting_numbers n m [] is = is
-lasting_numbers n m (x ∷ ms) is = go (is_number_of x.items n) refl (lasting_numbers n m ms)
-  where
-    go : (b : Bool) → is_number_of x.items n ≡ b → (is_number_of (items_of (lasting n ms)) m ≡ true → is_number_of (items_of ms) m ≡ true) → is_number_of (items_of (x ∷ ms)) m ≡ true
-    go true here later = subst (λ (xs : List Master). is_number_of (items_of xs) m ≡ true) (lasting_here n x ms here) is
-    go false here later = number_after m x.items (items_of ms) (later (subst (λ (xs : List Master). is_number_of (items_of xs) m ≡ true) (lasting_behind n x ms here) is))
-
 innermost_by : (n m : ℕ) (ms : List Master) → AllPairs Falls (items_of ms) → is_number_of (items_of (lasting n ms)) m ≡ true → is_innermost ms m ≡ true → is_innermost ms n ≡ true
 innermost_by n m [] falls is innermost = innermost
 innermost_by n m (x ∷ ms) falls is innermost = go (is_number_of x.items n) refl
@@ -378,6 +587,9 @@ pub held_inside : (s : State) → AllPairs Falls (items_of s.masters) → HeldOu
 held_inside s falls outer holder held holds innermost =
     innermost_by holder.cell.home.item held.cell.home.item s.masters falls (outer holder held holds) innermost
 
+pub typed_innermost_unnamed : TypedInnermostIsNotNamed
+typed_innermost_unnamed program well nest operations kinds input events last run =
+    held_inside last (orders.items_fall program input events last run) (typed_outside program well nest operations kinds input events last run)
+
 pub innermost_unnamed : InnermostIsNotNamed
-innermost_unnamed program well nest input events last run =
-    held_inside last (orders.items_fall program input events last run) (outside program well nest input events last run)
+innermost_unnamed program well nest plain = typed_innermost_unnamed program well nest (none_nests (program_form program) plain) (kinds_alone program well plain)

@@ -1,7 +1,7 @@
 -- What is left to do nests in the masters that are entered: the statements of each frame were written where the collections are open that
 -- its master and the outer ones have.
 
-use Rattle.std.proofs.Common.{◌≡◌, ℕ, zero, suc, ◌+◌, ◌≤◌, Bool, true, false, List, [], ◌∷◌, ◌++◌, Some, None, arith, refl, sym, ap, inl}
+use Rattle.std.proofs.Common.{◌≡◌, ℕ, zero, suc, ◌+◌, ◌≤◌, Bool, true, false, List, [], ◌∷◌, ◌++◌, Some, None, arith, refl, sym, ap, ◌⊎◌, inl}
 use Rattle.std.specs.List.{list_all}
 use Rattle.ada_parts.specs.Task.{Task}
 use Rattle.ada_program.specs.Form.{DeclarationForm, StmtsForm, HandlersForm}
@@ -9,6 +9,7 @@ use Rattle.ada_program.specs.ProgramForm.{TypeForm}
 use Rattle.ada_program.specs.WellFormed.{is_access, reached_components, is_object, collections_first}
 use Rattle.ada_program.specs.Nested.{Callees, collected, are_open}
 use Rattle.ada_meaning.specs.declared.state.Value.{Value}
+use Rattle.ada_meaning.specs.declared.event.Cause.{Cause}
 use Rattle.ada_meaning.specs.declared.state.Mode.TheVariants.{Running}
 use Rattle.ada_meaning.specs.Heap.{Cell}
 use Rattle.ada_meaning.specs.Frame.{Frame, Treatment, is_master}
@@ -17,9 +18,9 @@ use Rattle.ada_meaning.specs.State.{Owned, declared, collection, record_object, 
 use Rattle.ada_meaning.specs.Step.{older, owning, shorter, treating}
 use Rattle.ada_meaning.specs.Named.{Object, State, new_object}
 use Rattle.ada_meaning.specs.Law.{items_of}
-use Rattle.ada_scopes.proofs.Counts.{times, times_append, Within, open_within, opened, Scopes, scopes, all_of, scopes_declared, scopes_recorded, fewer, fewer_older}
+use Rattle.ada_scopes.proofs.Counts.{times, times_append, Within, open_within, opened, Scopes, scopes, all_of, scopes_declared, scopes_recorded, fewer_opened, fewer_older}
 use Rattle.ada_scopes.proofs.Texts.{RecordsNest, PartNests, StatementsNest, BranchesNest, HandlersNest, BodyNests}
-use Rattle.ada_scopes.proofs.Homes.{ItemsFit, fit_owning, Housed, housed_after, housed_owning, housed_new}
+use Rattle.ada_scopes.proofs.Homes.{ItemsFit, fit_before, fit_owning, opened_fits, Housed, housed_after, housed_owning, housed_new, IsEmpty, housed_shorter}
 
 -- Two lists have each number equally often.
 abbrev pub Alike : List ℕ → List ℕ → Type 0
@@ -29,10 +30,11 @@ Alike us vs = (t : ℕ) → times t us ≡ times t vs
 abbrev pub Where : List ℕ → (List ℕ → Type 0) → Type 0
 Where us P = (around : List ℕ) × Alike around us × P around
 
--- There is a master.
-abbrev pub HasOne : Scopes → Type 0
-HasOne [] = ⊥
-HasOne (us ∷ ss) = Unit {0}
+-- The innermost master has all the collections that it opens: none has gone.
+abbrev pub OwnsAll : (ss vs : Scopes) → Type 0
+OwnsAll [] vs = ⊥
+OwnsAll (us ∷ ss) [] = ⊥
+OwnsAll (us ∷ ss) (ws ∷ vs) = Alike us ws
 
 -- What the components of a record object name lies in collections that are open; and its type is no access type.
 abbrev pub RecordHere : List TypeForm → List ℕ → ℕ → Type 0
@@ -40,52 +42,67 @@ RecordHere types us t = Where us (λ around. (is_access types t ≡ false) × (a
 
 -- What a frame holds was written where these are open. Frames without statements nest everywhere; a part that is under way has created all
 -- its collections, has a master, and what the record objects need that it has left to create is open, be it one whose initial value is evaluated; a body
--- that is called nests as if it stood there; no master but the innermost one is being left; and no operation of a controlled type is called.
-abbrev pub FrameNests : List TypeForm → Callees → Scopes → Frame Value → Type 0
-FrameNests types callees ss (frame.Elaborates ds fs hs) =
-    (list_all is_object ds ≡ true) × Where (all_of ss) (λ around. StatementsNest types callees around fs × HandlersNest types callees around hs × RecordsNest types around ds) × HasOne ss
-FrameNests types callees ss (frame.Does fs) = Where (all_of ss) (λ around. StatementsNest types callees around fs)
-FrameNests types callees ss (frame.Decides fs branches) = Where (all_of ss) (λ around. StatementsNest types callees around fs × BranchesNest types callees around branches)
-FrameNests types callees ss (frame.Repeats condition fs) = Where (all_of ss) (λ around. StatementsNest types callees around fs)
-FrameNests types callees ss (frame.Turns condition fs) = Where (all_of ss) (λ around. StatementsNest types callees around fs)
-FrameNests types callees ss (frame.Ranges x fs) = Where (all_of ss) (λ around. StatementsNest types callees around fs)
-FrameNests types callees ss (frame.Counts x value last fs) = Where (all_of ss) (λ around. StatementsNest types callees around fs)
-FrameNests types callees ss (frame.Handles hs) = Where (all_of ss) (λ around. HandlersNest types callees around hs)
-FrameNests types callees ss (frame.Calls procedure b actuals) = Where (all_of ss) (λ around. BodyNests types callees around b)
-FrameNests types callees ss (frame.DeclaresRecord x t) = RecordHere types (all_of ss) t × HasOne ss
-FrameNests types callees ss (frame.Leaves mode) = ⊥
-FrameNests types callees ss (frame.Awaits v by done of part tasks) = ⊥
-FrameNests types callees ss frame.Confines = ⊥
-FrameNests types callees ss (frame.Resumes mode) = ⊥
-FrameNests types callees ss f = Unit {0}
+-- that is called nests as if it stood there. A master that is being left stands behind what goes with it alone. The body of a Finalize is called where some
+-- type overrides an operation.
+abbrev pub FrameNests : List TypeForm → Callees → (calling : Bool) → (ss vs : Scopes) → Frame Value → Type 0
+FrameNests types callees calling ss vs (frame.Elaborates ds fs hs) =
+    (list_all is_object ds ≡ true) × Where (all_of ss) (λ around. StatementsNest types callees around fs × HandlersNest types callees around hs × RecordsNest types around ds)
+    × OwnsAll ss vs
+FrameNests types callees calling ss vs (frame.Does fs) = Where (all_of ss) (λ around. StatementsNest types callees around fs)
+FrameNests types callees calling ss vs (frame.Decides fs branches) = Where (all_of ss) (λ around. StatementsNest types callees around fs × BranchesNest types callees around branches)
+FrameNests types callees calling ss vs (frame.Repeats condition fs) = Where (all_of ss) (λ around. StatementsNest types callees around fs)
+FrameNests types callees calling ss vs (frame.Turns condition fs) = Where (all_of ss) (λ around. StatementsNest types callees around fs)
+FrameNests types callees calling ss vs (frame.Ranges x fs) = Where (all_of ss) (λ around. StatementsNest types callees around fs)
+FrameNests types callees calling ss vs (frame.Counts x value last fs) = Where (all_of ss) (λ around. StatementsNest types callees around fs)
+FrameNests types callees calling ss vs (frame.Handles hs) = Where (all_of ss) (λ around. HandlersNest types callees around hs)
+FrameNests types callees calling ss vs (frame.Calls procedure b actuals) = Where (all_of ss) (λ around. BodyNests types callees around b)
+FrameNests types callees calling ss vs (frame.DeclaresRecord x t) = RecordHere types (all_of ss) t × OwnsAll ss vs
+FrameNests types callees calling ss vs frame.Closes = OwnsAll ss vs
+FrameNests types callees calling ss vs frame.Confines = calling ≡ true
+FrameNests types callees calling ss vs (frame.Leaves mode) = ⊥
+FrameNests types callees calling ss vs f = Unit {0}
 
 -- What is open behind a frame: that of a master is the last one of its master.
 abbrev pub behind : (master : Bool) → Scopes → Scopes
 behind true ss = older ss
 behind false ss = ss
 
--- What is left to do nests, where masters have opened these.
-abbrev pub Nests : List TypeForm → Callees → Scopes → List (Frame Value) → Type 0
-Nests types callees ss [] = Unit {0}
-Nests types callees ss (f ∷ k) = FrameNests types callees ss f × Nests types callees (behind (is_master f) ss) k
+-- Does the body of a Finalize come to its end here?
+abbrev pub is_confine : Frame Value → Bool
+is_confine frame.Confines = true
+is_confine f = false
 
--- The innermost master is being left, and what is behind that nests.
-abbrev pub Goes : List TypeForm → Callees → Scopes → List (Frame Value) → Type 0
-Goes types callees ss [] = ⊥
-Goes types callees ss (frame.Leaves mode ∷ k) = Nests types callees (older ss) k
-Goes types callees ss (frame.Treats v treatment tasks ∷ k) = Goes types callees ss k
-Goes types callees ss (frame.Ends v ∷ k) = Goes types callees ss k
-Goes types callees ss (frame.GivesBack v cause pool ∷ k) = Goes types callees ss k
-Goes types callees ss (f ∷ k) = ⊥
+-- What may be behind a frame: where the body of a Finalize comes to its end, a master may be being left.
+abbrev pub Either : (confined : Bool) → (nests goes : Type 0) → Type 0
+Either true nests goes = nests ⊎ goes
+Either false nests goes = nests
+
+abbrev mutual
+  -- What is left to do nests, where masters have opened the first ones of these, of which they have the second ones: a master that is being left has
+  -- lost some.
+  pub Nests : List TypeForm → Callees → (calling : Bool) → (ss vs : Scopes) → List (Frame Value) → Type 0
+  Nests types callees calling ss vs [] = vs ≡ []
+  Nests types callees calling ss vs (f ∷ k) =
+      FrameNests types callees calling ss vs f
+      × Either (is_confine f) (Nests types callees calling (behind (is_master f) ss) (behind (is_master f) vs) k) (Goes types callees calling (behind (is_master f) ss) (behind (is_master f) vs) k)
+
+  -- The innermost master is being left, and what is behind that nests.
+  pub Goes : List TypeForm → Callees → (calling : Bool) → (ss vs : Scopes) → List (Frame Value) → Type 0
+  Goes types callees calling ss vs [] = ⊥
+  Goes types callees calling ss vs (frame.Leaves mode ∷ k) = Nests types callees calling (older ss) (older vs) k
+  Goes types callees calling ss vs (frame.Treats v (frame.ends cause) tasks ∷ k) = Goes types callees calling ss vs k
+  Goes types callees calling ss vs (frame.Ends v ∷ k) = Goes types callees calling ss vs k
+  Goes types callees calling ss vs (frame.GivesBack v cause pool ∷ k) = Goes types callees calling ss vs k
+  Goes types callees calling ss vs (f ∷ k) = ⊥
 
 -- An object is treated before what is left to do (7.6, 7.6.1).
-pub nests_treating : (types : List TypeForm) (callees : Callees) (ss : Scopes) (v : Value) (treatment : Treatment) (tasks : List Task) (k : List (Frame Value)) → Nests types callees ss k → Nests types callees ss (treating v treatment tasks k)
-nests_treating types callees ss v treatment [] k n = n
-nests_treating types callees ss v treatment (task ∷ tasks) k n = (tt, n)
+pub nests_treating : (types : List TypeForm) (callees : Callees) (calling : Bool) (ss vs : Scopes) (v : Value) (treatment : Treatment) (tasks : List Task) (k : List (Frame Value)) → Nests types callees calling ss vs k → Nests types callees calling ss vs (treating v treatment tasks k)
+nests_treating types callees calling ss vs v treatment [] k n = n
+nests_treating types callees calling ss vs v treatment (task ∷ tasks) k n = (tt, n)
 
-pub goes_treating : (types : List TypeForm) (callees : Callees) (ss : Scopes) (v : Value) (treatment : Treatment) (tasks : List Task) (k : List (Frame Value)) → Goes types callees ss k → Goes types callees ss (treating v treatment tasks k)
-goes_treating types callees ss v treatment [] k goes = goes
-goes_treating types callees ss v treatment (task ∷ tasks) k goes = goes
+pub goes_treating : (types : List TypeForm) (callees : Callees) (calling : Bool) (ss vs : Scopes) (v : Value) (cause : Cause) (tasks : List Task) (k : List (Frame Value)) → Goes types callees calling ss vs k → Goes types callees calling ss vs (treating v (frame.ends cause) tasks k)
+goes_treating types callees calling ss vs v cause [] k goes = goes
+goes_treating types callees calling ss vs v cause (task ∷ tasks) k goes = goes
 
 -- What the components of an access type's objects name lies in collections that are open.
 abbrev pub NeedsOpen : List TypeForm → List ℕ → List ℕ → Type 0
@@ -111,10 +128,11 @@ abbrev pub RecordsNeed : List TypeForm → (there : List ℕ) → List Item → 
 RecordsNeed types there [] = Unit {0}
 RecordsNeed types there (i ∷ is) = RecordNeeds types there i.owned × RecordsNeed types there is
 
--- So it is of each master's record objects, with its own collections and those of the outer ones.
-abbrev pub RecordsOpen : List TypeForm → List Master → Type 0
-RecordsOpen types [] = Unit {0}
-RecordsOpen types (m ∷ ms) = RecordsNeed types (opened m.items ++ all_of (scopes ms)) m.items × RecordsOpen types ms
+-- So it is of each master's record objects, with the collections that it and the outer ones open.
+abbrev pub RecordsOpen : List TypeForm → Scopes → List Master → Type 0
+RecordsOpen types [] ms = Unit {0}
+RecordsOpen types (us ∷ ss) [] = Unit {0}
+RecordsOpen types (us ∷ ss) (m ∷ ms) = RecordsNeed types (us ++ all_of ss) m.items × RecordsOpen types ss ms
 
 record_within : (types : List TypeForm) (us vs : List ℕ) (owned : Owned) → Within us vs → RecordNeeds types us owned → RecordNeeds types vs owned
 record_within types us vs (declared x) within h = h
@@ -126,9 +144,46 @@ records_within : (types : List TypeForm) (us vs : List ℕ) (is : List Item) →
 records_within types us vs [] within h = h
 records_within types us vs (i ∷ is) within h = (record_within types us vs i.owned within h.0, records_within types us vs is within h.1)
 
-pub records_older : (types : List TypeForm) (ms : List Master) → RecordsOpen types ms → RecordsOpen types (older ms)
-records_older types [] h = h
-records_older types (m ∷ ms) h = h.1
+pub records_older : (types : List TypeForm) (ss : Scopes) (ms : List Master) → RecordsOpen types ss ms → RecordsOpen types (older ss) (older ms)
+records_older types [] ms h = h
+records_older types (us ∷ []) [] h = h
+records_older types (us ∷ ws ∷ ss) [] h = h
+records_older types (us ∷ ss) (m ∷ ms) h = h.1
+
+-- Each master opens all the collections that it has.
+abbrev pub Covers : (ss vs : Scopes) → Type 0
+Covers [] [] = Unit {0}
+Covers [] (ws ∷ vs) = ⊥
+Covers (us ∷ ss) [] = ⊥
+Covers (us ∷ ss) (ws ∷ vs) = ((t : ℕ) → times t ws ≤ times t us) × Covers ss vs
+
+pub covers_older : (ss vs : Scopes) → Covers ss vs → Covers (older ss) (older vs)
+covers_older [] [] h = h
+covers_older [] (ws ∷ vs) h = absurd h
+covers_older (us ∷ ss) [] h = absurd h
+covers_older (us ∷ ss) (ws ∷ vs) h = h.1
+
+pub covers_fewer : (t : ℕ) (ss vs : Scopes) → Covers ss vs → times t (all_of vs) ≤ times t (all_of ss)
+covers_fewer t [] [] h = omega arith
+covers_fewer t [] (ws ∷ vs) h = absurd h
+covers_fewer t (us ∷ ss) [] h = absurd h
+covers_fewer t (us ∷ ss) (ws ∷ vs) h =
+    let own = h.0 t in
+    let outer = covers_fewer t ss vs h.1 in
+    let some = times_append t ws (all_of vs) in
+    let all = times_append t us (all_of ss) in
+    omega (arith, own, outer, some, all)
+
+-- The newest item of a master goes.
+covers_shorter : (ss : Scopes) (ms : List Master) → Covers ss (scopes ms) → Covers ss (scopes (shorter ms))
+covers_shorter [] [] h = h
+covers_shorter [] (m ∷ ms) h = absurd h
+covers_shorter (us ∷ ss) [] h = absurd h
+covers_shorter (us ∷ ss) (m ∷ ms) h = (λ t. let less = fewer_opened t m.items in let own = h.0 t in omega (arith, less, own), h.1)
+
+records_shorter : (types : List TypeForm) (ss : Scopes) (m : ℕ) (item : Item) (items : List Item) (ms : List Master) → RecordsOpen types ss (record { number = m; items = item ∷ items } ∷ ms) → RecordsOpen types ss (record { number = m; items = items } ∷ ms)
+records_shorter types [] m item items ms h = h
+records_shorter types (us ∷ ss) m item items ms h = (h.0.1, h.1)
 
 -- No access type is opened twice.
 abbrev pub Lone : Scopes → Type 0
@@ -137,43 +192,37 @@ Lone ss = (t : ℕ) → times t (all_of ss) ≤ 1
 pub lone_older : (ss : Scopes) → Lone ss → Lone (older ss)
 lone_older ss lone t = let all = lone t in let less = fewer_older t ss in omega (arith, all, less)
 
-pub lone_shorter : (ms : List Master) → Lone (scopes ms) → Lone (scopes (shorter ms))
-lone_shorter ms lone t = let all = lone t in let less = fewer t ms in omega (arith, all, less)
-
--- Masters that have created all their collections, and none of which is being left.
-pub record Whole (types : List TypeForm) (ms : List Master) (heap : List Object) : Type 0 where
-  pub lone : Lone (scopes ms)
-  pub needs : AreOpen types (scopes ms)
+-- Masters that have created all their collections. Some that are being left may have lost some since.
+pub record Whole (types : List TypeForm) (ss : Scopes) (ms : List Master) (heap : List Object) : Type 0 where
+  pub lone : Lone ss
+  pub needs : AreOpen types ss
   pub housed : Housed heap (items_of ms)
   pub fit : ItemsFit types (items_of ms)
-  pub records : RecordsOpen types ms
-
--- Masters of which the innermost one is being left.
-pub record Parting (types : List TypeForm) (ms : List Master) (heap : List Object) : Type 0 where
-  pub lone : Lone (scopes ms)
-  pub needs : AreOpen types (older (scopes ms))
-  pub housed : Housed heap (items_of ms)
-  pub fit : ItemsFit types (items_of ms)
-  pub records : RecordsOpen types (older ms)
+  pub records : RecordsOpen types ss ms
+  pub covers : Covers ss (scopes ms)
+  pub known : (t : ℕ) → 1 ≤ times t (all_of ss) → is_access types t ≡ true
 
 -- Masters of which the innermost one has these declarations left to elaborate. It opens the collections of `there`, with those that were open
 -- around it: they are those that it has, those that are left, and those of the outer masters. No object lies in one of its own yet.
-pub record Growing (types : List TypeForm) (m : Master) (rest : List Master) (heap : List Object) (ds : List DeclarationForm) (there : List ℕ) : Type 0 where
+pub record Growing (types : List TypeForm) (ss : Scopes) (m : Master) (rest : List Master) (heap : List Object) (ds : List DeclarationForm) (there : List ℕ) : Type 0 where
   pub first : collections_first ds ≡ true
   pub once : (t : ℕ) → times t there ≤ 1
-  pub all : (t : ℕ) → times t there ≡ times t (collected ds) + (times t (opened m.items) + times t (all_of (scopes rest)))
+  pub all : (t : ℕ) → times t there ≡ times t (collected ds) + (times t (opened m.items) + times t (all_of ss))
   pub left : NeedsOpen types (collected ds) there
   pub here : NeedsOpen types (opened m.items) there
-  pub outer : AreOpen types (scopes rest)
+  pub outer : AreOpen types ss
   pub housed : Housed heap (items_of rest)
   pub accesses : (t : ℕ) → 1 ≤ times t (collected ds) → is_access types t ≡ true
   pub fit : ItemsFit types (items_of (m ∷ rest))
   pub own : RecordsNeed types there m.items
-  pub records : RecordsOpen types rest
+  pub records : RecordsOpen types ss rest
   pub coming : RecordsNest types there ds
+  pub covers : Covers ss (scopes rest)
+  pub known : (t : ℕ) → 1 ≤ times t (all_of ss) → is_access types t ≡ true
 
 -- A part that is beginning.
-pub record Begins (types : List TypeForm) (callees : Callees) (s : State) : Type 0 where
+pub record Begins (types : List TypeForm) (callees : Callees) (calling : Bool) (s : State) : Type 0 where
+  pub ss : Scopes
   pub m : Master
   pub rest : List Master
   pub ds : List DeclarationForm
@@ -184,57 +233,81 @@ pub record Begins (types : List TypeForm) (callees : Callees) (s : State) : Type
   pub masters : s.masters ≡ m ∷ rest
   pub control : s.control ≡ frame.Elaborates ds fs hs ∷ k
   pub runs : s.mode ≡ Running
-  pub growing : Growing types m rest s.heap ds there
+  pub growing : Growing types ss m rest s.heap ds there
   pub statements : StatementsNest types callees there fs
   pub handlers : HandlersNest types callees there hs
-  pub nests : Nests types callees (scopes rest) k
+  pub nests : Nests types callees calling ss (scopes rest) k
 
 -- A state of a run: what is left to do nests, whether or not a jump is on its way; or a part begins; or the innermost master is being left.
-pub data Nested (types : List TypeForm) (callees : Callees) (s : State) : Type 0 where
-  standing : Whole types s.masters s.heap → Nests types callees (scopes s.masters) s.control → Nested types callees s
-  beginning : Begins types callees s → Nested types callees s
-  parting : Parting types s.masters s.heap → s.mode ≡ Running → Goes types callees (scopes s.masters) s.control → Nested types callees s
+pub data Nested (types : List TypeForm) (callees : Callees) (calling : Bool) (s : State) : Type 0 where
+  standing : (ss : Scopes) → Whole types ss s.masters s.heap → Nests types callees calling ss (scopes s.masters) s.control → Nested types callees calling s
+  beginning : Begins types callees calling s → Nested types callees calling s
+  parting : (ss : Scopes) → Whole types ss s.masters s.heap → s.mode ≡ Running → Goes types callees calling ss (scopes s.masters) s.control → Nested types callees calling s
 
 -- How masters change.
-pub whole_declared : (types : List TypeForm) (number x : ℕ) (ms : List Master) (heap : List Object) → Whole types ms heap → Whole types (owning (record { number = number; owned = declared x }) ms) heap
-whole_declared types number x ms heap w = record {
-  lone = rw (scopes_declared number x ms) w.lone;
-  needs = rw (scopes_declared number x ms) w.needs;
+pub whole_declared : (types : List TypeForm) (ss : Scopes) (number x : ℕ) (ms : List Master) (heap : List Object) → Whole types ss ms heap → Whole types ss (owning (record { number = number; owned = declared x }) ms) heap
+whole_declared types ss number x ms heap w = record {
+  lone = w.lone;
+  needs = w.needs;
   housed = housed_owning heap (record { number = number; owned = declared x }) ms w.housed;
   fit = fit_owning types (record { number = number; owned = declared x }) ms tt w.fit;
-  records = records_declared ms w.records;
+  records = records_declared ss ms w.records;
+  covers = rw (scopes_declared number x ms) w.covers;
+  known = w.known;
 }
   where
-    records_declared : (xs : List Master) → RecordsOpen types xs → RecordsOpen types (owning (record { number = number; owned = declared x }) xs)
-    records_declared [] h = h
-    records_declared (m ∷ xs) h = ((tt, h.0), h.1)
+    records_declared : (us : Scopes) (xs : List Master) → RecordsOpen types us xs → RecordsOpen types us (owning (record { number = number; owned = declared x }) xs)
+    records_declared [] xs h = tt
+    records_declared (us ∷ uss) [] h = h
+    records_declared (us ∷ uss) (m ∷ xs) h = ((tt, h.0), h.1)
 
 -- A record object is one item more, which is the home of the object.
-pub whole_recorded : (types : List TypeForm) (number t : ℕ) (ms : List Master) (heap : List Object) (cell : Cell Value) (around : List ℕ) → HasOne (scopes ms) → cell.home.item ≡ number → cell.access ≡ t → cell.home.pool ≡ None → Alike around (all_of (scopes ms)) → is_access types t ≡ false → are_open around (reached_components types t) ≡ true → Whole types ms heap → Whole types (owning (record { number = number; owned = record_object t }) ms) (heap ++ new_object cell ∷ [])
-whole_recorded types number t [] heap cell around some home access pool alike never opens w = absurd some
-whole_recorded types number t (m ∷ ms) heap cell around some home access pool alike never opens w = record {
+pub whole_recorded : (types : List TypeForm) (ss : Scopes) (number t : ℕ) (ms : List Master) (heap : List Object) (cell : Cell Value) (around : List ℕ) → OwnsAll ss (scopes ms) → cell.home.item ≡ number → cell.access ≡ t → cell.home.pool ≡ None → Alike around (all_of ss) → is_access types t ≡ false → are_open around (reached_components types t) ≡ true → Whole types ss ms heap → Whole types ss (owning (record { number = number; owned = record_object t }) ms) (heap ++ new_object cell ∷ [])
+whole_recorded types [] number t ms heap cell around some home access pool alike never opens w = absurd some
+whole_recorded types (us ∷ ss) number t [] heap cell around some home access pool alike never opens w = absurd some
+whole_recorded types (us ∷ ss) number t (m ∷ ms) heap cell around some home access pool alike never opens w = record {
   lone = w.lone;
   needs = w.needs;
   housed = housed_new heap cell (items_of (owning (record { number = number; owned = record_object t }) (m ∷ ms))) (inl (sym home, ap Some (sym access), sym pool))
       (housed_owning heap (record { number = number; owned = record_object t }) (m ∷ ms) w.housed);
   fit = (never, w.fit);
-  records = ((open_within around (all_of (scopes (m ∷ ms))) (reached_components types t) (λ u le. let same = alike u in omega (arith, same, le)) opens, w.records.0), w.records.1);
+  records = ((open_within around (all_of (us ∷ ss)) (reached_components types t) (λ u le. let same = alike u in omega (arith, same, le)) opens, w.records.0), w.records.1);
+  covers = w.covers;
+  known = w.known;
 }
 
-pub nests_recorded : (types : List TypeForm) (callees : Callees) (number t : ℕ) (ms : List Master) (k : List (Frame Value)) → Nests types callees (scopes ms) k → Nests types callees (scopes (owning (record { number = number; owned = record_object t }) ms)) k
-nests_recorded types callees number t ms k n = rw (scopes_recorded number t ms) n
+pub nests_recorded : (types : List TypeForm) (callees : Callees) (calling : Bool) (ss : Scopes) (number t : ℕ) (ms : List Master) (k : List (Frame Value)) → Nests types callees calling ss (scopes ms) k → Nests types callees calling ss (scopes (owning (record { number = number; owned = record_object t }) ms)) k
+nests_recorded types callees calling ss number t ms k n = rw (scopes_recorded number t ms) n
 
-pub nests_declared : (types : List TypeForm) (callees : Callees) (number x : ℕ) (ms : List Master) (k : List (Frame Value)) → Nests types callees (scopes ms) k → Nests types callees (scopes (owning (record { number = number; owned = declared x }) ms)) k
-nests_declared types callees number x ms k n = rw (scopes_declared number x ms) n
+pub nests_declared : (types : List TypeForm) (callees : Callees) (calling : Bool) (ss : Scopes) (number x : ℕ) (ms : List Master) (k : List (Frame Value)) → Nests types callees calling ss (scopes ms) k → Nests types callees calling ss (scopes (owning (record { number = number; owned = declared x }) ms)) k
+nests_declared types callees calling ss number x ms k n = rw (scopes_declared number x ms) n
 
-pub whole_heap : (types : List TypeForm) (ms : List Master) (before after : List Object) → Housed after (items_of ms) → Whole types ms before → Whole types ms after
-whole_heap types ms before after housed w = record { lone = w.lone; needs = w.needs; housed = housed; fit = w.fit; records = w.records }
+pub whole_heap : (types : List TypeForm) (ss : Scopes) (ms : List Master) (before after : List Object) → Housed after (items_of ms) → Whole types ss ms before → Whole types ss ms after
+whole_heap types ss ms before after housed w = record { lone = w.lone; needs = w.needs; housed = housed; fit = w.fit; records = w.records; covers = w.covers; known = w.known }
 
-pub parting_heap : (types : List TypeForm) (ms : List Master) (before after : List Object) → Housed after (items_of ms) → Parting types ms before → Parting types ms after
-parting_heap types ms before after housed w = record { lone = w.lone; needs = w.needs; housed = housed; fit = w.fit; records = w.records }
+-- The newest item of the innermost master goes, if it houses no object any more.
+pub whole_shorter : (types : List TypeForm) (ss : Scopes) (m : ℕ) (item : Item) (items : List Item) (ms : List Master) (heap : List Object) → IsEmpty heap item item.owned → Whole types ss (record { number = m; items = item ∷ items } ∷ ms) heap → Whole types ss (shorter (record { number = m; items = item ∷ items } ∷ ms)) heap
+whole_shorter types ss m item items ms heap empty w = record {
+  lone = w.lone;
+  needs = w.needs;
+  housed = housed_shorter heap m item items ms empty w.housed;
+  fit = w.fit.1;
+  records = records_shorter types ss m item items ms w.records;
+  covers = covers_shorter ss (record { number = m; items = item ∷ items } ∷ ms) w.covers;
+  known = w.known;
+}
 
-pub whole_parts : (types : List TypeForm) (ms : List Master) (heap : List Object) → Whole types ms heap → Parting types ms heap
-whole_parts types ms heap w = record { lone = w.lone; needs = open_older types (scopes ms) w.needs; housed = w.housed; fit = w.fit; records = records_older types ms w.records }
+-- The innermost master has been left.
+pub whole_left : (types : List TypeForm) (ss : Scopes) (m : ℕ) (ms : List Master) (heap : List Object) → Whole types ss (record { number = m; items = [] } ∷ ms) heap → Whole types (older ss) ms heap
+whole_left types ss m ms heap w = record {
+  lone = lone_older ss w.lone;
+  needs = open_older types ss w.needs;
+  housed = w.housed;
+  fit = w.fit;
+  records = records_older types ss (record { number = m; items = [] } ∷ ms) w.records;
+  covers = covers_older ss (scopes (record { number = m; items = [] } ∷ ms)) w.covers;
+  known = λ t le. w.known t (let less = fewer_older t ss in omega (arith, less, le));
+}
 
 -- A part begins.
 once_there : (us vs : List ℕ) (t : ℕ) → (times t us ≡ 0 → times t (us ++ vs) ≤ 1) → times t us ≤ 1 → (1 ≤ times t us → times t vs ≡ 0) → times t (us ++ vs) ≤ 1
@@ -244,8 +317,8 @@ once_there us vs t none le away = split (times t us) refl
     split zero is = none is
     split (suc n) is = let apart = away (omega (arith, is)) in let all = times_append t us vs in omega (arith, all, apart, le)
 
-pub grows : (types : List TypeForm) (number : ℕ) (rest : List Master) (heap : List Object) (ds : List DeclarationForm) (around : List ℕ) → PartNests types around ds → Alike around (all_of (scopes rest)) → Whole types rest heap → Growing types (record { number = number; items = [] }) rest heap ds (collected ds ++ around)
-grows types number rest heap ds around part alike w = record {
+pub grows : (types : List TypeForm) (ss : Scopes) (number : ℕ) (rest : List Master) (heap : List Object) (ds : List DeclarationForm) (around : List ℕ) → PartNests types around ds → Alike around (all_of ss) → Whole types ss rest heap → Growing types ss (record { number = number; items = [] }) rest heap ds (collected ds ++ around)
+grows types ss number rest heap ds around part alike w = record {
   first = part.first;
   once = λ t. once_there (collected ds) around t
       (λ none. let all = times_append t (collected ds) around in let same = alike t in let once = w.lone t in omega (arith, all, same, once, none))
@@ -260,21 +333,41 @@ grows types number rest heap ds around part alike w = record {
   own = tt;
   records = w.records;
   coming = part.records;
+  covers = w.covers;
+  known = w.known;
 }
 
 -- All its collections have been created.
-pub grown : (types : List TypeForm) (m : Master) (rest : List Master) (heap : List Object) (ds : List DeclarationForm) (there : List ℕ) → collected ds ≡ [] → Growing types m rest heap ds there → Whole types (m ∷ rest) heap × Alike there (all_of (scopes (m ∷ rest)))
-grown types m rest heap ds there none g = (record { lone = lone; needs = (λ t le. open_within there (opened m.items ++ all_of (scopes rest)) (reached_components types t) within (g.here t le), g.outer); housed = housed_after heap m.items (items_of rest) g.housed; fit = g.fit; records = (records_within types there (opened m.items ++ all_of (scopes rest)) m.items within g.own, g.records) }, alike)
+pub grown : (types : List TypeForm) (ss : Scopes) (m : Master) (rest : List Master) (heap : List Object) (ds : List DeclarationForm) (there : List ℕ) → collected ds ≡ [] → Growing types ss m rest heap ds there → Whole types (opened m.items ∷ ss) (m ∷ rest) heap × Alike there (all_of (opened m.items ∷ ss))
+grown types ss m rest heap ds there none g = (
+  record {
+    lone = lone;
+    needs = (λ t le. open_within there (opened m.items ++ all_of ss) (reached_components types t) within (g.here t le), g.outer);
+    housed = housed_after heap m.items (items_of rest) g.housed;
+    fit = g.fit;
+    records = (records_within types there (opened m.items ++ all_of ss) m.items within g.own, g.records);
+    covers = (λ t. omega arith, g.covers);
+    known = known;
+  },
+  alike,
+)
   where
-    alike : Alike there (all_of (scopes (m ∷ rest)))
+    alike : Alike there (all_of (opened m.items ∷ ss))
     alike t =
         let all = g.all t in
         let nothing : times t (collected ds) ≡ 0 = ap (times t) none in
-        let sum = times_append t (opened m.items) (all_of (scopes rest)) in
+        let sum = times_append t (opened m.items) (all_of ss) in
         omega (arith, all, nothing, sum)
 
-    lone : Lone (scopes (m ∷ rest))
+    lone : Lone (opened m.items ∷ ss)
     lone t = let same = alike t in let once = g.once t in omega (arith, same, once)
 
-    within : Within there (opened m.items ++ all_of (scopes rest))
+    within : Within there (opened m.items ++ all_of ss)
     within t le = let same = alike t in omega (arith, same, le)
+
+    known_by : (t n : ℕ) → times t (opened m.items) ≡ n → 1 ≤ times t (opened m.items ++ all_of ss) → is_access types t ≡ true
+    known_by t zero is le = g.known t (let sum = times_append t (opened m.items) (all_of ss) in omega (arith, sum, is, le))
+    known_by t (suc n) is le = opened_fits types t m.items (fit_before types m.items (items_of rest) g.fit) (omega (arith, is))
+
+    known : (t : ℕ) → 1 ≤ times t (all_of (opened m.items ∷ ss)) → is_access types t ≡ true
+    known t le = known_by t (times t (opened m.items)) refl le

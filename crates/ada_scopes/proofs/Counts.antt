@@ -160,17 +160,9 @@ fewer_by t (collection access pool) us = omega arith
 fewer_by t (record_object u) us = omega arith
 fewer_by t (storage_pool declaration number) us = omega arith
 
-fewer_opened : (t : ℕ) (is : List Item) → times t (opened (older is)) ≤ times t (opened is)
+pub fewer_opened : (t : ℕ) (is : List Item) → times t (opened (older is)) ≤ times t (opened is)
 fewer_opened t [] = omega arith
 fewer_opened t (i ∷ is) = fewer_by t i.owned (opened is)
-
-pub fewer : (t : ℕ) (ms : List Master) → times t (all_of (scopes (shorter ms))) ≤ times t (all_of (scopes ms))
-fewer t [] = omega arith
-fewer t (m ∷ ms) =
-    let some = times_append t (opened (older m.items)) (all_of (scopes ms)) in
-    let all = times_append t (opened m.items) (all_of (scopes ms)) in
-    let less = fewer_opened t m.items in
-    omega (arith, some, all, less)
 
 pub older_shorter : (ms : List Master) → older (scopes (shorter ms)) ≡ older (scopes ms)
 older_shorter [] = refl

@@ -33,40 +33,41 @@ use Rattle.ada_meaning.specs.Named.{Object, State, next}
 use Rattle.ada_meaning.specs.Run.{Choice, settled, grants}
 use Rattle.ada_order.specs.Example.{InSomeRun}
 use Rattle.ada_order.proofs.Choices.{run_by}
-use Rattle.ada_scopes.specs.Scopes.{IsListed, HoldsNames, IsOutlived, ComponentsAreOutlivedIn}
+use Rattle.ada_scopes.specs.Scopes.{OperationsNest, IsListed, HoldsNames, IsOutlived, ComponentsAreOutlivedIn}
 use Rattle.ada_scopes.specs.Example.{HoldsNearAndFar, OutlastsTarget}
+use Rattle.ada_scopes.proofs.Operations.{none_nests}
 use Rattle.ada_scopes.proofs.Counts.{one, times, opened_by, opened}
 use denote.RawPtr.{null_ptr}
 
 -- So many steps that leave nothing open.
-abbrev steps : ℕ → List Choice
+abbrev pub steps : ℕ → List Choice
 steps n = replicate n settled
 
-abbrev heap : Global
+abbrev pub heap : Global
 heap = record { memory = record { seal = tt } }
 
-abbrev vec : {X : Type 0} (items : List X) → length items ≤ 8 → Vec X
+abbrev pub vec : {X : Type 0} (items : List X) → length items ≤ 8 → Vec X
 vec items le = record { ptr = null_ptr; len = length items; cap = length items; alloc = heap; items = items; ok = (refl, omega arith); small = omega (arith, le) }
 
-abbrev no_name : String Global
+abbrev pub no_name : String Global
 no_name = record { bytes = vec [] (omega arith); ok = ∣ ([], (refl, refl)) ∣₁ }
 
 -- Components from a number on; one that holds access values; a record type; an access type; and a variable of one.
-abbrev parts_from : ℕ → List ComponentKind → List Part
+abbrev pub parts_from : ℕ → List ComponentKind → List Part
 parts_from number [] = []
 parts_from number (held ∷ others) =
     record { name = no_name; kind = part.Elementary held; first = record { 0 = number }; part = record { 0 = 0 } } ∷ parts_from (number + 1) others
 
-abbrev access_kind : ℕ → ComponentKind
+abbrev pub access_kind : ℕ → ComponentKind
 access_kind access = kind.Access (record { 0 = access })
 
-abbrev cell_of : (components : List ComponentKind) → length (parts_from 0 components) ≤ 8 → length components ≤ 8 → TypeDefinition
+abbrev pub cell_of : (components : List ComponentKind) → length (parts_from 0 components) ≤ 8 → length components ≤ 8 → TypeDefinition
 cell_of components few le = definition.Record no_name (vec (parts_from 0 components) few) (vec components le) None
 
-abbrev access_to : ℕ → TypeDefinition
+abbrev pub access_to : ℕ → TypeDefinition
 access_to designated = definition.Access no_name (record { 0 = designated }) None
 
-abbrev of_type : ℕ → Variable
+abbrev pub of_type : ℕ → Variable
 of_type access = record { name = no_name; spot = record { line = 1; column = 1 }; kind = variable.Access (record { 0 = access }); borrows = false }
 
 -- A variable with a new object, all of whose components are null.
@@ -74,10 +75,10 @@ abbrev with_nulls : (x access : ℕ) (items : List AllocatorItem) → length ite
 with_nulls x access items le = declaration.Variable (record { 0 = x }) (Some (right.Allocator (record { 0 = access }) (vec items le)))
 
 -- declare .. begin null; end;
-abbrev block_with : (ds : List Declaration) → length ds ≤ 8 → Stmt
+abbrev pub block_with : (ds : List Declaration) → length ds ≤ 8 → Stmt
 block_with ds le = stmt.Block (vec ds le) (vec (stmt.Null ∷ []) (omega arith)) (vec [] (omega arith))
 
-abbrev block_form : List DeclarationForm → StmtsForm
+abbrev pub block_form : List DeclarationForm → StmtsForm
 block_form ds = a_stmt (encloses ds (a_stmt skips no_stmts) no_handlers) no_stmts
 
 -- type Cell is record Value : Integer; end record; type Far is access Cell; X : Far;
@@ -102,19 +103,24 @@ nested_are : stmt_forms nested ≡ nested_forms
 nested_are = simp statement_rules
 
 -- What a program creates, with these statements.
-abbrev creations_with : Program → StmtsForm → List Creation
+abbrev pub creations_with : Program → StmtsForm → List Creation
 creations_with program fs = map creation (declaration_forms program) ++ created_by_all fs ++ created_by_handlers (handler_forms program)
 
 -- These creations create no pool.
-abbrev no_pools : List Creation → Bool
+abbrev pub no_pools : List Creation → Bool
 no_pools creations = list_all (creates_known_pool 0) creations
 
 abbrev fits_with : Program → StmtsForm → Bool
 fits_with program fs = stmts_fit (program_form program).types (program_form program).variables (program_form program).texts (program_form program).exceptions [] false fs
 
+pub nested_operations : OperationsNest (program_form nested)
+nested_operations = none_nests (program_form nested) refl
+
 pub nested_well_formed : IsWellFormed (program_form nested)
 nested_well_formed = record {
   types_fit = refl;
+  components_lie = refl;
+  operations_fit = refl;
   pools_fit = ap (λ (fs : StmtsForm). no_pools (creations_with nested fs)) nested_are;
   variables_fit = refl;
   creates_in_order = ap (λ (fs : StmtsForm). creates_from 2 0 (creations_with nested fs)) nested_are;
@@ -166,6 +172,7 @@ calling = record {
     declarations = vec (declaration.Collection (record { 0 = 3 }) ∷ with_nulls 0 3 (item.Null ∷ item.Null ∷ []) (omega arith) ∷ []) (omega arith);
     statements = vec (stmt.Null ∷ []) (omega arith);
     handlers = vec [] (omega arith);
+    start = record { line = 1; column = 1 };
     end = record { line = 1; column = 1 };
   } ∷ []) (omega arith);
   variables = vec (of_type 1 ∷ []) (omega arith);
@@ -186,6 +193,7 @@ calling_bodies = record {
   declarations = collects 3 ∷ declares 0 (allocates 3 (null_item ∷ null_item ∷ [])) ∷ [];
   statements = a_stmt skips no_stmts;
   handlers = no_handlers;
+  start_spot = record { line = 1; column = 1 };
   end_spot = record { line = 1; column = 1 };
 } ∷ []
 
@@ -199,9 +207,14 @@ bodies_are = simp statement_rules
 of_both : (test : List BodyForm → StmtsForm → Bool) → test calling_bodies calling_forms ≡ true → test (body_forms calling) (stmt_forms calling) ≡ true
 of_both test is = rw (bodies_are, calling_are) is
 
+pub calling_operations : OperationsNest (program_form calling)
+calling_operations = none_nests (program_form calling) refl
+
 pub calling_well_formed : IsWellFormed (program_form calling)
 calling_well_formed = record {
   types_fit = refl;
+  components_lie = refl;
+  operations_fit = refl;
   pools_fit = of_both (λ bs fs. no_pools (created_in_all bs ++ creations_with calling fs)) refl;
   variables_fit = refl;
   creates_in_order = ap (λ (fs : StmtsForm). creates_from 1 0 (creations_with calling fs)) calling_are;
@@ -265,9 +278,14 @@ loose_forms = block_form (collects 2 ∷ [])
 loose_are : stmt_forms loose ≡ loose_forms
 loose_are = simp statement_rules
 
+pub loose_operations : OperationsNest (program_form loose)
+loose_operations = none_nests (program_form loose) refl
+
 pub loose_well_formed : IsWellFormed (program_form loose)
 loose_well_formed = record {
   types_fit = refl;
+  components_lie = refl;
+  operations_fit = refl;
   pools_fit = ap (λ (fs : StmtsForm). no_pools (creations_with loose fs)) loose_are;
   variables_fit = refl;
   creates_in_order = ap (λ (fs : StmtsForm). creates_from 1 0 (creations_with loose fs)) loose_are;
@@ -293,7 +311,7 @@ opened_more t (record_object u) us le = le
 opened_more t (storage_pool declaration number) us le = le
 opened_more t (collection access pool) us le = omega (arith, le)
 
-contains_opened : (t : ℕ) (is : List Item) (i : Item) (pool : Option ℕ) (k : ℕ) → k < length is → slice_index_or is k i ≡ i → i.owned ≡ collection t pool → 1 ≤ times t (opened is)
+pub contains_opened : (t : ℕ) (is : List Item) (i : Item) (pool : Option ℕ) (k : ℕ) → k < length is → slice_index_or is k i ≡ i → i.owned ≡ collection t pool → 1 ≤ times t (opened is)
 contains_opened t [] i pool k lt at own = absurd (omega (arith, lt))
 contains_opened t (j ∷ is) i pool zero lt at own = opened_one t j pool is (ap (λ (x : Item). x.owned) at ∙ own)
 contains_opened t (j ∷ is) i pool (suc k) lt at own = opened_more t j.owned (opened is) (contains_opened t is i pool k (omega (arith, lt)) at own)
@@ -312,7 +330,7 @@ is_short : InSomeRun loose (λ events last. IsShort last)
 unfolding next expression_form stmt_form
 is_short =
     run_by loose [] loose_forms refl loose_are (steps 5 ++ grants true ∷ steps 4) (λ events last. IsShort last) refl
-    (record { 0 = 0 }, _, 0, record { 0 = 2 }, (refl, refl), refl, λ outlived. elim outlived [ inl going ↦ cc (going.0) | inr found ↦ omega (arith, contains_opened 2 main_items found.0 found.1 found.2.0 found.2.1 found.2.2 found.3) ])
+    (record { 0 = 0 }, _, 0, record { 0 = 2 }, (refl, refl), refl, λ outlived. elim outlived [ inl going ↦ cc going | inr found ↦ omega (arith, contains_opened 2 main_items found.0 found.1 found.2.0 found.2.1 found.2.2 found.3) ])
 
 pub not_outlived : ComponentsAreOutlivedIn loose → ⊥
 not_outlived all =
@@ -341,9 +359,14 @@ passing_forms = a_stmt skips no_stmts
 passing_are : stmt_forms passing ≡ passing_forms
 passing_are = simp statement_rules
 
+pub passing_operations : OperationsNest (program_form passing)
+passing_operations = none_nests (program_form passing) refl
+
 pub passing_well_formed : IsWellFormed (program_form passing)
 passing_well_formed = record {
   types_fit = refl;
+  components_lie = refl;
+  operations_fit = refl;
   pools_fit = ap (λ (fs : StmtsForm). no_pools (creations_with passing fs)) passing_are;
   variables_fit = refl;
   creates_in_order = ap (λ (fs : StmtsForm). creates_from 1 0 (creations_with passing fs)) passing_are;

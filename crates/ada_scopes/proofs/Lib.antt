@@ -12,6 +12,8 @@ pub mod Homes
 pub mod Evaluations
 -- controlled parts are treated
 pub mod Treatments
+-- the operations of types nest
+pub mod Operations
 -- so it does while a master is being left
 pub mod Leavings
 -- each step leads from nested states to nested states
@@ -22,3 +24,9 @@ pub mod Runs
 pub mod Components
 -- a program whose collections nest, and one whose collections do not
 pub mod Example
+-- one with an operation, which is called
+pub mod OperationExample
+-- one whose operation does not nest
+pub mod RecursionExample
+-- and one whose operation creates an object too far out
+pub mod ShortExample

@@ -1,39 +1,56 @@
--- Each state of a run nests, where the program is well formed and its collections nest.
+-- Each state of a run nests, where the program is well formed and its collections and operations nest.
 
-use Rattle.std.proofs.Common.{◌≡◌, ℕ, ℤ, List, [], ◌∷◌, ◌++◌, arith, refl, ap, subst}
+use Rattle.std.proofs.Common.{◌≡◌, ℕ, ℤ, not, Bool, true, false, List, [], ◌∷◌, ◌++◌, arith, refl, ap, subst}
 use Rattle.ada_program.specs.declared.program.Program.{Program}
 use Rattle.ada_program.specs.ProgramForm.{TypeForm, ProgramForm, program_form}
-use Rattle.ada_program.specs.WellFormed.{IsWellFormed}
+use Rattle.ada_program.specs.WellFormed.{IsWellFormed, overrides_none}
+use Rattle.ada_program.specs.Controlled.{no_operations, operations_of}
+use Rattle.ada_program.proofs.Overridden.{nothing_overridden}
 use Rattle.ada_program.specs.Nested.{Callees, collected, callees_of, CollectionsNest}
 use Rattle.ada_meaning.specs.State.{Master}
 use Rattle.ada_meaning.specs.Step.{halts, moves, tells, asks, picks}
 use Rattle.ada_meaning.specs.Named.{State, Next, next}
 use Rattle.ada_meaning.specs.Run.{Event, Choice, settled, grants, takes, Leads, Step, Run, here, there, first_state}
-use Rattle.ada_typed.proofs.Overriding.{well_formed_overrides_nothing}
+use Rattle.ada_scopes.specs.Scopes.{OperationsNest}
+use Rattle.ada_scopes.proofs.Operations.{operations_here}
 use Rattle.ada_scopes.proofs.Texts.{BodiesNest}
 use Rattle.ada_scopes.proofs.Bodies.{ProgramNests, program_nests}
 use Rattle.ada_scopes.proofs.Control.{Whole, Growing, Nested, beginning, grows}
 use Rattle.ada_scopes.proofs.Evaluations.{Good}
 use Rattle.ada_scopes.proofs.Steps.{next_good}
 
--- What each state of a run keeps: what its procedures create nests wherever the text calls them, and so does what is left to do.
+-- Whether operations are called.
+abbrev pub calls_in : ProgramForm → Bool
+calls_in p = not (overrides_none p)
+
+not_false : (b : Bool) → not b ≡ false → b ≡ true
+not_false true is = refl
+not_false false is = absurd (cc is)
+
+none_called : (program : Program) (of : ℕ) → calls_in (program_form program) ≡ false → operations_of program.types.items of ≡ no_operations
+none_called program of none = nothing_overridden program (not_false (overrides_none (program_form program)) none) of
+
+-- What each state of a run keeps: what its procedures create nests wherever the text calls them, operations nest wherever they are called, and what is left
+-- to do nests.
 pub record Scoped (p : ProgramForm) (s : State) : Type 0 where
   pub bodies : BodiesNest p.types (callees_of p) p.bodies
-  pub nested : Nested p.types (callees_of p) s
+  pub operations : OperationsNest p
+  pub nested : Nested p.types (callees_of p) (calls_in p) s
 
 append_nil : (us : List ℕ) → us ++ [] ≡ us
 append_nil [] = refl
 append_nil (u ∷ us) = ap (λ (vs : List ℕ). u ∷ vs) (append_nil us)
 
-nothing_yet : (types : List TypeForm) → Whole types [] []
-nothing_yet types = record { lone = λ t. omega arith; needs = tt; housed = λ o x at listed. absurd (cc at); fit = tt; records = tt }
+nothing_yet : (types : List TypeForm) → Whole types [] [] []
+nothing_yet types = record { lone = λ t. omega arith; needs = tt; housed = λ o x at listed. absurd (cc at); fit = tt; records = tt; covers = tt; known = λ t le. absurd (omega (arith, le)) }
 
 -- The first state: the part of the main procedure begins.
-main_begins : (program : Program) (input : List ℤ) → ProgramNests (program_form program) → Nested (program_form program).types (callees_of (program_form program)) (first_state program input)
+main_begins : (program : Program) (input : List ℤ) → ProgramNests (program_form program) → Nested (program_form program).types (callees_of (program_form program)) (calls_in (program_form program)) (first_state program input)
 main_begins program input nest =
     let p = program_form program in
     let first : Master = record { number = 0; items = [] } in
     beginning (record {
+      ss = [];
       m = first;
       rest = [];
       ds = p.declarations;
@@ -44,48 +61,49 @@ main_begins program input nest =
       masters = refl;
       control = refl;
       runs = refl;
-      growing = subst (λ (there : List ℕ). Growing p.types first [] [] p.declarations there) (append_nil (collected p.declarations)) (grows p.types 0 [] [] p.declarations [] nest.part (λ t. refl) (nothing_yet p.types));
+      growing = subst (λ (there : List ℕ). Growing p.types [] first [] [] p.declarations there) (append_nil (collected p.declarations)) (grows p.types [] 0 [] [] p.declarations [] nest.part (λ t. refl) (nothing_yet p.types));
       statements = nest.statements;
       handlers = nest.handlers;
-      nests = tt;
+      nests = refl;
     })
 
-pub first_nested : (program : Program) → IsWellFormed (program_form program) → CollectionsNest (program_form program) → (input : List ℤ) → Scoped (program_form program) (first_state program input)
-first_nested program well nest input =
+pub first_nested : (program : Program) → IsWellFormed (program_form program) → CollectionsNest (program_form program) → OperationsNest (program_form program) → (input : List ℤ) → Scoped (program_form program) (first_state program input)
+first_nested program well nest operations input =
     let text = program_nests (program_form program) well nest in
-    record { bodies = text.bodies; nested = main_begins program input text }
+    record { bodies = text.bodies; operations = operations; nested = main_begins program input text }
 
-led : (types : List TypeForm) (callees : Callees) (coming : Next) (choice : Choice) (e : Event) (after : State) → Good types callees coming → Leads coming choice e after → Nested types callees after
-led types callees (halts halt) choice e after g l = absurd l
-led types callees (moves shown s) settled e after g l = rw (l.1) g
-led types callees (tells request shown s) settled e after g l = rw (l.1) g
-led types callees (asks request answers) (grants granted) e after g l = rw (l.1) (g granted)
-led types callees (picks n taking) (takes i) e after g l = rw (l.2) (g i l.0)
-led types callees (moves shown s) (grants granted) e after g l = absurd l
-led types callees (moves shown s) (takes i) e after g l = absurd l
-led types callees (tells request shown s) (grants granted) e after g l = absurd l
-led types callees (tells request shown s) (takes i) e after g l = absurd l
-led types callees (asks request answers) settled e after g l = absurd l
-led types callees (asks request answers) (takes i) e after g l = absurd l
-led types callees (picks n taking) settled e after g l = absurd l
-led types callees (picks n taking) (grants granted) e after g l = absurd l
+led : (types : List TypeForm) (callees : Callees) (calling : Bool) (coming : Next) (choice : Choice) (e : Event) (after : State) → Good types callees calling coming → Leads coming choice e after → Nested types callees calling after
+led types callees calling (halts halt) choice e after g l = absurd l
+led types callees calling (moves shown s) settled e after g l = rw (l.1) g
+led types callees calling (tells request shown s) settled e after g l = rw (l.1) g
+led types callees calling (asks request answers) (grants granted) e after g l = rw (l.1) (g granted)
+led types callees calling (picks n taking) (takes i) e after g l = rw (l.2) (g i l.0)
+led types callees calling (moves shown s) (grants granted) e after g l = absurd l
+led types callees calling (moves shown s) (takes i) e after g l = absurd l
+led types callees calling (tells request shown s) (grants granted) e after g l = absurd l
+led types callees calling (tells request shown s) (takes i) e after g l = absurd l
+led types callees calling (asks request answers) settled e after g l = absurd l
+led types callees calling (asks request answers) (takes i) e after g l = absurd l
+led types callees calling (picks n taking) settled e after g l = absurd l
+led types callees calling (picks n taking) (grants granted) e after g l = absurd l
 
--- A step of a well-formed program keeps that.
-pub step_nested : (program : Program) → IsWellFormed (program_form program) → (s after : State) (choice : Choice) (e : Event) → Scoped (program_form program) s → Step program s choice e after → Scoped (program_form program) after
-step_nested program well s after choice e scoped step =
+-- A step keeps that.
+pub step_nested : (program : Program) (s after : State) (choice : Choice) (e : Event) → Scoped (program_form program) s → Step program s choice e after → Scoped (program_form program) after
+step_nested program s after choice e scoped step =
     let p = program_form program in
     let types = program.types.items in
     record {
       bodies = scoped.bodies;
-      nested = led p.types (callees_of p) (next types p.bodies s) choice e after
-          (next_good p.types (callees_of p) p.bodies scoped.bodies types (well_formed_overrides_nothing program well) s scoped.nested) step;
+      operations = scoped.operations;
+      nested = led p.types (callees_of p) (calls_in p) (next types p.bodies s) choice e after
+          (next_good p.types (callees_of p) (calls_in p) p.bodies scoped.bodies types (λ of. (operations_here (callees_of p) types of scoped.operations, none_called program of)) s scoped.nested) step;
     }
 
-run_nested : (program : Program) → IsWellFormed (program_form program) → (s last : State) (events : List Event) → Scoped (program_form program) s → Run program s events last → Scoped (program_form program) last
-run_nested program well s last events scoped here = scoped
-run_nested program well s last (e ∷ events) scoped (there choice mid step rest) =
-    run_nested program well mid last events (step_nested program well s mid choice e scoped step) rest
+run_nested : (program : Program) (s last : State) (events : List Event) → Scoped (program_form program) s → Run program s events last → Scoped (program_form program) last
+run_nested program s last events scoped here = scoped
+run_nested program s last (e ∷ events) scoped (there choice mid step rest) =
+    run_nested program mid last events (step_nested program s mid choice e scoped step) rest
 
-pub state_nested : (program : Program) → IsWellFormed (program_form program) → CollectionsNest (program_form program) → (input : List ℤ) (events : List Event) (last : State) → Run program (first_state program input) events last → Scoped (program_form program) last
-state_nested program well nest input events last run =
-    run_nested program well (first_state program input) last events (first_nested program well nest input) run
+pub state_nested : (program : Program) → IsWellFormed (program_form program) → CollectionsNest (program_form program) → OperationsNest (program_form program) → (input : List ℤ) (events : List Event) (last : State) → Run program (first_state program input) events last → Scoped (program_form program) last
+state_nested program well nest operations input events last run =
+    run_nested program (first_state program input) last events (first_nested program well nest operations input) run

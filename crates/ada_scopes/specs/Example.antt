@@ -1,6 +1,6 @@
 -- The premises are met, and they are needed.
 
-use Rattle.std.specs.Prelude.{◌≡◌, ℕ, [], ◌∷◌}
+use Rattle.std.specs.Prelude.{◌≡◌, ℕ, [], ◌∷◌, AllPairs}
 use Rattle.ada_program.specs.declared.program.Program.{Program}
 use Rattle.ada_program.specs.declared.program.TypeNo.{TypeNo}
 use Rattle.ada_program.specs.Form.{calls, no_stmts, a_stmt, stmt_forms}
@@ -10,8 +10,9 @@ use Rattle.ada_program.specs.Nested.{CollectionsNest}
 use Rattle.ada_meaning.specs.declared.state.Id.{Id}
 use Rattle.ada_meaning.specs.State.{Master}
 use Rattle.ada_meaning.specs.Named.{Object, State}
+use Rattle.ada_meaning.specs.Law.{items_of}
 use Rattle.ada_order.specs.Example.{InSomeRun}
-use Rattle.ada_scopes.specs.Scopes.{lasting, IsOpenIn, IsListed, HoldsNames, ComponentsAreOutlivedIn}
+use Rattle.ada_scopes.specs.Scopes.{InItsRuns, CollectTwoTypes, OperationsNest, lasting, IsOpenIn, IsListed, HoldsNames, ComponentsAreOutlivedIn}
 
 -- A block, or the body of a procedure, is entered inside the main procedure. An object's first component is of an access type of the main procedure, and
 -- its second one of an access type of the block or of the body.
@@ -33,18 +34,18 @@ pub record HoldsNearAndFar (program : Program) (s : State) : Type 0 where
 abbrev pub CollectionsOfBlocksNest : Type 0
 CollectionsOfBlocksNest =
     (program : Program) × IsWellFormed (program_form program) × CollectionsNest (program_form program)
-    × InSomeRun program (λ events last. HoldsNearAndFar program last)
+    × OperationsNest (program_form program) × InSomeRun program (λ events last. HoldsNearAndFar program last)
 
 -- So has one that does nothing but call a procedure, whose body has such an object.
 abbrev pub CollectionsOfCallsNest : Type 0
 CollectionsOfCallsNest =
     (program : Program) × IsWellFormed (program_form program) × CollectionsNest (program_form program)
-    × (stmt_forms program ≡ a_stmt (calls 0 []) no_stmts)
+    × OperationsNest (program_form program) × (stmt_forms program ≡ a_stmt (calls 0 []) no_stmts)
     × InSomeRun program (λ events last. HoldsNearAndFar program last)
 
 -- A well-formed program has an object that lasts longer than what its component names: the component's type has its collection in a block.
 abbrev pub NestingIsNeeded : Type 0
-NestingIsNeeded = (program : Program) × IsWellFormed (program_form program) × (ComponentsAreOutlivedIn program → ⊥)
+NestingIsNeeded = (program : Program) × IsWellFormed (program_form program) × OperationsNest (program_form program) × (ComponentsAreOutlivedIn program → ⊥)
 
 -- An object is in its collection, while the collection of what its component names is gone.
 pub record OutlastsTarget (program : Program) (s : State) : Type 0 where
@@ -60,4 +61,30 @@ pub record OutlastsTarget (program : Program) (s : State) : Type 0 where
 abbrev pub CollectionsGoOneByOne : Type 0
 CollectionsGoOneByOne =
     (program : Program) × IsWellFormed (program_form program) × CollectionsNest (program_form program)
-    × InSomeRun program (λ events last. OutlastsTarget program last)
+    × OperationsNest (program_form program) × InSomeRun program (λ events last. OutlastsTarget program last)
+
+-- So it is while the body of a Finalize runs, which has a master of its own.
+pub record OutlastsWhileCalled (program : Program) (s : State) : Type 0 where
+  pub called : Master
+  pub main : Master
+  pub entered : s.masters ≡ called ∷ main ∷ []
+  pub outlasts : OutlastsTarget program s
+
+-- A well-formed program whose collections and operations nest has a run that comes to such an object: its main procedure is being left, and an object of
+-- the same collection is being finalized.
+abbrev pub OperationsAreCalled : Type 0
+OperationsAreCalled =
+    (program : Program) × IsWellFormed (program_form program) × CollectionsNest (program_form program)
+    × OperationsNest (program_form program) × InSomeRun program (λ events last. OutlastsWhileCalled program last)
+
+-- A well-formed program whose collections nest has a run that comes to two collections of one access type: a Finalize creates one, and then it is called for
+-- an object of its own.
+abbrev pub OperationsMustNest : Type 0
+OperationsMustNest =
+    (program : Program) × IsWellFormed (program_form program) × CollectionsNest (program_form program)
+    × (InItsRuns program (λ last. AllPairs CollectTwoTypes (items_of last.masters)) → ⊥)
+
+-- One has a run that comes to an object that lasts longer than what its component names: an Initialize creates it, where the collection of that is not open.
+abbrev pub OperationsMustFindOpen : Type 0
+OperationsMustFindOpen =
+    (program : Program) × IsWellFormed (program_form program) × CollectionsNest (program_form program) × (ComponentsAreOutlivedIn program → ⊥)

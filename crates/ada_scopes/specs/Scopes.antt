@@ -2,31 +2,55 @@
 
 use Rattle.std.specs.Prelude.{◌≡◌, ◌⊎◌, ℕ, ℤ, Bool, true, false, ◌||◌, ◌==◌, if◌then◌else◌, List, [], ◌∷◌, Option, Some, None, AllPairs, Contains}
 use Rattle.std.specs.List.{slice_get}
+use Rattle.ada_program.specs.declared.program.Operations.{Operations}
+use Rattle.ada_program.specs.declared.program.ProcedureNo.{ProcedureNo}
 use Rattle.ada_program.specs.declared.program.Program.{Program}
 use Rattle.ada_program.specs.declared.program.TypeNo.{TypeNo}
 use Rattle.ada_program.specs.declared.program.VariableKind.TheVariants as variable
-use Rattle.ada_program.specs.ProgramForm.{TypeForm, program_form}
-use Rattle.ada_program.specs.WellFormed.{IsWellFormed, reached_components, kind_among}
-use Rattle.ada_program.specs.Nested.{CollectionsNest}
+use Rattle.ada_program.specs.Controlled.{operations_in}
+use Rattle.ada_program.specs.ProgramForm.{TypeForm, ProgramForm, program_form}
+use Rattle.ada_program.specs.WellFormed.{IsWellFormed, overrides_none, finalization_of, reached_components, kind_among}
+use Rattle.ada_program.specs.Nested.{Callees, call_nests, callees_of, CollectionsNest}
 use Rattle.ada_meaning.specs.declared.state.Id.{Id}
 use Rattle.ada_meaning.specs.declared.state.Value.{Value}
 use Rattle.ada_meaning.specs.declared.state.Value.TheVariants.{Names}
 use Rattle.ada_meaning.specs.Frame.{Frame, is_master}
 use Rattle.ada_meaning.specs.Frame as frame
+use Rattle.ada_meaning.specs.Step.{older}
 use Rattle.ada_meaning.specs.State.{Owned, declared, collection, record_object, storage_pool, type_housed, pool_housed, Item, Master}
 use Rattle.ada_meaning.specs.Named.{Object, State, object_at}
 use Rattle.ada_meaning.specs.Run.{Event, Run, first_state}
 use Rattle.ada_meaning.specs.Law.{Differ, items_of}
+use Rattle.ada_typed.specs.Holding.{IsFilled, cells_of}
 
 -- Each state that a run of the program comes to has a property.
 abbrev pub InItsRuns : Program → (State → Type 0) → Type 0
 InItsRuns program P =
     (input : List ℤ) (events : List Event) (last : State) → Run program (first_state program input) events last → P last
 
--- Each program that is well formed and whose collections nest has a property.
+-- A procedure that overrides an operation, if one does, nests wherever it is called: what it and the procedures that it calls create is no collection, and
+-- no record object whose components hold access values.
+abbrev pub NestsAnywhere : Callees → Option ProcedureNo → Type 0
+NestsAnywhere callees None = Unit {0}
+NestsAnywhere callees (Some procedure) = (around : List ℕ) → call_nests (slice_get callees procedure.0) around ≡ true
+
+-- So does each operation of a type.
+abbrev pub AllNestAnywhere : Callees → Operations → Type 0
+AllNestAnywhere callees o = NestsAnywhere callees o.initialize × NestsAnywhere callees o.adjust × NestsAnywhere callees o.finalize
+
+-- So does each operation of the types of a program (7.6): it is called where an object is created, assigned to, freed or left, whatever is open there.
+abbrev pub OperationsNest : ProgramForm → Type 0
+OperationsNest p = (t : ℕ) → AllNestAnywhere (callees_of p) (operations_in (finalization_of p.types t))
+
+-- Each program that is well formed, and whose collections and operations nest, has a property.
 abbrev pub WhereCollectionsNest : (Program → Type 0) → Type 0
 WhereCollectionsNest P =
-    (program : Program) → IsWellFormed (program_form program) → CollectionsNest (program_form program) → P program
+    (program : Program) → IsWellFormed (program_form program) → CollectionsNest (program_form program) → OperationsNest (program_form program) → P program
+
+-- A property of states holds in the runs of each such program none of whose types overrides an operation: operations nest then.
+abbrev pub WhereNothingIsCalled : (State → Type 0) → Type 0
+WhereNothingIsCalled P =
+    (program : Program) → IsWellFormed (program_form program) → CollectionsNest (program_form program) → overrides_none (program_form program) ≡ true → InItsRuns program P
 
 -- The access type whose collection a master owns by an item, if that is what the item is (7.6.1).
 abbrev pub type_collected : Owned → Option ℕ
@@ -58,20 +82,42 @@ lasting n (m ∷ ms) = if is_number_of m.items n then m ∷ ms else lasting n ms
 abbrev pub IsOpenIn : List Master → ℕ → Type 0
 IsOpenIn masters access = (i : Item) × (pool : Option ℕ) × Contains (items_of masters) i × (i.owned ≡ collection access pool)
 
--- Is the innermost master being left? The first frame that belongs to a master says so (7.6.1).
-abbrev pub is_leaving : List (Frame Value) → Bool
-is_leaving [] = false
-is_leaving (frame.Leaves mode ∷ k) = true
-is_leaving (f ∷ k) = if is_master f then false else is_leaving k
+-- Is a master being left by this frame (7.6.1)?
+abbrev pub is_departure : Frame Value → Bool
+is_departure (frame.Leaves mode) = true
+is_departure f = false
+
+-- One master more, if a frame belongs to one: is that being left?
+abbrev pub with_departure : (master departure : Bool) → List Bool → List Bool
+with_departure true departure outer = false ∷ outer
+with_departure false true outer = true ∷ outer
+with_departure false false outer = outer
+
+-- Which of the masters that are entered are being left, the innermost first: the frames that belong to masters say so. More than one is, where the body of
+-- a Finalize is left that is called while one is.
+abbrev pub departures : List (Frame Value) → List Bool
+departures [] = []
+departures (f ∷ k) = with_departure (is_master f) (is_departure f) (departures k)
+
+-- Is one of these masters being left?
+abbrev pub some_departure : List Bool → Bool
+some_departure [] = false
+some_departure (b ∷ bs) = b || some_departure bs
+
+-- Is one of the masters being left that last as long as an item of this number?
+abbrev pub departs : List Bool → List Master → ℕ → Bool
+departs [] ms n = false
+departs (b ∷ bs) [] n = false
+departs (b ∷ bs) (m ∷ ms) n = if is_number_of m.items n then some_departure (b ∷ bs) else departs bs ms n
 
 -- Is an item of this number one of the innermost master?
 abbrev pub is_innermost : List Master → ℕ → Bool
 is_innermost [] n = false
 is_innermost (m ∷ ms) n = is_number_of m.items n
 
--- The innermost master is being left, and it owns the item of this number.
+-- A master is being left that lasts as long as the item of this number.
 abbrev pub IsGoing : State → ℕ → Type 0
-IsGoing s n = (is_leaving s.control ≡ true) × (is_innermost s.masters n ≡ true)
+IsGoing s n = departs (departures s.control) s.masters n ≡ true
 
 -- This object has this name, and is in its collection.
 abbrev pub IsListed : List Object → Id → Object → Type 0
@@ -88,6 +134,10 @@ IsInCollection masters object =
 abbrev pub AreInCollections : State → Type 0
 AreInCollections s = (o : Id) (object : Object) → IsListed s.heap o object → IsInCollection s.masters object
 
+-- Where no type overrides an operation, no master but the innermost one is being left: only the body of a Finalize is entered while one is (7.6.1).
+abbrev pub OnlyInnermostIsLeft : Type 0
+OnlyInnermostIsLeft = WhereNothingIsCalled (λ s. some_departure (older (departures s.control)) ≡ false)
+
 -- Each object that is in its collection lies in one that is open, that is of its own access type, and whose pool is the object's (7.6.1, 13.11).
 abbrev pub ObjectsLieInCollections : Type 0
 ObjectsLieInCollections = WhereCollectionsNest (λ program. InItsRuns program AreInCollections)
@@ -97,7 +147,7 @@ abbrev pub HoldsNames : List TypeForm → (access c : ℕ) → (target : TypeNo)
 HoldsNames types access c target = kind_among (reached_components types access) c ≡ Some (variable.Access target)
 
 -- The collection of an access type lasts as long as an object: it is open, and the master of the object's home owns it, or an outer one. While
--- that master is being left, its collections go one after the other, and this one may have gone first.
+-- such a master is being left, its collections go one after the other, and this one may have gone first.
 abbrev pub IsOutlived : State → Object → ℕ → Type 0
 IsOutlived s object target =
     IsGoing s object.cell.home.item ⊎ IsOpenIn (lasting object.cell.home.item s.masters) target
@@ -128,9 +178,21 @@ HeldOutside s =
     (holder held : Object)
     → Holds s.heap holder held → is_number_of (items_of (lasting holder.cell.home.item s.masters)) held.cell.home.item ≡ true
 
+-- The objects of a state have values of the kinds of their components (3.8).
+abbrev pub HaveTheirKinds : List TypeForm → State → Type 0
+HaveTheirKinds types s = (o : Id) (object : Object) → object_at s.heap o ≡ Some object → IsFilled types (cells_of s.heap) object.cell
+
+-- A property of states holds in the runs of each program where objects have values of the kinds of their components.
+abbrev pub WhereTyped : (State → Type 0) → Type 0
+WhereTyped P = WhereCollectionsNest (λ program. InItsRuns program (HaveTheirKinds (program_form program).types) → InItsRuns program P)
+
 -- No component names an object of a master further in than that of its own object.
 abbrev pub NamesStayOutside : Type 0
-NamesStayOutside = WhereCollectionsNest (λ program. InItsRuns program HeldOutside)
+NamesStayOutside = WhereNothingIsCalled HeldOutside
+
+-- Nor does one where operations are called.
+abbrev pub TypedNamesStayOutside : Type 0
+TypedNamesStayOutside = WhereTyped HeldOutside
 
 -- Whatever object holds the name of one whose home is an item of the innermost master has its own home there.
 abbrev pub InnermostHeldInside : State → Type 0
@@ -141,4 +203,8 @@ InnermostHeldInside s =
 
 -- No object of an outer master has a component that names an object of the innermost one.
 abbrev pub InnermostIsNotNamed : Type 0
-InnermostIsNotNamed = WhereCollectionsNest (λ program. InItsRuns program InnermostHeldInside)
+InnermostIsNotNamed = WhereNothingIsCalled InnermostHeldInside
+
+-- Nor has one where operations are called.
+abbrev pub TypedInnermostIsNotNamed : Type 0
+TypedInnermostIsNotNamed = WhereTyped InnermostHeldInside

@@ -1,9 +1,11 @@
 //! The laws of collections that nest. Each is a function that does nothing, and whose contract is the theorem.
 
 ghost use Rattle.ada_scopes.specs.Example.{CollectionsOfBlocksNest, CollectionsOfCallsNest};
-ghost use Rattle.ada_scopes.specs.Example.{CollectionsGoOneByOne, NestingIsNeeded};
+ghost use Rattle.ada_scopes.specs.Example.{CollectionsGoOneByOne, NestingIsNeeded, OperationsAreCalled};
+ghost use Rattle.ada_scopes.specs.Example.{OperationsMustNest, OperationsMustFindOpen};
 ghost use Rattle.ada_scopes.specs.Scopes.{TypesHaveOneCollection, ObjectsLieInCollections, ComponentsAreOutlived};
-ghost use Rattle.ada_scopes.specs.Scopes.{NamesStayOutside, InnermostIsNotNamed};
+ghost use Rattle.ada_scopes.specs.Scopes.{NamesStayOutside, InnermostIsNotNamed, OnlyInnermostIsLeft};
+ghost use Rattle.ada_scopes.specs.Scopes.{TypedNamesStayOutside, TypedInnermostIsNotNamed};
 
 /// No two items of the masters that are entered are collections of one access type (7.6.1).
 pub fn types_have_one_collection()
@@ -17,16 +19,21 @@ pub fn objects_lie_in_collections()
 {}
 
 /// The collection of what a component names is open, in the master of the object's home or in an outer one (3.10.2). Only
-/// while that very master is being left, it may have gone before the object's own.
+/// while such a master is being left, it may have gone before the object's own. Where no type overrides an operation, that
+/// is the innermost one.
 pub fn components_are_outlived()
-    ensures { ComponentsAreOutlived }
+    ensures outlived { ComponentsAreOutlived }
+    ensures innermost { OnlyInnermostIsLeft }
 {}
 
 /// What a component names lies in a collection of the same master as the object, or of an outer one. So when the innermost
-/// master is left, no object of an outer one has a component that names an object of the innermost one.
+/// master is left, no object of an outer one has a component that names an object of the innermost one. Where operations
+/// are called, the premise is that objects have values of the kinds of their components.
 pub fn names_stay_outside()
     ensures home { NamesStayOutside }
     ensures innermost { InnermostIsNotNamed }
+    ensures typed_home { TypedNamesStayOutside }
+    ensures typed_innermost { TypedInnermostIsNotNamed }
 {}
 
 /// The premises are met: in a run of a program a block has an object with a component of an access type of the main
@@ -50,4 +57,18 @@ pub fn nesting_is_needed()
 /// names, where both are of that master.
 pub fn collections_go_one_by_one()
     ensures { CollectionsGoOneByOne }
+{}
+
+/// So it is while the body of a Finalize runs: the premises are met by a run that calls an operation, and more than the
+/// innermost master may be being left.
+pub fn operations_are_called()
+    ensures { OperationsAreCalled }
+{}
+
+/// That operations nest is needed: where a Finalize creates a collection and an object of its own type, it is called while
+/// its collection is open, and creates that once more. Where an Initialize creates an object with a component of an access
+/// type of a block, the object is there without a collection for what the component names.
+pub fn nesting_of_operations_is_needed()
+    ensures collection { OperationsMustNest }
+    ensures record_object { OperationsMustFindOpen }
 {}

@@ -4,7 +4,8 @@
 //!
 //! What a crate above takes from here: `one_collection`, `in_collections`, `outlived`, `outside` and `innermost_unnamed` of
 //! `proofs::Components` over runs; or, beside an invariant of its own, `Scoped`, `first_nested` and `step_nested` of
-//! `proofs::Runs`, and `held_outside` and `held_inside` of `proofs::Components` over states.
+//! `proofs::Runs`, and `held_outside` and `held_inside` of `proofs::Components` over states. Operations nest where none is
+//! overridden, by `none_nests` of `proofs::Operations`.
 #![tactic(auto)]
 
 pub mod laws;

@@ -26,7 +26,6 @@ use Rattle.ada_serve.specs.Runner.{runner_before, RunnerRun, status_of, HasRun, 
 use Rattle.ada_serve.specs.Answer.{refused, accepted, IsRefusal, GivesNumbers, IsRunAnswer, IsProgramAnswer}
 use Rattle.ada_serve.specs.Calls.{IsRead, FaultReads, FaultWrites, OnlyWrites, WriterEnds, FaultEnds}
 use Rattle.ada_serve.specs.Served.{Serves, PromisesSafe, IsOfInput, FaultGives, InputTurns, SourceCut, HasPools, TellsPools, TellsSizes, unasked}
-use Rattle.ada_typed.specs.Stuck.{NeverStuck, NothingEscapes}
 use Rattle.ada_serve.specs.Written.{SaysFront}
 use Rattle.ada_serve.proofs.Reading.{fits}
 use Rattle.ada_serve.proofs.Writing.{idle}
@@ -196,26 +195,26 @@ is_run : {program : Program} {start : Runner} {first last : State} {statements :
 is_run begun = here
 is_run {program = program} {first = first} {last = last} (goes_on before_it event mid before choice so_far run is step e count) = subst (λ (all : List Event). Run program first all last) (sym e) (run_more event choice last (is_run run) step)
 
--- a run of a safe program that never gets stuck, and lets no exception out of an Adjust or a Finalize, does not end as erroneous
-halted : StatesGoOn → (program : Program) (numbers : List ℤ) (events : List Event) (last : State) (halt : Halt) → Safe program → NeverStuck program → NothingEscapes program → Run program (first_state program numbers) events last → Halts program last halt → status.Erroneous ≡ status_of halt → ⊥
-halted goes program numbers events last halt.Finished safe typed confined run ends e = cc
-halted goes program numbers events last (halt.Unhandled exception) safe typed confined run ends e = cc
-halted goes program numbers events last (halt.Escaped exception) safe typed confined run ends e = confined numbers events last exception run ends
-halted goes program numbers events last (halt.Erroneous why) safe typed confined run ends e = safe.never_erroneous numbers events last why run ends
-halted goes program numbers events last halt.Stuck safe typed confined run ends e = typed numbers events last run ends
-halted goes program numbers events last halt.Memory safe typed confined run ends e = no_memory goes program last ends
+-- a run of a safe program does not end as erroneous
+halted : StatesGoOn → (program : Program) (numbers : List ℤ) (events : List Event) (last : State) (halt : Halt) → Safe program → Run program (first_state program numbers) events last → Halts program last halt → status.Erroneous ≡ status_of halt → ⊥
+halted goes program numbers events last halt.Finished safe run ends e = cc
+halted goes program numbers events last (halt.Unhandled exception) safe run ends e = cc
+halted goes program numbers events last (halt.Escaped exception) safe run ends e = safe.nothing_escapes numbers events last exception run ends
+halted goes program numbers events last (halt.Erroneous why) safe run ends e = safe.never_erroneous numbers events last why run ends
+halted goes program numbers events last halt.Stuck safe run ends e = safe.never_stuck numbers events last run ends
+halted goes program numbers events last halt.Memory safe run ends e = no_memory goes program last ends
 
-run_erroneous : StatesGoOn → (program : Program) (trace : Bool) (numbers : List ℤ) (limit : ℕ) (start : Runner) (text : List ℕ) → Safe program → NeverStuck program → NothingEscapes program → HasRun program trace numbers limit start text status.Erroneous → ⊥
-run_erroneous goes program trace numbers limit start text safe typed confined (ended statements events runner last halt within run halts is e) = halted goes program numbers events last halt safe typed confined (is_run run) halts e
-run_erroneous goes program trace numbers limit start text safe typed confined (stopped events runner last run starts is e) = absurd (cc)
+run_erroneous : StatesGoOn → (program : Program) (trace : Bool) (numbers : List ℤ) (limit : ℕ) (start : Runner) (text : List ℕ) → Safe program → HasRun program trace numbers limit start text status.Erroneous → ⊥
+run_erroneous goes program trace numbers limit start text safe (ended statements events runner last halt within run halts is e) = halted goes program numbers events last halt safe (is_run run) halts e
+run_erroneous goes program trace numbers limit start text safe (stopped events runner last run starts is e) = absurd (cc)
 
-never_erroneous : StatesGoOn → (IsInput : List ℕ → Type 0) (program : Program) (run trace : Bool) (limit : ℕ) (start : Runner) (text : List ℕ) (ending : Status) → Safe program → NeverStuck program → NothingEscapes program → IsProgramAnswer IsInput program run trace limit start text ending → ending ≢ status.Erroneous
-never_erroneous goes IsInput program false trace limit start text ending safe typed confined a e = let never : status.Accepted ≡ status.Erroneous = sym a.1 ∙ e in absurd (cc)
-never_erroneous goes IsInput program true trace limit start text ending safe typed confined a e = run_erroneous goes program trace a.numbers limit start text safe typed confined (subst (HasRun program trace a.numbers limit start text) e a.run)
+never_erroneous : StatesGoOn → (IsInput : List ℕ → Type 0) (program : Program) (run trace : Bool) (limit : ℕ) (start : Runner) (text : List ℕ) (ending : Status) → Safe program → IsProgramAnswer IsInput program run trace limit start text ending → ending ≢ status.Erroneous
+never_erroneous goes IsInput program false trace limit start text ending safe a e = let never : status.Accepted ≡ status.Erroneous = sym a.1 ∙ e in absurd (cc)
+never_erroneous goes IsInput program true trace limit start text ending safe a e = run_erroneous goes program trace a.numbers limit start text safe (subst (HasRun program trace a.numbers limit start text) e a.run)
 
-pub answer_not_erroneous : StatesGoOn → (IsInput : List ℕ → Type 0) (program : Program) (run trace : Bool) (limit : ℕ) (start : Runner) (old new : Option (List ℕ)) (result : Result Status ServeFault) → Safe program → NeverStuck program → NothingEscapes program → SaysFront (IsProgramAnswer IsInput program run trace limit start) old new result → IfOk result (λ ending. ending ≢ status.Erroneous)
-answer_not_erroneous goes IsInput program run trace limit start old new (Ok ending) safe typed confined s = never_erroneous goes IsInput program run trace limit start s.text ending safe typed confined s.is
-answer_not_erroneous goes IsInput program run trace limit start old new (Err fault) safe typed confined s = tt
+pub answer_not_erroneous : StatesGoOn → (IsInput : List ℕ → Type 0) (program : Program) (run trace : Bool) (limit : ℕ) (start : Runner) (old new : Option (List ℕ)) (result : Result Status ServeFault) → Safe program → SaysFront (IsProgramAnswer IsInput program run trace limit start) old new result → IfOk result (λ ending. ending ≢ status.Erroneous)
+answer_not_erroneous goes IsInput program run trace limit start old new (Ok ending) safe s = never_erroneous goes IsInput program run trace limit start s.text ending safe s.is
+answer_not_erroneous goes IsInput program run trace limit start old new (Err fault) safe s = tt
 
 -- a source that is accepted is safe
 pub promises_accepted : (IsSource : List ℕ → Type 0) (bytes : List ℕ) (program : Program) (result : Result Status ServeFault) → IsSource bytes → IsAccepted bytes program → Safe program → PromisesSafe IsSource result

@@ -14,7 +14,6 @@ ghost use Rattle.ada_serve.specs.Runner.{runner_before, end_text, status_of, eve
 ghost use Rattle.ada_serve.specs.Served.{PromisesSafe, IsOfInput, FaultGives, InputTurns, ReadersEnd, Serves, TellsPools};
 ghost use Rattle.ada_serve.specs.Texts.{exceptions_of, stopped_text};
 ghost use Rattle.ada_serve.specs.Written.{Writes, SaysFront};
-ghost use Rattle.ada_typed.specs.Stuck.{NeverStuck, NothingEscapes};
 
 use crate::output::write_all;
 use crate::settings::Options;
@@ -26,7 +25,6 @@ use ada_meaning::laws::{states_go_on, steps_make_lighter};
 use ada_meaning::{Event, Halt};
 use ada_pools::{PoolChoices, name_pools};
 use ada_program::Program;
-use ada_typed::laws::{nothing_escapes_well_formed_programs, well_formed_programs_are_never_stuck};
 use ada_verdict::{Accepted, Verdict, check};
 use std::alloc::{AllocError, AllocFailed, Global};
 use thiserror::Error;
@@ -174,11 +172,7 @@ fn answer<I: ByteReader, W: ByteWriter>(
     ensures asked { IfErr result (λ fault. IsOfInput fault → options.now.run ≡ true) }
     ensures sizes { TellsPools accepted.now options.now result }
     ensures safe { Safe accepted.now }
-    ensures typed { NeverStuck accepted.now }
-    ensures confined { NothingEscapes accepted.now }
 {
-    well_formed_programs_are_never_stuck();
-    nothing_escapes_well_formed_programs();
     let program = accepted.program();
     if options.run {
         if !name_pools(program, &options.sizes) {

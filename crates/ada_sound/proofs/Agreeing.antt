@@ -64,10 +64,14 @@ exists_by {heap} (Some t) o stored of = let h = listed_at heap o t of in exists_
 typed_filled : (p : ProgramForm) (s : State) → typed.TypedIn p s → AreFilled p.types (cells_of s.heap) (cells_of s.heap)
 typed_filled p s (typed.running kinds r fits) = r.filled
 typed_filled p s (typed.on_jump mode j goes) = j.filled
+typed_filled p s (typed.operated kinds r ended) = r.filled
+typed_filled p s (typed.out_of_operation e kinds j ended) = j.filled
 
 typed_held : (p : ProgramForm) (s : State) (x : ℕ) (kind : VariableKind) → typed.TypedIn p s → variable_kind p.variables x ≡ Some kind → HasKind p.types (cells_of s.heap) kind (slice_index_or (places s) x Null)
 typed_held p s x kind (typed.running kinds r fits) is = active_held p.types (cells_of s.heap) p.variables kinds s.activations x kind r.active is
 typed_held p s x kind (typed.on_jump mode j goes) is = active_held p.types (cells_of s.heap) p.variables [] s.activations x kind j.active is
+typed_held p s x kind (typed.operated kinds r ended) is = active_held p.types (cells_of s.heap) p.variables kinds s.activations x kind r.active is
+typed_held p s x kind (typed.out_of_operation e kinds j ended) is = active_held p.types (cells_of s.heap) p.variables [] s.activations x kind j.active is
 
 -- A component names an object of its access type, as typing has it.
 named_by : (types : List TypeForm) (cells : Cells) (kind : VariableKind) (k : Id) → HasKind types cells kind (Names k) → (t : ℕ) × (access_of (Some kind) ≡ Some t) × Designates cells t k

@@ -8,7 +8,7 @@ use Rattle.ada_text.specs.declared.spot.Spot.{Spot}
 use Rattle.ada_program.specs.declared.program.Program.{Program}
 use Rattle.ada_program.specs.Form.{StmtsForm, HandlersForm, declaration_forms, stmt_forms, handler_forms}
 use Rattle.ada_program.specs.ProgramForm.{BodyForm, ProgramForm, main_body, body_forms, program_form}
-use Rattle.ada_program.specs.WellFormed.{type_fits, variable_fits, creations, creates_from, collections_first, collection_fits, has_collections, pools_fit, initial_fits, stmts_fit, handlers_fit, bodies_fit, all_creations, callable_in, IsWellFormed}
+use Rattle.ada_program.specs.WellFormed.{type_fits, variable_fits, creations, creates_from, collections_first, collection_fits, has_collections, pools_fit, initial_fits, stmts_fit, handlers_fit, bodies_fit, all_creations, callable_in, components_lie, have_operations, overrides_none, IsWellFormed}
 use Rattle.ada_program.specs.Nested.{collected, part_nests, statements_nest, handlers_nest, callees_of, CollectionsNest}
 use Rattle.ada_program.specs.Freed.{statements_free_own, handlers_free_own, body_frees_own, FreesItsOwn}
 use Rattle.ada_effects.specs.Effects.{effects_of}
@@ -125,13 +125,18 @@ around_with program bodies fs hs =
 abbrev pub flow_with : Program → List BodyForm → StmtsForm → HandlersForm → Outcome
 flow_with program bodies fs hs = flow_of (form_with program bodies fs hs)
 
--- Whether a program is well formed, whether its collections nest, and whether it frees by the instances for what it frees.
-abbrev pub is_fine : ProgramForm → Bool
-is_fine p =
+-- The parts of a well-formed program but its operations and where its components lie.
+abbrev is_formed : ProgramForm → Bool
+is_formed p =
     list_all (type_fits p.types) p.types && (pools_fit p && (list_all (variable_fits p.types) p.variables && (creates_from (length p.variables) 0 (creations p) &&
     (collections_first p.declarations && (list_all (collection_fits p.types) p.declarations && (has_collections (all_creations p) 0 p.types &&
     (list_all (initial_fits p.types p.variables) p.declarations && (stmts_fit p.types p.variables p.texts p.exceptions (callable_in p) false p.statements &&
     (handlers_fit p.types p.variables p.texts p.exceptions (callable_in p) false p.handlers && bodies_fit p.types p.texts p.exceptions [] p.bodies)))))))))
+
+-- Whether a program is well formed and overrides no operation, whether its collections nest, and whether it frees by the instances for what it frees.
+abbrev pub is_fine : ProgramForm → Bool
+is_fine p =
+    overrides_none p && (list_all (components_lie p.types) p.types && (have_operations p.types (callable_in p) 0 p.types && is_formed p))
 
 abbrev pub is_nested : ProgramForm → Bool
 is_nested p =
@@ -146,9 +151,14 @@ is_own p =
 abbrev pub is_kept : ProgramForm → Bool
 is_kept p = is_nested p && is_own p
 
+plain_is : (p : ProgramForm) → is_fine p ≡ true → overrides_none p ≡ true
+plain_is p e = (and_parts _ _ e).0
+
 fine_is : (p : ProgramForm) → is_fine p ≡ true → IsWellFormed p
 fine_is p e =
-    let a = and_parts _ _ e in
+    let lie = and_parts _ _ (and_parts _ _ e).1 in
+    let operations = and_parts _ _ lie.1 in
+    let a = and_parts _ _ operations.1 in
     let z = and_parts _ _ a.1 in
     let b = and_parts _ _ z.1 in
     let c = and_parts _ _ b.1 in
@@ -160,6 +170,8 @@ fine_is p e =
     let j = and_parts _ _ i.1 in
     record {
       types_fit = a.0;
+      components_lie = lie.0;
+      operations_fit = operations.0;
       pools_fit = z.0;
       variables_fit = b.0;
       creates_in_order = c.0;
@@ -199,6 +211,9 @@ module _ (program : Program) (bodies : List BodyForm) (fs : StmtsForm) (hs : Han
   fine_in : is_fine (form_with program bodies fs hs) ≡ true → IsWellFormed (program_form program)
   fine_in e = subst IsWellFormed (sym form_is) (fine_is (form_with program bodies fs hs) e)
 
+  plain_in : is_fine (form_with program bodies fs hs) ≡ true → overrides_none (program_form program) ≡ true
+  plain_in e = subst (λ (p : ProgramForm). overrides_none p ≡ true) (sym form_is) (plain_is (form_with program bodies fs hs) e)
+
   nested_in : is_nested (form_with program bodies fs hs) ≡ true → CollectionsNest (program_form program)
   nested_in e = subst CollectionsNest (sym form_is) (nested_is (form_with program bodies fs hs) e)
 
@@ -212,6 +227,7 @@ module _ (program : Program) (bodies : List BodyForm) (fs : StmtsForm) (hs : Han
       let both = and_parts _ _ kept in
       record {
         well_formed = fine_in fine;
+        inherits = plain_in fine;
         nests = nested_in both.0;
         frees_own = own_in both.1;
         obeys = (normal, raising, flow_in (goes normal raising) e);
@@ -223,6 +239,7 @@ module _ (program : Program) (bodies : List BodyForm) (fs : StmtsForm) (hs : Han
       let both = and_parts _ _ kept in
       record {
         well_formed = fine_in fine;
+        inherits = plain_in fine;
         nests = nested_in both.0;
         frees_own = own_in both.1;
         spot = spot;
@@ -275,12 +292,13 @@ module _ (program : Program) (fs : StmtsForm) (hs : HandlersForm) (is : stmt_for
   breaks_by rule spot fine kept e = breaks_in program (body_forms program) fs hs refl is has rule spot fine kept e
 
   pub ill_formed_by : (normal raising : Option Holds)
-      → stmts_fit whole.types whole.variables whole.texts whole.exceptions (callable_in whole) false fs ≡ false → is_kept whole ≡ true
-      → flow_of whole ≡ goes normal raising → IsIllFormed program
-  ill_formed_by normal raising unfit kept e = record {
+      → stmts_fit whole.types whole.variables whole.texts whole.exceptions (callable_in whole) false fs ≡ false → overrides_none whole ≡ true
+      → is_kept whole ≡ true → flow_of whole ≡ goes normal raising → IsIllFormed program
+  ill_formed_by normal raising unfit plain kept e = record {
     ill_formed = λ w.
         let fits : stmts_fit whole.types whole.variables whole.texts whole.exceptions (callable_in whole) false fs ≡ true = rw is at (w.statements_fit) in
         cc (unfit, fits);
+    inherits = subst (λ (p : ProgramForm). overrides_none p ≡ true) (sym (form_is program (body_forms program) fs hs refl is has)) plain;
     nests = nested_in program (body_forms program) fs hs refl is has (and_parts _ _ kept).0;
     frees_own = own_in program (body_forms program) fs hs refl is has (and_parts _ _ kept).1;
     obeys = (normal, raising, flow_in program (body_forms program) fs hs refl is has (goes normal raising) e);
@@ -290,6 +308,7 @@ module _ (program : Program) (fs : StmtsForm) (hs : HandlersForm) (is : stmt_for
       → is_own whole ≡ true → flow_of whole ≡ goes normal raising → IsIllNested program
   ill_nested_by normal raising fine unnested own e = record {
     well_formed = fine_in program (body_forms program) fs hs refl is has fine;
+    inherits = plain_in program (body_forms program) fs hs refl is has fine;
     ill_nested = λ w. cc (unnested, w.declarations);
     frees_own = own_in program (body_forms program) fs hs refl is has own;
     obeys = (normal, raising, flow_in program (body_forms program) fs hs refl is has (goes normal raising) e);
@@ -299,6 +318,7 @@ module _ (program : Program) (fs : StmtsForm) (hs : HandlersForm) (is : stmt_for
       → statements_free_own whole.types whole.variables fs ≡ false → flow_of whole ≡ goes normal raising → FreesOthers program
   frees_others_by normal raising fine nested other e = record {
     well_formed = fine_in program (body_forms program) fs hs refl is has fine;
+    inherits = plain_in program (body_forms program) fs hs refl is has fine;
     nests = nested_in program (body_forms program) fs hs refl is has nested;
     frees_others = λ w.
         let own : statements_free_own whole.types whole.variables fs ≡ true = rw is at (w.statements) in

@@ -89,7 +89,7 @@ module _ (program : Program) where
 
 module _ (program : Program) (accepted : IsChecked program) where
   first : (input : List ℤ) → Sound program (first_state program input)
-  first input = sound_first program input accepted.well_formed accepted.nests accepted.frees_own accepted.obeys
+  first input = sound_first program input accepted.well_formed accepted.inherits accepted.nests accepted.frees_own accepted.obeys
 
   pub frees : FreesAreCovered program
   frees input events before after choice e run step depth a number at is =

@@ -57,7 +57,7 @@ gone_off true on gone = let exists = on refl in absurd (cc (exists, gone))
 gone_off false on gone = refl
 
 -- A change of an object under way, that keeps what fits, and its home.
-abbrev KeepsFit : Known → Id → Object → List Object → List Value → Type 0
+abbrev pub KeepsFit : Known → Id → Object → List Object → List Value → Type 0
 KeepsFit known o y heap places = (spared : Id → Bool) (holds : Holds) → Fit known.program.types known.program.variables (outers known) spared heap places holds → Fit known.program.types known.program.variables (outers known) spared (slice_set heap o.0 y) places holds
 
 -- At work again, with it gone.

@@ -80,6 +80,7 @@ showing = record {
   declarations = vec (declaration.Variable (record { 0 = 1 }) None ∷ []) (omega arith);
   statements = vec showing_all (omega arith);
   handlers = vec [] (omega arith);
+  start = spot;
   end = spot;
 }
 
@@ -91,6 +92,7 @@ showing_two = record {
   declarations = vec [] (omega arith);
   statements = vec (calls 0 (Reads x) ∷ calls 0 (with_number binary.Add 1 (Reads x)) ∷ []) (omega arith);
   handlers = vec [] (omega arith);
+  start = spot;
   end = spot;
 }
 
@@ -200,6 +202,7 @@ incrementing = record {
   declarations = vec [] (omega arith);
   statements = vec (stmt.Assign x (right.Value (with_number binary.Add 1 (Reads x))) ∷ []) (omega arith);
   handlers = vec [] (omega arith);
+  start = spot;
   end = spot;
 }
 
@@ -215,6 +218,7 @@ failing = record {
   declarations = vec [] (omega arith);
   statements = vec (gives_to 0 x ∷ stmt.PutImage (Reads x) ∷ stmt.Raise full ∷ []) (omega arith);
   handlers = vec [] (omega arith);
+  start = spot;
   end = spot;
 }
 
@@ -267,6 +271,7 @@ stopping_procedure = record {
   declarations = vec [] (omega arith);
   statements = vec (stmt.Raise full ∷ []) (omega arith);
   handlers = vec [] (omega arith);
+  start = spot;
   end = spot;
 }
 
@@ -321,6 +326,7 @@ with_link mode statements le = record {
   declarations = vec [] (omega arith);
   statements = vec statements le;
   handlers = vec [] (omega arith);
+  start = spot;
   end = spot;
 }
 
@@ -437,6 +443,7 @@ with_links first second statements le = record {
   declarations = vec [] (omega arith);
   statements = vec statements le;
   handlers = vec [] (omega arith);
+  start = spot;
   end = spot;
 }
 
@@ -574,6 +581,7 @@ with_formals modes few variables less statements le = record {
   declarations = vec [] (omega arith);
   statements = vec statements le;
   handlers = vec [] (omega arith);
+  start = spot;
   end = spot;
 }
 

@@ -7,7 +7,7 @@ use Rattle.ada_program.specs.declared.program.Program.{Program}
 use Rattle.ada_program.specs.declared.program.TypeDefinition.{TypeDefinition}
 use Rattle.ada_program.specs.Controlled.{OverridesNothing, shapes_of}
 use Rattle.ada_program.specs.ProgramForm.{BodyForm, program_form, body_forms}
-use Rattle.ada_program.specs.WellFormed.{IsWellFormed}
+use Rattle.ada_program.specs.WellFormed.{IsWellFormed, overrides_none}
 use Rattle.ada_meaning.specs.declared.event.Halt.TheVariants.{Erroneous}
 use Rattle.ada_meaning.specs.declared.event.Why.TheVariants.{FinalizesTwice}
 use Rattle.ada_meaning.specs.declared.state.Id.{Id}
@@ -54,7 +54,7 @@ all_have (p ∷ parts) each =
     rw (one, first.2) later
 
 -- What a run of a well-formed program comes to.
-module _ (program : Program) (well : IsWellFormed (program_form program)) (s : State) (reached : IsReached program s) where
+module _ (program : Program) (well : IsWellFormed (program_form program)) (inherited : overrides_none (program_form program) ≡ true) (s : State) (reached : IsReached program s) where
   abbrev types : List TypeDefinition
   types = program.types.items
 
@@ -62,13 +62,13 @@ module _ (program : Program) (well : IsWellFormed (program_form program)) (s : S
   bodies = body_forms program
 
   inherits : OverridesNothing types
-  inherits = well_formed_overrides_nothing program well
+  inherits = well_formed_overrides_nothing program inherited
 
   -- An object has as many parts as its type says.
   parts_counted_so : (o : Id) (x : Object) → object_at s.heap o ≡ Some x → length x.cell.parts ≡ parts_held types x.cell.access
   parts_counted_so o x found =
       let forms = (program_form program).types in
-      objects_have_their_parts program well reached.0 reached.1 s o x reached.2 found
+      objects_have_their_parts program well inherited reached.0 reached.1 s o x reached.2 found
       ∙ (parts_counted types forms x.cell.access refl well.types_fit ∙ parts_shown types forms x.cell.access refl)
 
   -- So each has a value, at a frame with which no treatment begins.

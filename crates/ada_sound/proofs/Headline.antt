@@ -14,6 +14,7 @@ use Rattle.ada_meaning.specs.Law.{BackTwoObjects, FinalizedTwoValues, FollowedBe
 use Rattle.ada_meaning.specs.Safe.{Safe}
 use Rattle.ada_sound.specs.Agreement.{Turning, Comes, here, behind, in_branches, in_body, in_count, in_enclosed, ComesBy, in_others, in_this, in_next, ComesTo, to_this, to_next, ComesInside, in_statements, in_handlers, Place, OneFlow}
 use Rattle.ada_sound.specs.Always.{IsChecked, InEveryRun, NeverErroneous, AgreesWithFlow, BacksAreTold, OutsAreHoused, OutsHavePools, PoolNumbersDiffer, EndsClean}
+use Rattle.ada_typed.proofs.Runs as typed
 use Rattle.ada_sound.proofs.Items as items
 use Rattle.ada_sound.proofs.Pools.{pool_exists}
 use Rattle.ada_sound.proofs.Starts.{Sound, sound_first}
@@ -25,7 +26,7 @@ use Rattle.ada_sound.proofs.Agreeing.{agrees_at}
 -- Every run of a program that is accepted keeps the invariant.
 module _ (program : Program) (accepted : IsChecked program) where
   first : (input : List ℤ) → Sound program (first_state program input)
-  first input = sound_first program input accepted.well_formed accepted.nests accepted.frees_own accepted.obeys
+  first input = sound_first program input accepted.well_formed accepted.inherits accepted.nests accepted.frees_own accepted.obeys
 
   sound_last : (input : List ℤ) (events : List Event) (last : State) → Run program (first_state program input) events last → Sound program last
   sound_last input events last run = runs.sound_run run (first input)
@@ -82,6 +83,8 @@ module _ (program : Program) (accepted : IsChecked program) where
   pub safe : Safe program
   safe = record {
     never_erroneous = λ input events last why run halted. never why input events last run halted;
+    never_stuck = typed.never_stuck program accepted.well_formed accepted.inherits;
+    nothing_escapes = typed.nothing_escapes program accepted.well_formed accepted.inherits;
     keeps = λ input events last run. record {
       back_once = back_once input events last run;
       finalized_once = finalized_once input events last run;

@@ -8,6 +8,7 @@ use Rattle.ada_program.specs.declared.program.Exception.{Exception}
 use Rattle.ada_program.specs.declared.program.Exception.TheVariants.{ConstraintError, StorageError, EndError}
 use Rattle.ada_program.specs.Form.{ActualForm, in_value, in_null, in_access, in_record, in_out_path, in_out_access, in_out_component, in_out_record, PathForm, RecordPathForm, ExpressionForm, ItemForm, null_item, item_of_path, item_of_value, item_of_record, RightForm, nothing, value_of, allocates, allocates_default, computes, assigns, StmtsForm, a_stmt, BranchesForm, HandlersForm, DeclarationForm}
 use Rattle.ada_program.specs.declared.program.ComponentKind.{ComponentKind}
+use Rattle.ada_parts.specs.Task.{Task}
 use Rattle.ada_program.specs.ProgramForm.{TypeForm, VariableForm, BodyForm, ProgramForm, main_body}
 use Rattle.ada_program.specs.declared.program.VariableKind.{VariableKind}
 use Rattle.ada_program.specs.declared.program.VariableKind.TheVariants as variable
@@ -33,9 +34,9 @@ use Rattle.ada_meaning.specs.Frame.{Frame, Elaborates, Does, Decides, Repeats, T
 use Rattle.ada_meaning.specs.Frame as frame
 use Rattle.ada_meaning.specs.Event.{Born, Finalized, Back, Followed, Left, Line, Quiet}
 use Rattle.ada_meaning.specs.State.{Activation, Owned, declared, collection, record_object, storage_pool, Item, Master, height}
-use Rattle.ada_meaning.specs.Heap.{Home, finds}
-use Rattle.ada_meaning.specs.Step.{halts, moves, tells, asks, picks, first_or, older, in_front, before_last, last_of, selected, place_in, places, operands}
-use Rattle.ada_meaning.specs.Named.{Object, State, Next, object_at, named, store, whole, inside}
+use Rattle.ada_meaning.specs.Heap.{Home, Cell, finds}
+use Rattle.ada_meaning.specs.Step.{halts, moves, tells, asks, picks, first_or, older, in_front, before_last, last_of, selected, place_in, places, operands, treating}
+use Rattle.ada_meaning.specs.Named.{Object, State, Next, object_at, look, named, store, whole, inside}
 use Rattle.ada_meaning.specs.Run.{Event}
 use Rattle.ada_meaning.specs.Law.{leaving_by, LeavesHome}
 use Rattle.ada_sound.specs.Agreement.{Turning, Comes, ComesBy, ComesTo}
@@ -1070,6 +1071,16 @@ abbrev pub TreatsBy : Known → Value → Treatment → Control → List Object 
 TreatsBy known v (begins by done) k heap places operands masters = BegunTo known k heap places operands masters
 TreatsBy known v (ends cause) k heap places operands masters = EndsTo known v k heap places masters ⊎ CopiesBehind known k heap places operands masters
 
+-- An object exists that a value names.
+abbrev pub IsLive : List Object → Value → Type 0
+IsLive heap v = (cell : Cell Value) × (look heap v ≡ finds cell)
+
+-- What is left of the finalization of an object goes on behind the body of a Finalize.
+abbrev pub ConfinesBy : Known → Control → List Object → (places operands : List Value) → List Master → Type 0
+ConfinesBy known k heap places operands masters =
+    (v : Value) × (cause : Cause) × (tasks : List Task) × (behind : Control) × (k ≡ treating v (ends cause) tasks behind)
+    × TreatsBy known v (ends cause) behind heap places operands masters
+
 -- What holds where a frame is next. What is awaited counts as stored already.
 abbrev pub ReadyBy : Known → Frame Value → Control → List Object → (places operands : List Value) → List Master → Type 0
 ReadyBy known (Elaborates ds fs hs) k heap places operands masters = Working known heap places masters (RunsOn known (Elaborates ds fs hs ∷ k))
@@ -1123,8 +1134,8 @@ ReadyBy known (Declares x) k heap places operands masters =
     Working known heap (slice_set places x (first_or Null operands)) masters (λ rooms holds. HasRoom rooms × RunsOn known k rooms holds)
 ReadyBy known (DeclaresRecord x t) k heap places operands masters = Working known heap places masters (Recording known x t k)
 ReadyBy known (Treats v treatment tasks) k heap places operands masters = TreatsBy known v treatment k heap places operands masters
-ReadyBy known (frame.Awaits v by done of part tasks) k heap places operands masters = ⊥
-ReadyBy known frame.Confines k heap places operands masters = ⊥
+ReadyBy known (frame.Awaits v by done of part tasks) k heap places operands masters = IsLive heap v × TreatsBy known v (begins by done) k heap places operands masters
+ReadyBy known frame.Confines k heap places operands masters = ConfinesBy known k heap places operands masters
 ReadyBy known (frame.Resumes mode) k heap places operands masters = ⊥
 ReadyBy known Writes k heap places operands masters = Working known heap places masters (RunsOn known k)
 ReadyBy known (Ends v) k heap places operands masters = EndingBy known v k heap places masters

@@ -82,6 +82,21 @@ pub mod Targets
 pub mod Endings
 -- controlled parts are initialized and finalized
 pub mod Treatments
+-- an Integer or a Boolean goes into an object that is treated
+pub mod Written
+-- what waits for a body
+pub mod Waiting
+-- the body of a quiet operation runs
+pub mod Operating
+-- the body of a quiet operation begins and ends
+pub mod OperationCalls
+pub mod OperationStarts
+-- it takes a step
+pub mod OperationSteps
+pub mod OperationStatements
+pub mod OperationFrames
+pub mod OperationRuns
+pub mod OperationLaw
 -- what Free of a component does
 pub mod Releases
 -- record objects are declared

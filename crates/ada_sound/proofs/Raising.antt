@@ -80,7 +80,7 @@ right_more among more m (allocates access items) is =
 right_more among more m (allocates_default access) is = m StorageError is
 right_more among more m (computes e) is = and_first (among ConstraintError) (expression_raises e) (more ConstraintError) (m ConstraintError) is
 
-declarations_more : (among more : Exception → Bool) → IsAmong among more → (ds : List DeclarationForm) → declarations_raise among ds ≡ true → declarations_raise more ds ≡ true
+pub declarations_more : (among more : Exception → Bool) → IsAmong among more → (ds : List DeclarationForm) → declarations_raise among ds ≡ true → declarations_raise more ds ≡ true
 declarations_more among more m [] is = is
 declarations_more among more m (d ∷ ds) is =
     or_map (declaration_raises among d) (declarations_raise among ds) (declaration_raises more d) (declarations_raise more ds) (one d) (declarations_more among more m ds) is
@@ -149,7 +149,7 @@ mutual
       (λ i. or_map (among ConstraintError && expression_raises e) (stmts_raise effects among fs) (more ConstraintError && expression_raises e) (stmts_raise effects more fs) (λ j. and_first (among ConstraintError) (expression_raises e) (more ConstraintError) (m ConstraintError) j) (stmts_more effects all fs among more m) i)
       (branches_more effects all branches among more m) is
 
-  handlers_more : (effects : List Effect) → AllAsk effects → (hs : HandlersForm) (among more : Exception → Bool) → IsAmong among more → handlers_raise effects among hs ≡ true → handlers_raise effects more hs ≡ true
+  pub handlers_more : (effects : List Effect) → AllAsk effects → (hs : HandlersForm) (among more : Exception → Bool) → IsAmong among more → handlers_raise effects among hs ≡ true → handlers_raise effects more hs ≡ true
   handlers_more effects all no_handlers among more m is = is
   handlers_more effects all (a_handler choices fs hs) among more m is = or_map (stmts_raise effects among fs) (handlers_raise effects among hs) (stmts_raise effects more fs) (handlers_raise effects more hs) (stmts_more effects all fs among more m) (handlers_more effects all hs among more m) is
 

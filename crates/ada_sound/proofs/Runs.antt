@@ -2,14 +2,14 @@
 
 use Rattle.std.proofs.Common.{◌≡◌, ℕ, suc, ◌≤◌, Bool, true, false, List, [], ◌∷◌, ◌++◌, refl, sym, ap, subst, ◌∙◌, ◌⊎◌, inl, inr, arith, reverse}
 use Rattle.std.specs.Prelude.{◌↔◌, Option, Some, None}
-use Rattle.std.specs.List.{All, AllPairs, slice_get, slice_index_or}
+use Rattle.std.specs.List.{All, AllPairs, slice_get, slice_index_or, list_all}
 use Rattle.std.proofs.lemmas.Option.{slice_get-get_or}
 use Rattle.std.proofs.lemmas.List.Elements.{All-nil, All-cons}
 use Rattle.std.proofs.lemmas.List.Kept.{AllPairs-cons}
 use Rattle.ada_program.specs.declared.program.Program.{Program}
 use Rattle.ada_program.specs.Form.{ActualForm}
 use Rattle.ada_program.specs.ProgramForm.{TypeForm, BodyForm, ProgramForm, program_form, body_forms, main_body, seen_by, seen_in}
-use Rattle.ada_program.specs.WellFormed.{IsWellFormed}
+use Rattle.ada_program.specs.WellFormed.{IsWellFormed, finalization_in, overrides_nothing, overrides_none}
 use Rattle.ada_effects.specs.Effects.{body_frees, effects_of}
 use Rattle.ada_flow.specs.Flow.{first_holds, gone_with, ObeysRules}
 use Rattle.ada_meaning.specs.declared.state.Id.{Id}
@@ -23,7 +23,7 @@ use Rattle.ada_meaning.specs.State.{Activation, Master}
 use Rattle.ada_meaning.specs.declared.state.Mode.{Mode}
 use Rattle.ada_meaning.specs.declared.state.Mode.TheVariants.{Running, Raising, Exiting, Returning}
 use Rattle.ada_meaning.specs.Frame.{Frame, Elaborates, Calls, Returns, is_master, landing}
-use Rattle.ada_sound.specs.Agreement.{IsBehind, running_procedure}
+use Rattle.ada_sound.specs.Agreement.{running_procedure}
 use Rattle.ada_program.specs.declared.program.Exception.{Exception}
 use Rattle.ada_program.specs.WellFormed.{record_components, reached_components}
 use Rattle.ada_program.specs.Typed.{components_of, reached_of}
@@ -48,14 +48,15 @@ use Rattle.ada_sound.proofs.Defaults.{reached_same, Reaches}
 use Rattle.ada_sound.proofs.Items.{NoMaster, items_fall}
 use Rattle.ada_sound.proofs.Stored.{Stored}
 use Rattle.ada_sound.proofs.Alters.{BackIn, StaysItself, Alters}
-use Rattle.ada_sound.proofs.Invariant.{Known, Control, Caller, AreSuspended, Working, RunsOn, CallsOn, Spares, AllWait, LieBelow, Says, Stepped, EndsWell, Fine, outers, ArePassed}
-use Rattle.ada_sound.proofs.Callers.{Suspension, rest_of, callers_of, known_in, AreOf, Stands}
+use Rattle.ada_sound.proofs.Invariant.{Known, Control, Working, RunsOn, CallsOn, Spares, Says, Stepped, EndsWell, Fine, outers, ArePassed}
+use Rattle.ada_sound.proofs.Callers.{Suspension, rest_of, known_in, Stands}
 use Rattle.ada_sound.proofs.Bodies.{IsBody, seen_is, callee_get}
 use Rattle.ada_sound.proofs.Returns.{Crosses, same_types, left_fine}
 use Rattle.ada_sound.proofs.Fits.{NoOuterAlias}
 use Rattle.ada_typed.proofs.Objects.{record_no_access}
 use Rattle.std.proofs.lemmas.Bool.{eq-eqb}
 use Rattle.ada_sound.proofs.Calls.{callee, values, waiting, freed_by_call, calls_fine, references, referenced, passes_spared}
+use Rattle.ada_sound.proofs.Waiting.{SameBody, stands_kept}
 use Rattle.ada_sound.proofs.Keepings.{callee_keeps}
 use Rattle.ada_sound.proofs.Ready.{at_work}
 use Rattle.ada_sound.proofs.BodyRuns.{body_runs, call_spares}
@@ -161,11 +162,6 @@ pub record Does (before : List Object) (e : Event) (after : State) : Type 0 wher
   pub alters : Alters before e after.heap
   pub says : Says body e before after
 
--- From one state to the other the same body runs, and what waits for it stays as it is.
-pub record SameBody (s after : State) : Type 0 where
-  pub procedure : running_procedure after ≡ running_procedure s
-  pub suspended : older after.activations ≡ older s.activations
-
 each_same : (s mid : State) (n : Next) → running_procedure mid ≡ running_procedure s → older mid.activations ≡ older s.activations → Each (Keeps mid) n → Each (SameBody s) n
 each_same s mid (halts halt) p r e = tt
 each_same s mid (moves shown after) p r e = record { procedure = e.procedure ∙ p; suspended = e.suspended ∙ r }
@@ -175,38 +171,11 @@ each_same s mid (picks n taking) p r e = λ i lt. record { procedure = (e i lt).
 
 -- A step that begins no call and ends none keeps what is known of callers.
 module _ (program : Program) (s after : State) (gs : List Suspension) (stands : Stands program gs s) (e : Event) (same : SameBody s after) (alters : Alters s.heap e after.heap) where
-  -- What callers rely on lies where it lay.
-  low_kept : (callers : List Caller) → LieBelow s.heap callers → LieBelow after.heap callers
-  low_kept [] low = tt
-  low_kept (w ∷ ws) low = (
-    (λ x o relied names.
-        let lies = low.0 x o relied names in
-        let y = alters.kept o lies.0 lies.1 in
-        (y.0, y.1, rw y.2.2 lies.2)),
-    (λ o t refers.
-        let lies = low.1 o t refers in
-        let y = alters.kept o lies.0 lies.1 in
-        (y.0, y.1, rw y.2.2 lies.2)),
-    low_kept ws low.2,
-  )
-
-  stands_kept : Stands program gs after
-  stands_kept = record {
-    body = subst (λ (procedure : Option ℕ). IsBody (program_form program) procedure) (sym same.procedure) stands.body;
-    behind = subst (λ (procedure : Option ℕ). IsBehind procedure (rest_of gs)) (sym same.procedure) stands.behind;
-    bodies = subst (λ (rest : List (Activation Value)). AreOf program rest gs) (sym same.suspended) stands.bodies;
-    standing = record {
-      suspended = subst (λ (rest : List (Activation Value)). AreSuspended rest (callers_of program gs)) (sym same.suspended) stands.standing.suspended;
-      waiting = subst (λ (procedure : Option ℕ). AllWait (seen_in procedure (program_form program)) (callers_of program gs)) (sym same.procedure) stands.standing.waiting;
-      low = low_kept (callers_of program gs) stands.standing.low;
-    };
-  }
-
   pub kept_on : Stepped (known_in program (running_procedure s) gs) s.heap e after → Crosses program s.heap e after
   kept_on st = record {
     suspensions = gs;
     stepped = subst (λ (procedure : Option ℕ). Stepped (known_in program procedure gs) s.heap e after) (sym same.procedure) st;
-    stands = stands_kept;
+    stands = stands_kept program s after gs stands e same alters;
   }
 
 -- What comes next is known, whichever body runs then.
@@ -228,6 +197,8 @@ fine_in program s gs stands (picks n taken) same fine = λ i lt. kept_on program
 placed_in : (p : ProgramForm) (a : Activation Value) (rest : List (Activation Value)) (s : State) → s.activations ≡ a ∷ rest → typed.TypedIn p s → ArePlaced p.variables a.places
 placed_in p a rest s is (typed.running kinds ready fits) x kind at = active_placed p.types (cells_of s.heap) p.variables kinds (a ∷ rest) x kind (rw is at ready.active) at
 placed_in p a rest s is (typed.on_jump mode jumps goes) x kind at = active_placed p.types (cells_of s.heap) p.variables [] (a ∷ rest) x kind (rw is at jumps.active) at
+placed_in p a rest s is (typed.operated kinds ready ended) x kind at = active_placed p.types (cells_of s.heap) p.variables kinds (a ∷ rest) x kind (rw is at ready.active) at
+placed_in p a rest s is (typed.out_of_operation e kinds jumps ended) x kind at = active_placed p.types (cells_of s.heap) p.variables [] (a ∷ rest) x kind (rw is at jumps.active) at
 
 -- The body of a procedure runs when it is called.
 module _ (program : Program) (number : ℕ) (b : BodyForm) (given : List ActualForm) (k : Control) (a : Activation Value) (gs : List Suspension) (s : State) (well : IsWellFormed (program_form program)) (obeys : ObeysRules program)
@@ -261,6 +232,8 @@ module _ (program : Program) (number : ℕ) (b : BodyForm) (given : List ActualF
 filled_in : (p : ProgramForm) (s : State) → typed.TypedIn p s → AreFilled p.types (cells_of s.heap) (cells_of s.heap)
 filled_in p s (typed.running kinds ready fits) = ready.filled
 filled_in p s (typed.on_jump mode jumps goes) = jumps.filled
+filled_in p s (typed.operated kinds ready ended) = ready.filled
+filled_in p s (typed.out_of_operation e kinds jumps ended) = jumps.filled
 
 are_of_kinds : (p : ProgramForm) (s : State) → typed.TypedIn p s → AreOfKinds p.types s
 are_of_kinds p s t o x found = filled_at p.types (cells_of s.heap) (cells_of s.heap) o.0 x.cell (filled_in p s t) (typing.cell_at s.heap o.0 x found)
@@ -297,12 +270,17 @@ may_call program procedure gs well = record {
 }
 
 -- A step that begins no call and ends none.
+-- As a body sees it, the program overrides no operation either.
+plain_in : (program : Program) (procedure : Option ℕ) → overrides_none (program_form program) ≡ true → overrides_none (seen_in procedure (program_form program)) ≡ true
+plain_in program procedure plain =
+    subst (λ (types : List TypeForm). list_all (λ t. overrides_nothing (finalization_in (Some t))) types ≡ true) (sym (same_types procedure (program_form program))) plain
+
 ordinary : (program : Program) (s : State) (sound : Sound program s) → inside.crosses s.mode s.control ≡ false → (n : Next) → mode_next named program.types.items (body_forms program) s.mode s ≡ n → Each (SameBody s) n → FineIn program s n
 unfolding next
 ordinary program s sound inner n is same =
     let known = known_in program (running_procedure s) sound.suspensions in
     fine_in program s sound.suspensions sound.stands n same
-    (subst (λ (coming : Next). Fine known s.heap s.masters coming) is (inside.fine known program.types.items (well_formed_overrides_nothing program sound.well) (reaches_in program (running_procedure s) sound.suspensions) (body_forms program) (may_call program (running_procedure s) sound.suspensions sound.well) s inner sound.typed.inside (own_bodies (program_form program) sound.frees_own (running_procedure s)) (collect_two (program_form program) s sound.nested) (finalizes_in program sound.well s sound.reached) (held_inside_it program s sound)
+    (subst (λ (coming : Next). Fine known s.heap s.masters coming) is (inside.fine known (plain_in program (running_procedure s) sound.inherits) program.types.items (well_formed_overrides_nothing program sound.inherits) (reaches_in program (running_procedure s) sound.suspensions) (body_forms program) (may_call program (running_procedure s) sound.suspensions sound.well) s inner sound.typed.inside (own_bodies (program_form program) sound.frees_own (running_procedure s)) (collect_two (program_form program) s sound.nested) (finalizes_in program sound.well sound.inherits s sound.reached) (held_inside_it program s sound)
     (λ left behind runs at_leaving. named_below known s.heap sound.stands.standing.waiting sound.stands.standing.low left behind s.masters (rw (runs, at_leaving) at (sound.ready.1)))
     sound.ready))
 
@@ -320,7 +298,7 @@ module _ (program : Program) (a : Activation Value) (rest : List (Activation Val
   crossing_none : (f : Frame Value) → crosses f ≡ false → Sound program (state_with Running (f ∷ k) (a ∷ rest) s) → FineIn program (state_with Running (f ∷ k) (a ∷ rest) s) (frame_next named program.types.items (body_forms program) f (state_with Running k (a ∷ rest) s))
   crossing_none f none sound =
       ordinary program (state_with Running (f ∷ k) (a ∷ rest) s) sound none _ refl
-      (each_same (state_with Running (f ∷ k) (a ∷ rest) s) (state_with Running k (a ∷ rest) s) _ refl refl (frame_keeps program.types.items (well_formed_overrides_nothing program sound.well) (body_forms program) f (state_with Running k (a ∷ rest) s) none))
+      (each_same (state_with Running (f ∷ k) (a ∷ rest) s) (state_with Running k (a ∷ rest) s) _ refl refl (frame_keeps program.types.items (well_formed_overrides_nothing program sound.inherits) (body_forms program) f (state_with Running k (a ∷ rest) s) none))
 
   passing_none : (mode : Mode) (f : Frame Value) → inside.crosses mode (f ∷ k) ≡ false → (n : Next) → mode_next named program.types.items (body_forms program) mode (state_with mode (f ∷ k) (a ∷ rest) s) ≡ n → n ≡ pass_next named (is_master f) (landing mode f) mode (state_with mode k (a ∷ rest) s) → Sound program (state_with mode (f ∷ k) (a ∷ rest) s) → FineIn program (state_with mode (f ∷ k) (a ∷ rest) s) n
   passing_none mode f none n is passes sound =
@@ -400,13 +378,14 @@ sound_step program s choice e after r step =
     record {
       reached = reached_then program s choice e after r.reached step;
       well = r.well;
+      inherits = r.inherits;
       frees_own = r.frees_own;
       obeys = r.obeys;
       suspensions = c.suspensions;
       ready = c.stepped.ready;
       stands = c.stands;
-      typed = step_typed program r.well s after choice e r.typed step;
-      nested = step_nested program r.well s after choice e r.nested step;
+      typed = step_typed program r.well r.inherits s after choice e r.typed step;
+      nested = step_nested program s after choice e r.nested step;
     }
 
 pub sound_run : {program : Program} {s last : State} {events : List Event} → Run program s events last → Sound program s → Sound program last

@@ -1,11 +1,11 @@
 -- The first state of a program that is well formed, whose collections nest, that frees by the instances for what it frees, and that obeys the rules keeps
 -- the invariant.
 
-use Rattle.std.proofs.Common.{◌≡◌, ℕ, zero, suc, false, List, [], ◌∷◌, refl, sym, subst}
+use Rattle.std.proofs.Common.{◌≡◌, ℕ, zero, suc, true, false, List, [], ◌∷◌, refl, sym, subst}
 use Rattle.std.specs.Prelude.{ℤ, Option, None}
 use Rattle.ada_program.specs.declared.program.Program.{Program}
 use Rattle.ada_program.specs.ProgramForm.{TypeForm, VariableForm, program_form, main_body, seen_in}
-use Rattle.ada_program.specs.WellFormed.{IsWellFormed}
+use Rattle.ada_program.specs.WellFormed.{IsWellFormed, overrides_none}
 use Rattle.ada_program.specs.Nested.{CollectionsNest}
 use Rattle.ada_program.specs.Freed.{FreesItsOwn}
 use Rattle.ada_effects.specs.Effects.{effects_of}
@@ -18,6 +18,7 @@ use Rattle.ada_sound.specs.Agreement.{running_procedure}
 use Rattle.ada_typed.proofs.Bodies.{seen_fits}
 use Rattle.ada_typed.proofs.Control as typed
 use Rattle.ada_typed.proofs.Runs.{first_typed}
+use Rattle.ada_scopes.proofs.Operations.{none_nests}
 use Rattle.ada_scopes.proofs.Runs.{Scoped, first_nested}
 use Rattle.ada_sound.proofs.Fits.{first_fit}
 use Rattle.ada_sound.proofs.Bodies.{IsBody, IsFine, obeys_in}
@@ -36,6 +37,7 @@ IsReached program s = (input : List ℤ) × (events : List Event) × Run program
 pub record Sound (program : Program) (s : State) : Type 0 where
   pub reached : IsReached program s
   pub well : IsWellFormed (program_form program)
+  pub inherits : overrides_none (program_form program) ≡ true
   pub frees_own : FreesItsOwn (program_form program)
   pub obeys : ObeysRules program
   pub suspensions : List Suspension
@@ -81,15 +83,16 @@ ready_first program input well obeys =
       },
     )
 
-pub sound_first : (program : Program) (input : List ℤ) → IsWellFormed (program_form program) → CollectionsNest (program_form program) → FreesItsOwn (program_form program) → ObeysRules program → Sound program (first_state program input)
-sound_first program input well nest own obeys = record {
+pub sound_first : (program : Program) (input : List ℤ) → IsWellFormed (program_form program) → overrides_none (program_form program) ≡ true → CollectionsNest (program_form program) → FreesItsOwn (program_form program) → ObeysRules program → Sound program (first_state program input)
+sound_first program input well inherits nest own obeys = record {
   reached = (input, [], here);
   well = well;
+  inherits = inherits;
   frees_own = own;
   obeys = obeys;
   suspensions = [];
   ready = ready_first program input well obeys;
   stands = record { body = tt; behind = refl; bodies = tt; standing = record { suspended = tt; waiting = tt; low = tt } };
   typed = first_typed program input well;
-  nested = first_nested program well nest input;
+  nested = first_nested program well nest (none_nests (program_form program) inherits) input;
 }

@@ -1,6 +1,6 @@
 -- One step keeps the invariant.
 
-use Rattle.std.proofs.Common.{◌≡◌, ℕ, zero, suc, Bool, false, List, [], ◌∷◌, refl, sym, ◌∙◌, inl}
+use Rattle.std.proofs.Common.{◌≡◌, ℕ, zero, suc, Bool, false, List, [], ◌∷◌, refl, sym, ◌∙◌, inl, true}
 use Rattle.ada_program.specs.declared.program.TypeDefinition.{TypeDefinition}
 use Rattle.ada_program.specs.Controlled.{OverridesNothing}
 use Rattle.ada_parts.specs.Task.{next as task_next}
@@ -30,7 +30,7 @@ use Rattle.std.specs.List.{AllPairs, slice_get}
 use Rattle.std.specs.Prelude.{Some}
 use Rattle.ada_program.specs.declared.program.ComponentKind.{ComponentKind}
 use Rattle.ada_program.specs.declared.program.ComponentKind.TheVariants as component
-use Rattle.ada_program.specs.WellFormed.{held_kind}
+use Rattle.ada_program.specs.WellFormed.{held_kind, overrides_none}
 use Rattle.ada_program.specs.Typed.{width_of}
 use Rattle.ada_typed.proofs.Evaluations.{cell_at}
 use Rattle.ada_typed.proofs.Values as typing
@@ -54,7 +54,7 @@ use Rattle.ada_sound.proofs.Releases.{free_in_fine}
 use Rattle.ada_sound.proofs.Targets.{target_fine, store_fine, receive_fine, clear_fine}
 use Rattle.ada_sound.proofs.Leavings.{HeldIn, NamedBelow}
 use Rattle.ada_sound.proofs.Endings.{ends_fine, backs_fine, leave_fine}
-use Rattle.ada_sound.proofs.Treatments.{treats_fine}
+use Rattle.ada_sound.proofs.Treatments.{awaits_fine, confines_fine, treats_fine}
 use Rattle.ada_sound.proofs.Jumps.{closes_fine, raising_fine, exiting_fine, returning_fine}
 
 -- Where a kind is waited for, an operand is there.
@@ -75,9 +75,11 @@ active_held : (types : List TypeForm) (cells : Cells) (variables : List Variable
 active_held types cells variables kinds [] active = absurd active
 active_held types cells variables kinds (a ∷ rest) active = active.0
 
-runs_typed : (known : Known) (s : State) → typed.TypedIn known.program s → s.mode ≡ Running → RunsTyped known s.heap s.control (places_of s.activations) (operands_of s.activations)
-runs_typed known s (typed.running kinds ready fits) runs = (kinds, fits, active_computed known.program.types (cells_of s.heap) known.program.variables kinds s.activations ready.active, active_held known.program.types (cells_of s.heap) known.program.variables kinds s.activations ready.active)
-runs_typed known s (typed.on_jump mode jumps goes) runs =
+runs_typed : (known : Known) (s : State) → overrides_none known.program ≡ true → typed.TypedIn known.program s → s.mode ≡ Running → RunsTyped known s.heap s.control (places_of s.activations) (operands_of s.activations)
+runs_typed known s plain (typed.running kinds ready fits) runs = (kinds, fits, active_computed known.program.types (cells_of s.heap) known.program.variables kinds s.activations ready.active, active_held known.program.types (cells_of s.heap) known.program.variables kinds s.activations ready.active)
+runs_typed known s plain (typed.operated kinds ready ended) runs = absurd (typed.none_operates known.program (cells_of s.heap) kinds s.control plain ended)
+runs_typed known s plain (typed.out_of_operation e kinds jumps ended) runs = absurd (typed.none_operates known.program (cells_of s.heap) kinds s.control plain ended)
+runs_typed known s plain (typed.on_jump mode jumps goes) runs =
     let same : mode ≡ Running = sym jumps.jumps ∙ runs in
     let none : typed.Goes known.program (cells_of s.heap) Running s.control = rw same at goes in
     absurd none
@@ -109,6 +111,8 @@ heap_typed_by p heap filled = (
 pub heap_typed : (p : ProgramForm) (s : State) → typed.TypedIn p s → HeapTyped p s.heap
 heap_typed p s (typed.running kinds r fits) = heap_typed_by p s.heap r.filled
 heap_typed p s (typed.on_jump mode j goes) = heap_typed_by p s.heap j.filled
+heap_typed p s (typed.operated kinds r ended) = heap_typed_by p s.heap r.filled
+heap_typed p s (typed.out_of_operation e kinds j ended) = heap_typed_by p s.heap j.filled
 
 -- What a step needs of a state besides: where words go back to, that no component refers to a record, and that the running body frees by the instances for
 -- what it frees.
@@ -197,8 +201,8 @@ module _ (known : Known) where
     frame_fine (Declares x) inner t kept well held low r = declares_fine known k a rest s kept.plain x (first_or Null a.operands) (older a.operands) r
     frame_fine (DeclaresRecord x u) inner t kept well held low r = recorded_fine known k a rest s types reaches x u t.0 t.1 t.2 t.3 r
     frame_fine (Treats v treatment tasks) inner t kept well held low r = treats_fine known a rest s types inherits bodies v k (task_next tasks) treatment tasks well r
-    frame_fine (frame.Awaits v by done of part tasks) inner t kept well held low r = absurd r
-    frame_fine frame.Confines inner t kept well held low r = absurd r
+    frame_fine (frame.Awaits v by done of part tasks) inner t kept well held low r = awaits_fine known a rest s types inherits bodies v k by done of part tasks r.0 r.1
+    frame_fine frame.Confines inner t kept well held low r = confines_fine known a rest s k r
     frame_fine (frame.Resumes mode) inner t kept well held low r = absurd r
     frame_fine Writes inner t kept well held low r = writes_fine known k a rest s kept.plain (named.reads_integer (first_or Null a.operands)) (older a.operands) r
     frame_fine (Ends v) inner t kept well held low r = ends_fine known a rest s v k r
@@ -221,8 +225,8 @@ module _ (known : Known) where
   active_fine types inherits reaches bodies calling (a ∷ rest) s i inner t kept well held low r = mode_fine types inherits reaches bodies calling s.mode s.control a rest s inner t kept well held low r.1
 
   -- One step keeps the invariant, where no body begins and none ends.
-  pub fine : (types : List TypeDefinition) → OverridesNothing types → Reaches known types → (bodies : List BodyForm) → MayCall known bodies → (s : State) → crosses s.mode s.control ≡ false → typed.TypedIn known.program s → OwnBody known.program → AllPairs CollectTwoTypes (items_of s.masters) → FinalizesIn types bodies s.mode s.control s → InnermostHeldInside s → ((left : Mode) (behind : Control) → s.mode ≡ Running → s.control ≡ Leaves left ∷ behind → NamedBelow (outers known) s.heap s.masters) → Ready known s → Fine known s.heap s.masters (next types bodies s)
+  pub fine : overrides_none known.program ≡ true → (types : List TypeDefinition) → OverridesNothing types → Reaches known types → (bodies : List BodyForm) → MayCall known bodies → (s : State) → crosses s.mode s.control ≡ false → typed.TypedIn known.program s → OwnBody known.program → AllPairs CollectTwoTypes (items_of s.masters) → FinalizesIn types bodies s.mode s.control s → InnermostHeldInside s → ((left : Mode) (behind : Control) → s.mode ≡ Running → s.control ≡ Leaves left ∷ behind → NamedBelow (outers known) s.heap s.masters) → Ready known s → Fine known s.heap s.masters (next types bodies s)
   unfolding next
-  fine types inherits reaches bodies calling s inner typing own lone well held low r =
+  fine plain types inherits reaches bodies calling s inner typing own lone well held low r =
       let heap = heap_typed known.program s typing in
-      active_fine types inherits reaches bodies calling s.activations s r.0 inner (runs_typed known s typing) (record { pooled = heap.0; lone = lone; plain = heap.1; own = own }) well held low r
+      active_fine types inherits reaches bodies calling s.activations s r.0 inner (runs_typed known s plain typing) (record { pooled = heap.0; lone = lone; plain = heap.1; own = own }) well held low r

@@ -154,8 +154,8 @@ module _ (known : Known) where
   frame_stored (Declares x) k heap places operands ms r = (None, r.stored)
   frame_stored (DeclaresRecord x t) k heap places operands ms r = (None, r.stored)
   frame_stored (Treats v treatment tasks) k heap places operands ms r = treats_stored v treatment k heap places operands ms r
-  frame_stored (frame.Awaits v by done of part tasks) k heap places operands ms r = absurd r
-  frame_stored frame.Confines k heap places operands ms r = absurd r
+  frame_stored (frame.Awaits v by done of part tasks) k heap places operands ms r = begun_stored k heap places operands ms r.1
+  frame_stored frame.Confines k heap places operands ms (v, cause, tasks, behind, is, r) = treats_stored v (ends cause) behind heap places operands ms r
   frame_stored (frame.Resumes mode) k heap places operands ms r = absurd r
   frame_stored Writes k heap places operands ms r = (None, r.stored)
   frame_stored (Ends v) k heap places operands ms r = value_stored v k heap places ms r

@@ -22,7 +22,7 @@ use Rattle.ada_meaning.specs.Event.{Finalized, Quiet}
 use Rattle.ada_meaning.specs.Frame.{Copies, Stores, StoresIn, StoresRecord, Declares, Ends, GivesBack, Treatment, begins, ends}
 use Rattle.ada_meaning.specs.Heap.{PartState, Cell, Found, on_null, on_gone, on_other, finds}
 use Rattle.ada_meaning.specs.State.{Activation, Master, counted}
-use Rattle.ada_meaning.specs.Step.{picked_task, at, treating, first_or, halts, moves, picks, direction_of, treated_on, begun_next, finalized_next, performed_next, treats_next}
+use Rattle.ada_meaning.specs.Step.{picked_task, at, treating, first_or, halts, moves, picks, direction_of, treated_on, born_next, begun_next, awaited_next, finalized_next, performed_next, treats_next}
 use Rattle.ada_meaning.specs.Named.{Object, State, Next, object_at, look, named, changed, on_object, store, filled, treated, born_part, finalized_part}
 use Rattle.ada_meaning.specs.Run.{Event}
 use Rattle.ada_typed.proofs.Overriding.{begins_alone, ends_alone}
@@ -34,7 +34,7 @@ use Rattle.ada_sound.proofs.Objects.{set_here}
 use Rattle.ada_sound.proofs.Stored.{stored_treated}
 use Rattle.ada_sound.proofs.Fits.{treated_fit}
 use Rattle.ada_sound.proofs.Alters.{Alters, alters_same, alters_set}
-use Rattle.ada_sound.proofs.Invariant.{Known, Control, Rooms, RunsOn, Working, IsHolder, IsPlainIn, NamesTo, BegunTo, EndsTo, StoresBehind, CopiesBehind, TreatsBy, ThenBack, Ending, Stepped, Fine}
+use Rattle.ada_sound.proofs.Invariant.{Known, Control, Rooms, RunsOn, Working, IsHolder, IsPlainIn, IsLive, NamesTo, BegunTo, EndsTo, StoresBehind, CopiesBehind, TreatsBy, ThenBack, Ending, ConfinesBy, Stepped, Fine}
 use Rattle.ada_sound.proofs.Ready.{running, at_work, stays, treats_ready}
 use Rattle.ada_sound.proofs.Endings.{swapped, behind_set}
 
@@ -264,6 +264,14 @@ module _ (known : Known) (a : Activation Value) (rest : List (Activation Value))
       subst (λ (operation : Option ℕ). (finalized_next named bodies v cause of part tasks operation (slice_get cell.parts part) (running k a rest s) ≡ halts (Erroneous FinalizesTwice) → ⊥) → Fine known s.heap s.masters (finalized_next named bodies v cause of part tasks operation (slice_get cell.parts part) (running k a rest s))) (sym (ends_alone types inherits of))
       (λ goes_well. finalized_fine cause of part tasks (slice_get cell.parts part) goes_well r) once
 
+  -- Behind the body of the operation that begins a part.
+  pub awaits_fine : (by : Birth) (done : List parts.Part) (of part : ℕ) (tasks : List Task) → IsLive s.heap v → TreatsBy known v (begins by done) k s.heap a.places a.operands s.masters → Fine known s.heap s.masters (awaited_next named v by done of part tasks (look s.heap v) (running k a rest s))
+  awaits_fine by done of part tasks (cell, live) r = rw live (begins_part (slice_get cell.parts part))
+    where
+      begins_part : (state : Option PartState) → Fine known s.heap s.masters (born_next named v by done of part tasks state (running k a rest s))
+      begins_part None = tt
+      begins_part (Some p) = born_fine by done of part tasks (Some p) r
+
   pub treats_fine : (n : Follows) (treatment : Treatment) (tasks : List Task) → (treats_next named types bodies v treatment tasks n (running k a rest s) ≡ halts (Erroneous FinalizesTwice) → ⊥) → TreatsBy known v treatment k s.heap a.places a.operands s.masters → Fine known s.heap s.masters (treats_next named types bodies v treatment tasks n (running k a rest s))
   treats_fine Done treatment tasks once r = goes_on treatment [] r
   treats_fine (Perform of part) treatment tasks once r = performed_fine treatment of part (performed tasks) (look s.heap v) once r
@@ -272,3 +280,8 @@ module _ (known : Known) (a : Activation Value) (rest : List (Activation Value))
       by : (b : Bool) → Fine known s.heap s.masters (if b then halts Stuck else picks count (λ i. treated_on named v treatment (picked_task (shapes_of types) (direction_of treatment) tasks i) (running k a rest s)))
       by true = tt
       by false = λ i lt. goes_on treatment (picked_task (shapes_of types) (direction_of treatment) tasks i) r
+
+-- Behind the body of a Finalize.
+pub confines_fine : (known : Known) (a : Activation Value) (rest : List (Activation Value)) (s : State) (k : Control) → ConfinesBy known k s.heap a.places a.operands s.masters → Stepped known s.heap Quiet (running k a rest s)
+confines_fine known a rest s k (v, cause, tasks, behind, is, r) =
+    stays known Quiet (running k a rest s) (tt, rw is (treats_ready known v (ends cause) tasks behind s.heap a.places a.operands s.masters r)) tt

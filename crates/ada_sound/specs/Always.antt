@@ -7,7 +7,7 @@ use Rattle.ada_text.specs.declared.spot.Spot.{Spot}
 use Rattle.ada_flow.specs.declared.rule.Rule.{Rule}
 use Rattle.ada_program.specs.Form.{declaration_forms, stmt_forms, handler_forms}
 use Rattle.ada_program.specs.ProgramForm.{main_body, program_form, seen_in}
-use Rattle.ada_program.specs.WellFormed.{IsWellFormed}
+use Rattle.ada_program.specs.WellFormed.{IsWellFormed, overrides_none}
 use Rattle.ada_program.specs.Nested.{CollectionsNest}
 use Rattle.ada_program.specs.Freed.{FreesItsOwn}
 use Rattle.ada_effects.specs.Effects.{effects_of}
@@ -31,6 +31,8 @@ InEveryRun program P = (input : List ℤ) (events : List Event) (last : State) �
 pub record IsChecked (program : Program) : Type 0 where
   -- each number is that of something there, and each form has the types that it wants
   pub well_formed : IsWellFormed (program_form program)
+  -- no type overrides an operation of a controlled type: no rule of flow speaks of their calls so far (7.6)
+  pub inherits : overrides_none (program_form program) ≡ true
   -- no object lies in a collection that lasts longer than one in which its components' objects lie (3.10.2, 7.6.1)
   pub nests : CollectionsNest (program_form program)
   -- what is freed is freed by the instance for its own access type (13.11.2)
@@ -122,6 +124,7 @@ FinishesAfter seen program = HaltsAfter seen Finished program
 -- The program is well formed, its collections nest, and it frees by the instances for what it frees, but flow refuses it, first by this rule.
 pub record Breaks (rule : Rule) (program : Program) : Type 0 where
   pub well_formed : IsWellFormed (program_form program)
+  pub inherits : overrides_none (program_form program) ≡ true
   pub nests : CollectionsNest (program_form program)
   pub frees_own : FreesItsOwn (program_form program)
   pub spot : Spot
@@ -130,6 +133,7 @@ pub record Breaks (rule : Rule) (program : Program) : Type 0 where
 -- The program obeys the rules, its collections nest, and it frees by the instances for what it frees, but it is not well formed.
 pub record IsIllFormed (program : Program) : Type 0 where
   pub ill_formed : IsWellFormed (program_form program) → ⊥
+  pub inherits : overrides_none (program_form program) ≡ true
   pub nests : CollectionsNest (program_form program)
   pub frees_own : FreesItsOwn (program_form program)
   pub obeys : ObeysRules program
@@ -137,6 +141,7 @@ pub record IsIllFormed (program : Program) : Type 0 where
 -- The program is well formed, obeys the rules, and frees by the instances for what it frees, but its collections do not nest.
 pub record IsIllNested (program : Program) : Type 0 where
   pub well_formed : IsWellFormed (program_form program)
+  pub inherits : overrides_none (program_form program) ≡ true
   pub ill_nested : CollectionsNest (program_form program) → ⊥
   pub frees_own : FreesItsOwn (program_form program)
   pub obeys : ObeysRules program
@@ -144,6 +149,7 @@ pub record IsIllNested (program : Program) : Type 0 where
 -- The program is well formed, its collections nest, and it obeys the rules, but it frees by an instance for another access type.
 pub record FreesOthers (program : Program) : Type 0 where
   pub well_formed : IsWellFormed (program_form program)
+  pub inherits : overrides_none (program_form program) ≡ true
   pub nests : CollectionsNest (program_form program)
   pub frees_others : FreesItsOwn (program_form program) → ⊥
   pub obeys : ObeysRules program

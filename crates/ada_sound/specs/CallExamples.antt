@@ -58,6 +58,7 @@ showing_body = record {
   declarations = declares 1 nothing ∷ [];
   statements = showing_stmts;
   handlers = no_handlers;
+  start_spot = example_spot;
   end_spot = example_spot;
 }
 
@@ -73,6 +74,7 @@ showing_two_body = record {
   declarations = [];
   statements = showing_two_stmts;
   handlers = no_handlers;
+  start_spot = example_spot;
   end_spot = example_spot;
 }
 
@@ -143,6 +145,7 @@ incrementing_body = record {
   declarations = [];
   statements = a_stmt (assigns (example_path 0 []) (computes (with_number binary.Add 1 formal_now))) no_stmts;
   handlers = no_handlers;
+  start_spot = example_spot;
   end_spot = example_spot;
 }
 
@@ -158,6 +161,7 @@ failing_body = record {
   declarations = [];
   statements = a_stmt (calls 0 (gives 0)) (a_stmt (writes formal_now) (a_stmt (raises full) no_stmts));
   handlers = no_handlers;
+  start_spot = example_spot;
   end_spot = example_spot;
 }
 
@@ -192,7 +196,7 @@ giving_events =
 -- procedure Stop is begin raise Full; end Stop;
 abbrev pub stopping_bodies : List BodyForm
 stopping_bodies =
-    record { formals = []; variables = []; declarations = []; statements = a_stmt (raises full) no_stmts; handlers = no_handlers; end_spot = example_spot }
+    record { formals = []; variables = []; declarations = []; statements = a_stmt (raises full) no_stmts; handlers = no_handlers; start_spot = example_spot; end_spot = example_spot }
     ∷ []
 
 -- X := new Cell'(Value => 7); Y := X; Free (Y); Stop; X := null;
@@ -219,6 +223,7 @@ body_with_link mode fs = record {
   declarations = [];
   statements = fs;
   handlers = no_handlers;
+  start_spot = example_spot;
   end_spot = example_spot;
 }
 
@@ -230,6 +235,7 @@ body_with_links first second fs = record {
   declarations = [];
   statements = fs;
   handlers = no_handlers;
+  start_spot = example_spot;
   end_spot = example_spot;
 }
 
@@ -386,6 +392,7 @@ body_with modes variables fs = record {
   declarations = [];
   statements = fs;
   handlers = no_handlers;
+  start_spot = example_spot;
   end_spot = example_spot;
 }
 

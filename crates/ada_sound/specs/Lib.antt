@@ -22,3 +22,5 @@ pub mod PoolExamples
 pub mod Owners
 -- what they say of calls
 pub mod Callees
+-- operations of controlled types that touch no storage
+pub mod Quiet

@@ -16,7 +16,7 @@ use Rattle.ada_program.specs.Controlled.{number_in, number_of, shapes_of}
 use Rattle.ada_program.specs.Form.{RecordPathForm, ItemForm, null_item, item_of_path, item_of_value, item_of_record}
 use Rattle.ada_program.specs.ProgramForm.{TypeForm, record_of, access_to, object_of, ProgramForm, type_form}
 use Rattle.ada_program.specs.Typed.{width_of}
-use Rattle.ada_program.specs.WellFormed.{kind_fits, finalization_in, finalization_of, parts_in_order, is_of_earlier, parent_first, says_parts, is_numbered_alone, overrides_nothing, type_fits, components_reached, reached_components, record_components, has_record_at, has_parts_from, part_count, is_record_path, item_fits, item_width, begins_with_record, is_none_left, items_fit, is_filled, item_owns, is_copy, copies_whole, record_fits, object_fits}
+use Rattle.ada_program.specs.WellFormed.{kind_fits, finalization_in, finalization_of, parts_in_order, is_of_earlier, parent_first, says_parts, is_numbered_alone, type_fits, components_reached, reached_components, record_components, has_record_at, has_parts_from, part_count, is_record_path, item_fits, item_width, begins_with_record, is_none_left, items_fit, is_filled, item_owns, is_copy, copies_whole, record_fits, object_fits}
 use Rattle.ada_program.proofs.Shapes.{same_number}
 use Rattle.ada_meaning.specs.declared.event.Birth.TheVariants.{Adjustment}
 use Rattle.ada_meaning.specs.declared.event.Cause.TheVariants.{Assigning}
@@ -29,12 +29,13 @@ use Rattle.ada_meaning.specs.Frame as frame
 use Rattle.ada_meaning.specs.Step.{parts_for, has_parts, record_tasks, tasks_in, treating, copy_next, record_assign_next, assigns_next}
 use Rattle.ada_meaning.specs.Named.{State, named, same}
 use Rattle.ada_meaning.proofs.Treatments.{are_table}
+use Rattle.ada_typed.proofs.Lying.{Lying, lying_record}
 use Rattle.ada_typed.proofs.Parts.{shown_shapes, parts_known, shapes_shown, record_counted, parts_counted, Within, within_record}
 use Rattle.ada_typed.proofs.Values.{OperandKind, of_kind, lies_in, RefersToRecord}
 use Rattle.ada_typed.proofs.Operators.{and_left, and_right}
 use Rattle.ada_typed.proofs.Records.{parts_behind}
 use Rattle.ada_typed.proofs.Objects.{type_there}
-use Rattle.ada_typed.proofs.Control.{Fits, Ready, running}
+use Rattle.ada_typed.proofs.Control.{TasksFit, Fits, Ready, running}
 use Rattle.ada_typed.proofs.Treating.{treating_fits, treating_deep}
 use Rattle.ada_typed.proofs.Evaluations.{Fine, width_shown, filled_items, ready_at, ready_push, record_holder_fine}
 
@@ -46,8 +47,7 @@ parts_in types (Some (record_of name parts components finalization)) f fit is =
     let first = parent_first parts in
     let says = λ (o : Option Finalization). says_parts types o parts in
     let alone = is_numbered_alone types finalization in
-    let nothing = overrides_nothing finalization in
-    let fits = and_left (kinds && first && says finalization && alone) nothing (fit (record_of name parts components finalization) refl) in
+    let fits = fit (record_of name parts components finalization) refl in
     let said : says (Some f) ≡ true =
     subst (λ (o : Option Finalization). says o ≡ true) is
     (and_right (kinds && first) (says finalization) (and_left (kinds && first && says finalization) alone fits)) in
@@ -136,13 +136,20 @@ module _ (p : ProgramForm) (types : List TypeDefinition) (shown : map type_form 
       let known = parts_counted types p.types access shown fit in
       within_record (shapes_of types) (are_table types) (parts_known p.types access) direction (Some f.number.0) first (omega (arith, behind, same, known))
 
-  record_within : (fit : list_all (type_fits p.types) p.types ≡ true) (t access : ℕ) (direction : Direction) (first : ℕ) → has_parts_from (part_count p.types t) first (parts_reached p.types access) ≡ true → Within (shown_shapes p.types) (parts_known p.types access) (record_tasks types t direction first)
-  record_within fit t access direction first parts =
+  record_counted_within : (fit : list_all (type_fits p.types) p.types ≡ true) (t access : ℕ) (direction : Direction) (first : ℕ) → has_parts_from (part_count p.types t) first (parts_reached p.types access) ≡ true → Within (shown_shapes p.types) (parts_known p.types access) (record_tasks types t direction first)
+  record_counted_within fit t access direction first parts =
       let tasks = record_tasks types t direction first in
       let count = parts_known p.types access in
       subst (λ (shapes : List Shape). Within shapes count tasks) (sym (shapes_shown types p.types shown))
       (subst (λ (o : Option ℕ). Within (shapes_of types) count (tasks_in (shapes_of types) direction o first)) (sym (number_shown t))
       (tasks_within fit t access direction first (finalization_of p.types t) refl parts))
+
+  record_within : (fit : list_all (type_fits p.types) p.types ≡ true) (t access : ℕ) (direction : Direction) (place : Place) → has_record_at (reached_components p.types access) place.component (record_components p.types t) ≡ true → has_parts_from (part_count p.types t) place.part (parts_reached p.types access) ≡ true → TasksFit p.types access (record_tasks types t direction place.part)
+  record_within fit t access direction place there parts =
+      let number = number_of types (Some t) in
+      let lie = lying_record p.types access direction t place.component place.part number (sym (number_shown t)) there parts in
+      let lying = subst (λ (shapes : List Shape). Lying p.types access (tasks_in shapes direction number place.part)) (shapes_shown types p.types shown) lie in
+      (record_counted_within fit t access direction place.part parts, lying)
 
   -- The target is finalized, the components of the source are copied to it, and it is adjusted; nothing is done where both are one record.
   assigning_fine : (fit : list_all (type_fits p.types) p.types ≡ true) (alike : Bool) (t : ℕ) (rs : List ComponentKind) (o q : Id) (to from : Place) (s : State) (kinds : List OperandKind) → Ready p kinds s → record_components p.types t ≡ Some rs → RefersToRecord p.types (cells_of s.heap) t (Part o to) → RefersToRecord p.types (cells_of s.heap) t (Part q from) → Fits p (cells_of s.heap) kinds s.control → Fine p (assigns_next named types t (Part o to) (Part q from) (Some alike) s)
@@ -163,7 +170,7 @@ module _ (p : ProgramForm) (types : List TypeDefinition) (shown : map type_form 
       let here = ap (λ (found : Option (List ComponentKind)). has_record_at (reached_components p.types other) from.component found) (sym recorded) ∙ source.2 in
       running (of_kind (variable.Access (record { 0 = other })) ∷ kinds) (record { filled = pushed.filled; active = pushed.active; runs = pushed.runs; deep = omega (arith, ready.deep, deep, deeper) })
       (treating_fits p cells (of_kind (variable.Access (record { 0 = other })) ∷ kinds) (Names o) ending (record_tasks types t WholeFirst to.part) copies
-      (own, (target.0, target.1, refl), record_within fit t own WholeFirst to.part target.3) (
+      (own, (target.0, target.1, refl), record_within fit t own WholeFirst to target.2 target.3, (tt, tt)) (
         kinds,
         record { 0 = other },
         rs,
@@ -179,7 +186,7 @@ module _ (p : ProgramForm) (types : List TypeDefinition) (shown : map type_form 
           tt,
           (target.0, target.1, refl),
           there,
-          treating_fits p cells kinds (Names o) beginning (record_tasks types t PartsFirst to.part) s.control (own, (target.0, target.1, refl), record_within fit t own PartsFirst to.part target.3) fits,
+          treating_fits p cells kinds (Names o) beginning (record_tasks types t PartsFirst to.part) s.control (own, (target.0, target.1, refl), record_within fit t own PartsFirst to target.2 target.3, (tt, tt)) fits,
         ),
       ))
 

@@ -12,18 +12,22 @@ use Rattle.ada_program.specs.declared.program.VariableKind.TheVariants as variab
 use Rattle.ada_program.specs.Form.{ActualForm, in_value, in_null, in_access, in_record, in_out_path, in_out_access, in_out_component, in_out_record, StmtForm, StmtsForm, BranchesForm, HandlersForm}
 use Rattle.ada_program.specs.ProgramForm.{TypeForm, BodyForm, ProgramForm, seen_in}
 use Rattle.ada_program.specs.Freed.{statement_frees_own, statements_free_own, branches_free_own, handlers_free_own}
-use Rattle.ada_program.specs.WellFormed.{is_access, reached_components, record_components, held_kind, variable_kind, selected_kind, selectors_kind, path_kind, is_this, object_in, is_record_path, part_count, stands_alone, unary_type, binary_type, type_of, chain_type, has_record_at, has_parts_from, items_fit, kind_takes, initial_fits, condition_fits, has_statement, statement_fits, stmts_fit, branches_fit, handlers_fit, actuals_fit, formal_kinds, callable_in}
-use Rattle.ada_parts.specs.Task.{Task}
+use Rattle.ada_program.specs.WellFormed.{is_access, reached_components, record_components, held_kind, variable_kind, selected_kind, selectors_kind, path_kind, is_this, object_in, is_record_path, part_count, stands_alone, unary_type, binary_type, type_of, chain_type, has_record_at, has_parts_from, items_fit, kind_takes, initial_fits, condition_fits, has_statement, statement_fits, stmts_fit, branches_fit, handlers_fit, actuals_fit, formal_kinds, callable_in, overrides_none}
+use Rattle.ada_parts.specs.Part.{Part as PartOf}
+use Rattle.ada_parts.specs.Task.{Task, performs}
+use Rattle.ada_meaning.specs.declared.event.Birth.{Birth}
+use Rattle.ada_program.specs.declared.program.Exception.{Exception}
 use Rattle.ada_meaning.specs.declared.state.Value.{Value}
 use Rattle.ada_meaning.specs.declared.state.Value.TheVariants.{Null, Names, Scalar, Part}
 use Rattle.ada_meaning.specs.declared.state.Mode.{Mode}
 use Rattle.ada_meaning.specs.declared.state.Mode.TheVariants.{Running, Raising, Exiting, Returning}
-use Rattle.ada_meaning.specs.Frame.{Frame, is_loop, is_return}
+use Rattle.ada_meaning.specs.Frame.{Frame, Treatment, is_loop, is_return}
 use Rattle.ada_meaning.specs.Frame as frame
 use Rattle.ada_meaning.specs.Named.{State}
 use Rattle.ada_meaning.specs.State.{Activation}
 use Rattle.ada_meaning.specs.Step.{procedure_of, in_front, older}
 use Rattle.ada_typed.proofs.Parts.{shown_shapes, parts_known, Within}
+use Rattle.ada_typed.proofs.Lying.{Lying, undoing}
 use Rattle.ada_typed.proofs.Values.{OperandKind, of_kind, refers_to, lies_in, is_record_kind, RefersTo, AreFilled, AreHeld, AreComputed, IsActive, kind_of}
 
 -- The kinds of operands, newest first, once values for these components have been computed in order.
@@ -37,12 +41,21 @@ IsName (Names o) = Unit {0}
 IsName (Scalar v) = ⊥
 IsName (Part o place) = ⊥
 
--- What is left of a treatment is that of the object that a value names, and of parts that it has (7.6, 7.6.1).
-abbrev pub IsTreated : List TypeForm → Cells → Value → List Task → Type 0
-IsTreated types cells Null tasks = ⊥
-IsTreated types cells (Names o) tasks = (access : ℕ) × Designates cells access o × Within (shown_shapes types) (parts_known types access) tasks
-IsTreated types cells (Scalar v) tasks = ⊥
-IsTreated types cells (Part o place) tasks = ⊥
+-- What is left of the treatment of an object that values of a type name speaks of records that lie in it, and of parts that it has (7.6, 7.6.1).
+abbrev pub TasksFit : List TypeForm → (access : ℕ) → List Task → Type 0
+TasksFit types access tasks = Within (shown_shapes types) (parts_known types access) tasks × Lying types access tasks
+
+-- What has begun already by a treatment, as the operations that would undo it.
+abbrev pub begun_tasks : Treatment → List Task
+begun_tasks (frame.begins by done) = undoing done
+begun_tasks (frame.ends cause) = []
+
+-- What is left of a treatment is that of the object that a value names, and so is what has begun by it.
+abbrev pub IsTreated : List TypeForm → Cells → Value → Treatment → List Task → Type 0
+IsTreated types cells Null treatment tasks = ⊥
+IsTreated types cells (Names o) treatment tasks = (access : ℕ) × Designates cells access o × TasksFit types access tasks × TasksFit types access (begun_tasks treatment)
+IsTreated types cells (Scalar v) treatment tasks = ⊥
+IsTreated types cells (Part o place) treatment tasks = ⊥
 
 -- The kinds of the operands that are computed for an actual parameter whose formal one is of a kind, in order, and of those for others behind it.
 abbrev pub kinds_given : VariableKind → ActualForm → (others : List OperandKind) → List OperandKind
@@ -143,14 +156,13 @@ abbrev pub AtHandlers : ProgramForm → Option HandlersForm → (lands behind fu
 AtHandlers p None lands behind further = further
 AtHandlers p (Some hs) lands behind further = (inside : Bool) × FitHandlers p inside hs × WhereInside inside lands × behind
 
--- A frame of the call of an operation of a controlled type, or of what a jump out of one leaves (7.6, 7.6.1): nothing that fits comes to one.
+-- A frame behind the call of an operation of a controlled type (7.6, 7.6.1): nothing that is left of a body comes to one, unless that call has ended.
 abbrev pub is_operation : Frame Value → Bool
 is_operation (frame.Awaits v by done of part tasks) = true
 is_operation frame.Confines = true
-is_operation (frame.Resumes mode) = true
 is_operation f = false
 
--- What holds at a frame where no operation is called.
+-- What holds at a frame where no call of an operation ends.
 abbrev pub NoOperation : (operation : Bool) → Type 0 → Type 0
 NoOperation true holds = ⊥
 NoOperation false holds = holds
@@ -163,7 +175,7 @@ FitsBehind Exiting behind lands catches = lands × catches
 FitsBehind Returning behind lands catches = catches
 
 abbrev mutual
-  -- Operands of these kinds are there; what is left of the running body fits them. Where statements begin, no operand is there. No operation is called.
+  -- Operands of these kinds are there; what is left of the running body fits them. Where statements begin, no operand is there. No call of an operation ends.
   pub Fits : ProgramForm → Cells → List OperandKind → List (Frame Value) → Type 0
   Fits p cells kinds [] = Unit {0}
   Fits p cells kinds (frame.Elaborates ds fs hs ∷ k) = (kinds ≡ []) × (inside : Bool) × (list_all (initial_fits p.types p.variables) ds ≡ true) × FitStmts p inside fs × FitHandlers p inside hs × WhereInside inside (Lands p cells k) × Fits p cells [] k
@@ -203,10 +215,10 @@ abbrev mutual
   Fits p cells kinds (frame.FreesIn access c ∷ k) = (ks : List OperandKind) × (holder : TypeNo) × (own : TypeNo) × (kinds ≡ of_kind (variable.Access holder) ∷ ks) × (selected_kind p.types (Some (variable.Access holder)) c ≡ Some (variable.Access own)) × (OwnBody p → own.0 ≡ access) × Fits p cells ks k
   Fits p cells kinds (frame.Declares x ∷ k) = (ks : List OperandKind) × (kind : VariableKind) × (kinds ≡ of_kind kind ∷ ks) × (variable_kind p.variables x ≡ Some kind) × Fits p cells ks k
   Fits p cells kinds (frame.DeclaresRecord x t ∷ k) = (ks : List OperandKind) × (object : TypeNo) × (cs : List ComponentKind) × (kinds ≡ onto cs ks) × (variable_kind p.variables x ≡ Some (variable.Record object)) × (t ≡ object.0) × (reached_components p.types t ≡ Some cs) × (is_access p.types t ≡ false) × Fits p cells ks k
-  Fits p cells kinds (frame.Treats v treatment tasks ∷ k) = IsTreated p.types cells v tasks × Fits p cells kinds k
+  Fits p cells kinds (frame.Treats v treatment tasks ∷ k) = IsTreated p.types cells v treatment tasks × Fits p cells kinds k
   Fits p cells kinds (frame.Awaits v by done of part tasks ∷ k) = ⊥
   Fits p cells kinds (frame.Confines ∷ k) = ⊥
-  Fits p cells kinds (frame.Resumes mode ∷ k) = ⊥
+  Fits p cells kinds (frame.Resumes mode ∷ k) = FitsBehind mode (Fits p cells kinds k) (Lands p cells k) (Catches p cells k)
   Fits p cells kinds (frame.Writes ∷ k) = (ks : List OperandKind) × (kinds ≡ of_kind variable.Integer ∷ ks) × Fits p cells ks k
   Fits p cells kinds (frame.Ends v ∷ k) = IsName v × Fits p cells kinds k
   Fits p cells kinds (frame.GivesBack v cause pool ∷ k) = IsName v × Fits p cells kinds k
@@ -219,7 +231,7 @@ abbrev mutual
   Lands p cells (f ∷ k) = AtReturn (is_return f) ⊥ (AtLoop (is_loop f) (Fits p cells [] k) (Lands p cells k))
 
   -- Behind the first handlers of the running body, if there are some, what is left of it fits where no operand is there (11.4); and in front of them no
-  -- operation is called.
+  -- call of an operation ends.
   pub Catches : ProgramForm → Cells → List (Frame Value) → Type 0
   Catches p cells [] = Unit {0}
   Catches p cells (f ∷ k) =
@@ -342,10 +354,27 @@ pub record Jumps (p : ProgramForm) (mode : Mode) (s : State) : Type 0 where
 abbrev pub Goes : ProgramForm → Cells → Mode → List (Frame Value) → Type 0
 Goes p cells mode k = FitsBehind mode ⊥ (Lands p cells k) (Catches p cells k)
 
--- What holds of the running body, by the program as it sees it: what is left of it fits, or a jump is on its way.
+-- The call of an operation of a controlled type ends here, where operands of these kinds wait (7.6, 7.6.1): some type overrides one.
+pub data AtOperation (p : ProgramForm) (cells : Cells) (kinds : List OperandKind) : List (Frame Value) → Type 0 where
+  awaiting :
+      {v : Value} {by : Birth} {done : List PartOf} {of part : ℕ} {tasks : List Task} {k : List (Frame Value)} → (overrides_none p ≡ true → ⊥)
+      → IsTreated p.types cells v (frame.begins by done) (performs of part ∷ tasks) → Fits p cells kinds k
+      → AtOperation p cells kinds (frame.Awaits v by done of part tasks ∷ k)
+  confined : {k : List (Frame Value)} → (overrides_none p ≡ true → ⊥) → Fits p cells kinds k → AtOperation p cells kinds (frame.Confines ∷ k)
+
+-- Where no type overrides an operation, no call of one ends.
+pub none_operates : (p : ProgramForm) (cells : Cells) (kinds : List OperandKind) (k : List (Frame Value)) → overrides_none p ≡ true → AtOperation p cells kinds k → ⊥
+none_operates p cells kinds _ plain (awaiting some treated fits) = some plain
+none_operates p cells kinds _ plain (confined some fits) = some plain
+
+-- What holds of the running body, by the program as it sees it: what is left of it fits, or a jump is on its way; or the call of an operation has ended, or an
+-- exception comes out of it.
 pub data TypedIn (own : ProgramForm) (s : State) : Type 0 where
   running : (kinds : List OperandKind) → Ready own kinds s → Fits own (cells_of s.heap) kinds s.control → TypedIn own s
   on_jump : (mode : Mode) → Jumps own mode s → Goes own (cells_of s.heap) mode s.control → TypedIn own s
+  operated : (kinds : List OperandKind) → Ready own kinds s → AtOperation own (cells_of s.heap) kinds s.control → TypedIn own s
+  out_of_operation :
+      (e : Exception) (kinds : List OperandKind) → Jumps own (Raising e) s → AtOperation own (cells_of s.heap) kinds s.control → TypedIn own s
 
 -- What the formal parameters hold of the procedure that was found (6.1).
 abbrev pub kinds_at : Option BodyForm → List VariableKind
@@ -377,10 +406,24 @@ pub record Suspended (own : ProgramForm) (cells : Cells) (kinds : List VariableK
   pub referred : AreReferences own.types cells (stored_kinds kinds actuals) references
   pub fits : Fits own cells [] k
 
+-- So it is of one that waits for the end of the call of an operation: it has computed operands of known kinds (7.6).
+pub record Operates (own : ProgramForm) (cells : Cells) (actuals : List ActualForm) (references : List Value) (k : List (Frame Value)) (a : Activation Value) : Type 0 where
+  pub no_actuals : actuals ≡ []
+  pub no_references : references ≡ []
+  pub kinds : List OperandKind
+  pub held : AreHeld own.types cells own.variables a.places
+  pub computed : AreComputed own.types cells kinds a.operands
+  pub awaits : AtOperation own cells kinds k
+
+-- An activation waits for the end of one of both.
+pub data WaitsBy (own : ProgramForm) (cells : Cells) (kinds : List VariableKind) (actuals : List ActualForm) (references : List Value) (k : List (Frame Value)) (a : Activation Value) : Type 0 where
+  for_call : Suspended own cells kinds actuals references k a → WaitsBy own cells kinds actuals references k a
+  for_operation : Operates own cells actuals references k a → WaitsBy own cells kinds actuals references k a
+
 -- The first of these activations waits so for the end of this body's call, behind which this is left to do, and the others wait, too.
 abbrev pub WaitsFirst : ProgramForm → Cells → (callee : Option ℕ) → List ActualForm → (references : List Value) → (behind : List (Frame Value)) → List (Activation Value) → (others : Type 0) → Type 0
 WaitsFirst p cells callee actuals references k [] others = ⊥
-WaitsFirst p cells callee actuals references k (a ∷ suspended) others = Suspended (seen_in a.procedure p) cells (kinds_in p callee) actuals references k a × others
+WaitsFirst p cells callee actuals references k (a ∷ suspended) others = WaitsBy (seen_in a.procedure p) cells (kinds_in p callee) actuals references k a × others
 
 -- For each end of a call there is one activation that waits for it, the innermost first (6.4): this body is what runs now.
 abbrev pub Waiting : ProgramForm → Cells → (callee : Option ℕ) → List (Frame Value) → (suspended : List (Activation Value)) → Type 0
@@ -444,7 +487,10 @@ module _ (p : ProgramForm) where
   catches cells (frame.Treats v treatment tasks ∷ k) kinds fits = catches cells k kinds fits.1
   catches cells (frame.Awaits v by done of part tasks ∷ k) kinds fits = absurd fits
   catches cells (frame.Confines ∷ k) kinds fits = absurd fits
-  catches cells (frame.Resumes mode ∷ k) kinds fits = absurd fits
+  catches cells (frame.Resumes Running ∷ k) kinds fits = catches cells k kinds fits
+  catches cells (frame.Resumes (Raising e) ∷ k) kinds fits = fits
+  catches cells (frame.Resumes Exiting ∷ k) kinds fits = fits.1
+  catches cells (frame.Resumes Returning ∷ k) kinds fits = fits
   catches cells (frame.Writes ∷ k) kinds fits = catches cells k fits.0 fits.2
   catches cells (frame.Ends v ∷ k) kinds fits = catches cells k kinds fits.1
   catches cells (frame.GivesBack v cause pool ∷ k) kinds fits = catches cells k kinds fits.1

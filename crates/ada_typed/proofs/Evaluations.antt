@@ -1,6 +1,5 @@
 -- How typed states change, and that what is evaluated has the type that is waited for.
 
-use Rattle.ada_typed.specs.Stuck.{EndsByTheLanguage}
 use Rattle.ada_typed.specs.Holding.{Cells, Designates, HasKind, HaveKinds, IsPooled, cells_of, parts_reached}
 use Rattle.std.proofs.Common.{◌≡◌, ℕ, zero, suc, ◌<◌, ◌≤◌, ◌==◌, ◌&&◌, if◌then◌else◌, Bool, true, false, List, [], ◌∷◌, ◌++◌, length, map, take, drop, reverse, Option, Some, None, Result, Ok, Err, arith, refl, sym, ap, ◌∙◌, subst}
 use Rattle.std.specs.Prelude.{is_some}
@@ -35,6 +34,8 @@ use Rattle.ada_program.specs.declared.program.Exception.TheVariants.{ConstraintE
 use Rattle.ada_parts.specs.declared.tasks.Direction.TheVariants.{PartsFirst}
 use Rattle.ada_parts.specs.Task.{Task}
 use Rattle.ada_meaning.specs.declared.event.Birth.{Birth}
+use Rattle.ada_meaning.specs.declared.event.Halt.{Halt}
+use Rattle.ada_meaning.specs.declared.event.Halt.TheVariants.{Finished, Unhandled, Escaped, Erroneous, Stuck, Memory}
 use Rattle.ada_meaning.specs.declared.event.Birth.TheVariants.{Creation}
 use Rattle.ada_meaning.specs.Frame.{Frame, Treatment, is_master}
 use Rattle.ada_meaning.specs.Frame as frame
@@ -50,13 +51,26 @@ use Rattle.ada_typed.proofs.Later.{fits_later}
 use Rattle.ada_typed.proofs.Operators.{and_left, and_right, typed, unary_operand, binary_operand, chain_left, decided_same, GivesKind}
 use Rattle.ada_typed.proofs.Control.{onto, Fits, depth, Ready, Jumps, TypedIn, running, on_jump, catches, split}
 
--- What comes next is as this says, whatever is answered, or the run ends in a way that the language knows.
+-- A run ends in a way that the language knows, and no exception leaves an Adjust or a Finalize.
+abbrev pub EndsInside : Halt → Type 0
+EndsInside Finished = Unit {0}
+EndsInside (Unhandled e) = Unit {0}
+EndsInside (Escaped e) = ⊥
+EndsInside (Erroneous why) = Unit {0}
+EndsInside Stuck = ⊥
+EndsInside Memory = ⊥
+
+-- What comes next is as this says, whatever is answered, or the run ends as that says.
+abbrev pub ComesTo : (Halt → Type 0) → (State → Type 0) → Next → Type 0
+ComesTo Ends After (halts halt) = Ends halt
+ComesTo Ends After (moves e s) = After s
+ComesTo Ends After (tells request e s) = After s
+ComesTo Ends After (asks request answers) = (granted : Bool) → After (answers granted)
+ComesTo Ends After (picks n taking) = (i : ℕ) → i < n → After (taking i)
+
+-- The same, where no exception leaves an Adjust or a Finalize.
 abbrev pub Comes : (State → Type 0) → Next → Type 0
-Comes After (halts halt) = EndsByTheLanguage halt
-Comes After (moves e s) = After s
-Comes After (tells request e s) = After s
-Comes After (asks request answers) = (granted : Bool) → After (answers granted)
-Comes After (picks n taking) = (i : ℕ) → i < n → After (taking i)
+Comes = ComesTo EndsInside
 
 -- The running body is typed then.
 abbrev pub Fine : ProgramForm → Next → Type 0
@@ -635,7 +649,7 @@ module _ (p : ProgramForm) where
         runs = ready.runs;
         deep = omega (arith, ready.deep, as_deep);
       }) (treating_fits p (cells_of (s.heap ++ new_object cell ∷ [])) (of_kind (variable.Access (record { 0 = access })) ∷ ks) name (frame.begins Creation []) tasks s.control
-      (access, (cell, named_newest s.heap cell, refl), all_within types p.types access PartsFirst shown)
+      (access, (cell, named_newest s.heap cell, refl), all_within types p.types access PartsFirst shown, (tt, tt))
       (fits_more (of_kind (variable.Access (record { 0 = access })) ∷ ks) s.control s.heap cell fits))
   answered_fine types shown access words home s ks cs ready reached fits false = raises (onto cs ks) (of_kind (variable.Access (record { 0 = access })) ∷ ks) StorageError s ready fits
 

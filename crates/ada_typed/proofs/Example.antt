@@ -169,6 +169,7 @@ show = record {
   declarations = vec (declaration.Variable (record { 0 = 3 }) (Some (right.Value (Reads p_path))) ∷ []) (omega arith);
   statements = vec (stmt.PutImage (Reads q_path) ∷ stmt.Return spot ∷ []) (omega arith);
   handlers = vec [] (omega arith);
+  start = spot;
   end = spot;
 }
 
@@ -193,6 +194,7 @@ swap = record {
   declarations = vec [] (omega arith);
   statements = vec (stmt.Assign v_path (right.Value (Reads c_value_path)) ∷ stmt.Assign c_value_path (right.Value (Integer (pos 9))) ∷ []) (omega arith);
   handlers = vec [] (omega arith);
+  start = spot;
   end = spot;
 }
 
@@ -271,6 +273,8 @@ pub well_formed : IsWellFormed (program_form program)
 unfolding expression_form
 well_formed = record {
   types_fit = refl;
+  components_lie = refl;
+  operations_fit = refl;
   pools_fit =
       ap (λ (bs : List BodyForm). are_pools (created_in_all bs ++ creations_with (stmt_forms program))) bodies_are ∙
       ap (λ (fs : StmtsForm). are_pools (created_in_all shown ++ creations_with fs)) statements_are;

@@ -60,6 +60,8 @@ well_formed_by_own : IsWellFormed (program_form (program 1))
 unfolding expression_form stmt_form
 well_formed_by_own = record {
   types_fit = refl;
+  components_lie = refl;
+  operations_fit = refl;
   pools_fit = refl;
   variables_fit = refl;
   creates_in_order = refl;
@@ -76,6 +78,8 @@ well_formed_by_other : IsWellFormed (program_form (program 2))
 unfolding expression_form stmt_form
 well_formed_by_other = record {
   types_fit = refl;
+  components_lie = refl;
+  operations_fit = refl;
   pools_fit = refl;
   variables_fit = refl;
   creates_in_order = refl;

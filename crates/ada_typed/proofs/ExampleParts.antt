@@ -87,6 +87,8 @@ well_formed : IsWellFormed (program_form program)
 unfolding expression_form stmt_form
 well_formed = record {
   types_fit = refl;
+  components_lie = refl;
+  operations_fit = refl;
   pools_fit = refl;
   variables_fit = refl;
   creates_in_order = refl;

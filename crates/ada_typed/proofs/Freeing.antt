@@ -1,8 +1,8 @@
 -- What is freed is of the access type that the instance is for, where the running body frees by the instances for what it frees (13.11.2).
 
 use Rattle.ada_typed.specs.Freeing.{AboutToFree, ObjectsAreFreedByTheirTypes}
-use Rattle.ada_typed.specs.Holding.{Designates, HasKind, cells_of, seen_now}
-use Rattle.std.proofs.Common.{◌≡◌, ℕ, Bool, true, List, [], ◌∷◌, Option, Some, None, refl, sym, ◌∙◌, subst, inl, inr}
+use Rattle.ada_typed.specs.Holding.{Cells, Designates, HasKind, cells_of, seen_now}
+use Rattle.std.proofs.Common.{◌≡◌, ℕ, Bool, true, false, List, [], ◌∷◌, Option, Some, None, refl, sym, ap, ◌∙◌, subst, inl, inr}
 use Rattle.std.specs.List.{slice_get}
 use Rattle.ada_program.specs.declared.program.TypeNo.{TypeNo}
 use Rattle.ada_program.specs.declared.program.VariableKind.{VariableKind}
@@ -15,7 +15,7 @@ use Rattle.ada_meaning.specs.declared.state.Id.{Id}
 use Rattle.ada_meaning.specs.declared.state.Value.{Value}
 use Rattle.ada_meaning.specs.declared.state.Value.TheVariants.{Names}
 use Rattle.ada_meaning.specs.declared.state.Mode.{Mode}
-use Rattle.ada_meaning.specs.declared.state.Mode.TheVariants.{Running}
+use Rattle.ada_meaning.specs.declared.state.Mode.TheVariants.{Running, Raising}
 use Rattle.ada_meaning.specs.Frame.{Frame}
 use Rattle.ada_meaning.specs.Frame as frame
 use Rattle.ada_meaning.specs.Named.{Object, State, named, object_at}
@@ -23,7 +23,7 @@ use Rattle.ada_meaning.specs.Step.{procedure_of, held, newest}
 use Rattle.std.proofs.lemmas.Bool.{eqb-true}
 use Rattle.ada_typed.proofs.Values.{OperandKind, of_kind, root_same}
 use Rattle.ada_typed.proofs.Operators.{and_left}
-use Rattle.ada_typed.proofs.Control.{OwnBody, Fits, Ready, TypedIn, running, on_jump, Goes}
+use Rattle.ada_typed.proofs.Control.{OwnBody, is_operation, Fits, Ready, AtOperation, awaiting, confined, TypedIn, running, on_jump, operated, out_of_operation, Goes}
 use Rattle.ada_typed.proofs.Evaluations.{own_access, ready_kinds, held_of, newest_of}
 use Rattle.ada_typed.proofs.Targets.{component_there}
 use Rattle.ada_typed.proofs.Bodies.{own_bodies}
@@ -74,13 +74,36 @@ frees_running : (s : State) (access : ℕ) (o : Id) → AboutToFree s access o �
 frees_running s access o (inl f) = f.runs
 frees_running s access o (inr f) = f.runs
 
+-- No call of an operation ends where a Free comes.
+abbrev starts : List (Frame Value) → Bool
+starts [] = false
+starts (f ∷ k) = is_operation f
+
+starts_so : (p : ProgramForm) (cells : Cells) (kinds : List OperandKind) (k : List (Frame Value)) → AtOperation p cells kinds k → starts k ≡ true
+starts_so p cells kinds _ (awaiting some treated fits) = refl
+starts_so p cells kinds _ (confined some fits) = refl
+
+frees_no_operation : (p : ProgramForm) (s : State) (kinds : List OperandKind) (access : ℕ) (o : Id) → AtOperation p (cells_of s.heap) kinds s.control → AboutToFree s access o → ⊥
+frees_no_operation p s kinds access o ended (inl f) =
+    let ends : starts s.control ≡ true = starts_so p (cells_of s.heap) kinds s.control ended in
+    let begins : starts s.control ≡ false = ap starts f.begins in
+    absurd (cc)
+frees_no_operation p s kinds access o ended (inr f) =
+    let ends : starts s.control ≡ true = starts_so p (cells_of s.heap) kinds s.control ended in
+    let begins : starts s.control ≡ false = ap starts f.begins in
+    absurd (cc)
+
 pub typed_freed : (p : ProgramForm) → OwnBody p → (s : State) (access : ℕ) (o : Id) (object : Object) → TypedIn p s → AboutToFree s access o → object_at s.heap o ≡ Some object → object.cell.access ≡ access
 typed_freed p whole s access o object (running kinds ready fits) freeing found = fitting_freed p whole s kinds access o object ready fits freeing found
 typed_freed p whole s access o object (on_jump mode jumps goes) freeing found =
     let never : Goes p (cells_of s.heap) Running s.control = subst (λ (now : Mode). Goes p (cells_of s.heap) now s.control) (sym jumps.jumps ∙ frees_running s access o freeing) goes in
     absurd never
+typed_freed p whole s access o object (operated kinds ready ended) freeing found = absurd (frees_no_operation p s kinds access o ended freeing)
+typed_freed p whole s access o object (out_of_operation e kinds jumps ended) freeing found =
+    let never : Raising e ≡ Running = sym jumps.jumps ∙ frees_running s access o freeing in
+    absurd (cc)
 
 pub objects_are_freed_by_their_types : ObjectsAreFreedByTheirTypes
-objects_are_freed_by_their_types program well own input events last access o object run freeing found =
+objects_are_freed_by_their_types program well plain own input events last access o object run freeing found =
     let p = program_form program in
-    typed_freed (seen_now p last) (own_bodies p own (procedure_of last.activations)) last access o object (last_typed program well input events last run).inside freeing found
+    typed_freed (seen_now p last) (own_bodies p own (procedure_of last.activations)) last access o object (last_typed program well plain input events last run).inside freeing found

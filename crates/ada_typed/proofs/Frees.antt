@@ -46,7 +46,7 @@ module _ (p : ProgramForm) (types : List TypeDefinition) (shown : map type_form 
       running kinds (record { filled = other.filled; active = other.active; runs = other.runs; deep = omega (arith, deep, as_deep) })
       (fits_heap p kinds s (treating (Names o) (frame.ends (Freeing s.next)) tasks left) heap same
       (treating_fits p (cells_of s.heap) kinds (Names o) (frame.ends (Freeing s.next)) tasks left
-      (own, (object.cell, cell_at s.heap o.0 object there, refl), all_within types p.types own WholeFirst shown) (tt, (tt, fits))))
+      (own, (object.cell, cell_at s.heap o.0 object there, refl), all_within types p.types own WholeFirst shown, (tt, tt)) (tt, (tt, fits))))
 
   -- It is erroneous where the object is of another pool.
   freeing_next_fine : (o : Id) (access : ℕ) (object : Object) (clears : Frame Value) (event : Event Value) (s : State) (kinds : List OperandKind) → slice_get s.heap o.0 ≡ Some object → Ready p kinds s → depth (clears ∷ s.control) ≤ length s.masters → Fits p (cells_of s.heap) kinds (clears ∷ s.control) → Fine p (freeing_next named types access (Names o) object.cell clears event s)

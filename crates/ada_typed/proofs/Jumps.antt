@@ -1,7 +1,6 @@
 -- Jumps inside the running body lead from typed states to typed states (5.7, 6.5, 11.4).
 
 use Rattle.ada_typed.specs.Holding.{Cells, cells_of}
-use Rattle.ada_typed.specs.Stuck.{EndsByTheLanguage}
 use Rattle.std.proofs.Common.{◌≡◌, ◌+◌, ◌≤◌, ◌&&◌, if◌then◌else◌, Bool, true, false, List, [], ◌∷◌, length, Option, Some, None, arith, refl, sym, subst}
 use Rattle.std.specs.List.{list_all}
 use Rattle.ada_program.specs.Form.{StmtsForm, no_stmts, a_stmt, HandlersForm, no_handlers, a_handler}
@@ -17,7 +16,7 @@ use Rattle.ada_meaning.specs.Frame.{Frame, is_master, is_loop, is_return, Landin
 use Rattle.ada_meaning.specs.Frame as frame
 use Rattle.ada_meaning.specs.Step.{landed, pass_next, end_of}
 use Rattle.ada_meaning.specs.Named.{State, named}
-use Rattle.ada_typed.proofs.Evaluations.{Fine}
+use Rattle.ada_typed.proofs.Evaluations.{EndsInside, Fine}
 use Rattle.ada_typed.proofs.Operators.{and_left, and_right}
 use Rattle.ada_typed.proofs.Control.{FitStmts, FitHandlers, AtReturn, AtLoop, handlers_in, AtHandlers, is_operation, NoOperation, FitsBehind, Fits, Lands, Catches, depth, Jumps, Goes, running, on_jump, catches, catches_behind}
 
@@ -117,7 +116,7 @@ module _ (p : ProgramForm) where
   landing_comes e (frame.Treats v treatment tasks) none = refl
   landing_comes e (frame.Awaits v by done of part tasks) none = absurd (cc)
   landing_comes e frame.Confines none = absurd (cc)
-  landing_comes e (frame.Resumes mode) none = absurd (cc)
+  landing_comes e (frame.Resumes mode) none = refl
   landing_comes e frame.Writes none = refl
   landing_comes e (frame.Ends v) none = refl
   landing_comes e (frame.GivesBack v cause pool) none = refl
@@ -166,7 +165,7 @@ module _ (p : ProgramForm) where
   passes_by (frame.Treats v treatment tasks) none = refl
   passes_by (frame.Awaits v by done of part tasks) none = absurd (cc)
   passes_by frame.Confines none = absurd (cc)
-  passes_by (frame.Resumes mode) none = absurd (cc)
+  passes_by (frame.Resumes mode) none = refl
   passes_by frame.Writes none = refl
   passes_by (frame.Ends v) none = refl
   passes_by (frame.GivesBack v cause pool) none = refl
@@ -277,7 +276,7 @@ module _ (p : ProgramForm) where
       pass_fine (is_master f) mode f s none here.0 refl here.1 jumps deep
 
 -- Where nothing is left to pass, the run ends: an exit always has a loop.
-pub ends_fine : (p : ProgramForm) (cells : Cells) (mode : Mode) → Goes p cells mode [] → EndsByTheLanguage (end_of mode)
+pub ends_fine : (p : ProgramForm) (cells : Cells) (mode : Mode) → Goes p cells mode [] → EndsInside (end_of mode)
 ends_fine p cells Running goes = absurd goes
 ends_fine p cells (Raising e) goes = tt
 ends_fine p cells Exiting goes = absurd goes.0

@@ -36,6 +36,11 @@ crosses (frame.Calls procedure b actuals) = true
 crosses (frame.Returns actuals references) = true
 crosses f = false
 
+-- Is an object treated next?
+abbrev pub is_treatment : Frame Value → Bool
+is_treatment (frame.Treats v treatment tasks) = true
+is_treatment f = false
+
 -- From one state to the other the same body runs, and what waits for it stays as it is; names stay those of objects of their access types.
 pub record Keeps (s after : State) : Type 0 where
   pub stay : StayDesignated (cells_of s.heap) (cells_of after.heap)

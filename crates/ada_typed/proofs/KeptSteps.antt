@@ -35,7 +35,7 @@ use Rattle.ada_meaning.specs.Step.{halts, moves, at, operands, places, popped, o
 use Rattle.ada_meaning.specs.Named.{State, Next, named, refer, whole, base, part_base, same, inside, look, standing, lent, on_object, parted, finished, returned, new_object, members, reads_integer, reads_boolean, reads_null, unary_given, binary_given}
 use Rattle.ada_typed.proofs.Control.{actuals_at, references_at}
 use Rattle.ada_typed.proofs.KeptTreatments.{awaited_keeps, treats_keeps}
-use Rattle.ada_typed.proofs.Kept.{behind_call, behind_treating, crosses, Keeps, Each, altered, each_after, jumping_keeps, keeps_all, older_operands, older_places, operated, placed, popped_keeps, procedure_operands, procedure_places, put_keeps, stay_more, stay_on, stay_stored, stay_stored_from, still}
+use Rattle.ada_typed.proofs.Kept.{behind_call, behind_treating, crosses, is_treatment, Keeps, Each, altered, each_after, jumping_keeps, keeps_all, older_operands, older_places, operated, placed, popped_keeps, procedure_operands, procedure_places, put_keeps, stay_more, stay_on, stay_stored, stay_stored_from, still}
 
 -- Paths and expressions.
 reading_keeps : (cs : List ℕ) (v : Value) (s : State) → Keeps s (reading named cs v s)
@@ -462,87 +462,91 @@ without_one s n keeps = each_after s (popped s) n (popped_keeps s) keeps
 without_two : (s : State) (n : Next) → Each (Keeps (popped (popped s))) n → Each (Keeps s) n
 without_two s n keeps = without_one s n (without_one (popped s) n keeps)
 
--- Each frame that is taken off, where no call begins or ends, and no type overrides an operation.
-pub frame_keeps : (types : List TypeDefinition) → OverridesNothing types → (bodies : List BodyForm) (f : Frame Value) (s : State) → crosses f ≡ false → Each (Keeps s) (frame_next named types bodies f s)
-frame_keeps types inherits bodies (frame.Elaborates ds fs hs) s stays = declarations_keeps types ds fs hs s
-frame_keeps types inherits bodies (frame.Does fs) s stays = stmts_keeps types bodies fs s
-frame_keeps types inherits bodies (frame.Decides fs branches) s stays =
+-- Each frame that is taken off, where no call begins or ends: no type overrides an operation, where an object is treated.
+pub step_keeps : (types : List TypeDefinition) (bodies : List BodyForm) (f : Frame Value) (s : State) → (is_treatment f ≡ true → OverridesNothing types) → crosses f ≡ false → Each (Keeps s) (frame_next named types bodies f s)
+step_keeps types bodies (frame.Elaborates ds fs hs) s inherits stays = declarations_keeps types ds fs hs s
+step_keeps types bodies (frame.Does fs) s inherits stays = stmts_keeps types bodies fs s
+step_keeps types bodies (frame.Decides fs branches) s inherits stays =
     without_one s (decided_next named fs branches (reads_boolean (newest named s)) (popped s)) (decided_keeps fs branches (reads_boolean (newest named s)) (popped s))
-frame_keeps types inherits bodies (frame.Repeats condition fs) s stays = repeats_keeps condition fs s
-frame_keeps types inherits bodies (frame.Turns condition fs) s stays =
+step_keeps types bodies (frame.Repeats condition fs) s inherits stays = repeats_keeps condition fs s
+step_keeps types bodies (frame.Turns condition fs) s inherits stays =
     without_one s (turned_next named condition fs (reads_boolean (newest named s)) (popped s)) (turned_keeps condition fs (reads_boolean (newest named s)) (popped s))
-frame_keeps types inherits bodies (frame.Ranges x fs) s stays =
+step_keeps types bodies (frame.Ranges x fs) s inherits stays =
     let low = reads_integer (newest named (popped s)) in
     let high = reads_integer (newest named s) in
     without_two s (ranges_next named x fs low high (popped (popped s))) (ranges_keeps x fs low high (popped (popped s)))
-frame_keeps types inherits bodies (frame.Counts x value last fs) s stays = counts_keeps (int_le value last) x value last fs s
-frame_keeps types inherits bodies frame.Exits s stays =
+step_keeps types bodies (frame.Counts x value last fs) s inherits stays = counts_keeps (int_le value last) x value last fs s
+step_keeps types bodies frame.Exits s inherits stays =
     without_one s (exited_next named (reads_boolean (newest named s)) (popped s)) (exited_keeps (reads_boolean (newest named s)) (popped s))
-frame_keeps types inherits bodies (frame.Handles hs) s stays = still refl refl refl
-frame_keeps types inherits bodies frame.Closes s stays = still refl refl refl
-frame_keeps types inherits bodies (frame.Leaves mode) s stays = leave_keeps types mode s.masters s
-frame_keeps types inherits bodies (frame.Calls procedure b actuals) s stays = absurd (cc)
-frame_keeps types inherits bodies (frame.Returns actuals references) s stays = absurd (cc)
-frame_keeps types inherits bodies (frame.Evaluates right) s stays = right_keeps types right s
-frame_keeps types inherits bodies (frame.Computes e) s stays = expression_keeps e s
-frame_keeps types inherits bodies (frame.Follows cs) s stays = without_one s (path_next named cs (newest named s) (popped s)) (path_keeps cs (newest named s) (popped s))
-frame_keeps types inherits bodies (frame.TestsNull equal) s stays =
+step_keeps types bodies (frame.Handles hs) s inherits stays = still refl refl refl
+step_keeps types bodies frame.Closes s inherits stays = still refl refl refl
+step_keeps types bodies (frame.Leaves mode) s inherits stays = leave_keeps types mode s.masters s
+step_keeps types bodies (frame.Calls procedure b actuals) s inherits stays = absurd (cc)
+step_keeps types bodies (frame.Returns actuals references) s inherits stays = absurd (cc)
+step_keeps types bodies (frame.Evaluates right) s inherits stays = right_keeps types right s
+step_keeps types bodies (frame.Computes e) s inherits stays = expression_keeps e s
+step_keeps types bodies (frame.Follows cs) s inherits stays = without_one s (path_next named cs (newest named s) (popped s)) (path_keeps cs (newest named s) (popped s))
+step_keeps types bodies (frame.TestsNull equal) s inherits stays =
     without_one s (null_test_next named equal (reads_null (newest named s)) (popped s)) (null_test_keeps equal (reads_null (newest named s)) (popped s))
-frame_keeps types inherits bodies (frame.Refers p) s stays = record_holder_keeps p (λ place. frame.RefersIn place p.record_type) s (λ place. refl)
-frame_keeps types inherits bodies (frame.RefersIn place t) s stays =
+step_keeps types bodies (frame.Refers p) s inherits stays = record_holder_keeps p (λ place. frame.RefersIn place p.record_type) s (λ place. refl)
+step_keeps types bodies (frame.RefersIn place t) s inherits stays =
     let found = look s.heap (newest named s) in
     without_one s (refers_next named (newest named s) place (width_of types t) found (popped s)) (refers_keeps (newest named s) place (width_of types t) found (popped s))
-frame_keeps types inherits bodies (frame.Opens path) s stays = open_keeps path.selectors path.root s
-frame_keeps types inherits bodies (frame.OpensIn c) s stays =
+step_keeps types bodies (frame.Opens path) s inherits stays = open_keeps path.selectors path.root s
+step_keeps types bodies (frame.OpensIn c) s inherits stays =
     let found = look s.heap (newest named s) in
     without_one s (opens_next named (newest named s) c found (popped s)) (opens_keeps (newest named s) c found (popped s))
-frame_keeps types inherits bodies (frame.Continues links) s stays = links_keeps links s
-frame_keeps types inherits bodies (frame.Applies operator) s stays =
+step_keeps types bodies (frame.Continues links) s inherits stays = links_keeps links s
+step_keeps types bodies (frame.Applies operator) s inherits stays =
     let outcome = binary_given operator (newest named (popped s)) (newest named s) in
     without_two s (outcome_next named outcome (popped (popped s))) (outcome_keeps outcome (popped (popped s)))
-frame_keeps types inherits bodies (frame.AppliesAlone operator) s stays =
+step_keeps types bodies (frame.AppliesAlone operator) s inherits stays =
     let outcome = unary_given operator (newest named s) in
     without_one s (outcome_next named outcome (popped s)) (outcome_keeps outcome (popped s))
-frame_keeps types inherits bodies (frame.Fills items) s stays = items_keeps items s
-frame_keeps types inherits bodies (frame.Copies first t) s stays =
+step_keeps types bodies (frame.Fills items) s inherits stays = items_keeps items s
+step_keeps types bodies (frame.Copies first t) s inherits stays =
     let found = look s.heap (newest named s) in
     without_one s (copies_next named (newest named s) first (width_of types t) found (popped s)) (copies_keeps (newest named s) first (width_of types t) found (popped s))
-frame_keeps types inherits bodies (frame.Creates access count) s stays = new_keeps types access count (words_of types access) (home_of access s.masters) s
-frame_keeps types inherits bodies (frame.Stores x) s stays = keeps_all s (popped s) (put x (newest named s) (popped s)) (popped_keeps s) (put_keeps x (newest named s) (popped s))
-frame_keeps types inherits bodies (frame.Targets c right) s stays =
+step_keeps types bodies (frame.Creates access count) s inherits stays = new_keeps types access count (words_of types access) (home_of access s.masters) s
+step_keeps types bodies (frame.Stores x) s inherits stays = keeps_all s (popped s) (put x (newest named s) (popped s)) (popped_keeps s) (put_keeps x (newest named s) (popped s))
+step_keeps types bodies (frame.Targets c right) s inherits stays =
     let found = look s.heap (newest named s) in
     without_one s (target_next named (newest named s) c right found (popped s)) (target_keeps (newest named s) c right found (popped s))
-frame_keeps types inherits bodies (frame.StoresIn o c) s stays =
+step_keeps types bodies (frame.StoresIn o c) s inherits stays =
     without_one s (store_next named o c (newest named s) (look s.heap o) (popped s)) (store_keeps o c (newest named s) (look s.heap o) (popped s))
-frame_keeps types inherits bodies (frame.TargetsRecord first t items) s stays =
+step_keeps types bodies (frame.TargetsRecord first t items) s inherits stays =
     let found = look s.heap (newest named s) in
     without_one s (record_target_next named (newest named s) first (width_of types t) items found (popped s)) (record_target_keeps (newest named s) first (width_of types t) items found (popped s))
-frame_keeps types inherits bodies (frame.StoresRecord o first count) s stays = store_record_keeps o first count (look s.heap o) s
-frame_keeps types inherits bodies (frame.Assigns t) s stays =
+step_keeps types bodies (frame.StoresRecord o first count) s inherits stays = store_record_keeps o first count (look s.heap o) s
+step_keeps types bodies (frame.Assigns t) s inherits stays =
     let target = newest named (popped s) in
     let source = newest named s in
     without_two s (assigns_next named types t target source (same target source) (popped (popped s))) (assigns_keeps types t target source (same target source) (popped (popped s)))
-frame_keeps types inherits bodies (frame.Receives c) s stays =
+step_keeps types bodies (frame.Receives c) s inherits stays =
     let found = look s.heap (newest named s) in
     without_one s (receive_next named (newest named s) c found (popped s)) (receive_keeps (newest named s) c found (popped s))
-frame_keeps types inherits bodies (frame.FreesIn access c) s stays =
+step_keeps types bodies (frame.FreesIn access c) s inherits stays =
     let found = look s.heap (newest named s) in
     without_one s (free_in_next named types access (newest named s) c found (popped s)) (free_in_keeps types access (newest named s) c found (popped s))
-frame_keeps types inherits bodies (frame.Declares x) s stays =
+step_keeps types bodies (frame.Declares x) s inherits stays =
     keeps_all s (popped s) (owned (declared x) (put x (newest named s) (popped s))) (popped_keeps s) (placed (slice_set (places (popped s)) x (newest named s)) refl refl refl)
-frame_keeps types inherits bodies (frame.DeclaresRecord x t) s stays =
+step_keeps types bodies (frame.DeclaresRecord x t) s inherits stays =
     let without = without_newest named (words_of types t) s in
     keeps_all s without (made named types x t Copy (newest_ones named (words_of types t) s) without) (operated (drop (words_of types t) (operands s)) refl refl refl)
     (made_keeps types x t Copy (newest_ones named (words_of types t) s) without)
-frame_keeps types inherits bodies (frame.Treats v treatment tasks) s stays = treats_keeps types inherits bodies v treatment tasks (task_next tasks) s
-frame_keeps types inherits bodies (frame.Awaits v by done of part tasks) s stays = awaited_keeps v by done of part tasks (look s.heap v) s
-frame_keeps types inherits bodies frame.Confines s stays = still refl refl refl
-frame_keeps types inherits bodies (frame.Resumes mode) s stays = still refl refl refl
-frame_keeps types inherits bodies frame.Writes s stays = without_one s (line_next named (reads_integer (newest named s)) (popped s)) (line_keeps (reads_integer (newest named s)) (popped s))
-frame_keeps types inherits bodies (frame.Ends v) s stays = end_keeps v (look s.heap v) s
-frame_keeps types inherits bodies (frame.GivesBack v cause pool) s stays = back_keeps v cause pool (lent s.heap v) s
-frame_keeps types inherits bodies (frame.Clears x) s stays = put_keeps x Null s
-frame_keeps types inherits bodies (frame.ClearsIn o c) s stays = store_keeps o c Null (look s.heap o) s
+step_keeps types bodies (frame.Treats v treatment tasks) s inherits stays = treats_keeps types (inherits refl) bodies v treatment tasks (task_next tasks) s
+step_keeps types bodies (frame.Awaits v by done of part tasks) s inherits stays = awaited_keeps v by done of part tasks (look s.heap v) s
+step_keeps types bodies frame.Confines s inherits stays = still refl refl refl
+step_keeps types bodies (frame.Resumes mode) s inherits stays = still refl refl refl
+step_keeps types bodies frame.Writes s inherits stays = without_one s (line_next named (reads_integer (newest named s)) (popped s)) (line_keeps (reads_integer (newest named s)) (popped s))
+step_keeps types bodies (frame.Ends v) s inherits stays = end_keeps v (look s.heap v) s
+step_keeps types bodies (frame.GivesBack v cause pool) s inherits stays = back_keeps v cause pool (lent s.heap v) s
+step_keeps types bodies (frame.Clears x) s inherits stays = put_keeps x Null s
+step_keeps types bodies (frame.ClearsIn o c) s inherits stays = store_keeps o c Null (look s.heap o) s
+
+-- So it is for each, where no type overrides an operation.
+pub frame_keeps : (types : List TypeDefinition) → OverridesNothing types → (bodies : List BodyForm) (f : Frame Value) (s : State) → crosses f ≡ false → Each (Keeps s) (frame_next named types bodies f s)
+frame_keeps types inherits bodies f s stays = step_keeps types bodies f s (λ treats. inherits) stays
 
 -- An exception comes out of an Initialize: its object is undone.
 undo_keeps : (e : Exception) (v : Value) (done : List Part) (found : Found (Cell Value)) (s : State) → Each (Keeps s) (undo_next named e v done found s)

@@ -30,7 +30,7 @@ born_keeps v by done of part tasks (Some p) s =
     altered (stay_on (treated (born_part (counted s.born)) part) s.heap v (λ x. refl)) refl
     (behind_treating v (frame.begins by (record { of = of; number = part } ∷ done)) tasks s.control)
 
-begun_keeps : (bodies : List BodyForm) (v : Value) (by : Birth) (done : List Part) (of part : ℕ) (tasks : List Task) (operation : Option ℕ) (o : Option PartState) (s : State) → operation ≡ None → Each (Keeps s) (begun_next named bodies v by done of part tasks operation o s)
+pub begun_keeps : (bodies : List BodyForm) (v : Value) (by : Birth) (done : List Part) (of part : ℕ) (tasks : List Task) (operation : Option ℕ) (o : Option PartState) (s : State) → operation ≡ None → Each (Keeps s) (begun_next named bodies v by done of part tasks operation o s)
 begun_keeps bodies v by done of part tasks operation None s inherits = tt
 begun_keeps bodies v by done of part tasks None (Some p) s inherits = born_keeps v by done of part tasks (Some p) s
 begun_keeps bodies v by done of part tasks (Some procedure) (Some p) s inherits = absurd (cc)
@@ -46,10 +46,14 @@ ended_keeps : (alive : Bool) (v : Value) (cause : Cause) (of part : ℕ) (tasks 
 ended_keeps true v cause of part tasks p s = altered (stay_on (treated finalized_part part) s.heap v (λ x. refl)) refl (behind_treating v (frame.ends cause) tasks s.control)
 ended_keeps false v cause of part tasks p s = tt
 
-finalized_keeps : (bodies : List BodyForm) (v : Value) (cause : Cause) (of part : ℕ) (tasks : List Task) (operation : Option ℕ) (o : Option PartState) (s : State) → operation ≡ None → Each (Keeps s) (finalized_next named bodies v cause of part tasks operation o s)
+pub finalized_keeps : (bodies : List BodyForm) (v : Value) (cause : Cause) (of part : ℕ) (tasks : List Task) (operation : Option ℕ) (o : Option PartState) (s : State) → operation ≡ None → Each (Keeps s) (finalized_next named bodies v cause of part tasks operation o s)
 finalized_keeps bodies v cause of part tasks operation None s inherits = tt
 finalized_keeps bodies v cause of part tasks None (Some p) s inherits = ended_keeps p.alive v cause of part tasks p s
 finalized_keeps bodies v cause of part tasks (Some procedure) (Some p) s inherits = absurd (cc)
+
+pub picked_keeps : (types : List TypeDefinition) (none : Bool) (v : Value) (treatment : Treatment) (tasks : List Task) (count : ℕ) (s : State) → Each (Keeps s) (if none then halts Stuck else picks count (λ i. treated_on named v treatment (picked_task (shapes_of types) (direction_of treatment) tasks i) s))
+picked_keeps types true v treatment tasks count s = tt
+picked_keeps types false v treatment tasks count s = λ i lt. still refl refl (behind_treating v treatment (picked_task (shapes_of types) (direction_of treatment) tasks i) s.control)
 
 module _ (types : List TypeDefinition) (inherits : OverridesNothing types) (bodies : List BodyForm) where
   performed_keeps : (v : Value) (treatment : Treatment) (of part : ℕ) (tasks : List Task) (found : Found (Cell Value)) (s : State) → Each (Keeps s) (performed_next named types bodies v treatment of part tasks found s)
@@ -61,11 +65,7 @@ module _ (types : List TypeDefinition) (inherits : OverridesNothing types) (bodi
   performed_keeps v (frame.ends cause) of part tasks (finds cell) s =
       finalized_keeps bodies v cause of part tasks (procedure_number (operations_of types of).finalize) (slice_get cell.parts part) s (ends_alone types inherits of)
 
-  picked_keeps : (none : Bool) (v : Value) (treatment : Treatment) (tasks : List Task) (count : ℕ) (s : State) → Each (Keeps s) (if none then halts Stuck else picks count (λ i. treated_on named v treatment (picked_task (shapes_of types) (direction_of treatment) tasks i) s))
-  picked_keeps true v treatment tasks count s = tt
-  picked_keeps false v treatment tasks count s = λ i lt. still refl refl (behind_treating v treatment (picked_task (shapes_of types) (direction_of treatment) tasks i) s.control)
-
   pub treats_keeps : (v : Value) (treatment : Treatment) (tasks : List Task) (next : Follows) (s : State) → Each (Keeps s) (treats_next named types bodies v treatment tasks next s)
   treats_keeps v treatment tasks Done s = still refl refl refl
-  treats_keeps v treatment tasks (Pick count) s = picked_keeps (count == 0) v treatment tasks count s
+  treats_keeps v treatment tasks (Pick count) s = picked_keeps types (count == 0) v treatment tasks count s
   treats_keeps v treatment tasks (Perform of part) s = performed_keeps v treatment of part (performed tasks) (look s.heap v) s

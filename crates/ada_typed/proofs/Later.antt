@@ -6,16 +6,16 @@ use Rattle.ada_program.specs.declared.program.VariableKind.{VariableKind}
 use Rattle.ada_program.specs.declared.program.VariableKind.TheVariants as variable
 use Rattle.ada_program.specs.Form.{ActualForm, HandlersForm}
 use Rattle.ada_program.specs.ProgramForm.{TypeForm, ProgramForm, seen_in}
-use Rattle.ada_parts.specs.Task.{Task}
+use Rattle.ada_parts.specs.Task.{Task, performs}
 use Rattle.ada_meaning.specs.declared.state.Value.{Value}
 use Rattle.ada_meaning.specs.declared.state.Value.TheVariants.{Null, Names, Scalar, Part}
 use Rattle.ada_meaning.specs.declared.state.Mode.TheVariants.{Running, Raising, Exiting, Returning}
-use Rattle.ada_meaning.specs.Frame.{Frame, is_loop, is_return}
+use Rattle.ada_meaning.specs.Frame.{Frame, Treatment, is_loop, is_return}
 use Rattle.ada_meaning.specs.Frame as frame
 use Rattle.ada_meaning.specs.State.{Activation}
 use Rattle.ada_meaning.specs.Step.{procedure_of, older}
-use Rattle.ada_typed.proofs.Values.{OperandKind, of_kind, refers_to, StayDesignated, access_later, refers_later, held_later, kind_of}
-use Rattle.ada_typed.proofs.Control.{onto, IsTreated, AtReturn, AtLoop, WhereInside, handlers_in, AtHandlers, is_operation, NoOperation, Fits, Lands, Catches, actuals_at, references_at, kinds_in, stored_kinds, AreReferences, WaitsFirst, Waiting}
+use Rattle.ada_typed.proofs.Values.{OperandKind, of_kind, refers_to, StayDesignated, access_later, refers_later, held_later, computed_later, kind_of}
+use Rattle.ada_typed.proofs.Control.{onto, IsTreated, AtReturn, AtLoop, WhereInside, handlers_in, AtHandlers, is_operation, NoOperation, Fits, Lands, Catches, AtOperation, awaiting, confined, WaitsBy, for_call, for_operation, actuals_at, references_at, kinds_in, stored_kinds, AreReferences, WaitsFirst, Waiting}
 
 inside_later : (inside : Bool) (lands later : Type 0) → (lands → later) → WhereInside inside lands → WhereInside inside later
 inside_later true lands later f h = f h
@@ -37,11 +37,11 @@ operation_later : (operation : Bool) (holds later : Type 0) → (holds → later
 operation_later true holds later f h = h
 operation_later false holds later f h = f h
 
-treated_later : (types : List TypeForm) (cells after : Cells) → StayDesignated cells after → (v : Value) (tasks : List Task) → IsTreated types cells v tasks → IsTreated types after v tasks
-treated_later types cells after stay Null tasks h = h
-treated_later types cells after stay (Names o) tasks h = (h.0, stay h.0 o h.1, h.2)
-treated_later types cells after stay (Scalar v) tasks h = h
-treated_later types cells after stay (Part o place) tasks h = h
+treated_later : (types : List TypeForm) (cells after : Cells) → StayDesignated cells after → (v : Value) (treatment : Treatment) (tasks : List Task) → IsTreated types cells v treatment tasks → IsTreated types after v treatment tasks
+treated_later types cells after stay Null treatment tasks h = h
+treated_later types cells after stay (Names o) treatment tasks h = (h.0, stay h.0 o h.1, h.2, h.3)
+treated_later types cells after stay (Scalar v) treatment tasks h = h
+treated_later types cells after stay (Part o place) treatment tasks h = h
 
 module _ (p : ProgramForm) (cells after : Cells) (stay : StayDesignated cells after) where
   mutual
@@ -87,10 +87,13 @@ module _ (p : ProgramForm) (cells after : Cells) (stay : StayDesignated cells af
     fits_later (frame.FreesIn access c ∷ k) kinds h = (h.0, h.1, h.2, h.3, h.4, h.5, fits_later k h.0 h.6)
     fits_later (frame.Declares x ∷ k) kinds h = (h.0, h.1, h.2, h.3, fits_later k h.0 h.4)
     fits_later (frame.DeclaresRecord x t ∷ k) kinds h = (h.0, h.1, h.2, h.3, h.4, h.5, h.6, h.7, fits_later k h.0 h.8)
-    fits_later (frame.Treats v treatment tasks ∷ k) kinds h = (treated_later p.types cells after stay v tasks h.0, fits_later k kinds h.1)
+    fits_later (frame.Treats v treatment tasks ∷ k) kinds h = (treated_later p.types cells after stay v treatment tasks h.0, fits_later k kinds h.1)
     fits_later (frame.Awaits v by done of part tasks ∷ k) kinds h = h
     fits_later (frame.Confines ∷ k) kinds h = h
-    fits_later (frame.Resumes mode ∷ k) kinds h = h
+    fits_later (frame.Resumes Running ∷ k) kinds h = fits_later k kinds h
+    fits_later (frame.Resumes (Raising e) ∷ k) kinds h = catches_later k h
+    fits_later (frame.Resumes Exiting ∷ k) kinds h = (lands_later k h.0, catches_later k h.1)
+    fits_later (frame.Resumes Returning ∷ k) kinds h = catches_later k h
     fits_later (frame.Writes ∷ k) kinds h = (h.0, h.1, fits_later k h.0 h.2)
     fits_later (frame.Ends v ∷ k) kinds h = (h.0, fits_later k kinds h.1)
     fits_later (frame.GivesBack v cause pool ∷ k) kinds h = (h.0, fits_later k kinds h.1)
@@ -110,6 +113,12 @@ module _ (p : ProgramForm) (cells after : Cells) (stay : StayDesignated cells af
         return_later (is_return f) (Unit {0}) (NoOperation (is_operation f) here) (Unit {0}) (NoOperation (is_operation f) there) (λ yes. yes)
         (operation_later (is_operation f) here there caught) h
 
+-- So does what is left where the call of an operation ends.
+operation_stays : (p : ProgramForm) (cells after : Cells) → StayDesignated cells after → (kinds : List OperandKind) (k : List (Frame Value)) → AtOperation p cells kinds k → AtOperation p after kinds k
+operation_stays p cells after stay kinds _ (awaiting {v} {by} {done} {of} {part} {tasks} {k} some treated fits) =
+    awaiting some (treated_later p.types cells after stay v (frame.begins by done) (performs of part ∷ tasks) treated) (fits_later p cells after stay k kinds fits)
+operation_stays p cells after stay kinds _ (confined {k} some fits) = confined some (fits_later p cells after stay k kinds fits)
+
 -- Activations wait as well.
 module _ (p : ProgramForm) (cells after : Cells) (stay : StayDesignated cells after) where
   references_later : (types : List TypeForm) (kinds : List VariableKind) (rs : List Value) → AreReferences types cells kinds rs → AreReferences types after kinds rs
@@ -118,11 +127,23 @@ module _ (p : ProgramForm) (cells after : Cells) (stay : StayDesignated cells af
   references_later types (kind ∷ kinds) [] h = h
   references_later types (kind ∷ kinds) (r ∷ rs) h = (refers_later types cells after stay kind r h.0, references_later types kinds rs h.1)
 
+  one_later : (own : ProgramForm) (kinds : List VariableKind) (actuals : List ActualForm) (references : List Value) (k : List (Frame Value)) (a : Activation Value) → WaitsBy own cells kinds actuals references k a → WaitsBy own after kinds actuals references k a
+  one_later own kinds actuals references k a (for_call h) =
+      for_call (record { no_operands = h.no_operands; held = held_later own.types cells after stay own.variables a.places h.held; suits = h.suits; referred = references_later own.types (stored_kinds kinds actuals) references h.referred; fits = fits_later own cells after stay k [] h.fits })
+  one_later own kinds actuals references k a (for_operation h) =
+      for_operation (record {
+        no_actuals = h.no_actuals;
+        no_references = h.no_references;
+        kinds = h.kinds;
+        held = held_later own.types cells after stay own.variables a.places h.held;
+        computed = computed_later own.types cells after stay h.kinds a.operands h.computed;
+        awaits = operation_stays own cells after stay h.kinds k h.awaits;
+      })
+
   first_later : (callee : Option ℕ) (actuals : List ActualForm) (references : List Value) (k : List (Frame Value)) (suspended : List (Activation Value)) (others others_after : Type 0) → (others → others_after) → WaitsFirst p cells callee actuals references k suspended others → WaitsFirst p after callee actuals references k suspended others_after
   first_later callee actuals references k [] others others_after f h = h
   first_later callee actuals references k (a ∷ suspended) others others_after f h =
-      let own = seen_in a.procedure p in
-      (record { no_operands = h.0.no_operands; held = held_later own.types cells after stay own.variables a.places h.0.held; suits = h.0.suits; referred = references_later own.types (stored_kinds (kinds_in p callee) actuals) references h.0.referred; fits = fits_later own cells after stay k [] h.0.fits }, f h.1)
+      (one_later (seen_in a.procedure p) (kinds_in p callee) actuals references k a h.0, f h.1)
 
   pub waiting_later : (callee : Option ℕ) (k : List (Frame Value)) (suspended : List (Activation Value)) → Waiting p cells callee k suspended → Waiting p after callee k suspended
   waiting_later callee [] suspended h = h

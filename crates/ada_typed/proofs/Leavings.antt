@@ -89,6 +89,16 @@ module _ (p : ProgramForm) where
   back_fine (Scalar v) cause pool s kinds is ready fits = absurd is
   back_fine (Part o place) cause pool s kinds is ready fits = absurd is
 
+  -- A jump goes on that had to wait.
+  resumed_jumps : (mode : Mode) (s : State) (kinds : List OperandKind) → Ready p kinds s → Jumps p mode (record s { mode = mode })
+  resumed_jumps mode s kinds ready = record { filled = ready.filled; active = active_none p.types (cells_of s.heap) p.variables kinds s.activations ready.active; jumps = refl; deep = ready.deep }
+
+  pub resumes_fine : (mode : Mode) (s : State) (kinds : List OperandKind) → Ready p kinds s → Fits p (cells_of s.heap) kinds (frame.Resumes mode ∷ s.control) → TypedIn p (record s { mode = mode })
+  resumes_fine Running s kinds ready fits = running kinds (record { filled = ready.filled; active = ready.active; runs = refl; deep = ready.deep }) fits
+  resumes_fine (Raising e) s kinds ready fits = on_jump (Raising e) (resumed_jumps (Raising e) s kinds ready) fits
+  resumes_fine Exiting s kinds ready fits = on_jump Exiting (resumed_jumps Exiting s kinds ready) fits
+  resumes_fine Returning s kinds ready fits = on_jump Returning (resumed_jumps Returning s kinds ready) fits
+
 module _ (p : ProgramForm) (types : List TypeDefinition) (shown : map type_form types ≡ p.types) where
   -- The leaving of a master (7.6.1).
   ready_shorter : (kinds : List OperandKind) (s : State) → Ready p kinds s → Ready p kinds (record s { masters = shorter s.masters })
@@ -114,7 +124,7 @@ module _ (p : ProgramForm) (types : List TypeDefinition) (shown : map type_form 
       running kinds (record { filled = other.filled; active = other.active; runs = other.runs; deep = omega (arith, ready.deep, as_deep) })
       (fits_heap p kinds s (treating (Names o) (frame.ends cause) tasks left) heap same
       (treating_fits p (cells_of s.heap) kinds (Names o) (frame.ends cause) tasks left
-      (own, (object.cell, cell_at s.heap o.0 object there, refl), all_within types p.types own WholeFirst shown) (tt, (tt, fits))))
+      (own, (object.cell, cell_at s.heap o.0 object there, refl), all_within types p.types own WholeFirst shown, (tt, tt)) (tt, (tt, fits))))
 
   taken_stage : (stage : Stage) (cause : Cause) (pool : Option ℕ) (o : Id) (object : Object) (s : State) (kinds : List OperandKind) → slice_get s.heap o.0 ≡ Some object → Ready p kinds s → Fits p (cells_of s.heap) kinds s.control → TypedIn p (taken_out named types cause pool (Names o) (existing object stage) s)
   taken_stage Gone cause pool o object s kinds there ready fits = taken_plain cause pool o s kinds ready fits

@@ -2,12 +2,16 @@
 pub mod Shown
 -- controlled parts of objects, and what is left of their treatments
 pub mod Parts
+-- records with controlled parts that lie in objects
+pub mod Lying
 -- what a value is of which kind
 pub mod Values
 -- operators and the types of their operands
 pub mod Operators
 -- no type overrides an operation
 pub mod Overriding
+-- what overrides an operation
+pub mod Overridings
 -- what is left to do fits what is there
 pub mod Control
 -- records that lie in objects
@@ -16,6 +20,10 @@ pub mod Records
 pub mod Later
 -- objects that are treated before anything else
 pub mod Treating
+-- records in records
+pub mod Inner
+-- a test of that for the records that paths name
+pub mod Walking
 -- the program as each of its bodies sees it
 pub mod Bodies
 -- actual parameters, and the places of a body that begins
@@ -56,5 +64,9 @@ pub mod Freeing
 pub mod Example
 -- a program that frees an object, by either instance
 pub mod ExampleFreeing
+-- a well-formed program that gets stuck, which overrides an operation
+pub mod ExampleMixed
+-- a program whose type overrides an operation
+pub mod ExampleOperations
 -- a program that assigns records with controlled parts
 pub mod ExampleParts

@@ -2,7 +2,7 @@
 
 use Rattle.std.proofs.Common.{◌≡◌, ℕ, zero, suc, ◌+◌, ◌<◌, ◌≤◌, Bool, true, false, List, [], ◌∷◌, ◌++◌, length, map, Option, Some, None, inl, inr, arith, refl, sym, ap, ◌∙◌, subst}
 use Rattle.std.specs.Prelude.{◌||◌, if◌then◌else◌, count_by, find}
-use Rattle.std.specs.List.{list_all, remove, slice_get, sum_by}
+use Rattle.std.specs.List.{flat_map, list_all, remove, slice_get, sum_by}
 use Rattle.std.proofs.lemmas.Grind.{common_steps}
 use Rattle.ada_typed.specs.Holding.{parts_reached}
 use Rattle.std.proofs.lemmas.Bool.Decides.{leb_tells}
@@ -20,7 +20,7 @@ use Rattle.ada_program.specs.declared.program.PartKind.{PartKind}
 use Rattle.ada_program.specs.declared.program.PartKind.TheVariants as part
 use Rattle.ada_program.specs.declared.program.TypeDefinition.{TypeDefinition}
 use Rattle.ada_program.specs.declared.program.TypeDefinition.TheVariants as definition
-use Rattle.ada_program.specs.Controlled.{number_in, number_by, number_of, is_number, type_numbered, parts_by, is_parent, has_parent, if_parts, with_parts, components_with_parts, shape_by, shapes_up_to, has_parts, shapes_of}
+use Rattle.ada_program.specs.Controlled.{number_in, number_by, number_of, is_number, type_numbered, parts_by, is_parent, has_parent, if_parts, with_parts, components_with_parts, shape_by, shapes_up_to, has_parts, shapes_of, number_reached, firsts_in, firsts_from, firsts_of_kind, own_first, firsts_by, firsts_up_to, part_firsts}
 use Rattle.ada_program.specs.ProgramForm.{PartForm, TypeForm, record_of, access_to, object_of, part_form, type_form}
 use Rattle.ada_program.specs.Typed.{designated_of}
 use Rattle.ada_program.specs.WellFormed.{finalization_in, finalization_of, has_number, named_in, numbered_types, part_count, parts_named, type_fits}
@@ -75,6 +75,30 @@ shown_up_to types (suc n) = shown_shape types (shown_up_to types n) (shown_parts
 -- The types of a program as finalization sees them, by what is shown of them.
 abbrev pub shown_shapes : List TypeForm → List Shape
 shown_shapes types = shown_up_to types (numbered_types types)
+
+-- Where the controlled parts of a declared component begin, by what is shown of it.
+abbrev pub shown_firsts_of : List TypeForm → (older : List (List ℕ)) → (first : ℕ) → PartKind → List ℕ
+shown_firsts_of types older first (part.Elementary kind) = []
+shown_firsts_of types older first (part.Record t) = firsts_from older first (shown_number types (Some t.0))
+shown_firsts_of types older first part.Parent = []
+
+-- Where those of a record type of these components begin.
+abbrev pub shown_firsts_by : List TypeForm → (older : List (List ℕ)) → List PartForm → List ℕ
+shown_firsts_by types older ps = own_first (shows_parent ps) ++ flat_map (λ p. shown_firsts_of types older p.first p.kind) ps
+
+-- Where those of the first record types begin that have some.
+abbrev pub shown_firsts_up_to : List TypeForm → (count : ℕ) → List (List ℕ)
+shown_firsts_up_to types zero = []
+shown_firsts_up_to types (suc n) = shown_firsts_by types (shown_firsts_up_to types n) (shown_parts (shown_numbered types n)) ∷ shown_firsts_up_to types n
+
+-- Where those of the record type of a number begin, by what is shown of the types.
+abbrev pub shown_firsts : List TypeForm → (number : Option ℕ) → List ℕ
+shown_firsts types None = []
+shown_firsts types (Some n) = firsts_in (shown_firsts_up_to types (numbered_types types)) n
+
+-- Where those of the objects begin that the values of a type name.
+abbrev pub firsts_known : List TypeForm → (access : ℕ) → List ℕ
+firsts_known types access = shown_firsts types (shown_number types (named_in (slice_get types access)))
 
 -- How many controlled parts the objects have that the values of a type name.
 abbrev pub parts_known : List TypeForm → (access : ℕ) → ℕ
@@ -134,6 +158,36 @@ up_to_shown types (suc n) =
 all_shown : (types : List TypeDefinition) → shown_shapes (map type_form types) ≡ shapes_of types
 all_shown types = ap (shown_up_to (map type_form types)) (same_types types) ∙ up_to_shown types (count_by has_parts types)
 
+kind_firsts_shown : (types : List TypeDefinition) (older : List (List ℕ)) (first : ℕ) (kind : PartKind) → shown_firsts_of (map type_form types) older first kind ≡ firsts_of_kind types older first kind
+kind_firsts_shown types older first (part.Elementary kind) = refl
+kind_firsts_shown types older first (part.Record t) = ap (firsts_from older first) (sym (same_number types t.0))
+kind_firsts_shown types older first part.Parent = refl
+
+all_firsts_shown : (types : List TypeDefinition) (older : List (List ℕ)) (ps : List Part) → flat_map (λ p. shown_firsts_of (map type_form types) older p.first p.kind) (map part_form ps) ≡ flat_map (λ p. firsts_of_kind types older p.first.0 p.kind) ps
+all_firsts_shown types older [] = refl
+all_firsts_shown types older (p ∷ ps) =
+    ap (λ (cs : List ℕ). cs ++ flat_map (λ q. shown_firsts_of (map type_form types) older q.first q.kind) (map part_form ps)) (kind_firsts_shown types older p.first.0 p.kind)
+    ∙ ap (λ (cs : List ℕ). firsts_of_kind types older p.first.0 p.kind ++ cs) (all_firsts_shown types older ps)
+
+firsts_by_shown : (types : List TypeDefinition) (older : List (List ℕ)) (ps : List Part) → shown_firsts_by (map type_form types) older (map part_form ps) ≡ firsts_by types older ps
+firsts_by_shown types older ps =
+    ap (λ (b : Bool). own_first b ++ flat_map (λ p. shown_firsts_of (map type_form types) older p.first p.kind) (map part_form ps)) (parent_shown ps)
+    ∙ ap (λ (cs : List ℕ). own_first (has_parent ps) ++ cs) (all_firsts_shown types older ps)
+
+firsts_up_to_shown : (types : List TypeDefinition) (n : ℕ) → shown_firsts_up_to (map type_form types) n ≡ firsts_up_to types n
+firsts_up_to_shown types zero = refl
+firsts_up_to_shown types (suc n) =
+    let forms = map type_form types in
+    ap (λ (older : List (List ℕ)). shown_firsts_by forms older (shown_parts (shown_numbered forms n)) ∷ older) (firsts_up_to_shown types n)
+    ∙ ap (λ (ps : List PartForm). shown_firsts_by forms (firsts_up_to types n) ps ∷ firsts_up_to types n) (found_shown n types)
+    ∙ ap (λ (cs : List ℕ). cs ∷ firsts_up_to types n) (firsts_by_shown types (firsts_up_to types n) (parts_by (type_numbered types n)))
+
+firsts_shown : (types : List TypeDefinition) (number : Option ℕ) → shown_firsts (map type_form types) number ≡ part_firsts types number
+firsts_shown types None = refl
+firsts_shown types (Some n) =
+    ap (λ (count : ℕ). firsts_in (shown_firsts_up_to (map type_form types) count) n) (same_types types)
+    ∙ ap (λ (all : List (List ℕ)). firsts_in all n) (firsts_up_to_shown types (count_by has_parts types))
+
 number_shown : (types : List TypeDefinition) (o : Option ℕ) → shown_number (map type_form types) o ≡ number_of types o
 number_shown types None = refl
 number_shown types (Some t) = sym (same_number types t)
@@ -148,6 +202,20 @@ parts_shown types forms access shown =
     ∙ ap (λ (shapes : List Shape). parts_for shapes (shown_number (map type_form types) (named_in (slice_get (map type_form types) access)))) (all_shown types)
     ∙ ap (λ (o : Option ℕ). parts_for (shapes_of types) (shown_number (map type_form types) o)) (same_named types access)
     ∙ ap (parts_for (shapes_of types)) (number_shown types (designated_of types access))
+
+-- The objects that the values of a type name are of the record type of this number.
+pub known_number : (types : List TypeDefinition) (forms : List TypeForm) (access : ℕ) → map type_form types ≡ forms → shown_number forms (named_in (slice_get forms access)) ≡ number_reached types access
+known_number types forms access shown =
+    ap (λ (ts : List TypeForm). shown_number ts (named_in (slice_get ts access))) (sym shown)
+    ∙ ap (shown_number (map type_form types)) (same_named types access) ∙ number_shown types (designated_of types access)
+
+-- The parts of objects begin where their types say.
+pub known_firsts : (types : List TypeDefinition) (forms : List TypeForm) (access : ℕ) → map type_form types ≡ forms → firsts_known forms access ≡ part_firsts types (number_reached types access)
+known_firsts types forms access shown =
+    ap (λ (ts : List TypeForm). firsts_known ts access) (sym shown)
+    ∙ ap (λ (o : Option ℕ). shown_firsts (map type_form types) (shown_number (map type_form types) o)) (same_named types access)
+    ∙ ap (shown_firsts (map type_form types)) (number_shown types (designated_of types access))
+    ∙ firsts_shown types (number_reached types access)
 
 -- Where the types fit, records have as many controlled parts as their types say.
 same_parts : (shapes : List Shape) (o : Option ℕ) → known_parts shapes o ≡ parts_for shapes o

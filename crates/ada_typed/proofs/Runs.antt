@@ -1,22 +1,23 @@
 -- So no run of a well-formed program is stuck.
 
 use Rattle.ada_typed.specs.Holding.{cells_of, seen_now, HoldsKind, ObjectsHaveTheirKinds, ObjectsHaveTheirParts, VariablesHaveTheirKinds}
-use Rattle.std.proofs.Common.{◌≡◌, ℕ, ℤ, false, List, [], ◌∷◌, map, Some, refl, sym, ◌∙◌, subst, arith}
+use Rattle.std.proofs.Common.{◌≡◌, ℕ, ℤ, true, false, List, [], ◌∷◌, map, Some, refl, sym, ◌∙◌, subst, arith}
 use Rattle.ada_program.specs.declared.program.Program.{Program}
 use Rattle.ada_program.specs.ProgramForm.{TypeForm, ProgramForm, program_form, type_form, variable_form, body_forms}
 use Rattle.ada_program.specs.declared.program.VariableKind.{VariableKind}
-use Rattle.ada_program.specs.WellFormed.{IsWellFormed, variable_kind}
-use Rattle.ada_meaning.specs.declared.event.Halt.TheVariants.{Escaped, Stuck}
+use Rattle.ada_program.specs.WellFormed.{IsWellFormed, overrides_none, variable_kind}
+use Rattle.ada_meaning.specs.declared.event.Halt.TheVariants.{Finished, Unhandled, Escaped, Erroneous, Stuck, Memory}
+use Rattle.ada_meaning.specs.declared.event.Halt.{Halt}
 use Rattle.ada_meaning.specs.Step.{procedure_of, halts, moves, tells, asks, picks}
 use Rattle.ada_meaning.specs.Named.{State, Next, next}
-use Rattle.ada_meaning.specs.Run.{Event, Choice, settled, grants, takes, Leads, Step, Run, here, there, first_state}
-use Rattle.ada_typed.specs.Stuck.{WellFormedProgramsAreNeverStuck, NothingEscapesWellFormedPrograms, WellFormedProgramsEndByTheLanguage}
+use Rattle.ada_meaning.specs.Run.{Event, Halts, Choice, settled, grants, takes, Leads, Step, Run, here, there, first_state}
+use Rattle.ada_typed.specs.Stuck.{EndsByTheLanguage, WellFormedProgramsAreNeverStuck, NothingEscapesWellFormedPrograms, WellFormedProgramsEndByTheLanguage}
 use Rattle.ada_typed.proofs.Parts.{parts_counted}
 use Rattle.ada_typed.proofs.Values.{OperandKind, AreFilled, IsActive, active_placed, active_held, held_blank, filled_at, parts_at}
-use Rattle.ada_typed.proofs.Control.{Typed, TypedIn, running, on_jump}
-use Rattle.ada_typed.proofs.Evaluations.{Comes, cell_at}
+use Rattle.ada_typed.proofs.Control.{Typed, TypedIn, running, on_jump, operated, out_of_operation}
+use Rattle.ada_typed.proofs.Evaluations.{ComesTo, cell_at}
 use Rattle.ada_typed.proofs.Bodies.{types_seen}
-use Rattle.ada_typed.proofs.Calls.{same_filled, next_fine}
+use Rattle.ada_typed.proofs.Calls.{Ends, ArePlaced, same_filled, next_fine}
 
 -- The first state is typed: each place holds a value of its variable's kind, and nothing waits for the main body.
 pub first_typed : (program : Program) (input : List ℤ) → IsWellFormed (program_form program) → Typed (program_form program) (first_state program input)
@@ -27,7 +28,7 @@ first_typed program input well = record {
   waiting = refl;
 }
 
-led : (p : ProgramForm) (coming : Next) (choice : Choice) (e : Event) (after : State) → Comes (Typed p) coming → Leads coming choice e after → Typed p after
+led : (p : ProgramForm) (coming : Next) (choice : Choice) (e : Event) (after : State) → ComesTo (Ends p) (Typed p) coming → Leads coming choice e after → Typed p after
 led p (halts halt) choice e after d l = absurd l
 led p (moves shown s) settled e after d l = rw (l.1) d
 led p (tells request shown s) settled e after d l = rw (l.1) d
@@ -42,36 +43,64 @@ led p (asks request answers) (takes i) e after d l = absurd l
 led p (picks n taking) settled e after d l = absurd l
 led p (picks n taking) (grants granted) e after d l = absurd l
 
--- A step of a program leads from a typed state to a typed one.
-pub step_typed : (program : Program) → IsWellFormed (program_form program) → (s after : State) (choice : Choice) (event : Event) → Typed (program_form program) s → Step program s choice event after → Typed (program_form program) after
-step_typed program well s after choice event typed step =
-    led (program_form program) (next program.types.items (body_forms program) s) choice event after (next_fine (program_form program) well program.types.items refl s typed) step
+-- How such a run ends.
+known_end : (p : ProgramForm) (halt : Halt) → Ends p halt → EndsByTheLanguage halt
+known_end p Finished h = tt
+known_end p (Unhandled e) h = tt
+known_end p (Escaped e) h = tt
+known_end p (Erroneous why) h = tt
+known_end p Stuck h = h
+known_end p Memory h = h
 
--- Each state of a run is typed.
-pub run_typed : (program : Program) → IsWellFormed (program_form program) → (s last : State) (events : List Event) → Typed (program_form program) s → Run program s events last → Typed (program_form program) last
-run_typed program well s last events typed here = typed
-run_typed program well s last (e ∷ events) typed (there choice mid step rest) =
-    run_typed program well mid last events (step_typed program well s mid choice e typed step) rest
+-- Of a program where, if a type overrides an operation, the parts of objects are records that lie in them.
+module _ (program : Program) (well : IsWellFormed (program_form program)) (placed : ArePlaced (program_form program)) where
+  -- A step leads from a typed state to a typed one.
+  pub step_placed : (s after : State) (choice : Choice) (event : Event) → Typed (program_form program) s → Step program s choice event after → Typed (program_form program) after
+  step_placed s after choice event typed step =
+      led (program_form program) (next program.types.items (body_forms program) s) choice event after (next_fine (program_form program) well placed program.types.items refl s typed) step
+
+  run_placed : (s last : State) (events : List Event) → Typed (program_form program) s → Run program s events last → Typed (program_form program) last
+  run_placed s last events typed here = typed
+  run_placed s last (e ∷ events) typed (there choice mid step rest) = run_placed mid last events (step_placed s mid choice e typed step) rest
+
+  -- So is the state that a run from the first one comes to.
+  pub last_placed : (input : List ℤ) (events : List Event) (last : State) → Run program (first_state program input) events last → Typed (program_form program) last
+  last_placed input events last run = run_placed (first_state program input) last events (first_typed program input well) run
+
+  pub ends_placed : (input : List ℤ) (events : List Event) (last : State) (halt : Halt) → Run program (first_state program input) events last → Halts program last halt → Ends (program_form program) halt
+  ends_placed input events last halt run halted =
+      let typed = last_placed input events last run in
+      subst (λ (coming : Next). ComesTo (Ends (program_form program)) (Typed (program_form program)) coming) halted (next_fine (program_form program) well placed program.types.items refl last typed)
+
+-- So it is where no type overrides an operation.
+pub plain_placed : (p : ProgramForm) → overrides_none p ≡ true → ArePlaced p
+plain_placed p plain some = absurd (some plain)
+
+-- A step of a program leads from a typed state to a typed one.
+pub step_typed : (program : Program) → IsWellFormed (program_form program) → overrides_none (program_form program) ≡ true → (s after : State) (choice : Choice) (event : Event) → Typed (program_form program) s → Step program s choice event after → Typed (program_form program) after
+step_typed program well plain = step_placed program well (plain_placed (program_form program) plain)
 
 -- So is the state that a run from the first one comes to.
-pub last_typed : (program : Program) → IsWellFormed (program_form program) → (input : List ℤ) (events : List Event) (last : State) → Run program (first_state program input) events last → Typed (program_form program) last
-last_typed program well input events last run = run_typed program well (first_state program input) last events (first_typed program input well) run
+pub last_typed : (program : Program) → IsWellFormed (program_form program) → overrides_none (program_form program) ≡ true → (input : List ℤ) (events : List Event) (last : State) → Run program (first_state program input) events last → Typed (program_form program) last
+last_typed program well plain = last_placed program well (plain_placed (program_form program) plain)
 
 -- So each run ends in a way that the language knows.
 pub ends_by_the_language : WellFormedProgramsEndByTheLanguage
-ends_by_the_language program well input events last halt run halted =
-    let typed = last_typed program well input events last run in
-    subst (λ (coming : Next). Comes (Typed (program_form program)) coming) halted (next_fine (program_form program) well program.types.items refl last typed)
+ends_by_the_language program well plain input events last halt run halted =
+    known_end (program_form program) halt (ends_placed program well (plain_placed (program_form program) plain) input events last halt run halted)
 
 pub never_stuck : WellFormedProgramsAreNeverStuck
-never_stuck program well input events last run stuck = ends_by_the_language program well input events last Stuck run stuck
+never_stuck program well plain input events last run stuck = ends_by_the_language program well plain input events last Stuck run stuck
 
 pub nothing_escapes : NothingEscapesWellFormedPrograms
-nothing_escapes program well input events last e run out = ends_by_the_language program well input events last (Escaped e) run out
+nothing_escapes program well plain input events last e run out =
+    ends_placed program well (plain_placed (program_form program) plain) input events last (Escaped e) run out plain
 
 filled_in : (own : ProgramForm) (s : State) → TypedIn own s → AreFilled own.types (cells_of s.heap) (cells_of s.heap)
 filled_in own s (running kinds ready fits) = ready.filled
 filled_in own s (on_jump mode jumps goes) = jumps.filled
+filled_in own s (operated kinds ready ended) = ready.filled
+filled_in own s (out_of_operation e kinds jumps ended) = jumps.filled
 
 -- What lies in objects is what their types say, in each typed state.
 pub typed_filled : (p : ProgramForm) (s : State) → Typed p s → AreFilled p.types (cells_of s.heap) (cells_of s.heap)
@@ -79,16 +108,16 @@ typed_filled p s typed =
     same_filled p (procedure_of s.activations) (cells_of s.heap) (filled_in (seen_now p s) s typed.inside)
 
 pub objects_have_their_kinds : ObjectsHaveTheirKinds
-objects_have_their_kinds program well input events last o object run is =
+objects_have_their_kinds program well plain input events last o object run is =
     let p = program_form program in
-    let typed = last_typed program well input events last run in
+    let typed = last_typed program well plain input events last run in
     filled_at p.types (cells_of last.heap) (cells_of last.heap) o.0 object.cell (typed_filled p last typed) (cell_at last.heap o.0 object is)
 
 pub objects_have_their_parts : ObjectsHaveTheirParts
-objects_have_their_parts program well input events last o object run is =
+objects_have_their_parts program well plain input events last o object run is =
     let p = program_form program in
-    let typed = last_typed program well input events last run in
-    parts_at p.types (cells_of last.heap) (cells_of last.heap) o.0 object.cell (typed_filled p last typed) (cell_at last.heap o.0 object is)
+    let typed = last_typed program well plain input events last run in
+    (parts_at p.types (cells_of last.heap) (cells_of last.heap) o.0 object.cell (typed_filled p last typed) (cell_at last.heap o.0 object is)).0
     ∙ sym (parts_counted program.types.items p.types object.cell.access refl well.types_fit)
 
 active_holds : (own : ProgramForm) (s : State) (kinds : List OperandKind) (x : ℕ) (kind : VariableKind) → IsActive own.types (cells_of s.heap) own.variables kinds s.activations → variable_kind own.variables x ≡ Some kind → HoldsKind own.types s x kind
@@ -99,9 +128,11 @@ active_holds own s kinds x kind active is =
 pub typed_holds : (own : ProgramForm) (s : State) (x : ℕ) (kind : VariableKind) → TypedIn own s → variable_kind own.variables x ≡ Some kind → HoldsKind own.types s x kind
 typed_holds own s x kind (running kinds ready fits) is = active_holds own s kinds x kind ready.active is
 typed_holds own s x kind (on_jump mode jumps goes) is = active_holds own s [] x kind jumps.active is
+typed_holds own s x kind (operated kinds ready ended) is = active_holds own s kinds x kind ready.active is
+typed_holds own s x kind (out_of_operation e kinds jumps ended) is = active_holds own s [] x kind jumps.active is
 
 pub variables_have_their_kinds : VariablesHaveTheirKinds
-variables_have_their_kinds program well input events last x kind run is =
+variables_have_their_kinds program well plain input events last x kind run is =
     let p = program_form program in
     subst (λ (types : List TypeForm). HoldsKind types last x kind) (types_seen p (procedure_of last.activations))
-    (typed_holds (seen_now p last) last x kind (last_typed program well input events last run).inside is)
+    (typed_holds (seen_now p last) last x kind (last_typed program well plain input events last run).inside is)

@@ -34,16 +34,14 @@ use Rattle.ada_typed.proofs.Values.{OperandKind, of_kind, refers_to, lies_in, ki
 use Rattle.ada_typed.proofs.Objects.{kind_there, object_reached, own_object, record_no_access}
 use Rattle.ada_typed.proofs.Operators.{and_left, and_right, typed, unary_gives, binary_gives}
 use Rattle.ada_typed.proofs.Targets.{target_fine, store_fine, receive_fine, opens_fine}
-use Rattle.ada_typed.proofs.Overriding.{nothing_overridden}
 use Rattle.ada_typed.proofs.Treating.{all_within, treating_fits}
-use Rattle.ada_typed.proofs.Treatments.{treats_fine}
 use Rattle.ada_typed.proofs.Assigning.{object_filled, record_assign_fine, assigns_fine}
 use Rattle.ada_typed.proofs.Wholes.{newest_have, ready_without, copies_fine, refers_fine, record_target_fine, store_record_fine}
-use Rattle.ada_typed.proofs.Leavings.{end_fine, back_fine, leave_fine}
+use Rattle.ada_typed.proofs.Leavings.{end_fine, back_fine, resumes_fine, leave_fine}
 use Rattle.ada_typed.proofs.Frees.{free_fine, free_in_fine}
 use Rattle.ada_typed.proofs.Bodies.{SeenFits, Sees}
 use Rattle.ada_typed.proofs.Actuals.{profile_found, depth_computing, computing_fits}
-use Rattle.ada_typed.proofs.Kept.{crosses}
+use Rattle.ada_typed.proofs.Kept.{crosses, is_treatment}
 use Rattle.ada_typed.proofs.Control.{onto, OwnBody, FitStmt, FitStmts, FitBranches, WhereInside, Fits, Lands, depth, Ready, TypedIn, running, on_jump, catches}
 
 module _ (p : ProgramForm) (fit : SeenFits p) (bodies : List BodyForm) (sees : Sees bodies p) where
@@ -300,7 +298,7 @@ module _ (p : ProgramForm) (fit : SeenFits p) (bodies : List BodyForm) (sees : S
       let heap = s.heap ++ new_object cell ∷ [] in
       running kinds (ready_made p types shown x t by object cs values kinds s have ready is own reached never)
       (treating_fits p (cells_of heap) kinds (Names (record { 0 = length s.heap })) (frame.begins by []) (all_tasks types t PartsFirst) s.control
-      (t, (cell, named_newest p s.heap cell, refl), all_within types p.types t PartsFirst shown) (fits_more p kinds s.control s.heap cell fits))
+      (t, (cell, named_newest p s.heap cell, refl), all_within types p.types t PartsFirst shown, (tt, tt)) (fits_more p kinds s.control s.heap cell fits))
 
   -- What holds of a record object where it is declared.
   record_fine : (types : List TypeDefinition) → map type_form types ≡ p.types → (x t : ℕ) (initial : Option (List ItemForm)) (s : State) → Ready p [] s → initial_fits p.types p.variables (declares_record x t initial) ≡ true → Fits p (cells_of s.heap) [] s.control → Fine p (record_next named types x t initial s)
@@ -349,117 +347,116 @@ module _ (p : ProgramForm) (fit : SeenFits p) (bodies : List BodyForm) (sees : S
       running [] (ready_at p [] s (frame.Evaluates right ∷ frame.Declares x ∷ frame.Elaborates ds fs hs ∷ s.control) ready deep)
       (own.0, own.2, ([], own.0, refl, own.1, (refl, fits.1, and_right (early && fitting && lending) later fits.2, fits.3, fits.4, fits.5, fits.6)))
 
-  -- Each frame that is taken off, where no call begins or ends.
-  pub frame_fine : (types : List TypeDefinition) → map type_form types ≡ p.types → (f : Frame Value) → crosses f ≡ false → (s : State) (kinds : List OperandKind) → Ready p kinds s → depth (f ∷ s.control) ≤ length s.masters → Fits p (cells_of s.heap) kinds (f ∷ s.control) → Fine p (frame_next named types bodies f s)
-  frame_fine types shown (frame.Elaborates ds fs hs) stays s kinds ready deep fits =
+  -- Each frame that is taken off, where no call begins or ends, and no object is treated.
+  pub frame_fine : (types : List TypeDefinition) → map type_form types ≡ p.types → (f : Frame Value) → crosses f ≡ false → is_treatment f ≡ false → (s : State) (kinds : List OperandKind) → Ready p kinds s → depth (f ∷ s.control) ≤ length s.masters → Fits p (cells_of s.heap) kinds (f ∷ s.control) → Fine p (frame_next named types bodies f s)
+  frame_fine types shown (frame.Elaborates ds fs hs) stays plain s kinds ready deep fits =
       declarations_fine types shown ds fs hs s (ready_kinds p kinds [] s fits.0 ready) deep (refl, fits.1, fits.2, fits.3, fits.4, fits.5, fits.6)
-  frame_fine types shown (frame.Does fs) stays s kinds ready deep fits = stmts_fine types shown fs fits.1 s (ready_kinds p kinds [] s fits.0 ready) fits.2 fits.3 fits.4
-  frame_fine types shown (frame.Decides fs branches) stays s kinds ready deep fits =
+  frame_fine types shown (frame.Does fs) stays plain s kinds ready deep fits = stmts_fine types shown fs fits.1 s (ready_kinds p kinds [] s fits.0 ready) fits.2 fits.3 fits.4
+  frame_fine types shown (frame.Decides fs branches) stays plain s kinds ready deep fits =
       let taken = ready_kinds p kinds (of_kind variable.Boolean ∷ []) s fits.0 ready in
       decided_fine fs branches (newest named s) fits.1 (popped s) (cells_of s.heap) (newest_of p variable.Boolean [] s taken) (ready_pop p variable.Boolean [] s taken) fits.2 fits.3 fits.4 fits.5
-  frame_fine types shown (frame.Repeats condition fs) stays s kinds ready deep fits = repeats_fine condition fs s (ready_kinds p kinds [] s fits.0 ready) fits.1 fits.2 fits.3 fits.4
-  frame_fine types shown (frame.Turns e fs) stays s kinds ready deep fits =
+  frame_fine types shown (frame.Repeats condition fs) stays plain s kinds ready deep fits = repeats_fine condition fs s (ready_kinds p kinds [] s fits.0 ready) fits.1 fits.2 fits.3 fits.4
+  frame_fine types shown (frame.Turns e fs) stays plain s kinds ready deep fits =
       let taken = ready_kinds p kinds (of_kind variable.Boolean ∷ []) s fits.0 ready in
       turned_fine e fs (newest named s) (popped s) (cells_of s.heap) (newest_of p variable.Boolean [] s taken) (ready_pop p variable.Boolean [] s taken) fits.1 fits.2 fits.3 fits.4
-  frame_fine types shown (frame.Ranges x fs) stays s kinds ready deep fits =
+  frame_fine types shown (frame.Ranges x fs) stays plain s kinds ready deep fits =
       let high = ready_kinds p kinds (of_kind variable.Integer ∷ of_kind variable.Integer ∷ []) s fits.0 ready in
       let low = ready_pop p variable.Integer (of_kind variable.Integer ∷ []) s high in
       ranges_fine x fs (newest named (popped s)) (newest named s) (popped (popped s)) (cells_of s.heap) (newest_of p variable.Integer [] (popped s) low) (newest_of p variable.Integer (of_kind variable.Integer ∷ []) s high)
       (ready_pop p variable.Integer [] (popped s) low) fits.1 fits.2 fits.3 fits.4
-  frame_fine types shown (frame.Counts x value last fs) stays s kinds ready deep fits =
+  frame_fine types shown (frame.Counts x value last fs) stays plain s kinds ready deep fits =
       counts_fine (int_le value last) x value last fs s (ready_kinds p kinds [] s fits.0 ready) fits.1 fits.2 fits.3 fits.4
-  frame_fine types shown (frame.Handles hs) stays s kinds ready deep fits = running [] (ready_kinds p kinds [] s fits.0 ready) fits.4
-  frame_fine types shown frame.Exits stays s kinds ready deep fits =
+  frame_fine types shown (frame.Handles hs) stays plain s kinds ready deep fits = running [] (ready_kinds p kinds [] s fits.0 ready) fits.4
+  frame_fine types shown frame.Exits stays plain s kinds ready deep fits =
       let taken = ready_kinds p kinds (of_kind variable.Boolean ∷ []) s fits.0 ready in
       exited_fine (newest named s) (popped s) (cells_of s.heap) (newest_of p variable.Boolean [] s taken) (ready_pop p variable.Boolean [] s taken) fits.1 fits.2
-  frame_fine types shown frame.Closes stays s kinds ready deep fits = running kinds (ready_at p kinds s (frame.Leaves Running ∷ s.control) ready deep) fits
-  frame_fine types shown (frame.Leaves mode) stays s kinds ready deep fits = leave_fine p types shown mode s.masters s kinds refl ready deep fits
-  frame_fine types shown (frame.Calls procedure b actuals) stays s kinds ready deep fits = absurd (cc)
-  frame_fine types shown (frame.Returns actuals references) stays s kinds ready deep fits = absurd (cc)
-  frame_fine types shown (frame.Evaluates right) stays s kinds ready deep fits = right_fine p types shown right fits.0 s kinds ready fits.1 fits.2
-  frame_fine types shown (frame.Computes e) stays s kinds ready deep fits = expression_fine p e fits.0 s kinds ready fits.1 fits.2
-  frame_fine types shown (frame.Follows cs) stays s kinds ready deep fits =
+  frame_fine types shown frame.Closes stays plain s kinds ready deep fits = running kinds (ready_at p kinds s (frame.Leaves Running ∷ s.control) ready deep) fits
+  frame_fine types shown (frame.Leaves mode) stays plain s kinds ready deep fits = leave_fine p types shown mode s.masters s kinds refl ready deep fits
+  frame_fine types shown (frame.Calls procedure b actuals) stays plain s kinds ready deep fits = absurd (cc)
+  frame_fine types shown (frame.Returns actuals references) stays plain s kinds ready deep fits = absurd (cc)
+  frame_fine types shown (frame.Evaluates right) stays plain s kinds ready deep fits = right_fine p types shown right fits.0 s kinds ready fits.1 fits.2
+  frame_fine types shown (frame.Computes e) stays plain s kinds ready deep fits = expression_fine p e fits.0 s kinds ready fits.1 fits.2
+  frame_fine types shown (frame.Follows cs) stays plain s kinds ready deep fits =
       let taken = ready_kinds p kinds (of_kind fits.1 ∷ fits.0) s fits.3 ready in
       path_fine p cs (newest named s) fits.1 fits.2 (popped s) fits.0 (ready_pop p fits.1 fits.0 s taken) (newest_of p fits.1 fits.0 s taken) fits.5 fits.4 fits.6
-  frame_fine types shown (frame.TestsNull equal) stays s kinds ready deep fits =
+  frame_fine types shown (frame.TestsNull equal) stays plain s kinds ready deep fits =
       let taken = ready_kinds p kinds (of_kind (variable.Access fits.1) ∷ fits.0) s fits.2 ready in
       null_test_fine p equal fits.1 (newest named s) (popped s) fits.0 (cells_of s.heap) (newest_of p (variable.Access fits.1) fits.0 s taken) (ready_pop p (variable.Access fits.1) fits.0 s taken) fits.3
-  frame_fine types shown (frame.Refers q) stays s kinds ready deep fits =
+  frame_fine types shown (frame.Refers q) stays plain s kinds ready deep fits =
       record_holder_fine p q (λ place. frame.RefersIn place q.record_type) s kinds ready fits.1 (λ place. ready.deep)
       (λ access place rs recorded lies parts. (kinds, access, fits.0, rs, refl, recorded, lies, parts, fits.2, fits.3))
-  frame_fine types shown (frame.RefersIn place t) stays s kinds ready deep fits =
+  frame_fine types shown (frame.RefersIn place t) stays plain s kinds ready deep fits =
       let taken = ready_kinds p kinds (of_kind (variable.Access fits.1) ∷ fits.0) s fits.4 ready in
       subst (λ (m : ℕ). Fine p (refers_next named (newest named s) place m (look s.heap (newest named s)) (popped s))) (sym (width_shown types t fits.3 shown fits.5))
       (refers_fine p (newest named s) fits.1 fits.2 t place fits.3 (popped s) fits.0 (ready_pop p (variable.Access fits.1) fits.0 s taken) (newest_of p (variable.Access fits.1) fits.0 s taken) fits.5 fits.6 fits.7 fits.8 fits.9)
-  frame_fine types shown (frame.Opens path) stays s kinds ready deep fits = open_fine path.of_record path.selectors path.root fits.0 s kinds ready fits.1 fits.2 fits.3
-  frame_fine types shown (frame.OpensIn c) stays s kinds ready deep fits =
+  frame_fine types shown (frame.Opens path) stays plain s kinds ready deep fits = open_fine path.of_record path.selectors path.root fits.0 s kinds ready fits.1 fits.2 fits.3
+  frame_fine types shown (frame.OpensIn c) stays plain s kinds ready deep fits =
       let taken = ready_kinds p kinds (of_kind (variable.Access fits.1) ∷ fits.0) s fits.3 ready in
       opens_fine p (newest named s) fits.1 c fits.2 (popped s) fits.0 (ready_pop p (variable.Access fits.1) fits.0 s taken) (newest_of p (variable.Access fits.1) fits.0 s taken) fits.4 fits.5
-  frame_fine types shown (frame.Continues links) stays s kinds ready deep fits =
+  frame_fine types shown (frame.Continues links) stays plain s kinds ready deep fits =
       links_fine p links fits.1 fits.2 s fits.0 (ready_kinds p kinds (of_kind (kind_of fits.1) ∷ fits.0) s fits.3 ready) fits.4 fits.5
-  frame_fine types shown (frame.Applies operator) stays s kinds ready deep fits =
+  frame_fine types shown (frame.Applies operator) stays plain s kinds ready deep fits =
       let right = ready_kinds p kinds (of_kind (kind_of fits.2) ∷ of_kind (kind_of fits.1) ∷ fits.0) s fits.4 ready in
       let left = ready_pop p (kind_of fits.2) (of_kind (kind_of fits.1) ∷ fits.0) s right in
       outcome_fine p (binary_given operator (newest named (popped s)) (newest named s)) fits.3 (popped (popped s)) fits.0 (ready_pop p (kind_of fits.1) fits.0 (popped s) left)
       (binary_gives p.types (cells_of s.heap) operator fits.1 fits.2 fits.3 (newest named (popped s)) (newest named s) fits.5 (newest_of p (kind_of fits.1) fits.0 (popped s) left) (newest_of p (kind_of fits.2) (of_kind (kind_of fits.1) ∷ fits.0) s right)) fits.6
-  frame_fine types shown (frame.AppliesAlone operator) stays s kinds ready deep fits =
+  frame_fine types shown (frame.AppliesAlone operator) stays plain s kinds ready deep fits =
       let taken = ready_kinds p kinds (of_kind (kind_of fits.1) ∷ fits.0) s fits.3 ready in
       outcome_fine p (unary_given operator (newest named s)) fits.2 (popped s) fits.0 (ready_pop p (kind_of fits.1) fits.0 s taken)
       (unary_gives p.types (cells_of s.heap) operator fits.1 fits.2 (newest named s) fits.4 (newest_of p (kind_of fits.1) fits.0 s taken)) fits.5
-  frame_fine types shown (frame.Fills items) stays s kinds ready deep fits = items_fine p items fits.0 s kinds ready fits.1 fits.2
-  frame_fine types shown (frame.Copies first t) stays s kinds ready deep fits =
+  frame_fine types shown (frame.Fills items) stays plain s kinds ready deep fits = items_fine p items fits.0 s kinds ready fits.1 fits.2
+  frame_fine types shown (frame.Copies first t) stays plain s kinds ready deep fits =
       let taken = ready_kinds p kinds (of_kind (variable.Access fits.1) ∷ fits.0) s fits.3 ready in
       subst (λ (m : ℕ). Fine p (copies_next named (newest named s) first m (look s.heap (newest named s)) (popped s))) (sym (width_shown types t fits.2 shown fits.4))
       (copies_fine p (newest named s) fits.1 first fits.2 (popped s) fits.0 (ready_pop p (variable.Access fits.1) fits.0 s taken) (newest_of p (variable.Access fits.1) fits.0 s taken) fits.5 fits.6)
-  frame_fine types shown (frame.Creates access count) stays s kinds ready deep fits =
+  frame_fine types shown (frame.Creates access count) stays plain s kinds ready deep fits =
       let taken = ready_kinds p kinds (onto fits.1 fits.0) s fits.2 ready in
       subst (λ (m : ℕ). Fine p (new_next named types access m (words_of types access) (home_of access s.masters) s)) (sym fits.4)
       (new_fine p types shown (home_of access s.masters) access (words_of types access) s fits.0 fits.1 taken fits.3 fits.5)
-  frame_fine types shown (frame.Stores x) stays s kinds ready deep fits =
+  frame_fine types shown (frame.Stores x) stays plain s kinds ready deep fits =
       let taken = ready_kinds p kinds (of_kind fits.1 ∷ fits.0) s fits.2 ready in
       running fits.0 (put_in p fits.0 (popped s) x fits.1 (newest named s) (ready_pop p fits.1 fits.0 s taken) fits.3 (newest_of p fits.1 fits.0 s taken)) fits.4
-  frame_fine types shown (frame.Targets c right) stays s kinds ready deep fits =
+  frame_fine types shown (frame.Targets c right) stays plain s kinds ready deep fits =
       let taken = ready_kinds p kinds (of_kind (variable.Access fits.1) ∷ fits.0) s fits.3 ready in
       target_fine p (newest named s) fits.1 c right fits.2 (popped s) fits.0 (ready_pop p (variable.Access fits.1) fits.0 s taken) (newest_of p (variable.Access fits.1) fits.0 s taken) fits.4 fits.5 fits.6
-  frame_fine types shown (frame.StoresIn object c) stays s kinds ready deep fits =
+  frame_fine types shown (frame.StoresIn object c) stays plain s kinds ready deep fits =
       let taken = ready_kinds p kinds (of_kind fits.2 ∷ fits.0) s fits.3 ready in
       store_fine p object fits.1 c (newest named s) fits.2 (popped s) fits.0 fits.4 (ready_pop p fits.2 fits.0 s taken) fits.5 fits.6 (newest_of p fits.2 fits.0 s taken) fits.7
-  frame_fine types shown (frame.TargetsRecord first t items) stays s kinds ready deep fits =
+  frame_fine types shown (frame.TargetsRecord first t items) stays plain s kinds ready deep fits =
       let taken = ready_kinds p kinds (of_kind (variable.Access fits.1) ∷ fits.0) s fits.3 ready in
       subst (λ (m : ℕ). Fine p (record_target_next named (newest named s) first m items (look s.heap (newest named s)) (popped s))) (sym (width_shown types t fits.2 shown fits.4))
       (record_target_fine p (newest named s) fits.1 first fits.2 items (popped s) fits.0 (ready_pop p (variable.Access fits.1) fits.0 s taken) (newest_of p (variable.Access fits.1) fits.0 s taken) fits.5 fits.6 fits.7)
-  frame_fine types shown (frame.StoresRecord object first count) stays s kinds ready deep fits =
+  frame_fine types shown (frame.StoresRecord object first count) stays plain s kinds ready deep fits =
       let taken = ready_kinds p kinds (onto fits.2 fits.0) s fits.3 ready in
       subst (λ (m : ℕ). Fine p (store_record_next named object first m (look s.heap object) s)) (sym fits.4)
       (store_record_fine p object fits.1 first fits.2 s fits.0 fits.5 taken fits.6 fits.7 fits.8)
-  frame_fine types shown (frame.Assigns t) stays s kinds ready deep fits =
+  frame_fine types shown (frame.Assigns t) stays plain s kinds ready deep fits =
       let taken = ready_kinds p kinds (lies_in t ∷ lies_in t ∷ fits.0) s fits.2 ready in
       let left = ready_older p (lies_in t) (lies_in t ∷ fits.0) s taken in
       assigns_fine p types shown fit.types_fit t fits.1 (newest named (popped s)) (newest named s) (popped (popped s)) fits.0 (ready_older p (lies_in t) fits.0 (popped s) left) fits.3
       (newest_operand p (lies_in t) fits.0 (popped s) left) (newest_operand p (lies_in t) (lies_in t ∷ fits.0) s taken) fits.4
-  frame_fine types shown (frame.Receives c) stays s kinds ready deep fits =
+  frame_fine types shown (frame.Receives c) stays plain s kinds ready deep fits =
       let taken = ready_kinds p kinds (of_kind (variable.Access fits.1) ∷ fits.0) s fits.2 ready in
       receive_fine p (newest named s) fits.1 c (popped s) fits.0 (ready_pop p (variable.Access fits.1) fits.0 s taken) (newest_of p (variable.Access fits.1) fits.0 s taken) fits.3 fits.4
-  frame_fine types shown (frame.FreesIn access c) stays s kinds ready deep fits =
+  frame_fine types shown (frame.FreesIn access c) stays plain s kinds ready deep fits =
       let taken = ready_kinds p kinds (of_kind (variable.Access fits.1) ∷ fits.0) s fits.3 ready in
       free_in_fine p types shown (newest named s) access fits.1 fits.2 c (popped s) fits.0 (ready_pop p (variable.Access fits.1) fits.0 s taken) (newest_of p (variable.Access fits.1) fits.0 s taken) fits.4 fits.6
-  frame_fine types shown (frame.Declares x) stays s kinds ready deep fits =
+  frame_fine types shown (frame.Declares x) stays plain s kinds ready deep fits =
       let taken = ready_kinds p kinds (of_kind fits.1 ∷ fits.0) s fits.2 ready in
       running fits.0 (ready_owning p fits.0 (put x (newest named s) (popped s)) (declared x) (put_in p fits.0 (popped s) x fits.1 (newest named s) (ready_pop p fits.1 fits.0 s taken) fits.3 (newest_of p fits.1 fits.0 s taken))) fits.4
-  frame_fine types shown (frame.DeclaresRecord x t) stays s kinds ready deep fits =
+  frame_fine types shown (frame.DeclaresRecord x t) stays plain s kinds ready deep fits =
       let taken = ready_kinds p kinds (onto fits.2 fits.0) s fits.3 ready in
       let words : words_of types t ≡ length fits.2 = words_shown types t fits.2 shown fits.6 in
       subst (λ (m : ℕ). TypedIn p (made named types x t Copy (newest_ones named m s) (without_newest named m s))) (sym words)
       (made_fine types shown x t Copy fits.1 fits.2 (newest_ones named (length fits.2) s) fits.0 (without_newest named (length fits.2) s) (newest_have p fits.2 fits.0 s taken) (ready_without p fits.2 fits.0 s taken) fits.4 fits.5 fits.6 fits.7 fits.8)
-  frame_fine types shown (frame.Treats v treatment tasks) stays s kinds ready deep fits =
-      treats_fine p types shown (nothing_overridden types p.types shown fit.types_fit) bodies v treatment tasks s kinds ready fits.0 fits.1
-  frame_fine types shown (frame.Awaits v by done of part tasks) stays s kinds ready deep fits = absurd fits
-  frame_fine types shown frame.Confines stays s kinds ready deep fits = absurd fits
-  frame_fine types shown (frame.Resumes mode) stays s kinds ready deep fits = absurd fits
-  frame_fine types shown frame.Writes stays s kinds ready deep fits =
+  frame_fine types shown (frame.Treats v treatment tasks) stays plain s kinds ready deep fits = absurd (cc)
+  frame_fine types shown (frame.Awaits v by done of part tasks) stays plain s kinds ready deep fits = absurd fits
+  frame_fine types shown frame.Confines stays plain s kinds ready deep fits = absurd fits
+  frame_fine types shown (frame.Resumes mode) stays plain s kinds ready deep fits = resumes_fine p mode s kinds ready fits
+  frame_fine types shown frame.Writes stays plain s kinds ready deep fits =
       let taken = ready_kinds p kinds (of_kind variable.Integer ∷ fits.0) s fits.1 ready in
       line_fine (newest named s) (popped s) fits.0 (cells_of s.heap) (newest_of p variable.Integer fits.0 s taken) (ready_pop p variable.Integer fits.0 s taken) fits.2
-  frame_fine types shown (frame.Ends v) stays s kinds ready deep fits = end_fine p v s kinds fits.0 ready fits.1
-  frame_fine types shown (frame.GivesBack v cause pool) stays s kinds ready deep fits = back_fine p v cause pool s kinds fits.0 ready fits.1
-  frame_fine types shown (frame.Clears x) stays s kinds ready deep fits = running kinds (put_in p kinds s x (variable.Access fits.0) Null ready fits.1 tt) fits.2
-  frame_fine types shown (frame.ClearsIn object c) stays s kinds ready deep fits = store_fine p object fits.0 c Null (variable.Access fits.1) s kinds fits.2 ready fits.3 fits.4 tt fits.5
+  frame_fine types shown (frame.Ends v) stays plain s kinds ready deep fits = end_fine p v s kinds fits.0 ready fits.1
+  frame_fine types shown (frame.GivesBack v cause pool) stays plain s kinds ready deep fits = back_fine p v cause pool s kinds fits.0 ready fits.1
+  frame_fine types shown (frame.Clears x) stays plain s kinds ready deep fits = running kinds (put_in p kinds s x (variable.Access fits.0) Null ready fits.1 tt) fits.2
+  frame_fine types shown (frame.ClearsIn object c) stays plain s kinds ready deep fits = store_fine p object fits.0 c Null (variable.Access fits.1) s kinds fits.2 ready fits.3 fits.4 tt fits.5

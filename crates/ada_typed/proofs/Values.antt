@@ -1,7 +1,7 @@
 -- Values and their kinds: which value a variable or a component may hold, as objects come to be.
 
 use Rattle.ada_typed.specs.Holding.{Cells, Designates, IsAccess, IsRecord, HasKind, HaveKinds, IsPooled, IsFilled, parts_reached}
-use Rattle.std.proofs.Common.{◌≡◌, ℕ, zero, suc, Bool, true, false, List, [], ◌∷◌, ◌++◌, length, Option, Some, None, refl, ap, ◌∙◌, subst}
+use Rattle.std.proofs.Common.{◌≡◌, ℕ, zero, suc, Bool, true, false, List, [], ◌∷◌, ◌++◌, length, map, Option, Some, None, refl, ap, ◌∙◌, subst}
 use Rattle.std.specs.List.{slice_get, slice_set, slice_index_or}
 use Rattle.ada_program.specs.declared.program.ComponentKind.{ComponentKind}
 use Rattle.ada_program.specs.declared.program.ScalarType.{ScalarType}
@@ -17,11 +17,11 @@ use Rattle.ada_meaning.specs.Heap.{Cell}
 use Rattle.ada_meaning.specs.State.{Activation}
 use Rattle.ada_meaning.specs.Step.{first_or, older, places_of, operands_of, with_places, with_operands, blank, blanks}
 use Rattle.ada_meaning.specs.Named.{named}
-use Rattle.ada_typed.proofs.Parts.{parts_known}
+use Rattle.ada_typed.proofs.Parts.{parts_known, firsts_known}
 
--- An object has as many controlled parts as its type says (7.6).
+-- An object has as many controlled parts as its type says, and each begins where that says (7.6).
 abbrev pub HasParts : List TypeForm → Cell Value → Type 0
-HasParts types cell = length cell.parts ≡ parts_known types cell.access
+HasParts types cell = (length cell.parts ≡ parts_known types cell.access) × (map (λ q. q.first) cell.parts ≡ firsts_known types cell.access)
 
 -- Each object is filled, and has its controlled parts.
 abbrev pub AreFilled : List TypeForm → Cells → Cells → Type 0
@@ -173,7 +173,7 @@ module _ (types : List TypeForm) (cells after : Cells) (stay : StayDesignated ce
   operand_later (refers_to kind) v h = refers_later kind v h
   operand_later (lies_in t) v h = lies_later t v h
 
-  computed_later : (kinds : List OperandKind) (vs : List Value) → AreComputed types cells kinds vs → AreComputed types after kinds vs
+  pub computed_later : (kinds : List OperandKind) (vs : List Value) → AreComputed types cells kinds vs → AreComputed types after kinds vs
   computed_later [] vs h = tt
   computed_later (kind ∷ kinds) [] h = h
   computed_later (kind ∷ kinds) (v ∷ vs) h = (operand_later kind v h.0, computed_later kinds vs h.1)

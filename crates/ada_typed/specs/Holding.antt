@@ -7,7 +7,7 @@ use Rattle.ada_program.specs.declared.program.VariableKind.{VariableKind}
 use Rattle.ada_program.specs.declared.program.VariableKind.TheVariants as variable
 use Rattle.ada_program.specs.declared.program.Program.{Program}
 use Rattle.ada_program.specs.ProgramForm.{TypeForm, ProgramForm, program_form, seen_in}
-use Rattle.ada_program.specs.WellFormed.{IsWellFormed, is_access, reached_components, has_record_at, has_parts_from, object_named, parts_named, held_kind, variable_kind}
+use Rattle.ada_program.specs.WellFormed.{IsWellFormed, overrides_none, is_access, reached_components, has_record_at, has_parts_from, object_named, parts_named, held_kind, variable_kind}
 use Rattle.ada_values.specs.declared.value.Value.TheVariants as scalar
 use Rattle.ada_meaning.specs.declared.state.Id.{Id}
 use Rattle.ada_meaning.specs.declared.state.Place.{Place}
@@ -103,11 +103,11 @@ cells_of objects = map cell_of objects
 
 -- In every run of a well-formed program, what lies in an object is what the record type has that its access type designates.
 abbrev pub ObjectsHaveTheirKinds : Type 0
-ObjectsHaveTheirKinds = (program : Program) → IsWellFormed (program_form program) → (input : List ℤ) (events : List Event) (last : State) (o : Id) (object : Object) → Run program (first_state program input) events last → object_at last.heap o ≡ Some object → IsFilled (program_form program).types (cells_of last.heap) object.cell
+ObjectsHaveTheirKinds = (program : Program) → IsWellFormed (program_form program) → overrides_none (program_form program) ≡ true → (input : List ℤ) (events : List Event) (last : State) (o : Id) (object : Object) → Run program (first_state program input) events last → object_at last.heap o ≡ Some object → IsFilled (program_form program).types (cells_of last.heap) object.cell
 
 -- In every run of a well-formed program, an object has as many controlled parts as the program says of the objects of its type (7.6).
 abbrev pub ObjectsHaveTheirParts : Type 0
-ObjectsHaveTheirParts = (program : Program) → IsWellFormed (program_form program) → (input : List ℤ) (events : List Event) (last : State) (o : Id) (object : Object) → Run program (first_state program input) events last → object_at last.heap o ≡ Some object → length object.cell.parts ≡ parts_reached (program_form program).types object.cell.access
+ObjectsHaveTheirParts = (program : Program) → IsWellFormed (program_form program) → overrides_none (program_form program) ≡ true → (input : List ℤ) (events : List Event) (last : State) (o : Id) (object : Object) → Run program (first_state program input) events last → object_at last.heap o ≡ Some object → length object.cell.parts ≡ parts_reached (program_form program).types object.cell.access
 
 -- The program as the body sees it that runs.
 abbrev pub seen_now : ProgramForm → State → ProgramForm
@@ -120,7 +120,7 @@ HoldsKind types s x kind = (slice_get (places s) x ≡ Some (held named s x)) ×
 -- In every run of a well-formed program, each variable of the body that runs holds a value of its kind.
 abbrev pub VariablesHaveTheirKinds : Type 0
 VariablesHaveTheirKinds =
-    (program : Program) → IsWellFormed (program_form program) →
+    (program : Program) → IsWellFormed (program_form program) → overrides_none (program_form program) ≡ true →
     (input : List ℤ) (events : List Event) (last : State) (x : ℕ) (kind : VariableKind) →
     Run program (first_state program input) events last →
     variable_kind (seen_now (program_form program) last).variables x ≡ Some kind →

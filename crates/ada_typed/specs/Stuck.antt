@@ -1,18 +1,21 @@
 -- A well-formed program is never stuck: each action that a run comes to has a meaning.
 
-use Rattle.std.specs.Prelude.{◌≡◌, ℕ, ℤ, List, [], ◌∷◌}
+use Rattle.std.specs.Prelude.{◌≡◌, ℕ, ℤ, true, List, [], ◌∷◌, Some}
 use Rattle.ada_program.specs.declared.program.Choice.TheVariants as choice
 use Rattle.ada_program.specs.declared.program.Exception.{Exception}
+use Rattle.ada_program.specs.declared.program.Finalization.{Finalization}
+use Rattle.ada_program.specs.declared.program.ProcedureNo.{ProcedureNo}
 use Rattle.ada_program.specs.declared.program.Program.{Program}
 use Rattle.ada_program.specs.Form.{no_stmts, no_handlers, a_handler, handler_forms}
 use Rattle.ada_program.specs.ProgramForm.{program_form}
-use Rattle.ada_program.specs.WellFormed.{IsWellFormed}
+use Rattle.ada_program.specs.WellFormed.{finalization_of, IsWellFormed, overrides_none}
 use Rattle.ada_meaning.specs.declared.event.Halt.{Halt}
 use Rattle.ada_meaning.specs.declared.event.Halt.TheVariants.{Finished, Unhandled, Escaped, Erroneous, Stuck, Memory}
 use Rattle.ada_meaning.specs.declared.state.Mode.TheVariants.{Running}
 use Rattle.ada_meaning.specs.declared.state.Value.{Value}
 use Rattle.ada_meaning.specs.Frame.{Frame}
 use Rattle.ada_meaning.specs.Frame as frame
+use Rattle.ada_meaning.specs.Step.{procedure_of}
 use Rattle.ada_meaning.specs.Named.{State}
 use Rattle.ada_meaning.specs.Run.{Event, Run, Halts, first_state}
 
@@ -20,32 +23,32 @@ use Rattle.ada_meaning.specs.Run.{Event, Run, Halts, first_state}
 abbrev pub NeverStuck : Program → Type 0
 NeverStuck program = (input : List ℤ) (events : List Event) (last : State) → Run program (first_state program input) events last → Halts program last Stuck → ⊥
 
--- That holds of each program that is well formed.
+-- That holds of each program that is well formed, where its types override no operation.
 abbrev pub WellFormedProgramsAreNeverStuck : Type 0
-WellFormedProgramsAreNeverStuck = (program : Program) → IsWellFormed (program_form program) → NeverStuck program
+WellFormedProgramsAreNeverStuck = (program : Program) → IsWellFormed (program_form program) → overrides_none (program_form program) ≡ true → NeverStuck program
 
 -- No run of the program, whatever its input and whatever is granted and picked, has an exception leave an Adjust or a Finalize (7.6.1).
 abbrev pub NothingEscapes : Program → Type 0
 NothingEscapes program =
     (input : List ℤ) (events : List Event) (last : State) (e : Exception) → Run program (first_state program input) events last → Halts program last (Escaped e) → ⊥
 
--- That holds of each program that is well formed, since its types override no operation.
+-- That holds of each program that is well formed and whose types override no operation.
 abbrev pub NothingEscapesWellFormedPrograms : Type 0
-NothingEscapesWellFormedPrograms = (program : Program) → IsWellFormed (program_form program) → NothingEscapes program
+NothingEscapesWellFormedPrograms = (program : Program) → IsWellFormed (program_form program) → overrides_none (program_form program) ≡ true → NothingEscapes program
 
 -- A run ends in one of the ways that the language knows: the main procedure is left, or by an exception (11.4), or the next action would be
--- erroneous (13.11.2). No exception would leave an Adjust or a Finalize, since no type of a well-formed program overrides one so far.
+-- erroneous (13.11.2), or an exception leaves an Adjust or a Finalize, which is a bounded error (7.6.1).
 abbrev pub EndsByTheLanguage : Halt → Type 0
 EndsByTheLanguage Finished = Unit {0}
 EndsByTheLanguage (Unhandled e) = Unit {0}
-EndsByTheLanguage (Escaped e) = ⊥
+EndsByTheLanguage (Escaped e) = Unit {0}
 EndsByTheLanguage (Erroneous why) = Unit {0}
 EndsByTheLanguage Stuck = ⊥
 EndsByTheLanguage Memory = ⊥
 
--- Each run of a well-formed program ends so.
+-- Each run of such a program ends so.
 abbrev pub WellFormedProgramsEndByTheLanguage : Type 0
-WellFormedProgramsEndByTheLanguage = (program : Program) → IsWellFormed (program_form program) → (input : List ℤ) (events : List Event) (last : State) (halt : Halt) → Run program (first_state program input) events last → Halts program last halt → EndsByTheLanguage halt
+WellFormedProgramsEndByTheLanguage = (program : Program) → IsWellFormed (program_form program) → overrides_none (program_form program) ≡ true → (input : List ℤ) (events : List Event) (last : State) (halt : Halt) → Run program (first_state program input) events last → Halts program last halt → EndsByTheLanguage halt
 
 -- A run of the program comes to its end.
 abbrev pub Finishes : Program → Type 0
@@ -71,6 +74,23 @@ AssignsParts program =
 -- its end.
 abbrev pub AWellFormedProgramAssignsParts : Type 0
 AWellFormedProgramAssignsParts = (program : Program) × IsWellFormed (program_form program) × AssignsParts program × Finishes program
+
+-- A run of the program comes to the body of the procedure that overrides Finalize of a type (7.6).
+abbrev pub RunsFinalize : Program → Type 0
+RunsFinalize program =
+    (input : List ℤ) × (events : List Event) × (last : State) × (record_type : ℕ) × (finalization : Finalization) × (procedure : ProcedureNo)
+    × Run program (first_state program input) events last × (finalization_of (program_form program).types record_type ≡ Some finalization)
+    × (finalization.operations.finalize ≡ Some procedure) × (procedure_of last.activations ≡ Some procedure.0)
+
+-- So it is with operations: a well-formed program declares a record of a type that overrides Finalize, whose body runs as the main procedure is left, and comes
+-- to its end.
+abbrev pub AWellFormedProgramCallsFinalize : Type 0
+AWellFormedProgramCallsFinalize = (program : Program) × IsWellFormed (program_form program) × RunsFinalize program × Finishes program
+
+-- Where operations are overridden, being well formed is not enough so far: such a program gets stuck. It names a record by the component of one and the
+-- controlled part of another, which no path of a source does.
+abbrev pub AWellFormedProgramGetsStuck : Type 0
+AWellFormedProgramGetsStuck = (program : Program) × IsWellFormed (program_form program) × GetsStuck program
 
 -- The premise is needed: a program that writes the image of a Boolean as that of an Integer gets stuck.
 abbrev pub AnIllTypedProgramGetsStuck : Type 0

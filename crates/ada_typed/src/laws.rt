@@ -2,43 +2,44 @@
 
 ghost use Rattle.ada_typed.specs.Freeing.{ObjectsAreFreedByTheirTypes, AProgramFreesItsOwn, AProgramFreesAnother};
 ghost use Rattle.ada_typed.specs.Holding.{ObjectsHaveTheirKinds, ObjectsHaveTheirParts, VariablesHaveTheirKinds};
-ghost use Rattle.ada_typed.specs.Stuck.{WellFormedProgramsAreNeverStuck, NothingEscapesWellFormedPrograms, WellFormedProgramsEndByTheLanguage, AWellFormedProgramFinishes, AWellFormedProgramAssignsParts, AnIllTypedProgramGetsStuck, AnEmptyHandlerGetsStuck};
+ghost use Rattle.ada_typed.specs.Stuck.{WellFormedProgramsAreNeverStuck, NothingEscapesWellFormedPrograms, WellFormedProgramsEndByTheLanguage, AWellFormedProgramFinishes, AWellFormedProgramAssignsParts, AWellFormedProgramCallsFinalize, AWellFormedProgramGetsStuck, AnIllTypedProgramGetsStuck, AnEmptyHandlerGetsStuck};
 
-/// A well-formed program is never stuck: in each of its runs the next action has a meaning.
+/// A well-formed program whose types override no operation is never stuck: in each of its runs the next action has a
+/// meaning.
 pub fn well_formed_programs_are_never_stuck()
     ensures { WellFormedProgramsAreNeverStuck }
 {}
 
-/// In no run of a well-formed program does an exception leave an Adjust or a Finalize.
+/// In no run of a well-formed program whose types override no operation does an exception leave an Adjust or a Finalize.
 pub fn nothing_escapes_well_formed_programs()
     ensures { NothingEscapesWellFormedPrograms }
 {}
 
-/// So each of its runs ends in a way that the language knows: the main procedure is left, or by an exception, or the next
-/// action would be erroneous.
+/// So each run of such a program ends in a way that the language knows: the main procedure is left, or by an
+/// exception, or the next action would be erroneous, or an exception leaves an Adjust or a Finalize, a bounded error.
 pub fn well_formed_programs_end_by_the_language()
     ensures { WellFormedProgramsEndByTheLanguage }
 {}
 
-/// In every run of a well-formed program, what lies in an object is what the record type has that its access type
-/// designates: a value of its kind for each component, in order.
+/// In every run of such a program, what lies in an object is what the record type has that its access type designates: a
+/// value of its kind for each component, in order.
 pub fn objects_have_their_kinds()
     ensures { ObjectsHaveTheirKinds }
 {}
 
-/// In every run of a well-formed program, an object has as many controlled parts as the program says of the objects of its
-/// type (7.6).
+/// In every run of such a program, an object has as many controlled parts as the program says of the objects of its type
+/// (7.6).
 pub fn objects_have_their_parts()
     ensures { ObjectsHaveTheirParts }
 {}
 
-/// In every run of a well-formed program, each variable of the running activation holds a value of its kind, whether or
-/// not its declaration has been elaborated.
+/// In every run of such a program, each variable of the running activation holds a value of its kind, whether or not its
+/// declaration has been elaborated.
 pub fn variables_have_their_kinds()
     ensures { VariablesHaveTheirKinds }
 {}
 
-/// Where each Free of a well-formed program is by the instance for the access type of what it frees, each object that one
+/// Where each Free of such a program is by the instance for the access type of what it frees, each object that one
 /// of its runs is about to free is of the access type that the instance is for (13.11.2): what a variable names, and what
 /// a component does.
 pub fn objects_are_freed_by_their_types()
@@ -68,6 +69,18 @@ pub fn a_well_formed_program_finishes()
 /// second to the first, and comes to its end.
 pub fn a_well_formed_program_assigns_parts()
     ensures { AWellFormedProgramAssignsParts }
+{}
+
+/// So it is with operations: a well-formed program declares a record of a type that overrides Finalize, whose body runs as
+/// the main procedure is left, and comes to its end.
+pub fn a_well_formed_program_calls_finalize()
+    ensures { AWellFormedProgramCallsFinalize }
+{}
+
+/// Where operations are overridden, being well formed is not enough so far: such a program gets stuck. It names a record by
+/// the component of one and the controlled part of another, which no path of a source does.
+pub fn a_well_formed_program_gets_stuck()
+    ensures { AWellFormedProgramGetsStuck }
 {}
 
 /// The premise is needed: a program that writes the image of a Boolean as that of an Integer gets stuck.

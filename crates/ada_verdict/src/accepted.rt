@@ -1,12 +1,12 @@
 //! The checker: one phase after another, and the program that it accepts.
 
-ghost use Rattle.std.specs.Prelude.{◌≡◌, IfOk, IfErr};
+ghost use Rattle.std.specs.Prelude.{◌≡◌, true, IfOk, IfErr};
 ghost use Rattle.ada_flow.specs.Flow.{ObeysRules};
 ghost use Rattle.ada_meaning.specs.Safe.{Safe};
 ghost use Rattle.ada_program.specs.Freed.{FreesItsOwn};
 ghost use Rattle.ada_program.specs.Nested.{CollectionsNest};
 ghost use Rattle.ada_program.specs.ProgramForm.{program_form};
-ghost use Rattle.ada_program.specs.WellFormed.{IsWellFormed};
+ghost use Rattle.ada_program.specs.WellFormed.{IsWellFormed, overrides_none};
 ghost use Rattle.ada_sound.specs.Always.{IsChecked};
 ghost use Rattle.ada_tree.specs.StatementView.{unit_of};
 ghost use Rattle.ada_verdict.specs.First.{IsAccepted, IsFirst, IsProgramOf, IsSourceOf, RefusesRightly};
@@ -50,6 +50,7 @@ impl Accepted {
     pub fn program(&self) -> &Program
         ensures program { result.now ≡ self.now }
         ensures formed { IsWellFormed (program_form self.now) }
+        ensures inherits { overrides_none (program_form self.now) ≡ true }
         ensures rules { ObeysRules self.now }
         ensures safe { Safe self.now }
     {
@@ -97,6 +98,7 @@ fn checked(alloc: Global, source: &[u8]) -> Result<Accepted, Verdict>
 fn program_of(alloc: Global, source: &[u8]) -> Result<Program, Verdict>
     ensures meant { IfOk result (λ program. IsProgramOf source.now program) }
     ensures formed { IfOk result (λ program. IsWellFormed (program_form program)) }
+    ensures inherits { IfOk result (λ program. overrides_none (program_form program) ≡ true) }
     ensures nests { IfOk result (λ program. CollectionsNest (program_form program)) }
     ensures frees_own { IfOk result (λ program. FreesItsOwn (program_form program)) }
     ensures refused { IfErr result (λ verdict. IsFirst source.now verdict) }
@@ -114,6 +116,7 @@ fn meaning(alloc: Global, source: &[u8], unit: &Unit<'_>) -> Result<Program, Ver
     requires { IsSourceOf source.now (unit_of unit.now) }
     ensures meant { IfOk result (λ program. IsProgramOf source.now program) }
     ensures formed { IfOk result (λ program. IsWellFormed (program_form program)) }
+    ensures inherits { IfOk result (λ program. overrides_none (program_form program) ≡ true) }
     ensures nests { IfOk result (λ program. CollectionsNest (program_form program)) }
     ensures frees_own { IfOk result (λ program. FreesItsOwn (program_form program)) }
     ensures refused { IfErr result (λ verdict. IsFirst source.now verdict) }

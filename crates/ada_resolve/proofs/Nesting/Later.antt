@@ -208,9 +208,9 @@ module _ (types : List TypeForm) where
   late_borrower around k name (Some lender) w = late_value around k name true (variable.Access lender.1) (value_of lender.0) w
 
   -- the body of a procedure, which nests where it stands
-  pub late_body : (around : List ℕ) (k z : Known) (head : HeadTree) (fs : StmtsForm) (hs : HandlersForm) (last : Spot) → LateOpen around k → InBody (around_body k head) z → body_nests types (callees_from types [] z.bodies) (body_of z fs hs last) (collected k.here.elaborated ++ around) ≡ true → LateOpen around (declared (left_body (around_body k head) z (body_of z fs hs last)) head.name.text (entity.Callable (next_procedure z)))
-  late_body around k z head fs hs last w f h =
-      let b = body_of z fs hs last in
+  pub late_body : (around : List ℕ) (k z : Known) (head : HeadTree) (fs : StmtsForm) (hs : HandlersForm) (start last : Spot) → LateOpen around k → InBody (around_body k head) z → body_nests types (callees_from types [] z.bodies) (body_of z fs hs start last) (collected k.here.elaborated ++ around) ≡ true → LateOpen around (declared (left_body (around_body k head) z (body_of z fs hs start last)) head.name.text (entity.Callable (next_procedure z)))
+  late_body around k z head fs hs start last w f h =
+      let b = body_of z fs hs start last in
       let us = collected k.here.elaborated ++ around in
       let text = head.name.text in
       let ns = k.here.names in

@@ -19,7 +19,7 @@ use Rattle.ada_resolve.specs.Known.{Known, Part, parts, with_part, left_to, next
 use Rattle.ada_resolve.specs.Objects.{after_types, object_type_found, initial_found, held_of}
 use Rattle.ada_resolve.specs.Procedures.{no_formals, with_formals, behind_head}
 use Rattle.ada_resolve.specs.Resolution.{gives, At, known_at, declaration_remark, declaration_known, LoopHead, on_condition, over_range, with_parameter, loop_of, behind_loop, Others, SequenceForm, simple_told, statement_told, sequence_told, statements_told, branches_told, handlers_told, declaration_told, declarations_told}
-use Rattle.ada_resolve.specs.Spots.{end_of}
+use Rattle.ada_resolve.specs.Spots.{end_of, head_spot}
 use Rattle.ada_resolve.proofs.Elaborated.{no_types, some_variable, object_made, borrower_made, made_full, made_back, body_back, body_late, complete_back}
 use Rattle.ada_resolve.proofs.Nesting.Callees.{IsAway, wider_same}
 use Rattle.ada_resolve.proofs.Nesting.Calls.{EntityCalls, NamesCall, PartsCall, calls_on, calls_entered}
@@ -335,12 +335,13 @@ module _ (types : List TypeForm) where
         let z = d.done.1.0 in
         let fs = d.done.0.0 in
         let hs = d.done.0.1 in
+        let start = head_spot head in
         let last = end_of body in
         let stays = body_stays head ds body end_name at next d s in
         let off = body_late head ds body end_name at next d s in
         let late = ready types us at.0 s o w (body_back head ds body end_name at next d s (c off)) in
         let vs = collected k.here.elaborated ++ us in
-        let is = d.known ∙ ended_is (around_body k head) z head.name fs hs last stays.done_in in
+        let is = d.known ∙ ended_is (around_body k head) z head.name fs hs start last stays.done_in in
         let ts : AreIn (forms z.types) (forms types) = subst (λ (v : Known). AreIn (forms v.types) (forms types)) is (g off) in
         let order : InOrder d.inner.0 = subst InOrder (sym d.inner_known) (body_early k head) in
         let ended : Ended d.inner.0 = subst Ended (sym d.inner_known) ((body_begins k head).ended ((after_follows at.0).ended b)) in
@@ -350,7 +351,7 @@ module _ (types : List TypeForm) where
         (λ v ordered bodies there. sequence_nested false body vs d.behind d.done v ordered bodies there ts d.told) in
         behind off
         (subst (λ v. LateOpen types us v) (sym is)
-        (late_body types us k z head fs hs last late stays.done_in (block_nests vs z d.done.0 h z.bodies (λ i x there. there))))
+        (late_body types us k z head fs hs start last late stays.done_in (block_nests vs z d.done.0 h z.bodies (λ i x there. there))))
     told_nested (object_declaration name type_name initial) us at next s o b w c g e =
         let d = object_declaration name type_name initial in
         let one = single_done d at next e in

@@ -21,7 +21,7 @@ use Rattle.ada_resolve.specs.Known.{Known, with_part, without_part}
 use Rattle.ada_resolve.specs.Objects.{after_types}
 use Rattle.ada_resolve.specs.Remark.{node, ◌also◌, noted}
 use Rattle.ada_resolve.specs.Resolution.{Told, broken, gives, and_then, settled, At, declarations_told, begin_remark, at_begin, made_into, knowing, node_told, condition_told, LoopHead, on_condition, over_range, range_remark, with_parameter, head_told, loop_of, behind_loop, ended_loop, ended_block, body_remark, simple_told, choices_told, Others, statement_told, sequence_told, SequenceForm, block_of, known_at, declaration_remark, declaration_known, single_told, declaration_told, body_head_told, same_name, ended_body, statements_told, branches_told, handlers_told}
-use Rattle.ada_resolve.specs.Spots.{end_of}
+use Rattle.ada_resolve.specs.Spots.{end_of, head_spot}
 use Rattle.ada_resolve.specs.Statements.{bound_meant, condition_meant, condition_remark, simple_texts, statement_meant, statement_remark, with_texts}
 use Rattle.ada_resolve.proofs.WellFormed.Remarks.{Quiet, noted_quiet, settled_all, settled_quiet}
 
@@ -247,11 +247,11 @@ same_end procedure (Some name) x y e = by_name (bytes_eq name.text procedure) re
     by_name false on e = absurd (cc e)
 
 -- a body that ends
-body_gives : (name : Ident) (last : Spot) (end_name : Option Ident) (t : Told (SequenceForm × At)) (y : At) → ended_body name last end_name t ≡ gives y → (x : SequenceForm × At) × (t ≡ gives x) × (y.0 ≡ body_ended name x.0.0 x.0.1 last x.1.0) × IsEndName name.text end_name
-body_gives name last end_name (broken spot rule) y e = absurd (cc e)
-body_gives name last end_name (gives x) y e =
-    let z : At = (body_ended name x.0.0 x.0.1 last x.1.0, x.1.1) in
-    (x, refl, first_same (sym (same_gives name.text end_name z y e)), same_end name.text end_name z y e)
+body_gives : (head : HeadTree) (last : Spot) (end_name : Option Ident) (t : Told (SequenceForm × At)) (y : At) → ended_body head last end_name t ≡ gives y → (x : SequenceForm × At) × (t ≡ gives x) × (y.0 ≡ body_ended head.name x.0.0 x.0.1 (head_spot head) last x.1.0) × IsEndName head.name.text end_name
+body_gives head last end_name (broken spot rule) y e = absurd (cc e)
+body_gives head last end_name (gives x) y e =
+    let z : At = (body_ended head.name x.0.0 x.0.1 (head_spot head) last x.1.0, x.1.1) in
+    (x, refl, first_same (sym (same_gives head.name.text end_name z y e)), same_end head.name.text end_name z y e)
 
 -- the body of a procedure
 pub record ProcedureDone (head : HeadTree) (ds : DeclarationsTree) (body : SequenceTree) (end_name : Option Ident) (at next : At) : Type 0 where
@@ -262,15 +262,15 @@ pub record ProcedureDone (head : HeadTree) (ds : DeclarationsTree) (body : Seque
   pub declared : declarations_told ds inner ≡ gives behind
   pub done : SequenceForm × At
   pub told : sequence_told false body behind ≡ gives done
-  pub known : next.0 ≡ body_ended head.name done.0.0 done.0.1 (end_of body) done.1.0
+  pub known : next.0 ≡ body_ended head.name done.0.0 done.0.1 (head_spot head) (end_of body) done.1.0
   pub end_so : IsEndName head.name.text end_name
 
 pub procedure_done : (head : HeadTree) (ds : DeclarationsTree) (body : SequenceTree) (end_name : Option Ident) (at next : At) → declaration_told (body_declaration head ds body end_name) at ≡ gives next → ProcedureDone head ds body end_name at next
 procedure_done head ds body end_name at next is =
-    let first = gone_on (body_head_told head at) (λ inner. and_then (declarations_told ds inner) (λ behind. ended_body head.name (end_of body) end_name (sequence_told false body behind))) next is in
+    let first = gone_on (body_head_told head at) (λ inner. and_then (declarations_told ds inner) (λ behind. ended_body head (end_of body) end_name (sequence_told false body behind))) next is in
     let told = settled_quiet (body_head_remark (after_types at.0) head) at.1 (behind_head (after_types at.0) head) first.0 first.1 in
-    let behind = gone_on (declarations_told ds first.0) (λ behind. ended_body head.name (end_of body) end_name (sequence_told false body behind)) next first.2 in
-    let made = body_gives head.name (end_of body) end_name (sequence_told false body behind.0) next behind.2 in
+    let behind = gone_on (declarations_told ds first.0) (λ behind. ended_body head (end_of body) end_name (sequence_told false body behind)) next first.2 in
+    let made = body_gives head (end_of body) end_name (sequence_told false body behind.0) next behind.2 in
     record {
       quiet = told.0;
       inner = first.0;

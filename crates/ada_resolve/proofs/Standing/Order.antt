@@ -13,6 +13,7 @@ use Rattle.ada_resolve.specs.Clauses.{pool_of}
 use Rattle.ada_resolve.specs.Known.{Known, Named, Part, named, from_part, named_in, inner_first, outermost, visible, parts, no_body_yet}
 use Rattle.ada_resolve.specs.Paths.{name_of_type}
 use Rattle.ada_resolve.specs.Resolution.{known_first}
+use Rattle.ada_resolve.proofs.WellFormed.Inherits.{type_stands}
 use Rattle.ada_resolve.proofs.WellFormed.Forms.{forms, forms_length}
 use Rattle.ada_resolve.proofs.WellFormed.Laid.{IsUnused}
 use Rattle.ada_resolve.proofs.WellFormed.Names.{PartsFit, first_of_two, within_of, outermost_fits}
@@ -65,7 +66,7 @@ pub record IsBounded (k : Known) : Type 0 where
 
 -- what is known is in order, at any place
 pub record Sound (k : Known) : Type 0 where
-  pub types_fit : list_all (fits.type_fits k.types) k.types ≡ true
+  pub types_fit : list_all (type_stands k.types) k.types ≡ true
   pub variables_fit : list_all (fits.variable_fits k.types) k.variables ≡ true
   pub names : PartsFit k.types k.variables (parts k)
   pub exceptions : PartsRaised k.exceptions (parts k)

@@ -365,20 +365,20 @@ left_body_sound k z b s f own = record {
 }
 
 -- what is known behind a body, in the words of the place before it
-pub ended_is : (k z : Known) (name : Ident) (fs : StmtsForm) (hs : HandlersForm) (last : Spot) → InBody k z → body_ended name fs hs last z ≡ declared (left_body k z (body_of z fs hs last)) name.text (entity.Callable (next_procedure z))
-ended_is k z name fs hs last f =
-    ap (λ (v : Known). declared (with_procedure (body_of z fs hs last) (record v { variables = variables_around z.here.around })) name.text (entity.Callable (next_procedure z)))
+pub ended_is : (k z : Known) (name : Ident) (fs : StmtsForm) (hs : HandlersForm) (start last : Spot) → InBody k z → body_ended name fs hs start last z ≡ declared (left_body k z (body_of z fs hs start last)) name.text (entity.Callable (next_procedure z))
+ended_is k z name fs hs start last f =
+    ap (λ (v : Known). declared (with_procedure (body_of z fs hs start last) (record v { variables = variables_around z.here.around })) name.text (entity.Callable (next_procedure z)))
     (left_parts z z.outer k.here k.outer f.outer) ∙
-    ap (λ (a : Option (List VariableForm)). declared (with_procedure (body_of z fs hs last) (record z { here = k.here; outer = k.outer; variables = variables_around a })) name.text (entity.Callable (next_procedure z)))
+    ap (λ (a : Option (List VariableForm)). declared (with_procedure (body_of z fs hs start last) (record z { here = k.here; outer = k.outer; variables = variables_around a })) name.text (entity.Callable (next_procedure z)))
     f.around
 
-pub body_ended_sound : (k z : Known) (name : Ident) (fs : StmtsForm) (hs : HandlersForm) (last : Spot) → Sound k → InBody k z → Sound (body_ended name fs hs last z)
-body_ended_sound k z name fs hs last s f =
-    let b = body_of z fs hs last in
+pub body_ended_sound : (k z : Known) (name : Ident) (fs : StmtsForm) (hs : HandlersForm) (start last : Spot) → Sound k → InBody k z → Sound (body_ended name fs hs start last z)
+body_ended_sound k z name fs hs start last s f =
+    let b = body_of z fs hs start last in
     let one = longer_bodies z.bodies b in
     let modes = f.sound.bounds.modes in
     let variables = f.sound.bounds.first_variable in
-    subst Sound (sym (ended_is k z name fs hs last f))
+    subst Sound (sym (ended_is k z name fs hs start last f))
     (name_sound (left_body k z b) name.text (entity.Callable (next_procedure z)) (left_body_sound k z b s f (omega (arith, modes, variables))) tt tt (omega (arith, one)) tt (λ none. tt))
 
 -- a name that stands for something is another than a new one, which is entered twice
@@ -394,22 +394,22 @@ twice_entered ns name text a b x none is =
     apart same = no_entity (sym none ∙ subst (λ (n : List ℕ). named n ns ≡ Some x) same is)
 
 -- what was declared in its part is so behind a body
-pub body_ended_names : (k z : Known) (head : HeadTree) (fs : StmtsForm) (hs : HandlersForm) (last : Spot) → named head.name.text k.here.names ≡ None → InBody (around_body k head) z → (text : List ℕ) (x : Entity) → named text k.here.names ≡ Some x → named text (body_ended head.name fs hs last z).here.names ≡ Some x
-body_ended_names k z head fs hs last none f text x is =
-    ap (λ (v : Known). named text v.here.names) (ended_is (around_body k head) z head.name fs hs last f) ∙
+pub body_ended_names : (k z : Known) (head : HeadTree) (fs : StmtsForm) (hs : HandlersForm) (start last : Spot) → named head.name.text k.here.names ≡ None → InBody (around_body k head) z → (text : List ℕ) (x : Entity) → named text k.here.names ≡ Some x → named text (body_ended head.name fs hs start last z).here.names ≡ Some x
+body_ended_names k z head fs hs start last none f text x is =
+    ap (λ (v : Known). named text v.here.names) (ended_is (around_body k head) z head.name fs hs start last f) ∙
     twice_entered k.here.names head.name.text text entity.Procedure (entity.Callable (next_procedure z)) x none is
 
 -- a body stands before there
-pub body_ended_some : (k z : Known) (name : Ident) (fs : StmtsForm) (hs : HandlersForm) (last : Spot) → Sound k → InBody k z → no_body_yet (body_ended name fs hs last z) ≡ true → ⊥
-body_ended_some k z name fs hs last s f none = some_body k z (body_of z fs hs last) s f (ap (λ (v : Known). no_body_yet v) (sym (ended_is k z name fs hs last f)) ∙ none)
+pub body_ended_some : (k z : Known) (name : Ident) (fs : StmtsForm) (hs : HandlersForm) (start last : Spot) → Sound k → InBody k z → no_body_yet (body_ended name fs hs start last z) ≡ true → ⊥
+body_ended_some k z name fs hs start last s f none = some_body k z (body_of z fs hs start last) s f (ap (λ (v : Known). no_body_yet v) (sym (ended_is k z name fs hs start last f)) ∙ none)
 
 -- a body leaves the names of its part but its own, and the tables
-pub body_ended_keeps : (k : Known) (z : Known) (head : HeadTree) (spot : Spot) (fs : StmtsForm) (hs : HandlersForm) (last : Spot) → Sound k → named head.name.text k.here.names ≡ None → InBody (around_body k head) z → Keeps k (body_ended head.name fs hs last z)
-body_ended_keeps k z head spot fs hs last s none f =
+pub body_ended_keeps : (k : Known) (z : Known) (head : HeadTree) (spot : Spot) (fs : StmtsForm) (hs : HandlersForm) (start last : Spot) → Sound k → named head.name.text k.here.names ≡ None → InBody (around_body k head) z → Keeps k (body_ended head.name fs hs start last z)
+body_ended_keeps k z head spot fs hs start last s none f =
     let k1 = around_body k head in
-    let b = body_of z fs hs last in
+    let b = body_of z fs hs start last in
     let e = entity.Callable (next_procedure z) in
-    subst (λ (v : Known). Keeps k v) (sym (ended_is k1 z head.name fs hs last f)) (record {
+    subst (λ (v : Known). Keeps k v) (sym (ended_is k1 z head.name fs hs start last f)) (record {
       types = λ t form is settled. (f.types t form is, λ yet. absurd (some_body k1 z b (around_sound k head s) f yet));
       accesses = λ t name d is. f.types t (access_to name d None) is;
       placed = f.placed;

@@ -10,7 +10,7 @@ use Rattle.std.specs.Prelude.{Option}
 use Rattle.ada_tree.specs.Names.{Ident}
 use Rattle.ada_tree.specs.Declarations.{HeadTree}
 use Rattle.ada_resolve.specs.Procedures.{body_head_remark}
-use Rattle.ada_resolve.specs.Spots.{end_of, first_or}
+use Rattle.ada_resolve.specs.Spots.{end_of, first_or, head_spot}
 use Rattle.ada_resolve.proofs.WellFormed.Remarks.{Quiet}
 use Rattle.ada_resolve.specs.Objects.{after_types}
 use Rattle.ada_resolve.specs.Resolution.{gives, At, LoopHead, behind_loop, Others, simple_told, statement_told, SequenceForm, sequence_told, declaration_told, declarations_told, statements_told, branches_told, handlers_told}
@@ -152,10 +152,10 @@ body_stays_by head ds body end_name at next d s declares keeps sequence =
       behind_in = behind_in;
       sequence = stays;
       done_in = done_in;
-      sound = subst Sound (sym d.known) (body_ended_sound (around_body k head) d.done.1.0 head.name d.done.0.0 d.done.0.1 (end_of body) (around_sound k head before) done_in);
+      sound = subst Sound (sym d.known) (body_ended_sound (around_body k head) d.done.1.0 head.name d.done.0.0 d.done.0.1 (head_spot head) (end_of body) (around_sound k head before) done_in);
       keeps = keeps_on at.0 k next.0 (ended_keeps at.0)
           (subst (λ (v : Known). Keeps k v) (sym d.known)
-          (body_ended_keeps k d.done.1.0 head head.spot d.done.0.0 d.done.0.1 (end_of body) before (new_slot k head.name (first_or head.overriding head.spot) (head_new k head d.quiet)) done_in));
+          (body_ended_keeps k d.done.1.0 head head.spot d.done.0.0 d.done.0.1 (head_spot head) (end_of body) before (new_slot k head.name (first_or head.overriding head.spot) (head_new k head d.quiet)) done_in));
     }
 
 mutual

@@ -20,6 +20,7 @@ use Rattle.ada_resolve.specs.Pools.{aspect_found}
 use Rattle.ada_resolve.specs.Derived.{derived_type_known, limited_parent, with_parent}
 use Rattle.ada_resolve.specs.Records.{Composition, components_written, composed, counted, finalization_made, no_components, record_made, record_type_known, with_record}
 use Rattle.ada_resolve.specs.Types.{incomplete_of, completed_type, record_found, is_designated, number_of, defined, incomplete_known, completion_remark, access_defined, access_known, with_definition}
+use Rattle.ada_resolve.proofs.WellFormed.Inherits.{type_stands}
 use Rattle.ada_resolve.proofs.WellFormed.Remarks.{Quiet, quiet_if}
 use Rattle.ada_resolve.proofs.WellFormed.Tables as tables
 use Rattle.ada_resolve.proofs.WellFormed.Tables.{all_more, all_set, get_more, get_last, get_set, get_other, keeps_more, record_more, keeps_set, record_set, record_other, plains_without, plains_kept, type_both, components_kept, object_kind_kept, variable_kept, all_weaker, both_parts}
@@ -43,7 +44,7 @@ pub record Grown (n : ℕ) (text : List ℕ) (types more : List TypeForm) : Type
   pub keeps : (t : ℕ) (form : TypeForm) → (form_name form ≡ text → ⊥) → slice_get types t ≡ Some form → slice_get more t ≡ Some form
   pub before : (t : ℕ) (form : TypeForm) → t < n → slice_get types t ≡ Some form → slice_get more t ≡ Some form
   pub longer : length types ≤ length more
-  pub types_fit : list_all (fits.type_fits more) more ≡ true
+  pub types_fit : list_all (type_stands more) more ≡ true
   pub laid : AreRecordsLaid more
 
 entity_kept : (n : ℕ) (types more : List TypeForm) (variables : List VariableForm) (text other : List ℕ) → Grown n text types more → (other ≡ text → ⊥) → (e : Entity) → EntityFits types variables other e → EntityFits more variables other e
@@ -140,15 +141,15 @@ pub one_longer : (types : List TypeForm) (form : TypeForm) → length types ≤ 
 one_longer [] form = omega arith
 one_longer (x ∷ types) form = let h = one_longer types form in omega arith
 
-grown_more : (n : ℕ) (text : List ℕ) (types : List TypeForm) (form : TypeForm) → list_all (fits.type_fits types) types ≡ true → fits.type_fits (types ++ form ∷ []) form ≡ true → IsNext (fits.numbered_types types) (fits.finalization_in (Some form)) → AreRecordsLaid types → IsLaid types form → Grown n text types (types ++ form ∷ [])
+grown_more : (n : ℕ) (text : List ℕ) (types : List TypeForm) (form : TypeForm) → list_all (type_stands types) types ≡ true → type_stands (types ++ form ∷ []) form ≡ true → IsNext (fits.numbered_types types) (fits.finalization_in (Some form)) → AreRecordsLaid types → IsLaid types form → Grown n text types (types ++ form ∷ [])
 grown_more n text types form all own next laid lies = record {
   kept = keeps_more types form;
   keeps = λ t x ne is. get_more types form t x is;
   before = λ t x b is. get_more types form t x is;
   longer = one_longer types form;
-  types_fit = all_more (fits.type_fits (types ++ form ∷ [])) types (form ∷ [])
+  types_fit = all_more (type_stands (types ++ form ∷ [])) types (form ∷ [])
       (types_kept types (types ++ form ∷ []) (keeps_more types form) (record_more types form) (counted_more types form laid next) all)
-      (both_parts (fits.type_fits (types ++ form ∷ []) form) true own refl);
+      (both_parts (type_stands (types ++ form ∷ []) form) true own refl);
   laid = records_laid_more types form laid lies;
 }
 
@@ -159,7 +160,7 @@ length_set (x ∷ types) zero form = refl
 length_set (x ∷ types) (suc t) form = let h = length_set types t form in omega arith
 
 -- the types of an incomplete type's name
-grown_set : (n : ℕ) (text : List ℕ) (types : List TypeForm) (t : ℕ) (form : TypeForm) → n ≤ t → slice_get types t ≡ Some (record_of text [] [] None) → list_all (fits.type_fits (slice_set types t form)) (slice_set types t form) ≡ true → IsUnused types t → AreRecordsLaid types → Avoids t form → IsLaid types form → Grown n text types (slice_set types t form)
+grown_set : (n : ℕ) (text : List ℕ) (types : List TypeForm) (t : ℕ) (form : TypeForm) → n ≤ t → slice_get types t ≡ Some (record_of text [] [] None) → list_all (type_stands (slice_set types t form)) (slice_set types t form) ≡ true → IsUnused types t → AreRecordsLaid types → Avoids t form → IsLaid types form → Grown n text types (slice_set types t form)
 grown_set n text types t form behind is all unused laid avoids lies = record {
   kept = keeps_set types t form (record_is types t text [] [] None is);
   keeps = λ u x ne there. get_other types t u form (λ same. ne (same_name x (sym there ∙ (ap (λ v. slice_get types v) (sym same) ∙ is)))) ∙ there;
@@ -238,7 +239,7 @@ record_one : (types : List TypeForm) (n : ℕ) (text : List ℕ) (c : Option Typ
 record_one types n text None form h = one_behind types form
 record_one types n text (Some t) form h = one_replaced types t.0 (record_of text [] [] None) form h.1 refl
 
-record_defined : (n : ℕ) (types : List TypeForm) (variables : List VariableForm) (text : List ℕ) (ps : List PartForm) (cs : List ComponentKind) (final : Option Finalization) (size : ℕ) (c : Option TypeNo) → Completes n types text c → list_all (fits.type_fits types) types ≡ true → list_all (fits.kind_fits types) cs ≡ true → SaysParts types ps final → AreRecordsLaid types → IsLaid types (record_of text ps cs final) → CompletedHas (λ t. Avoids t (record_of text ps cs final)) c → Grown n text types (defined c (record_of text ps cs final) types) × EntityFits (defined c (record_of text ps cs final) types) variables text (entity.Record (number_of c types) size)
+record_defined : (n : ℕ) (types : List TypeForm) (variables : List VariableForm) (text : List ℕ) (ps : List PartForm) (cs : List ComponentKind) (final : Option Finalization) (size : ℕ) (c : Option TypeNo) → Completes n types text c → list_all (type_stands types) types ≡ true → list_all (fits.kind_fits types) cs ≡ true → SaysParts types ps final → AreRecordsLaid types → IsLaid types (record_of text ps cs final) → CompletedHas (λ t. Avoids t (record_of text ps cs final)) c → Grown n text types (defined c (record_of text ps cs final) types) × EntityFits (defined c (record_of text ps cs final) types) variables text (entity.Record (number_of c types) size)
 record_defined n types variables text ps cs final size None h all own says laid lies avoids =
     let form = record_of text ps cs final in
     let more = types ++ form ∷ [] in (
@@ -253,7 +254,7 @@ record_defined n types variables text ps cs final size (Some t) h all own says l
     let more = slice_set types t.0 form in
     let keeps : tables.Keeps types more = keeps_set types t.0 form (record_is types t.0 text [] [] None h.1) in (
       grown_set n text types t.0 form h.0 h.1
-          (all_set (fits.type_fits more) types t.0 form
+          (all_set (type_stands more) types t.0 form
           (types_kept types more keeps (record_set types t.0 text ps cs final) (counted_set types t.0 (record_of text [] [] None) form h.1 refl h.2 says.0) all)
           (type_both more form (components_kept types more keeps cs own)
           (record_counted types more text ps cs final all (one_replaced types t.0 (record_of text [] [] None) form h.1 refl) (alike_set types t.0 form form avoids) says)))
@@ -306,14 +307,14 @@ may_complete k name designated d (Some t) h r q = (
     one_name : (ps : List PartForm) (cs : List ComponentKind) (final : Option Finalization) → Some (record_of designated.text ps cs final) ≡ Some (record_of name.text [] [] None) → designated.text ≡ name.text
     one_name ps cs final e = cc e
 
-access_type_defined : (n : ℕ) (types : List TypeForm) (variables : List VariableForm) (text : List ℕ) (d : ℕ) (pool : Option ℕ) (c : Option TypeNo) → Completes n types text c → MayComplete types d c → fits.is_record types d ≡ true → list_all (fits.type_fits types) types ≡ true → AreRecordsLaid types → Grown n text types (defined c (access_to text d pool) types) × EntityFits (defined c (access_to text d pool) types) variables text (entity.Access (number_of c types))
+access_type_defined : (n : ℕ) (types : List TypeForm) (variables : List VariableForm) (text : List ℕ) (d : ℕ) (pool : Option ℕ) (c : Option TypeNo) → Completes n types text c → MayComplete types d c → fits.is_record types d ≡ true → list_all (type_stands types) types ≡ true → AreRecordsLaid types → Grown n text types (defined c (access_to text d pool) types) × EntityFits (defined c (access_to text d pool) types) variables text (entity.Access (number_of c types))
 access_type_defined n types variables text d pool None h m r all laid =
     (grown_more n text types (access_to text d pool) all (record_more types (access_to text d pool) d r) tt laid tt, (d, pool, get_last types (access_to text d pool)))
 access_type_defined n types variables text d pool (Some t) h m r all laid =
     let more = slice_set types t.0 (access_to text d pool) in
     let keeps : tables.Keeps types more = keeps_set types t.0 (access_to text d pool) (record_is types t.0 text [] [] None h.1) in (
       grown_set n text types t.0 (access_to text d pool) h.0 h.1
-          (all_set (fits.type_fits more) types t.0 (access_to text d pool)
+          (all_set (type_stands more) types t.0 (access_to text d pool)
           (types_stay types more (counted_set types t.0 (record_of text [] [] None) (access_to text d pool) h.1 refl h.2 tt) all
           (plains_without types more t.0 keeps (λ u ne. record_other types t.0 (access_to text d pool) u ne) types m.0 (λ u r is. h.2 u (object_of r) is) (plains types all)))
           (record_other types t.0 (access_to text d pool) d m.1 r))

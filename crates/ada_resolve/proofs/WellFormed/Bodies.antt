@@ -66,9 +66,9 @@ created_so inner z cs c =
     let n = length z.variables in
     sym (ap (λ es. fits.creates_from n (length inner.variables) es) (append-nil cs)) ∙ (c.in_order n [] ∙ eq-eqb n n refl)
 
-pub body_is : (inner z : Known) (fs : StmtsForm) (hs : HandlersForm) (last : Spot) → Sound z → length z.here.modes ≡ length inner.variables → Creates inner z (fits.created_in (body_of z fs hs last)) → declarations_fit z.types z.variables z.here.elaborated ≡ true → stmts_fit z.types z.variables z.texts z.exceptions (callables z.bodies) false fs ≡ true → handlers_fit z.types z.variables z.texts z.exceptions (callables z.bodies) false hs ≡ true → fits.body_fits z.types z.texts z.exceptions (callables z.bodies) (body_of z fs hs last) ≡ true
-body_is inner z fs hs last s first c declares own handled =
-    let b = body_of z fs hs last in
+pub body_is : (inner z : Known) (fs : StmtsForm) (hs : HandlersForm) (start last : Spot) → Sound z → length z.here.modes ≡ length inner.variables → Creates inner z (fits.created_in (body_of z fs hs start last)) → declarations_fit z.types z.variables z.here.elaborated ≡ true → stmts_fit z.types z.variables z.texts z.exceptions (callables z.bodies) false fs ≡ true → handlers_fit z.types z.variables z.texts z.exceptions (callables z.bodies) false hs ≡ true → fits.body_fits z.types z.texts z.exceptions (callables z.bodies) (body_of z fs hs start last) ≡ true
+body_is inner z fs hs start last s first c declares own handled =
+    let b = body_of z fs hs start last in
     let held = list_all (fits.variable_fits z.types) z.variables in
     let created = fits.creates_from (length z.variables) (length z.here.modes) (fits.created_in b) in
     let created_is : created ≡ true =
@@ -89,14 +89,14 @@ pub record BodyBehind (k next z : Known) : Type 0 where
   pub types : next.types ≡ z.types
   pub ended : Ended z → Ended next
 
-pub body_behind : (k z : Known) (head : HeadTree) (fs : StmtsForm) (hs : HandlersForm) (last : Spot) → Sound k → Late k → InBody (around_body k head) z → ((a : ℕ) → accesses k.types a + collected a (fits.created_in (body_of z fs hs last)) + bodies_collect z.bodies a ≡ accesses z.types a + bodies_collect k.bodies a) → fits.body_fits z.types z.texts z.exceptions (callables z.bodies) (body_of z fs hs last) ≡ true → body_frees_own z.types (body_of z fs hs last) ≡ true → list_all (fits.creates_known_pool (length z.pools)) (fits.created_in (body_of z fs hs last)) ≡ true → BodyBehind k (body_ended head.name fs hs last z) z
-body_behind k z head fs hs last s w f creates fit own pools =
+pub body_behind : (k z : Known) (head : HeadTree) (fs : StmtsForm) (hs : HandlersForm) (start last : Spot) → Sound k → Late k → InBody (around_body k head) z → ((a : ℕ) → accesses k.types a + collected a (fits.created_in (body_of z fs hs start last)) + bodies_collect z.bodies a ≡ accesses z.types a + bodies_collect k.bodies a) → fits.body_fits z.types z.texts z.exceptions (callables z.bodies) (body_of z fs hs start last) ≡ true → body_frees_own z.types (body_of z fs hs start last) ≡ true → list_all (fits.creates_known_pool (length z.pools)) (fits.created_in (body_of z fs hs start last)) ≡ true → BodyBehind k (body_ended head.name fs hs start last z) z
+body_behind k z head fs hs start last s w f creates fit own pools =
     let k1 = around_body k head in
-    let b = body_of z fs hs last in
+    let b = body_of z fs hs start last in
     let e = entity.Callable (next_procedure z) in
-    let next = body_ended head.name fs hs last z in
-    let so : next ≡ declared (left_body k1 z b) head.name.text e = ended_is k1 z head.name fs hs last f in
-    let some : no_body_yet next ≡ true → ⊥ = body_ended_some k1 z head.name fs hs last (around_sound k head s) f in
+    let next = body_ended head.name fs hs start last z in
+    let so : next ≡ declared (left_body k1 z b) head.name.text e = ended_is k1 z head.name fs hs start last f in
+    let some : no_body_yet next ≡ true → ⊥ = body_ended_some k1 z head.name fs hs start last (around_sound k head s) f in
     let settled : (ts : List TypeForm) → ((t : ℕ) (form : TypeForm) → slice_get (forms z.types) t ≡ Some form → IsSettled (declared (left_body k1 z b) head.name.text e) t → slice_get (forms ts) t ≡ Some form) → AreIn (forms z.types) (forms ts) =
     λ ts more t form is. more t form is (λ yet. absurd (some (ap (λ (v : Known). no_body_yet v) so ∙ yet))) in
     record {

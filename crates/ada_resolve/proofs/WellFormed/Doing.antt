@@ -20,7 +20,7 @@ use Rattle.ada_program.specs.WellFormed as fits
 use Rattle.ada_resolve.specs.Known.{Known, Part, with_part, left_to}
 use Rattle.ada_resolve.specs.Objects.{after_types}
 use Rattle.ada_resolve.specs.Resolution.{gives, At, with_parameter, body_remark, Others, simple_told, SequenceForm, block_of, statements_told}
-use Rattle.ada_resolve.specs.Spots.{end_of}
+use Rattle.ada_resolve.specs.Spots.{end_of, head_spot}
 use Rattle.ada_resolve.specs.Procedures.{body_of}
 use Rattle.ada_resolve.specs.Statements.{simple_texts, with_texts}
 use Rattle.ada_resolve.proofs.Standing.{Sound, Complete, Grows, Keeps, Stays, longer, more_pools, grows_on, complete_grows, get_front, ProcedureDone, BodyStays, simple_done, statements_done, ended_keeps, part_complete, parameter_complete}
@@ -283,20 +283,21 @@ body_ordered head ds body end_name at next d order s keeps declares sequence =
     let z = d.done.1.0 in
     let fs = d.done.0.0 in
     let hs = d.done.0.1 in
+    let start = head_spot head in
     let last = end_of body in
     let begun : BodyBegun k inner = subst (λ v. BodyBegun k v) (sym d.inner_known) (body_begins k head) in
     let o = declares (subst InOrder (sym d.inner_known) (body_early k head)) in
     let f = sequence o.order in
     let follows = follows_on inner behind z o.follows f.follows in
     let grows = complete_grows inner behind s.inner_complete keeps in
-    let creates : Creates inner z (created_in (body_of z fs hs last)) =
+    let creates : Creates inner z (created_in (body_of z fs hs start last)) =
     f.creates inner grows.types grows.bodies (keeps.first_type ∙ begun.first_type) (keeps.first_variable ∙ begun.first_variable) (keeps.first_body ∙ begun.first_body) in
     let same_modes : z.here.modes ≡ inner.here.modes =
     ap (λ (p : Part). p.modes) s.sequence.stays.here ∙ ((ended_keeps behind).modes ∙ keeps.modes) in
     let modes : length z.here.modes ≡ length inner.variables = ap (λ (ms : List FormalMode). length ms) same_modes ∙ begun.modes in
-    let fit = body_is inner z fs hs last s.done_in.sound modes creates f.declares f.own f.handled in
+    let fit = body_is inner z fs hs start last s.done_in.sound modes creates f.declares f.own f.handled in
     let own_frees = both_parts (statements_free_own z.types z.variables fs) (handlers_free_own z.types z.variables hs) f.own_frees f.handled_frees in
-    let after = body_behind k z head fs hs last s.before (after_late at.0 order) s.done_in (created_between k inner z (created_in (body_of z fs hs last)) begun.accesses begun.bodies creates) fit own_frees creates.pools in
+    let after = body_behind k z head fs hs start last s.before (after_late at.0 order) s.done_in (created_between k inner z (created_in (body_of z fs hs start last)) begun.accesses begun.bodies creates) fit own_frees creates.pools in
     let types_end = after_follows at.0 in
     record {
       order = subst InOrder (sym d.known) after.order;

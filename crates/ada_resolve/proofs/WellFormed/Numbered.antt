@@ -14,6 +14,7 @@ use Rattle.ada_program.specs.Controlled.{no_operations}
 use Rattle.ada_program.specs.ProgramForm.{PartForm, TypeForm, record_of, access_to, object_of}
 use Rattle.ada_program.specs.WellFormed as fits
 use Rattle.ada_resolve.specs.Records.{Composition, counted, finalization_made}
+use Rattle.ada_resolve.proofs.WellFormed.Inherits.{type_stands}
 use Rattle.ada_resolve.proofs.WellFormed.Forms.{AreIn, bare, forms, same_at}
 use Rattle.ada_resolve.proofs.WellFormed.Laid.{OfParts, RecordHas, record_has, IsLaid, AreRecordsLaid, Avoids, IsUnused}
 use Rattle.ada_resolve.proofs.WellFormed.Tables.{both_parts, first_part, second_part, all_weaker, all_more, all_get, get_more, get_other, Keeps, is_plain, is_counted, type_both, plain_of, counted_of, counted_first, counted_says, counted_alone, counted_overrides, plains_kept}
@@ -141,25 +142,25 @@ abbrev pub StayCounted : List TypeForm → List TypeForm → Type 0
 StayCounted types more = NumbersStay types more × ((i : ℕ) (x : TypeForm) → slice_get types i ≡ Some x → IsAlike types more x)
 
 -- both parts of what fits
-fits_split : (types xs : List TypeForm) → list_all (fits.type_fits types) xs ≡ true → (list_all (is_plain types) xs ≡ true) × (list_all (is_counted types) xs ≡ true)
-fits_split types xs e = (all_weaker (fits.type_fits types) (is_plain types) (plain_of types) xs e, all_weaker (fits.type_fits types) (is_counted types) (counted_of types) xs e)
+fits_split : (types xs : List TypeForm) → list_all (type_stands types) xs ≡ true → (list_all (is_plain types) xs ≡ true) × (list_all (is_counted types) xs ≡ true)
+fits_split types xs e = (all_weaker (type_stands types) (is_plain types) (plain_of types) xs e, all_weaker (type_stands types) (is_counted types) (counted_of types) xs e)
 
-fits_join : (types xs : List TypeForm) → list_all (is_plain types) xs ≡ true → list_all (is_counted types) xs ≡ true → list_all (fits.type_fits types) xs ≡ true
+fits_join : (types xs : List TypeForm) → list_all (is_plain types) xs ≡ true → list_all (is_counted types) xs ≡ true → list_all (type_stands types) xs ≡ true
 fits_join types [] e f = refl
 fits_join types (x ∷ xs) e f =
-    both_parts (fits.type_fits types x) (list_all (fits.type_fits types) xs)
+    both_parts (type_stands types x) (list_all (type_stands types) xs)
     (type_both types x (first_part (is_plain types x) (list_all (is_plain types) xs) e) (first_part (is_counted types x) (list_all (is_counted types) xs) f))
     (fits_join types xs (second_part (is_plain types x) (list_all (is_plain types) xs) e) (second_part (is_counted types x) (list_all (is_counted types) xs) f))
 
-pub plains : (types : List TypeForm) → list_all (fits.type_fits types) types ≡ true → list_all (is_plain types) types ≡ true
+pub plains : (types : List TypeForm) → list_all (type_stands types) types ≡ true → list_all (is_plain types) types ≡ true
 plains types all = (fits_split types types all).0
 
 -- types that are all plain among more of them, and stay counted, fit
-pub types_stay : (types more : List TypeForm) → StayCounted types more → list_all (fits.type_fits types) types ≡ true → list_all (is_plain more) types ≡ true → list_all (fits.type_fits more) types ≡ true
+pub types_stay : (types more : List TypeForm) → StayCounted types more → list_all (type_stands types) types ≡ true → list_all (is_plain more) types ≡ true → list_all (type_stands more) types ≡ true
 types_stay types more w all plain =
     fits_join more types plain (all_counted types more types w.0 w.1 (fits_split types types all).1)
 
-pub types_kept : (types more : List TypeForm) → Keeps types more → ((t : ℕ) → fits.is_record types t ≡ true → fits.is_record more t ≡ true) → StayCounted types more → list_all (fits.type_fits types) types ≡ true → list_all (fits.type_fits more) types ≡ true
+pub types_kept : (types more : List TypeForm) → Keeps types more → ((t : ℕ) → fits.is_record types t ≡ true → fits.is_record more t ≡ true) → StayCounted types more → list_all (type_stands types) types ≡ true → list_all (type_stands more) types ≡ true
 types_kept types more a r w all = types_stay types more w all (plains_kept types more a r types (plains types all))
 
 -- one more type that is finalized like this
@@ -208,12 +209,12 @@ below_next types (record_of name ps cs (Some f)) e =
 below_next types (access_to name d pool) e = refl
 below_next types (object_of r) e = refl
 
-not_given : (types : List TypeForm) → list_all (fits.type_fits types) types ≡ true → having (fits.numbered_types types) types ≡ 0
+not_given : (types : List TypeForm) → list_all (type_stands types) types ≡ true → having (fits.numbered_types types) types ≡ 0
 not_given types all =
     count_none (λ x. fits.has_number (fits.numbered_types types) (final_of x)) (is_counted types) (below_next types) types (fits_split types types all).1
 
 -- the next number is its type's own
-pub next_alone : (types more : List TypeForm) (final : Option Finalization) → list_all (fits.type_fits types) types ≡ true → OneMore types more final → IsNext (fits.numbered_types types) final → fits.is_numbered_alone more final ≡ true
+pub next_alone : (types more : List TypeForm) (final : Option Finalization) → list_all (type_stands types) types ≡ true → OneMore types more final → IsNext (fits.numbered_types types) final → fits.is_numbered_alone more final ≡ true
 next_alone types more None all one next = refl
 next_alone types more (Some f) all one next =
     let n = f.number.0 in
@@ -225,11 +226,11 @@ next_alone types more (Some f) all one next =
     (lt-ltb n (fits.numbered_types more) (omega (arith, long, next))) (eq-eqb (having n more) 1 (omega (arith, own, here, before)))
 
 -- what is counted of a type
-pub counted_there : (types : List TypeForm) (t : ℕ) (x : TypeForm) → list_all (fits.type_fits types) types ≡ true → slice_get types t ≡ Some x → is_counted types x ≡ true
+pub counted_there : (types : List TypeForm) (t : ℕ) (x : TypeForm) → list_all (type_stands types) types ≡ true → slice_get types t ≡ Some x → is_counted types x ≡ true
 counted_there types t x all is = all_get (is_counted types) types t x (fits_split types types all).1 is
 
 -- the number of a type with controlled parts is below the next one
-pub earlier_there : (types : List TypeForm) (t : ℕ) → list_all (fits.type_fits types) types ≡ true → fits.is_numbered_below (fits.numbered_types types) (fits.finalization_of types t) ≡ true
+pub earlier_there : (types : List TypeForm) (t : ℕ) → list_all (type_stands types) types ≡ true → fits.is_numbered_below (fits.numbered_types types) (fits.finalization_of types t) ≡ true
 earlier_there types t all = by_form (slice_get types t) refl
   where
     by_final : (final : Option Finalization) → fits.is_numbered_alone types final ≡ true → fits.is_numbered_below (fits.numbered_types types) final ≡ true
@@ -274,7 +275,7 @@ said_order types (Some f) ps e =
     second_part some in_order (first_part (some && in_order) (list_all (λ (p : PartForm). fits.is_of_earlier types f.number.0 p.kind) ps) e)
 
 -- the controlled parts of a component of a record type are among those of the type
-pub part_lies : (types : List TypeForm) (t : ℕ) (name : List ℕ) (ps : List PartForm) (cs : List ComponentKind) (final : Option Finalization) (i : ℕ) (c : PartForm) → list_all (fits.type_fits types) types ≡ true → slice_get types t ≡ Some (record_of name ps cs final) → slice_get ps i ≡ Some c → c.part + fits.parts_within types c.kind ≤ fits.part_count types t
+pub part_lies : (types : List TypeForm) (t : ℕ) (name : List ℕ) (ps : List PartForm) (cs : List ComponentKind) (final : Option Finalization) (i : ℕ) (c : PartForm) → list_all (type_stands types) types ≡ true → slice_get types t ≡ Some (record_of name ps cs final) → slice_get ps i ≡ Some c → c.part + fits.parts_within types c.kind ≤ fits.part_count types t
 part_lies types t name ps cs final i c all is at =
     let counted = counted_there types t (record_of name ps cs final) all is in
     let h = order_lies types (fits.count_said final) 0 ps i c (said_order types final ps (counted_says types name ps cs final counted)) at in
@@ -373,12 +374,12 @@ first_last (p ∷ ps) c e off =
     all_more (λ (q : PartForm). not (fits.is_parent q.kind)) ps (c ∷ []) e (both_parts (not (fits.is_parent c.kind)) true (ap (λ (b : Bool). not b) off) refl)
 
 -- types of components have less numbers than the next type
-of_earlier : (types : List TypeForm) (kind : PartKind) → list_all (fits.type_fits types) types ≡ true → fits.is_of_earlier types (fits.numbered_types types) kind ≡ true
+of_earlier : (types : List TypeForm) (kind : PartKind) → list_all (type_stands types) types ≡ true → fits.is_of_earlier types (fits.numbered_types types) kind ≡ true
 of_earlier types (part.Elementary kind) all = refl
 of_earlier types (part.Record t) all = earlier_there types t.0 all
 of_earlier types part.Parent all = refl
 
-all_of_earlier : (types : List TypeForm) (ps : List PartForm) → list_all (fits.type_fits types) types ≡ true → list_all (λ (p : PartForm). fits.is_of_earlier types (fits.numbered_types types) p.kind) ps ≡ true
+all_of_earlier : (types : List TypeForm) (ps : List PartForm) → list_all (type_stands types) types ≡ true → list_all (λ (p : PartForm). fits.is_of_earlier types (fits.numbered_types types) p.kind) ps ≡ true
 all_of_earlier types [] all = refl
 all_of_earlier types (p ∷ ps) all =
     both_parts (fits.is_of_earlier types (fits.numbered_types types) p.kind) (list_all (λ (q : PartForm). fits.is_of_earlier types (fits.numbered_types types) q.kind) ps)
@@ -404,7 +405,7 @@ made_overrides n made = by_count (eqb made.controlled 0)
     by_count true = refl
     by_count false = refl
 
-pub made_says : (types : List TypeForm) (n : ℕ) (made : Composition) → list_all (fits.type_fits types) types ≡ true → n ≡ fits.numbered_types types → fits.parts_in_order types made.controlled 0 made.parts ≡ true → fits.says_parts types (finalization_made n made) made.parts ≡ true
+pub made_says : (types : List TypeForm) (n : ℕ) (made : Composition) → list_all (type_stands types) types ≡ true → n ≡ fits.numbered_types types → fits.parts_in_order types made.controlled 0 made.parts ≡ true → fits.says_parts types (finalization_made n made) made.parts ≡ true
 made_says types n made all next e = by_count (eqb made.controlled 0) refl
   where
     by_count : (b : Bool) → eqb made.controlled 0 ≡ b → fits.says_parts types (cond b None (Some (record { number = record { 0 = n }; parts = made.controlled; limited = made.limited; operations = no_operations }))) made.parts ≡ true
@@ -422,7 +423,7 @@ SaysParts types ps final =
     IsNext (fits.numbered_types types) final × (fits.parent_first ps ≡ true) × (fits.says_parts types final ps ≡ true) × (fits.overrides_nothing final ≡ true)
 
 -- so it is counted where it is one more type
-pub record_counted : (types more : List TypeForm) (name : List ℕ) (ps : List PartForm) (cs : List ComponentKind) (final : Option Finalization) → list_all (fits.type_fits types) types ≡ true → OneMore types more final → IsAlike types more (record_of name ps cs final) → SaysParts types ps final → is_counted more (record_of name ps cs final) ≡ true
+pub record_counted : (types more : List TypeForm) (name : List ℕ) (ps : List PartForm) (cs : List ComponentKind) (final : Option Finalization) → list_all (type_stands types) types ≡ true → OneMore types more final → IsAlike types more (record_of name ps cs final) → SaysParts types ps final → is_counted more (record_of name ps cs final) ≡ true
 record_counted types more name ps cs final all one alike w =
     let first = fits.parent_first ps in
     let says : Bool = fits.says_parts more final ps in

@@ -13,6 +13,7 @@ use Rattle.ada_resolve.specs.Clauses.{placed, placed_by, pool_by, pool_of}
 use Rattle.ada_resolve.specs.Known.{Part}
 use Rattle.ada_resolve.specs.Types.{defined, number_of}
 use Rattle.ada_resolve.specs.Paths.{elementary_of, elementary_in}
+use Rattle.ada_resolve.proofs.WellFormed.Inherits.{type_stands}
 use Rattle.ada_resolve.proofs.WellFormed.Forms.{AreIn, bare, forms, get_form, form_there, forms_length, forms_set, record_stays, access_stays, access_there, same_at, all_forms}
 use Rattle.ada_resolve.proofs.WellFormed.Laid.{AreRecordsLaid, IsLaid, IsUnused, Avoids, record_has, laid_stays}
 use Rattle.ada_resolve.proofs.WellFormed.Names.{EntityFits, PartsFit, variables_behind}
@@ -44,7 +45,7 @@ placed_housed n pool types access less all = by_form (slice_get types access)
     by_form (Some (access_to name d before)) = all_set (fits.has_known_pool n) types access (access_to name d (Some pool)) all less
     by_form (Some (object_of r)) = all
 
-fit_bare : (types : List TypeForm) (x : TypeForm) → fits.type_fits types (bare x) ≡ fits.type_fits types x
+fit_bare : (types : List TypeForm) (x : TypeForm) → type_stands types (bare x) ≡ type_stands types x
 fit_bare types (record_of name ps cs final) = refl
 fit_bare types (access_to name d pool) = refl
 fit_bare types (object_of r) = refl
@@ -83,11 +84,11 @@ module _ (types more : List TypeForm) (same : forms more ≡ forms types) where
   pub each_was : (t : ℕ) (form : TypeForm) → slice_get more t ≡ Some form → (x : TypeForm) × (slice_get types t ≡ Some x) × (bare x ≡ bare form)
   each_was t form is = form_there types t (bare form) (subst (λ (ts : List TypeForm). slice_get ts t ≡ Some (bare form)) same (get_form more t form is))
 
-  pub placed_fit : AreRecordsLaid types → list_all (fits.type_fits types) types ≡ true → list_all (fits.type_fits more) more ≡ true
+  pub placed_fit : AreRecordsLaid types → list_all (type_stands types) types ≡ true → list_all (type_stands more) more ≡ true
   placed_fit laid all =
-      sym (all_forms (fits.type_fits more) (fit_bare more) more) ∙
-      (ap (λ ts. list_all (fits.type_fits more) ts) same ∙
-      (all_forms (fits.type_fits more) (fit_bare more) types ∙ types_kept types more (types_keep types more grown) (record_grows types more grown) (counted_same types more same grown laid) all))
+      sym (all_forms (type_stands more) (fit_bare more) more) ∙
+      (ap (λ ts. list_all (type_stands more) ts) same ∙
+      (all_forms (type_stands more) (fit_bare more) types ∙ types_kept types more (types_keep types more grown) (record_grows types more grown) (counted_same types more same grown laid) all))
 
   elementary_stays : (t : ℕ) → fits.is_record types t ≡ true → elementary_of more t ≡ elementary_of types t
   unfolding elementary_of

@@ -24,6 +24,7 @@ use Rattle.ada_resolve.specs.Paths as path
 use Rattle.ada_resolve.specs.Paths.{components_of, elementary_of, elementary_in, known_component, first_behind, part_behind, held_by, number_by, designated_of, component_named, is_incomplete_type, component_in, component_behind, held_in, object_in, object_behind, selector_reached, selectors_reached, variable_reached, whole_object, record_known_by, record_of_object, number_in, component_selected, components_selected, component_wanted, selectable_wanted, component_within_remark, component_behind_remark, complete_behind, all_remark, selector_remark, selectors_remark}
 use Rattle.ada_resolve.specs.Records.{kinds_within}
 use Rattle.ada_resolve.specs.Remark.{wrong, wrong_if}
+use Rattle.ada_resolve.proofs.WellFormed.Inherits.{type_stands}
 use Rattle.ada_resolve.proofs.WellFormed.Names.{TypesFit, text_same}
 use Rattle.ada_resolve.proofs.WellFormed.Laid.{RecordHas, append_none, elementary_is, lies}
 use Rattle.ada_resolve.proofs.WellFormed.Numbered.{part_lies}
@@ -183,8 +184,8 @@ named_record types t d w e = by_form (slice_get types t) refl e
     by_form : (o : Option TypeForm) → slice_get types t ≡ o → fits.named_in o ≡ Some d → fits.is_record types d ≡ true
     by_form None is e = absurd (cc e)
     by_form (Some (record_of name ps cs final)) is e = absurd (cc e)
-    by_form (Some (access_to name u pool)) is e = let same : u ≡ d = cc e in subst (λ (v : ℕ). fits.is_record types v ≡ true) same (all_get (fits.type_fits types) types t (access_to name u pool) w.1 is)
-    by_form (Some (object_of u)) is e = let same : u ≡ d = cc e in subst (λ (v : ℕ). fits.is_record types v ≡ true) same (all_get (fits.type_fits types) types t (object_of u) w.1 is)
+    by_form (Some (access_to name u pool)) is e = let same : u ≡ d = cc e in subst (λ (v : ℕ). fits.is_record types v ≡ true) same (all_get (type_stands types) types t (access_to name u pool) w.1 is)
+    by_form (Some (object_of u)) is e = let same : u ≡ d = cc e in subst (λ (v : ℕ). fits.is_record types v ≡ true) same (all_get (type_stands types) types t (object_of u) w.1 is)
 
 -- an object behind what is held
 object_behind_is : (k : Known) (types : List TypeForm) (of : Option VariableKind) (t : TypeNo) (d : ℕ) → TypesFit types → Stays k.types types → of ≡ Some (variable.Access t) → designated_of k.types t.0 ≡ Some d → IsWithin types of (elementary_of types d) 0 0 (fits.part_count types d) × (fits.is_record types d ≡ true)

@@ -11,6 +11,7 @@ use Rattle.ada_program.specs.declared.program.VariableKind.TheVariants as variab
 use Rattle.ada_program.specs.ProgramForm.{PartForm, TypeForm, record_of, access_to, object_of, VariableForm}
 use Rattle.ada_program.specs.WellFormed as fits
 use Rattle.ada_resolve.specs.Types.{is_designated}
+use Rattle.ada_resolve.proofs.WellFormed.Inherits.{type_stands}
 use Rattle.ada_resolve.proofs.WellFormed.Forms.{AreIn, bare, forms, same_at}
 
 -- both parts of a test
@@ -226,7 +227,7 @@ is_counted types (access_to name d pool) = true
 is_counted types (object_of t) = true
 
 -- both together
-pub type_both : (types : List TypeForm) (x : TypeForm) → is_plain types x ≡ true → is_counted types x ≡ true → fits.type_fits types x ≡ true
+pub type_both : (types : List TypeForm) (x : TypeForm) → is_plain types x ≡ true → is_counted types x ≡ true → type_stands types x ≡ true
 type_both types (record_of name ps cs final) e f =
     let kinds = list_all (fits.kind_fits types) cs in
     let first = fits.parent_first ps in
@@ -242,7 +243,7 @@ type_both types (record_of name ps cs final) e f =
 type_both types (access_to name d pool) e f = e
 type_both types (object_of t) e f = e
 
-pub plain_of : (types : List TypeForm) (x : TypeForm) → fits.type_fits types x ≡ true → is_plain types x ≡ true
+pub plain_of : (types : List TypeForm) (x : TypeForm) → type_stands types x ≡ true → is_plain types x ≡ true
 plain_of types (record_of name ps cs final) e =
     let kinds = list_all (fits.kind_fits types) cs in
     let first = fits.parent_first ps in
@@ -253,7 +254,7 @@ plain_of types (record_of name ps cs final) e =
 plain_of types (access_to name d pool) e = e
 plain_of types (object_of t) e = e
 
-pub counted_of : (types : List TypeForm) (x : TypeForm) → fits.type_fits types x ≡ true → is_counted types x ≡ true
+pub counted_of : (types : List TypeForm) (x : TypeForm) → type_stands types x ≡ true → is_counted types x ≡ true
 counted_of types (record_of name ps cs final) e =
     let kinds = list_all (fits.kind_fits types) cs in
     let first = fits.parent_first ps in

@@ -20,5 +20,5 @@ pub run-requires : goal.run-requires
 run-requires g c = record {
   inherits =
       subst (λ (p : Program). OverridesNothing p.types.items) (sym c.program-program.ensures.program)
-      (nothing_overridden c.args.accepted.now c.program-program.ensures.formed);
+      (nothing_overridden c.args.accepted.now c.program-program.ensures.inherits);
 }

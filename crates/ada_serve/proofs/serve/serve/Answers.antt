@@ -24,7 +24,7 @@ returns-in-Ok-clause-answer g c =
     serves_accepted (IsRead g.S.ByteReader.remaining g.S.ByteReader.reads c.args.source.now c.read_all.new.reader) (IsRead g.I.ByteReader.remaining g.I.ByteReader.reads c.args.input.now c.answer.new.input) kept.bytes c.in-Ok.accepted c.args.options.now (g.W.ByteWriter.contents c.args.out.now) (g.W.ByteWriter.contents c.answer.new.out) c.answer.result kept.read (accepted_of c.deref.result.now kept.bytes c.in-Ok.accepted front c.in-Ok.ensures.accepted) c.answer.ensures.text
 
 pub returns-in-Ok-clause-status : goal.returns-in-Ok-clause-status
-returns-in-Ok-clause-status g c = answer_not_erroneous c.states_go_on.ensures (IsRead g.I.ByteReader.remaining g.I.ByteReader.reads c.args.input.now c.answer.new.input) c.in-Ok.accepted c.args.options.now.run c.args.options.now.trace c.args.options.now.steps (runner_before c.in-Ok.accepted c.args.options.now) (g.W.ByteWriter.contents c.args.out.now) (g.W.ByteWriter.contents c.answer.new.out) c.answer.result c.answer.ensures.safe c.answer.ensures.typed c.answer.ensures.confined c.answer.ensures.text
+returns-in-Ok-clause-status g c = answer_not_erroneous c.states_go_on.ensures (IsRead g.I.ByteReader.remaining g.I.ByteReader.reads c.args.input.now c.answer.new.input) c.in-Ok.accepted c.args.options.now.run c.args.options.now.trace c.args.options.now.steps (runner_before c.in-Ok.accepted c.args.options.now) (g.W.ByteWriter.contents c.args.out.now) (g.W.ByteWriter.contents c.answer.new.out) c.answer.result c.answer.ensures.safe c.answer.ensures.text
 
 pub returns-in-Ok-clause-safe : goal.returns-in-Ok-clause-safe
 returns-in-Ok-clause-safe g c =

@@ -12,6 +12,7 @@ returns-in_err-flow-clause-refused c =
 pub invariant_of-result : goal.invariant_of-result
 invariant_of-result c = record {
   well_formed = c.in_ok-program.ensures.formed;
+  inherits = c.in_ok-program.ensures.inherits;
   nests = c.in_ok-program.ensures.nests;
   frees_own = c.in_ok-program.ensures.frees_own;
   obeys = obeys c.in_ok-program.program c.in_ok-flow.ensures;
@@ -20,6 +21,7 @@ invariant_of-result c = record {
 pub returns-clause-sound : goal.returns-clause-sound
 returns-clause-sound c = record {
   well_formed = c.in_ok-program.ensures.formed;
+  inherits = c.in_ok-program.ensures.inherits;
   nests = c.in_ok-program.ensures.nests;
   frees_own = c.in_ok-program.ensures.frees_own;
   obeys = obeys c.in_ok-program.program c.in_ok-flow.ensures;

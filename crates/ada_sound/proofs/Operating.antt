@@ -1,0 +1,261 @@
+-- The body of a quiet operation runs (7.6): what holds there, and what is kept of all that waits for it.
+
+use Rattle.std.proofs.Common.{◌≡◌, ℕ, Bool, true, false, List, [], ◌∷◌, ◌++◌, ◌⊎◌}
+use Rattle.std.specs.Prelude.{ℤ, drop, Option, Some, None}
+use Rattle.std.specs.List.{list_all, slice_get}
+use Rattle.ada_program.specs.declared.program.Exception.{Exception}
+use Rattle.ada_program.specs.declared.program.Exception.TheVariants.{ConstraintError, EndError}
+use Rattle.ada_program.specs.declared.program.Program.{Program}
+use Rattle.ada_program.specs.Form.{ExpressionForm, RightForm, nothing, value_of, allocates, allocates_default, computes, StmtsForm, BranchesForm, HandlersForm}
+use Rattle.ada_program.specs.ProgramForm.{TypeForm, VariableForm, BodyForm, ProgramForm, program_form, seen_in}
+use Rattle.ada_program.specs.Handling.{is_same, is_taken}
+use Rattle.ada_program.specs.declared.program.VariableKind.{VariableKind}
+use Rattle.ada_program.specs.declared.program.VariableKind.TheVariants as variable
+use Rattle.ada_program.specs.WellFormed.{reached_components, kind_among, variable_kind}
+use Rattle.ada_effects.specs.Effects.{body_raises, unary_raises, binary_raises, expression_raises, links_raise, condition_raises, declarations_raise, stmts_raise, branches_raise, handlers_raise}
+use Rattle.ada_flow.specs.Flow.{have_exit, branches_have_exit, handlers_have_exit}
+use Rattle.ada_meaning.specs.declared.state.Id.{Id}
+use Rattle.ada_meaning.specs.declared.state.Value.{Value}
+use Rattle.ada_meaning.specs.declared.state.Value.TheVariants.{Null, Names, Scalar, Part}
+use Rattle.ada_meaning.specs.declared.state.Stage.{Stage}
+use Rattle.ada_meaning.specs.declared.state.Stage.TheVariants.{Building, Existing, Gone}
+use Rattle.ada_meaning.specs.declared.state.Mode.{Mode}
+use Rattle.ada_meaning.specs.declared.state.Mode.TheVariants.{Running, Raising, Exiting, Returning}
+use Rattle.ada_meaning.specs.Frame.{Frame, Treatment, begins, ends, Elaborates, Does, Decides, Repeats, Turns, Ranges, Counts, Exits, Handles, Closes, Leaves, Returns, Evaluates, Computes, Continues, Applies, AppliesAlone, Stores, Targets, StoresIn, Receives, Declares, Writes}
+use Rattle.ada_meaning.specs.Frame as frame
+use Rattle.ada_meaning.specs.State.{Activation, Owned, declared, collection, record_object, storage_pool, Item, Master}
+use Rattle.ada_parts.specs.Task.{Task}
+use Rattle.ada_meaning.specs.Step.{treating}
+use Rattle.ada_meaning.specs.Named.{Object, State, object_at}
+use Rattle.ada_sound.specs.Quiet.{is_elementary, holds_elementary, is_quiet_expression, are_quiet_links, is_quiet_condition, are_quiet_declarations, are_quiet, are_quiet_branches, are_quiet_handlers}
+use Rattle.ada_sound.proofs.Fits.{IsWithin, place_at}
+use Rattle.ada_sound.proofs.Invariant.{Control, TreatsBy}
+use Rattle.ada_sound.proofs.Callers.{Suspension, known_in, Stands}
+
+-- A value is an Integer or a Boolean, or null, where none has been computed: it names nothing.
+abbrev pub IsScalar : Value → Type 0
+IsScalar Null = Unit {0}
+IsScalar (Names o) = ⊥
+IsScalar (Scalar v) = Unit {0}
+IsScalar (Part o place) = ⊥
+
+abbrev pub AreScalars : List Value → Type 0
+AreScalars [] = Unit {0}
+AreScalars (v ∷ vs) = IsScalar v × AreScalars vs
+
+-- A master of the body owns variables alone.
+abbrev pub IsVariable : Owned → Type 0
+IsVariable (declared x) = Unit {0}
+IsVariable (collection access pool) = ⊥
+IsVariable (record_object t) = ⊥
+IsVariable (storage_pool declaration number) = ⊥
+
+abbrev pub AreVariables : List Item → Type 0
+AreVariables [] = Unit {0}
+AreVariables (i ∷ is) = IsVariable i.owned × AreVariables is
+
+abbrev pub OwnVariables : List Master → Type 0
+OwnVariables [] = Unit {0}
+OwnVariables (m ∷ ms) = AreVariables m.items × OwnVariables ms
+
+-- An exception that is raised here is taken by a handler of the body.
+abbrev pub StaysIn : Exception → Control → Type 0
+StaysIn e [] = ⊥
+StaysIn e (Handles hs ∷ k) = (is_taken hs e ≡ true) ⊎ StaysIn e k
+StaysIn e (Returns actuals references ∷ k) = ⊥
+StaysIn e (f ∷ k) = StaysIn e k
+
+-- An exit that is done here leaves a loop of the body.
+abbrev pub IsInLoop : Control → Type 0
+IsInLoop [] = ⊥
+IsInLoop (Repeats condition fs ∷ k) = Unit {0}
+IsInLoop (Counts x value last fs ∷ k) = Unit {0}
+IsInLoop (Returns actuals references ∷ k) = ⊥
+IsInLoop (f ∷ k) = IsInLoop k
+
+-- So it is of whatever jump goes on here.
+abbrev pub GoesIn : Mode → Control → Type 0
+GoesIn Running k = Unit {0}
+GoesIn (Raising e) k = StaysIn e k
+GoesIn Exiting k = IsInLoop k
+GoesIn Returning k = Unit {0}
+
+-- Constraint_Error, if this may raise it.
+abbrev pub Contains : Bool → Control → Type 0
+Contains may k = may ≡ true → StaysIn ConstraintError k
+
+-- An object that is looked for is found.
+abbrev pub StaysLive : Stage → Type 0
+StaysLive Building = Unit {0}
+StaysLive Existing = Unit {0}
+StaysLive Gone = ⊥
+
+-- The body of an operation of this object is in front of this: it begins a part of the object, or finalizes one, and then what is left of that comes, and
+-- what is behind.
+abbrev pub WaitsFor : Id → Treatment → (k behind : Control) → Type 0
+WaitsFor o (begins by done) k behind = (of : ℕ) × (part : ℕ) × (tasks : List Task) × (behind ≡ frame.Awaits (Names o) by done of part tasks ∷ k)
+WaitsFor o (ends cause) k behind = (tasks : List Task) × (behind ≡ frame.Confines ∷ treating (Names o) (ends cause) tasks k)
+
+-- What a body sees, and the object that is treated: its name, and of which access type it is.
+pub record Sight : Type 0 where
+  pub program : ProgramForm
+  pub object : Id
+  pub access : ℕ
+
+module _ (sight : Sight) where
+  abbrev types : List TypeForm
+  types = sight.program.types
+
+  abbrev variables : List VariableForm
+  variables = sight.program.variables
+
+  -- What a variable of a kind holds: the formal parameter refers to a record in the object that is treated.
+  abbrev pub Holds : Option VariableKind → Value → Type 0
+  Holds None v = Unit {0}
+  Holds (Some variable.Integer) v = IsScalar v
+  Holds (Some variable.Boolean) v = IsScalar v
+  Holds (Some (variable.Access access)) v = ⊥
+  Holds (Some (variable.Record t)) v =
+      (place : _) × (v ≡ Part sight.object place) × IsWithin types (Some (variable.Record t)) sight.access place.component
+
+  abbrev pub AllHold : List Value → Type 0
+  AllHold places = (x : ℕ) → Holds (variable_kind variables x) (place_at places x)
+
+  -- Each Integer or Boolean component of the object holds one.
+  abbrev pub HoldScalars : Object → Type 0
+  HoldScalars x =
+      (c : ℕ) (v : Value) → holds_elementary (kind_among (reached_components types sight.access) c) ≡ true → slice_get x.cell.values c ≡ Some v → IsScalar v
+
+  -- Statements are quiet, and so on.
+  abbrev pub RunsIn : StmtsForm → Control → Type 0
+  RunsIn fs k =
+      (are_quiet types variables fs ≡ true) × ((e : Exception) → stmts_raise [] (is_same e) fs ≡ true → StaysIn e k)
+      × (have_exit fs ≡ true → IsInLoop k)
+
+  abbrev pub ChoosesIn : BranchesForm → Control → Type 0
+  ChoosesIn branches k =
+      (are_quiet_branches types variables branches ≡ true) × ((e : Exception) → branches_raise [] (is_same e) branches ≡ true → StaysIn e k)
+      × (branches_have_exit branches ≡ true → IsInLoop k)
+
+  abbrev pub HandlesIn : HandlersForm → Control → Type 0
+  HandlesIn hs k =
+      (are_quiet_handlers types variables hs ≡ true) × ((e : Exception) → handlers_raise [] (is_same e) hs ≡ true → StaysIn e k)
+      × (handlers_have_exit hs ≡ true → IsInLoop k)
+
+  abbrev pub ComputesIn : ExpressionForm → Control → Type 0
+  ComputesIn e k = (is_quiet_expression types variables e ≡ true) × Contains (expression_raises e) k
+
+  abbrev pub EvaluatesIn : RightForm → Control → Type 0
+  EvaluatesIn nothing k = ⊥
+  EvaluatesIn (value_of path) k = ⊥
+  EvaluatesIn (allocates access items) k = ⊥
+  EvaluatesIn (allocates_default access) k = ⊥
+  EvaluatesIn (computes e) k = ComputesIn e k
+
+  abbrev pub TurnsIn : Option ExpressionForm → StmtsForm → Control → Type 0
+  TurnsIn condition fs k = (is_quiet_condition types variables condition ≡ true) × Contains (condition_raises condition) k × RunsIn fs (Repeats condition fs ∷ k)
+
+  abbrev pub CountsIn : (parameter : ℕ) → StmtsForm → Control → Type 0
+  CountsIn x fs k = (holds_elementary (variable_kind variables x) ≡ true) × ((value last : ℤ) → RunsIn fs (Counts x value last fs ∷ k))
+
+  -- What is left to do of the body, in these masters, before this.
+  abbrev pub Leads : (behind : Control) → Control → List Master → Type 0
+  Leads behind [] ms = ⊥
+  Leads behind (Elaborates ds fs hs ∷ k) [] = ⊥
+  Leads behind (Elaborates ds fs hs ∷ k) (m ∷ ms) =
+      ((are_quiet_declarations types variables ds ≡ true) × ((e : Exception) → declarations_raise (is_same e) ds ≡ true → StaysIn e k)
+      × RunsIn fs (Handles hs ∷ Closes ∷ k) × HandlesIn hs (Closes ∷ k)) × Leads behind k ms
+  Leads behind (Does fs ∷ k) ms = RunsIn fs k × Leads behind k ms
+  Leads behind (Decides fs branches ∷ k) ms = (RunsIn fs k × ChoosesIn branches k) × Leads behind k ms
+  Leads behind (Repeats condition fs ∷ k) ms = TurnsIn condition fs k × Leads behind k ms
+  Leads behind (Turns e fs ∷ k) ms = TurnsIn (Some e) fs k × Leads behind k ms
+  Leads behind (Ranges x fs ∷ k) ms = CountsIn x fs k × Leads behind k ms
+  Leads behind (Counts x value last fs ∷ k) ms = CountsIn x fs k × Leads behind k ms
+  Leads behind (Exits ∷ k) ms = IsInLoop k × Leads behind k ms
+  Leads behind (Handles hs ∷ k) ms = HandlesIn hs k × Leads behind k ms
+  Leads behind (Closes ∷ k) [] = ⊥
+  Leads behind (Closes ∷ k) (m ∷ ms) = Unit {0} × Leads behind k ms
+  Leads behind (Evaluates right ∷ k) ms = EvaluatesIn right k × Leads behind k ms
+  Leads behind (Computes e ∷ k) ms = ComputesIn e k × Leads behind k ms
+  Leads behind (Continues links ∷ k) ms = ((are_quiet_links types variables links ≡ true) × Contains (links_raise links) k) × Leads behind k ms
+  Leads behind (Applies operator ∷ k) ms = Contains (binary_raises operator) k × Leads behind k ms
+  Leads behind (AppliesAlone operator ∷ k) ms = Contains (unary_raises operator) k × Leads behind k ms
+  Leads behind (Stores x ∷ k) ms = (holds_elementary (variable_kind variables x) ≡ true) × Leads behind k ms
+  Leads behind (Declares x ∷ k) [] = ⊥
+  Leads behind (Declares x ∷ k) (m ∷ ms) = (holds_elementary (variable_kind variables x) ≡ true) × Leads behind k (m ∷ ms)
+  Leads behind (StoresIn v c ∷ k) ms = (v ≡ Names sight.object) × Leads behind k ms
+  Leads behind (Writes ∷ k) ms = Unit {0} × Leads behind k ms
+  Leads behind (Returns actuals references ∷ k) ms = ((actuals ≡ []) × (references ≡ [])) × (ms ≡ []) × (k ≡ behind)
+  Leads behind (f ∷ k) ms = ⊥
+
+  abbrev pub Quietly : (behind : Control) → List Master → Control → Type 0
+  Quietly behind ms k = Leads behind k ms
+
+  -- The innermost master is being left.
+  abbrev pub Parts : (behind : Control) → List Master → Mode → Control → Type 0
+  Parts behind [] left k = ⊥
+  Parts behind (m ∷ ms) left k = GoesIn left k × Quietly behind ms k
+
+  -- A master is being left; or the object is found, and what its component is to get comes next: a value, or a number of the input.
+  abbrev pub Finds : (behind : Control) → List Master → Control → (operands : List Value) → Type 0
+  Finds behind ms [] vs = ⊥
+  Finds behind ms (Leaves left ∷ k) vs = AreScalars vs × Parts behind ms left k
+  Finds behind ms (f ∷ k) [] = ⊥
+  Finds behind ms (Targets c right ∷ k) (v ∷ vs) = (v ≡ Names sight.object) × AreScalars vs × EvaluatesIn right k × Quietly behind ms k
+  Finds behind ms (Receives c ∷ k) (v ∷ vs) = (v ≡ Names sight.object) × AreScalars vs × StaysIn EndError k × Quietly behind ms k
+  Finds behind ms (f ∷ k) (v ∷ vs) = ⊥
+
+  -- What comes next.
+  abbrev pub Comes : (behind : Control) → List Master → Mode → Control → (operands : List Value) → Type 0
+  Comes behind ms mode k vs = (AreScalars vs × GoesIn mode k × Quietly behind ms k) ⊎ ((mode ≡ Running) × Finds behind ms k vs)
+
+  -- The body runs, with these masters of its own, before this.
+  pub record Body (behind : Control) (ms : List Master) (heap : List Object) (places operands : List Value) (mode : Mode) (k : Control) : Type 0 where
+    pub x : Object
+    pub found : object_at heap sight.object ≡ Some x
+    pub live : StaysLive x.stage
+    pub of_access : x.cell.access ≡ sight.access
+    pub scalars : HoldScalars x
+    pub holds : AllHold places
+    pub own : OwnVariables ms
+    pub comes : Comes behind ms mode k operands
+
+-- The state once the body of the operation has come to its end.
+abbrev pub behind_operation : (suspended : List (Activation Value)) → (behind : Control) → (lower : List Master) → State → State
+behind_operation suspended behind lower s = record s { mode = Running; control = behind; activations = suspended; masters = lower }
+
+-- The object that a quiet operation is called for is treated; and what waits for it goes on behind that, whatever the body does.
+pub record Suspended (program : Program) (object : Id) (caller : Activation Value) (rest : List (Activation Value)) (behind : Control) (lower : List Master) (s : State) : Type 0 where
+  pub suspensions : List Suspension
+  pub treatment : Treatment
+  pub after : Control
+  pub waits : WaitsFor object treatment after behind
+  pub treats : TreatsBy (known_in program caller.procedure suspensions) (Names object) treatment after s.heap caller.places caller.operands lower
+  pub stands : Stands program suspensions (behind_operation (caller ∷ rest) behind lower s)
+
+-- The body of a quiet operation runs.
+pub record Operates (program : Program) (s : State) : Type 0 where
+  pub procedure : ℕ
+  pub places : List Value
+  pub operands : List Value
+  pub caller : Activation Value
+  pub rest : List (Activation Value)
+  pub active : s.activations ≡ record { procedure = Some procedure; places = places; operands = operands } ∷ caller ∷ rest
+  pub behind : Control
+  pub upper : List Master
+  pub lower : List Master
+  pub masters : s.masters ≡ upper ++ lower
+  pub object : Id
+  pub access : ℕ
+  pub body : Body (record { program = seen_in (Some procedure) (program_form program); object = object; access = access }) behind upper s.heap places operands s.mode s.control
+  pub suspended : Suspended program object caller rest behind lower s
+
+-- What is known of a quiet body, in which no exit leads out of the body.
+pub record QuietBody (types : List TypeForm) (b : BodyForm) : Type 0 where
+  pub elementary : list_all (λ x. is_elementary x.kind) (drop 1 b.variables) ≡ true
+  pub declarations : are_quiet_declarations types b.variables b.declarations ≡ true
+  pub statements : are_quiet types b.variables b.statements ≡ true
+  pub handlers : are_quiet_handlers types b.variables b.handlers ≡ true
+  pub raises_nothing : body_raises [] b (λ e. true) ≡ false
+  pub none_out : have_exit b.statements ≡ false
+  pub none_on : handlers_have_exit b.handlers ≡ false

@@ -1,0 +1,140 @@
+-- The body of a quiet operation begins (7.6).
+
+use Rattle.std.proofs.Common.{◌≡◌, ℕ, zero, suc, Bool, true, false, List, [], ◌∷◌, drop, refl, inl}
+use Rattle.std.specs.Prelude.{Some, ◌||◌, ◌&&◌}
+use Rattle.std.specs.List.{list_all, slice_get}
+use Rattle.ada_program.specs.declared.program.Exception.{Exception}
+use Rattle.ada_program.specs.declared.program.Program.{Program}
+use Rattle.ada_program.specs.declared.program.VariableKind.{VariableKind}
+use Rattle.ada_program.specs.declared.program.VariableKind.TheVariants as variable
+use Rattle.ada_program.specs.Handling.{is_same, is_taken}
+use Rattle.ada_program.specs.ProgramForm.{TypeForm, VariableForm, BodyForm, program_form, body_forms, seen_by}
+use Rattle.ada_program.specs.WellFormed.{variable_kind}
+use Rattle.ada_effects.specs.Effects.{untaken, declarations_raise, stmts_raise, handlers_raise, body_raises}
+use Rattle.ada_meaning.specs.declared.state.Id.{Id}
+use Rattle.ada_meaning.specs.declared.state.Value.{Value}
+use Rattle.ada_meaning.specs.declared.state.Value.TheVariants.{Names}
+use Rattle.ada_meaning.specs.declared.state.Mode.TheVariants.{Running}
+use Rattle.ada_meaning.specs.Event.{Quiet}
+use Rattle.ada_meaning.specs.Frame.{Treatment, Elaborates, Returns}
+use Rattle.ada_meaning.specs.State.{Activation, Master}
+use Rattle.ada_meaning.specs.Step.{blank, blanks, given_places, operating}
+use Rattle.ada_meaning.specs.Named.{Object, State, named, object_at}
+use Rattle.ada_typed.proofs.Bodies.{seen_as}
+use Rattle.ada_sound.specs.Quiet.{is_elementary}
+use Rattle.ada_sound.proofs.Alters.{Alters}
+use Rattle.ada_sound.proofs.Callers.{Suspension, known_in, Stands}
+use Rattle.ada_sound.proofs.Fits.{place_at}
+use Rattle.ada_sound.proofs.Invariant.{Control, TreatsBy}
+use Rattle.ada_sound.proofs.Raising.{or_left, or_right, same_is, declarations_more, stmts_more, handlers_more}
+use Rattle.ada_sound.proofs.Waiting.{stands_kept}
+use Rattle.ada_sound.proofs.Operating.{Sight, StaysLive, WaitsFor, Holds, HoldScalars, Quietly, Body, Operates, QuietBody, behind_operation}
+
+-- Both of two.
+pub apart : (a b : Bool) → (a && b) ≡ true → (a ≡ true) × (b ≡ true)
+apart true b e = (refl, e)
+apart false b e = absurd (cc e)
+
+-- Integers and Booleans are blank at first.
+blank_holds : (sight : Sight) (kind : VariableKind) → is_elementary kind ≡ true → Holds sight (Some kind) (blank named kind)
+blank_holds sight variable.Integer e = tt
+blank_holds sight variable.Boolean e = tt
+blank_holds sight (variable.Access access) e = absurd (cc e)
+blank_holds sight (variable.Record object) e = absurd (cc e)
+
+blanks_hold : (sight : Sight) (vs : List VariableForm) → list_all (λ x. is_elementary x.kind) vs ≡ true → (y : ℕ) → Holds sight (variable_kind vs y) (place_at (blanks named vs) y)
+blanks_hold sight [] all y = tt
+blanks_hold sight (v ∷ vs) all zero = blank_holds sight v.kind (apart (is_elementary v.kind) (list_all (λ x. is_elementary x.kind) vs) all).0
+blanks_hold sight (v ∷ vs) all (suc y) = blanks_hold sight vs (apart (is_elementary v.kind) (list_all (λ x. is_elementary x.kind) vs) all).1 y
+
+places_hold : (sight : Sight) (variables : List VariableForm) (reference : Value) → list_all (λ x. is_elementary x.kind) (drop 1 variables) ≡ true → Holds sight (variable_kind variables 0) reference → (x : ℕ) → Holds sight (variable_kind variables x) (place_at (given_places named (reference ∷ []) variables) x)
+places_hold sight [] reference all formal x = tt
+places_hold sight (v ∷ vs) reference all formal zero = formal
+places_hold sight (v ∷ vs) reference all formal (suc y) = blanks_hold sight vs all y
+
+-- What a quiet body may raise its handlers take.
+module _ (types : List TypeForm) (b : BodyForm) (quiet : QuietBody types b) where
+  all : Exception → Bool
+  all e = true
+
+  raises_none : body_raises [] b (λ e. true) ≡ true → ⊥
+  raises_none e = let none = quiet.raises_nothing in cc (none, e)
+
+  no_declaration : (e : Exception) → declarations_raise (is_same e) b.declarations ≡ true → ⊥
+  no_declaration e may =
+      let more = declarations_more (is_same e) (λ f. true) (λ f is. refl) b.declarations may in
+      raises_none (or_left (declarations_raise (λ f. true) b.declarations || stmts_raise [] (untaken b.handlers (λ f. true)) b.statements) (handlers_raise [] (λ f. true) b.handlers)
+      (or_left (declarations_raise (λ f. true) b.declarations) (stmts_raise [] (untaken b.handlers (λ f. true)) b.statements) more))
+
+  no_handler : (e : Exception) → handlers_raise [] (is_same e) b.handlers ≡ true → ⊥
+  no_handler e may =
+      let more = handlers_more [] tt b.handlers (is_same e) (λ f. true) (λ f is. refl) may in
+      raises_none (or_right (declarations_raise (λ f. true) b.declarations || stmts_raise [] (untaken b.handlers (λ f. true)) b.statements) (handlers_raise [] (λ f. true) b.handlers) more)
+
+  taken : (e : Exception) → stmts_raise [] (is_same e) b.statements ≡ true → is_taken b.handlers e ≡ true
+  taken e may = by (is_taken b.handlers e) refl
+    where
+      by : (is : Bool) → is_taken b.handlers e ≡ is → is ≡ true
+      by true is = refl
+      by false is =
+          let more = stmts_more [] tt b.statements (is_same e) (untaken b.handlers (λ f. true)) (λ f same. rw (← same_is e f same, is) refl) may in
+          absurd (raises_none (or_left (declarations_raise (λ f. true) b.declarations || stmts_raise [] (untaken b.handlers (λ f. true)) b.statements) (handlers_raise [] (λ f. true) b.handlers)
+          (or_right (declarations_raise (λ f. true) b.declarations) (stmts_raise [] (untaken b.handlers (λ f. true)) b.statements) more)))
+
+-- A quiet body begins, in a master of its own.
+starts : (sight : Sight) (b : BodyForm) → sight.program.variables ≡ b.variables → QuietBody sight.program.types b → (behind : Control) (m : Master) → Quietly sight behind (m ∷ []) (Elaborates b.declarations b.statements b.handlers ∷ Returns [] [] ∷ behind)
+starts sight b same quiet behind m = (
+  (
+    rw same quiet.declarations,
+    (λ e may. absurd (no_declaration sight.program.types b quiet e may)),
+    (rw same quiet.statements, (λ e may. inl (taken sight.program.types b quiet e may)), λ out. let none = quiet.none_out in absurd (cc (none, out))),
+    (rw same quiet.handlers, (λ e may. absurd (no_handler sight.program.types b quiet e may)), λ out. let none = quiet.none_on in absurd (cc (none, out))),
+  ),
+  ((refl, refl), refl, refl),
+)
+
+-- The operation of a part of an object begins: what waits for it is behind the treatment of the object.
+module _ (program : Program) (number : ℕ) (b : BodyForm) (there : slice_get (body_forms program) number ≡ Some b) (quiet : QuietBody (program_form program).types b) (caller : Activation Value) (rest : List (Activation Value)) (gs : List Suspension) (s : State) (stands : Stands program gs (record s { activations = caller ∷ rest })) (o : Id) (treatment : Treatment) (k behind : Control) (reference : Value) where
+  abbrev pub sight : Object → Sight
+  sight x = record { program = seen_by number b (program_form program); object = o; access = x.cell.access }
+
+  pub operation_begins : (heap : List Object) (x : Object) → object_at heap o ≡ Some x → StaysLive x.stage → Alters s.heap Quiet heap → WaitsFor o treatment k behind
+      → TreatsBy (known_in program caller.procedure gs) (Names o) treatment k heap caller.places caller.operands s.masters
+      → Holds (sight x) (variable_kind b.variables 0) reference → HoldScalars (sight x) x
+      → Operates program (operating named number b reference behind (record s { activations = caller ∷ rest; heap = heap; mode = Running }))
+  operation_begins heap x found live alters waits treats formal scalars =
+      let after = operating named number b reference behind (record s { activations = caller ∷ rest; heap = heap; mode = Running }) in
+      let body : Body (sight x) behind (record { number = s.next; items = [] } ∷ []) heap (given_places named (reference ∷ []) b.variables) [] Running (Elaborates b.declarations b.statements b.handlers ∷ Returns [] [] ∷ behind) = record {
+        x = x;
+        found = found;
+        live = live;
+        of_access = refl;
+        scalars = scalars;
+        holds = places_hold (sight x) b.variables reference quiet.elementary formal;
+        own = (tt, tt);
+        comes = inl (tt, tt, starts (sight x) b refl quiet behind (record { number = s.next; items = [] }));
+      } in
+      record {
+        procedure = number;
+        places = given_places named (reference ∷ []) b.variables;
+        operands = [];
+        caller = caller;
+        rest = rest;
+        active = refl;
+        behind = behind;
+        upper = record { number = s.next; items = [] } ∷ [];
+        lower = s.masters;
+        masters = refl;
+        object = o;
+        access = x.cell.access;
+        body = rw (seen_as (program_form program) number b there) body;
+        suspended = record {
+          suspensions = gs;
+          treatment = treatment;
+          after = k;
+          waits = waits;
+          treats = treats;
+          stands = stands_kept program (record s { activations = caller ∷ rest }) (behind_operation (caller ∷ rest) behind s.masters after) gs stands Quiet
+              (record { procedure = refl; suspended = refl }) alters;
+        };
+      }

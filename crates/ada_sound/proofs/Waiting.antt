@@ -1,0 +1,50 @@
+-- What waits for a body stays as it is while the body runs.
+
+use Rattle.std.proofs.Common.{◌≡◌, ℕ, List, [], ◌∷◌, sym, subst}
+use Rattle.std.specs.Prelude.{Option}
+use Rattle.ada_program.specs.declared.program.Program.{Program}
+use Rattle.ada_program.specs.ProgramForm.{program_form, seen_in}
+use Rattle.ada_meaning.specs.declared.state.Value.{Value}
+use Rattle.ada_meaning.specs.State.{Activation}
+use Rattle.ada_meaning.specs.Step.{older}
+use Rattle.ada_meaning.specs.Named.{State}
+use Rattle.ada_meaning.specs.Run.{Event}
+use Rattle.ada_sound.specs.Agreement.{IsBehind, running_procedure}
+use Rattle.ada_sound.proofs.Alters.{Alters}
+use Rattle.ada_sound.proofs.Bodies.{IsBody}
+use Rattle.ada_sound.proofs.Invariant.{Caller, AreSuspended, AllWait, LieBelow}
+use Rattle.ada_sound.proofs.Callers.{Suspension, rest_of, callers_of, AreOf, Stands}
+
+-- From one state to the other the same body runs, and what waits for it stays as it is.
+pub record SameBody (s after : State) : Type 0 where
+  pub procedure : running_procedure after ≡ running_procedure s
+  pub suspended : older after.activations ≡ older s.activations
+
+-- A step that begins no call and ends none keeps what is known of callers.
+module _ (program : Program) (s after : State) (gs : List Suspension) (stands : Stands program gs s) (e : Event) (same : SameBody s after) (alters : Alters s.heap e after.heap) where
+  -- What callers rely on lies where it lay.
+  low_kept : (callers : List Caller) → LieBelow s.heap callers → LieBelow after.heap callers
+  low_kept [] low = tt
+  low_kept (w ∷ ws) low = (
+    (λ x o relied names.
+        let lies = low.0 x o relied names in
+        let y = alters.kept o lies.0 lies.1 in
+        (y.0, y.1, rw y.2.2 lies.2)),
+    (λ o t refers.
+        let lies = low.1 o t refers in
+        let y = alters.kept o lies.0 lies.1 in
+        (y.0, y.1, rw y.2.2 lies.2)),
+    low_kept ws low.2,
+  )
+
+  pub stands_kept : Stands program gs after
+  stands_kept = record {
+    body = subst (λ (procedure : Option ℕ). IsBody (program_form program) procedure) (sym same.procedure) stands.body;
+    behind = subst (λ (procedure : Option ℕ). IsBehind procedure (rest_of gs)) (sym same.procedure) stands.behind;
+    bodies = subst (λ (rest : List (Activation Value)). AreOf program rest gs) (sym same.suspended) stands.bodies;
+    standing = record {
+      suspended = subst (λ (rest : List (Activation Value)). AreSuspended rest (callers_of program gs)) (sym same.suspended) stands.standing.suspended;
+      waiting = subst (λ (procedure : Option ℕ). AllWait (seen_in procedure (program_form program)) (callers_of program gs)) (sym same.procedure) stands.standing.waiting;
+      low = low_kept (callers_of program gs) stands.standing.low;
+    };
+  }

@@ -1,0 +1,5 @@
+use Rattle.ada_verdict.proofs.accepted.Accepted.program.Goals as goal
+
+-- it has passed all checks
+pub returns-clause-formed : goal.returns-clause-formed
+returns-clause-formed c = rw (← c.self.view_is) c.self.invariant.well_formed
