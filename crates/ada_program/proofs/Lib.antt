@@ -5,3 +5,4 @@ pub mod Overridden
 mod Profiles
 pub mod Shapes
 mod Viewed
+pub mod Walks

@@ -12,6 +12,8 @@ pub mod Typed
 pub mod Controlled
 -- what a well-formed program is
 pub mod WellFormed
+-- how records with controlled parts lie in others (7.6)
+pub mod Walks
 -- where collections are created
 pub mod Nested
 -- which access types are freed

@@ -1,6 +1,6 @@
 -- What a well-formed program is: each number is that of something there, and each form has the types that it wants.
 
-use Rattle.std.specs.Prelude.{◌≡◌, ℕ, ◌+◌, Bool, true, false, ◌&&◌, ◌||◌, not, ◌==◌, nat_lt, if◌then◌else◌, List, [], ◌∷◌, ◌++◌, length, take, drop, map, count_by, Option, Some, None, is_some}
+use Rattle.std.specs.Prelude.{◌≡◌, ℕ, zero, suc, ◌+◌, ◌-◌, Bool, true, false, ◌&&◌, ◌||◌, not, ◌==◌, nat_lt, if◌then◌else◌, List, [], ◌∷◌, ◌++◌, length, take, drop, map, count_by, find, Option, Some, None, is_some}
 use Rattle.std.specs.List.{list_all, slice_get}
 use Rattle.ada_values.specs.declared.operator.UnaryOperator.{UnaryOperator}
 use Rattle.ada_values.specs.declared.operator.UnaryOperator.TheVariants as unary
@@ -20,6 +20,7 @@ use Rattle.ada_program.specs.declared.program.PartKind.{PartKind}
 use Rattle.ada_program.specs.declared.program.PartKind.TheVariants as part
 use Rattle.ada_program.specs.declared.program.VariableKind.{VariableKind}
 use Rattle.ada_program.specs.declared.program.VariableKind.TheVariants as variable
+use Rattle.ada_program.specs.declared.records.RecordPlace.{RecordPlace}
 use Rattle.ada_program.specs.declared.program.ScalarType.{ScalarType}
 use Rattle.ada_program.specs.declared.program.ScalarType.TheVariants.{Integer, Boolean}
 use Rattle.ada_program.specs.Form.{PathForm, ActualForm, in_value, in_null, in_access, in_record, in_out_path, in_out_access, in_out_component, in_out_record, RecordPathForm, ExpressionForm, integer, boolean, reads, is_null, applied_to, chained, LinksForm, no_more_links, a_link, ItemForm, null_item, item_of_path, item_of_value, item_of_record, RightForm, nothing, value_of, allocates, allocates_default, computes, StmtForm, skips, assigns, assigns_record, frees, gets, writes, writes_text, chooses, repeats, counts, exits, calls, returns, raises, encloses, StmtsForm, no_stmts, a_stmt, BranchesForm, otherwise, a_branch, HandlersForm, no_handlers, a_handler, DeclarationForm, creates_pool, collects, declares, declares_record}
@@ -561,12 +562,63 @@ abbrev pub parts_named : List TypeForm → Option ℕ → ℕ
 parts_named types None = 0
 parts_named types (Some t) = part_count types t
 
+-- The declared components of a record type, where its objects have controlled parts (3.8, 7.6).
+abbrev pub parted_components : Option TypeForm → List PartForm
+parted_components None = []
+parted_components (Some (record_of name parts components None)) = []
+parted_components (Some (record_of name parts components (Some f))) = parts
+parted_components (Some (access_to name designated pool)) = []
+parted_components (Some (object_of record_type)) = []
+
+-- A declared component has the controlled part of a number (7.6).
+abbrev pub has_part : List TypeForm → (number : ℕ) → PartForm → Bool
+has_part types n p = not (nat_lt n p.part) && nat_lt n (p.part + parts_within types p.kind)
+
+-- A place in a record, as a place in one of its declared components: none, if that is no record, or begins behind the place (4.1.3).
+abbrev pub place_in : RecordPlace → PartForm → PartKind → Option RecordPlace
+place_in at p (part.Elementary kind) = None
+place_in at p (part.Record t) = if nat_lt at.first p.first then None else Some (record { within = t.0; first = at.first - p.first; part = at.part - p.part })
+place_in at p part.Parent = None
+
+-- The same of the declared component that was found, if one was.
+abbrev pub place_within : RecordPlace → Option PartForm → Option RecordPlace
+place_within at None = None
+place_within at (Some p) = place_in at p p.kind
+
+-- A place in a record, as a place in the declared component that has the controlled part behind it.
+abbrev pub place_inside : List TypeForm → Option RecordPlace → Option RecordPlace
+place_inside types None = None
+place_inside types (Some at) = place_within at (find (has_part types at.part) (parted_components (slice_get types at.within)))
+
+-- The very record begins there that it is a place in, and is of this type: nothing of it lies before.
+abbrev pub is_whole : (record_type : ℕ) → Option RecordPlace → Bool
+is_whole t None = false
+is_whole t (Some at) = (at.within == t) && (at.first == 0) && (at.part == 0)
+
+-- A record of a type begins at a place: the very record that it is a place in, or one inside the declared component that has the controlled part behind the
+-- place, at most so many components deep (4.1.3).
+abbrev pub is_found : List TypeForm → (depth : ℕ) → (record_type : ℕ) → Option RecordPlace → Bool
+is_found types zero t at = is_whole t at
+is_found types (suc depth) t at = is_whole t at || is_found types depth t (place_inside types at)
+
+-- A place in the object to which a path leads: so many elementary components and controlled parts lie before it.
+abbrev pub place_from : (object : Option ℕ) → (first part : ℕ) → Option RecordPlace
+place_from None first part = None
+place_from (Some t) first part = Some (record { within = t; first = first; part = part })
+
+-- The controlled parts of a record lie in an object, where it has some (7.6): they are among the object's, and a record of its type begins there. Records are
+-- nested no deeper than there are types.
+abbrev pub has_parts_at : List TypeForm → (record_type : ℕ) → (object : Option ℕ) → (first part : ℕ) → Bool
+has_parts_at types t object first part =
+    has_parts_from (part_count types t) part (parts_named types object)
+    && ((part_count types t == 0) || is_found types (length types) t (place_from object first part))
+
 -- A path leads to a record of its type (4.1): such a record lies in the object to which the path leads, from that component on, and so do its controlled
--- parts.
+-- parts, from that number on.
 abbrev pub is_record_path : List TypeForm → List VariableForm → RecordPathForm → Bool
 is_record_path types variables p =
     has_record_at (object_components types (access_of (path_kind types variables p.object))) p.first (record_components types p.record_type)
-    && has_parts_from (part_count types p.record_type) p.part (parts_named types (object_named types (access_of (path_kind types variables p.object))))
+    && has_parts_at types p.record_type (object_named types (access_of (path_kind types variables p.object))) p.first p.part
 
 -- An item for one component is null or a path of the component's very type for an access component, and else an expression of the component's
 -- type (4.3.1).

@@ -42,7 +42,7 @@ pub fn part_count(types: &[TypeDefinition], number: usize) -> usize
 }
 
 /// How many controlled parts a declared component has: the parent part is one.
-fn parts_within(types: &[TypeDefinition], kind: PartKind) -> usize
+pub(crate) fn parts_within(types: &[TypeDefinition], kind: PartKind) -> usize
     ensures { result ≡ fits.parts_within (types_in types.now) kind }
 {
     match kind {

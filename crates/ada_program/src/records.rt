@@ -1,8 +1,10 @@
 //! Records as wholes: where they lie, and the items that give their components values (4.1, 4.3.1).
 
-ghost use Rattle.std.specs.Prelude.{◌≡◌, Some, drop, map};
+ghost use Rattle.std.specs.Prelude.{◌≡◌, Some, drop, find, length, map};
+ghost use Rattle.std.specs.List.{slice_get};
 ghost use Rattle.std.specs.Option.{option_copied};
 ghost use Rattle.ada_program.specs.Form.{item_form};
+ghost use Rattle.ada_program.specs.ProgramForm.{part_form};
 ghost use Rattle.ada_program.specs.Kept as kept;
 ghost use Rattle.ada_program.specs.Kept.{types_in};
 ghost use Rattle.ada_program.specs.WellFormed as fits;
@@ -11,11 +13,21 @@ use crate::borrowers::items_own;
 use crate::lookup::{
     access_of, is_this, named_type, path_access, path_kind, reached_components, record_components,
 };
-use crate::parts::{finalization_of, part_count};
+use crate::parts::{finalization_of, part_count, parts_within};
 use crate::program::{
-    ComponentKind, Finalization, Item, RecordPath, ScalarType, TypeDefinition, Variable,
+    ComponentKind, Finalization, Item, Part, PartKind, RecordPath, ScalarType, TypeDefinition,
+    Variable,
 };
 use crate::typing::has_type;
+
+/// A place in the records of a type, where a record of some type may begin: so many of their elementary components, and so
+/// many of their controlled parts, lie before it (4.1, 7.6).
+#[derive(Clone, Copy)]
+pub(crate) struct RecordPlace {
+    pub within: usize,
+    pub first: usize,
+    pub part: usize,
+}
 
 /// Whether a path leads to a record of its type (4.1).
 pub(crate) fn is_record_path(
@@ -32,12 +44,137 @@ pub(crate) fn is_record_path(
             Some(components) => begins_with_record(
                 behind(components, path.first.0),
                 record_components(types, path.record.0),
-            ) && has_parts_from(
-                part_count(types, path.record.0),
-                path.part.0,
-                parts_named(types, known),
-            ),
+            ) && has_parts_at(types, known, path),
         },
+    }
+}
+
+/// Whether the controlled parts of a path's record lie in the objects that values of a type name.
+fn has_parts_at(types: &[TypeDefinition], access: usize, path: &RecordPath) -> bool
+    ensures { let object = fits.object_named (types_in types.now) (Some access) in
+        result ≡ fits.has_parts_at (types_in types.now) path.now.record.0 object path.now.first.0 path.now.part.0 }
+{
+    let count = part_count(types, path.record.0);
+    has_parts_from(count, path.part.0, parts_named(types, access))
+        && (count == 0 || is_found(types, path.record.0, place_from(types, access, path)))
+}
+
+/// The place of a path's record in the objects that values of a type name.
+fn place_from(types: &[TypeDefinition], access: usize, path: &RecordPath) -> Option<RecordPlace>
+    ensures { let object = fits.object_named (types_in types.now) (Some access) in
+        result ≡ fits.place_from object path.now.first.0 path.now.part.0 }
+{
+    let within = named_type(types, access)?;
+    let first = path.first.0;
+    let part = path.part.0;
+    Some(RecordPlace {
+        within,
+        first,
+        part,
+    })
+}
+
+/// Whether a record of a type begins at a place: the very record that it is a place in, or one inside its components, at any
+/// depth.
+fn is_found(types: &[TypeDefinition], number: usize, place: Option<RecordPlace>) -> bool
+    ensures { result ≡ fits.is_found (types_in types.now) (length (types_in types.now)) number place }
+{
+    let mut at = place;
+    'deeper: for _definition in types {
+        if is_whole(number, at) {
+            return true;
+        }
+        at = place_inside(types, at);
+    }
+    is_whole(number, at)
+}
+
+/// Whether the very record begins there that it is a place in, and is of this type.
+fn is_whole(number: usize, place: Option<RecordPlace>) -> bool
+    ensures { result ≡ fits.is_whole number place }
+{
+    match place {
+        None => false,
+        Some(at) => at.within == number && at.first == 0 && at.part == 0,
+    }
+}
+
+/// A place in a record, as a place in the declared component that has the controlled part behind it.
+fn place_inside(types: &[TypeDefinition], place: Option<RecordPlace>) -> Option<RecordPlace>
+    ensures { result ≡ fits.place_inside (types_in types.now) place }
+{
+    let at = place?;
+    place_among(types, at, parted_components(types, at.within))
+}
+
+/// The declared components of a record type, where its objects have controlled parts.
+fn parted_components<'p>(types: &'p [TypeDefinition], number: usize) -> &'p [Part]
+    ensures { map part_form result.now ≡ fits.parted_components (slice_get (types_in types.now) number) }
+{
+    match types.get(number) {
+        Some(
+            TypeDefinition::Record {
+                name: _,
+                parts,
+                components: _,
+                finalization: Some(_),
+            },
+        ) => parts,
+        Some(
+            TypeDefinition::Record { .. }
+            | TypeDefinition::Access { .. }
+            | TypeDefinition::Object { .. },
+        )
+        | None => &[],
+    }
+}
+
+/// A place in a record, as a place in that of these components which has the controlled part behind it.
+fn place_among(
+    types: &[TypeDefinition],
+    at: RecordPlace,
+    components: &[Part],
+) -> Option<RecordPlace>
+    ensures { result
+        ≡ fits.place_within at (find (fits.has_part (types_in types.now) at.part) (map part_form components.now)) }
+{
+    for component in components {
+        if has_part(types, at.part, component) {
+            return place_in(at, component);
+        }
+    }
+    None
+}
+
+/// Whether a declared component has the controlled part of a number.
+fn has_part(types: &[TypeDefinition], number: usize, component: &Part) -> bool
+    ensures { result ≡ fits.has_part (types_in types.now) number (part_form component.now) }
+{
+    match component
+        .part
+        .0
+        .checked_add(parts_within(types, component.kind))
+    {
+        None => number >= component.part.0,
+        Some(end) => number >= component.part.0 && number < end,
+    }
+}
+
+/// A place in a record, as a place in one of its declared components. None, if that is no record, or begins behind the place.
+fn place_in(at: RecordPlace, component: &Part) -> Option<RecordPlace>
+    ensures { result ≡ fits.place_in at (part_form component.now) component.now.kind }
+{
+    match component.kind {
+        PartKind::Record(record) => {
+            let first = at.first.checked_sub(component.first.0)?;
+            let part = at.part.saturating_sub(component.part.0);
+            Some(RecordPlace {
+                within: record.0,
+                first,
+                part,
+            })
+        }
+        PartKind::Elementary(_) | PartKind::Parent => None,
     }
 }
 

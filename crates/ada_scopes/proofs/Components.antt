@@ -7,12 +7,11 @@ use Rattle.std.proofs.lemmas.List.Elements.{All-nil, All-cons}
 use Rattle.std.proofs.lemmas.List.Kept.{AllPairs-cons}
 use Rattle.ada_program.specs.declared.program.ComponentKind.{ComponentKind}
 use Rattle.ada_program.specs.declared.program.ComponentKind.TheVariants as component
-use Rattle.ada_program.specs.declared.program.Program.{Program}
 use Rattle.ada_program.specs.declared.program.TypeNo.{TypeNo}
 use Rattle.ada_program.specs.declared.program.VariableKind.TheVariants as variable
 use Rattle.ada_program.specs.Form.{DeclarationForm}
 use Rattle.ada_program.specs.ProgramForm.{TypeForm, ProgramForm, program_form}
-use Rattle.ada_program.specs.WellFormed.{IsWellFormed, is_access, overrides_none, reached_components, held_kind, component_kind, kind_among}
+use Rattle.ada_program.specs.WellFormed.{is_access, overrides_none, reached_components, held_kind, component_kind, kind_among}
 use Rattle.ada_program.specs.Nested.{Callees, are_open, callees_of}
 use Rattle.ada_meaning.specs.declared.state.Id.{Id}
 use Rattle.ada_meaning.specs.declared.state.Value.{Value}
@@ -28,7 +27,7 @@ use Rattle.ada_typed.specs.Holding.{Cells, Designates, HasKind, HaveKinds, IsFil
 use Rattle.ada_typed.proofs.Evaluations.{cell_at}
 use Rattle.ada_typed.proofs.Runs.{objects_have_their_kinds}
 use Rattle.ada_order.proofs.Orders as orders
-use Rattle.ada_scopes.specs.Scopes.{InItsRuns, type_collected, CollectTwoTypes, TypesHaveOneCollection, is_number_of, lasting, IsOpenIn, departures, some_departure, departs, OnlyInnermostIsLeft, is_innermost, IsListed, ObjectsLieInCollections, HoldsNames, ComponentsAreOutlived, HaveTheirKinds, HeldOutside, NamesStayOutside, TypedNamesStayOutside, InnermostHeldInside, InnermostIsNotNamed, TypedInnermostIsNotNamed}
+use Rattle.ada_scopes.specs.Scopes.{type_collected, CollectTwoTypes, TypesHaveOneCollection, is_number_of, lasting, IsOpenIn, departures, some_departure, departs, OnlyInnermostIsLeft, is_innermost, IsListed, ObjectsLieInCollections, HoldsNames, ComponentsAreOutlived, HeldOutside, NamesStayOutside, InnermostHeldInside, InnermostIsNotNamed}
 use Rattle.ada_scopes.proofs.Counts.{one, times, times_append, target_open, opened_by, opened, Scopes, scopes, all_of, opened_all, scopes_older}
 use Rattle.ada_scopes.proofs.Homes.{HasItem, has_split, HasHome, home_item, opened_here, opened_later, ItemsFit, fit_before, fit_after, has_opened, Housed, housed_after}
 use Rattle.ada_scopes.proofs.Control.{OwnsAll, Nests, Goes, NeedsOpen, AreOpen, RecordNeeds, RecordsNeed, RecordsOpen, Covers, covers_older, covers_fewer, Lone, lone_older, Whole, Growing, Begins, Nested, standing, beginning, parting}
@@ -542,16 +541,10 @@ held_outside program s scoped kinds holder held holds =
     subst (λ (ms : List Master). is_number_of (items_of (lasting n ms)) m ≡ true) (sym here_settled.masters)
     (stays_more n m here_settled.own here_settled.ms (stays_in types n m named.0.0 here_settled.ss here_settled.ms w.covers w.fit known w.lone le has))
 
-pub typed_outside : TypedNamesStayOutside
-typed_outside program well nest operations kinds input events last run =
-    held_outside (program_form program) last (state_nested program well nest operations input events last run) (kinds input events last run)
-
--- Where no type overrides an operation, objects have values of those kinds.
-kinds_alone : (program : Program) → IsWellFormed (program_form program) → overrides_none (program_form program) ≡ true → InItsRuns program (HaveTheirKinds (program_form program).types)
-kinds_alone program well plain input events last run o x at = objects_have_their_kinds program well plain input events last o x run at
-
 pub outside : NamesStayOutside
-outside program well nest plain = typed_outside program well nest (none_nests (program_form program) plain) (kinds_alone program well plain)
+outside program well nest operations input events last run =
+    held_outside (program_form program) last (state_nested program well nest operations input events last run)
+    (λ o x at. objects_have_their_kinds program well input events last o x run at)
 
 -- A number belongs to one master only.
 or_by : (b c : Bool) (P : Type 0) → (b ≡ true → P) → (c ≡ true → P) → (b || c) ≡ true → P
@@ -587,9 +580,6 @@ pub held_inside : (s : State) → AllPairs Falls (items_of s.masters) → HeldOu
 held_inside s falls outer holder held holds innermost =
     innermost_by holder.cell.home.item held.cell.home.item s.masters falls (outer holder held holds) innermost
 
-pub typed_innermost_unnamed : TypedInnermostIsNotNamed
-typed_innermost_unnamed program well nest operations kinds input events last run =
-    held_inside last (orders.items_fall program input events last run) (typed_outside program well nest operations kinds input events last run)
-
 pub innermost_unnamed : InnermostIsNotNamed
-innermost_unnamed program well nest plain = typed_innermost_unnamed program well nest (none_nests (program_form program) plain) (kinds_alone program well plain)
+innermost_unnamed program well nest operations input events last run =
+    held_inside last (orders.items_fall program input events last run) (outside program well nest operations input events last run)

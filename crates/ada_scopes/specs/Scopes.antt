@@ -21,7 +21,6 @@ use Rattle.ada_meaning.specs.State.{Owned, declared, collection, record_object, 
 use Rattle.ada_meaning.specs.Named.{Object, State, object_at}
 use Rattle.ada_meaning.specs.Run.{Event, Run, first_state}
 use Rattle.ada_meaning.specs.Law.{Differ, items_of}
-use Rattle.ada_typed.specs.Holding.{IsFilled, cells_of}
 
 -- Each state that a run of the program comes to has a property.
 abbrev pub InItsRuns : Program → (State → Type 0) → Type 0
@@ -178,21 +177,9 @@ HeldOutside s =
     (holder held : Object)
     → Holds s.heap holder held → is_number_of (items_of (lasting holder.cell.home.item s.masters)) held.cell.home.item ≡ true
 
--- The objects of a state have values of the kinds of their components (3.8).
-abbrev pub HaveTheirKinds : List TypeForm → State → Type 0
-HaveTheirKinds types s = (o : Id) (object : Object) → object_at s.heap o ≡ Some object → IsFilled types (cells_of s.heap) object.cell
-
--- A property of states holds in the runs of each program where objects have values of the kinds of their components.
-abbrev pub WhereTyped : (State → Type 0) → Type 0
-WhereTyped P = WhereCollectionsNest (λ program. InItsRuns program (HaveTheirKinds (program_form program).types) → InItsRuns program P)
-
 -- No component names an object of a master further in than that of its own object.
 abbrev pub NamesStayOutside : Type 0
-NamesStayOutside = WhereNothingIsCalled HeldOutside
-
--- Nor does one where operations are called.
-abbrev pub TypedNamesStayOutside : Type 0
-TypedNamesStayOutside = WhereTyped HeldOutside
+NamesStayOutside = WhereCollectionsNest (λ program. InItsRuns program HeldOutside)
 
 -- Whatever object holds the name of one whose home is an item of the innermost master has its own home there.
 abbrev pub InnermostHeldInside : State → Type 0
@@ -203,8 +190,4 @@ InnermostHeldInside s =
 
 -- No object of an outer master has a component that names an object of the innermost one.
 abbrev pub InnermostIsNotNamed : Type 0
-InnermostIsNotNamed = WhereNothingIsCalled InnermostHeldInside
-
--- Nor has one where operations are called.
-abbrev pub TypedInnermostIsNotNamed : Type 0
-TypedInnermostIsNotNamed = WhereTyped InnermostHeldInside
+InnermostIsNotNamed = WhereCollectionsNest (λ program. InItsRuns program InnermostHeldInside)

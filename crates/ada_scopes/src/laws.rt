@@ -5,7 +5,6 @@ ghost use Rattle.ada_scopes.specs.Example.{CollectionsGoOneByOne, NestingIsNeede
 ghost use Rattle.ada_scopes.specs.Example.{OperationsMustNest, OperationsMustFindOpen};
 ghost use Rattle.ada_scopes.specs.Scopes.{TypesHaveOneCollection, ObjectsLieInCollections, ComponentsAreOutlived};
 ghost use Rattle.ada_scopes.specs.Scopes.{NamesStayOutside, InnermostIsNotNamed, OnlyInnermostIsLeft};
-ghost use Rattle.ada_scopes.specs.Scopes.{TypedNamesStayOutside, TypedInnermostIsNotNamed};
 
 /// No two items of the masters that are entered are collections of one access type (7.6.1).
 pub fn types_have_one_collection()
@@ -27,13 +26,10 @@ pub fn components_are_outlived()
 {}
 
 /// What a component names lies in a collection of the same master as the object, or of an outer one. So when the innermost
-/// master is left, no object of an outer one has a component that names an object of the innermost one. Where operations
-/// are called, the premise is that objects have values of the kinds of their components.
+/// master is left, no object of an outer one has a component that names an object of the innermost one.
 pub fn names_stay_outside()
     ensures home { NamesStayOutside }
     ensures innermost { InnermostIsNotNamed }
-    ensures typed_home { TypedNamesStayOutside }
-    ensures typed_innermost { TypedInnermostIsNotNamed }
 {}
 
 /// The premises are met: in a run of a program a block has an object with a component of an access type of the main

@@ -1,6 +1,6 @@
 -- An assignment of a record that has controlled parts finds the target and the source, finalizes, copies and adjusts (5.2, 7.6): what it refers to is there.
 
-use Rattle.ada_typed.specs.Holding.{cells_of, parts_reached}
+use Rattle.ada_typed.specs.Holding.{PartsLie, cells_of, parts_reached}
 use Rattle.std.proofs.Common.{◌≡◌, ℕ, ◌<◌, ◌==◌, ◌&&◌, not, Bool, true, false, List, [], ◌∷◌, length, drop, map, nat_lt, Option, Some, None, arith, refl, sym, ap, ◌∙◌, subst}
 use Rattle.std.proofs.lemmas.Bool.{eqb-true, ltb-true}
 use Rattle.std.specs.Prelude.{is_some}
@@ -16,7 +16,7 @@ use Rattle.ada_program.specs.Controlled.{number_in, number_of, shapes_of}
 use Rattle.ada_program.specs.Form.{RecordPathForm, ItemForm, null_item, item_of_path, item_of_value, item_of_record}
 use Rattle.ada_program.specs.ProgramForm.{TypeForm, record_of, access_to, object_of, ProgramForm, type_form}
 use Rattle.ada_program.specs.Typed.{width_of}
-use Rattle.ada_program.specs.WellFormed.{kind_fits, finalization_in, finalization_of, parts_in_order, is_of_earlier, parent_first, says_parts, is_numbered_alone, type_fits, components_reached, reached_components, record_components, has_record_at, has_parts_from, part_count, is_record_path, item_fits, item_width, begins_with_record, is_none_left, items_fit, is_filled, item_owns, is_copy, copies_whole, record_fits, object_fits}
+use Rattle.ada_program.specs.WellFormed.{kind_fits, finalization_in, finalization_of, parts_in_order, is_of_earlier, parent_first, says_parts, is_numbered_alone, type_fits, components_reached, reached_components, record_components, has_record_at, has_parts_from, object_named, part_count, is_record_path, item_fits, item_width, begins_with_record, is_none_left, items_fit, is_filled, item_owns, is_copy, copies_whole, record_fits, object_fits}
 use Rattle.ada_program.proofs.Shapes.{same_number}
 use Rattle.ada_meaning.specs.declared.event.Birth.TheVariants.{Adjustment}
 use Rattle.ada_meaning.specs.declared.event.Cause.TheVariants.{Assigning}
@@ -144,12 +144,22 @@ module _ (p : ProgramForm) (types : List TypeDefinition) (shown : map type_form 
       (subst (λ (o : Option ℕ). Within (shapes_of types) count (tasks_in (shapes_of types) direction o first)) (sym (number_shown t))
       (tasks_within fit t access direction first (finalization_of p.types t) refl parts))
 
-  record_within : (fit : list_all (type_fits p.types) p.types ≡ true) (t access : ℕ) (direction : Direction) (place : Place) → has_record_at (reached_components p.types access) place.component (record_components p.types t) ≡ true → has_parts_from (part_count p.types t) place.part (parts_reached p.types access) ≡ true → TasksFit p.types access (record_tasks types t direction place.part)
-  record_within fit t access direction place there parts =
+  some_counted :
+      (fit : list_all (type_fits p.types) p.types ≡ true) (t n : ℕ) (o : Option Finalization) → finalization_of p.types t ≡ o → number_in o ≡ Some n
+      → 0 < part_count p.types t
+  some_counted fit t n None is numbered = absurd (cc numbered)
+  some_counted fit t n (Some f) is numbered =
+      let count : part_count p.types t ≡ f.parts = cc in
+      let some = some_parts p.types t f fit is in
+      omega (arith, count, some)
+
+  record_within : (fit : list_all (type_fits p.types) p.types ≡ true) (t access : ℕ) (direction : Direction) (place : Place) → PartsLie p.types (object_named p.types (Some access)) (Some t) place.component place.part → TasksFit p.types access (record_tasks types t direction place.part)
+  record_within fit t access direction place parts =
       let number = number_of types (Some t) in
-      let lie = lying_record p.types access direction t place.component place.part number (sym (number_shown t)) there parts in
+      let walks = λ (n : ℕ) (numbered : number ≡ Some n). parts.1 (some_counted fit t n (finalization_of p.types t) refl (sym (number_shown t) ∙ numbered)) in
+      let lie = lying_record p.types access direction t place.component place.part number (sym (number_shown t)) walks in
       let lying = subst (λ (shapes : List Shape). Lying p.types access (tasks_in shapes direction number place.part)) (shapes_shown types p.types shown) lie in
-      (record_counted_within fit t access direction place.part parts, lying)
+      (record_counted_within fit t access direction place.part parts.0, lying)
 
   -- The target is finalized, the components of the source are copied to it, and it is adjusted; nothing is done where both are one record.
   assigning_fine : (fit : list_all (type_fits p.types) p.types ≡ true) (alike : Bool) (t : ℕ) (rs : List ComponentKind) (o q : Id) (to from : Place) (s : State) (kinds : List OperandKind) → Ready p kinds s → record_components p.types t ≡ Some rs → RefersToRecord p.types (cells_of s.heap) t (Part o to) → RefersToRecord p.types (cells_of s.heap) t (Part q from) → Fits p (cells_of s.heap) kinds s.control → Fine p (assigns_next named types t (Part o to) (Part q from) (Some alike) s)
@@ -170,7 +180,7 @@ module _ (p : ProgramForm) (types : List TypeDefinition) (shown : map type_form 
       let here = ap (λ (found : Option (List ComponentKind)). has_record_at (reached_components p.types other) from.component found) (sym recorded) ∙ source.2 in
       running (of_kind (variable.Access (record { 0 = other })) ∷ kinds) (record { filled = pushed.filled; active = pushed.active; runs = pushed.runs; deep = omega (arith, ready.deep, deep, deeper) })
       (treating_fits p cells (of_kind (variable.Access (record { 0 = other })) ∷ kinds) (Names o) ending (record_tasks types t WholeFirst to.part) copies
-      (own, (target.0, target.1, refl), record_within fit t own WholeFirst to target.2 target.3, (tt, tt)) (
+      (own, (target.0, target.1, refl), record_within fit t own WholeFirst to target.3, (tt, tt)) (
         kinds,
         record { 0 = other },
         rs,
@@ -186,7 +196,7 @@ module _ (p : ProgramForm) (types : List TypeDefinition) (shown : map type_form 
           tt,
           (target.0, target.1, refl),
           there,
-          treating_fits p cells kinds (Names o) beginning (record_tasks types t PartsFirst to.part) s.control (own, (target.0, target.1, refl), record_within fit t own PartsFirst to target.2 target.3, (tt, tt)) fits,
+          treating_fits p cells kinds (Names o) beginning (record_tasks types t PartsFirst to.part) s.control (own, (target.0, target.1, refl), record_within fit t own PartsFirst to target.3, (tt, tt)) fits,
         ),
       ))
 

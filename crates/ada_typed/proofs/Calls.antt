@@ -1,7 +1,7 @@
 -- Calls, returns and jumps out of bodies (6.4, 6.5, 11.4), and calls of operations of controlled types (7.6): so each step of a typed state leads to one that
 -- is typed, or ends the run in a way that the language knows.
 
-use Rattle.ada_typed.specs.Holding.{Cells, HasKind, cells_of, parts_reached, seen_now}
+use Rattle.ada_typed.specs.Holding.{Cells, HasKind, PartsLie, cells_of, seen_now}
 use Rattle.std.proofs.Common.{◌≡◌, ℕ, ◌<◌, ◌≤◌, ◌==◌, if◌then◌else◌, Bool, true, false, List, [], ◌∷◌, length, map, take, reverse, Option, Some, None, arith, refl, sym, ap, ◌∙◌, subst}
 use Rattle.std.specs.List.{list_all, slice_get}
 use Rattle.std.specs.Option.{option_map}
@@ -15,7 +15,7 @@ use Rattle.ada_program.specs.declared.program.VariableKind.TheVariants as variab
 use Rattle.ada_program.specs.Controlled.{operations_of, procedure_number}
 use Rattle.ada_program.specs.Form.{ActualForm}
 use Rattle.ada_program.specs.ProgramForm.{TypeForm, record_of, access_to, object_of, VariableForm, BodyForm, ProgramForm, type_form, seen_by, seen_in}
-use Rattle.ada_program.specs.WellFormed.{IsWellFormed, overrides_none, actuals_fit, formal_kinds, object_in, named_in, components_reached, reached_components, has_record_at, has_parts_from, parts_named}
+use Rattle.ada_program.specs.WellFormed.{IsWellFormed, overrides_none, actuals_fit, formal_kinds, object_in, named_in, components_reached, object_named, reached_components, has_record_at}
 use Rattle.ada_meaning.specs.declared.event.Birth.{Birth}
 use Rattle.ada_meaning.specs.declared.event.Birth.TheVariants.{Creation, Copy, Adjustment}
 use Rattle.ada_meaning.specs.declared.event.Cause.{Cause}
@@ -164,7 +164,7 @@ names_it (Some (record_of name parts components finalization)) t is = absurd (cc
 names_it (Some (access_to name designated pool)) t is = absurd (cc)
 names_it (Some (object_of record_type)) t is = is
 
-part_kind : (p : ProgramForm) → PartsAreRecords p.types → (cells : Cells) (o : Id) (cell : Cell Value) (access of part procedure : ℕ) (q : PartState) (operation : OperationFor p of procedure) → slice_get cells o.0 ≡ Some cell → cell.access ≡ access → HasParts p.types cell → slice_get cell.parts part ≡ Some q → IsOperable p.types access of part → HasKind p.types cells (variable.Record operation.object) (Part o (record { component = q.first; part = part }))
+pub part_kind : (p : ProgramForm) → PartsAreRecords p.types → (cells : Cells) (o : Id) (cell : Cell Value) (access of part procedure : ℕ) (q : PartState) (operation : OperationFor p of procedure) → slice_get cells o.0 ≡ Some cell → cell.access ≡ access → HasParts p.types cell → slice_get cell.parts part ≡ Some q → IsOperable p.types access of part → HasKind p.types cells (variable.Record operation.object) (Part o (record { component = q.first; part = part }))
 part_kind p placed cells o cell access of part procedure q operation there own parts at operable =
     let types = p.types in
     let named = names_it (slice_get types operation.object.0) operation.record_type operation.known_by in
@@ -174,14 +174,10 @@ part_kind p placed cells o cell access of part procedure q operation there own p
       cell,
       there,
       ap (λ (n : Option ℕ). has_record_at (reached_components types cell.access) q.first (components_reached types n)) named ∙ lies.0,
-      ap (λ (n : Option ℕ). has_parts_from (parts_named types n) part (parts_reached types cell.access)) named ∙ lies.1,
+      subst (λ (n : Option ℕ). PartsLie types (object_named types (Some cell.access)) n q.first part) (sym named) lies.1,
     )
 
--- Where some type overrides an operation, the parts of objects are records that lie in them.
-abbrev pub ArePlaced : ProgramForm → Type 0
-ArePlaced p = (overrides_none p ≡ true → ⊥) → PartsAreRecords p.types
-
-module _ (p : ProgramForm) (well : IsWellFormed p) (placed : ArePlaced p) where
+module _ (p : ProgramForm) (well : IsWellFormed p) (placed : PartsAreRecords p.types) where
   -- Some type overrides an operation, as any body sees the types.
   some_seen : (procedure : Option ℕ) → (overrides_none p ≡ true → ⊥) → overrides_none (seen_in procedure p) ≡ true → ⊥
   some_seen procedure some plain = some (ap (list_all is_plain) (sym (types_seen p procedure)) ∙ plain)
@@ -227,14 +223,14 @@ module _ (p : ProgramForm) (well : IsWellFormed p) (placed : ArePlaced p) where
       same_types = types_seen p (procedure_of s.activations)
 
       -- What refers to the part is of the kind of the formal parameter.
-      reference_has : (overrides_none p ≡ true → ⊥) → (treatment : Treatment) (procedure : ℕ) (q : PartState) (operation : OperationFor p of procedure) → IsTreated own_now.types (cells_of s.heap) (Names o) treatment (performs of part ∷ tasks) → slice_get object.cell.parts part ≡ Some q → HasKind p.types (cells_of s.heap) (variable.Record operation.object) (part_reference named (Names o) part q)
-      reference_has some treatment procedure q operation treated at =
+      reference_has : (treatment : Treatment) (procedure : ℕ) (q : PartState) (operation : OperationFor p of procedure) → IsTreated own_now.types (cells_of s.heap) (Names o) treatment (performs of part ∷ tasks) → slice_get object.cell.parts part ≡ Some q → HasKind p.types (cells_of s.heap) (variable.Record operation.object) (part_reference named (Names o) part q)
+      reference_has treatment procedure q operation treated at =
           let cells = cells_of s.heap in
           let own = own_access s.heap o treated.0 object treated.1 there in
           let cell_there = cell_at s.heap o.0 object there in
           let parts = parts_at p.types cells cells o.0 object.cell (same_filled p (procedure_of s.activations) cells ready.filled) cell_there in
           let operable = subst (λ (forms : List TypeForm). IsOperable forms treated.0 of part) same_types treated.2.1.0 in
-          part_kind p (placed some) cells o object.cell treated.0 of part procedure q operation cell_there own parts at operable
+          part_kind p placed cells o object.cell treated.0 of part procedure q operation cell_there own parts at operable
 
       -- The operation that begins a part is called.
       begun_comes : (by : Birth) (done : List PartOf) (operation : Option ℕ) → beginning by (operations_of types of) ≡ operation → IsTreated own_now.types (cells_of s.heap) (Names o) (frame.begins by done) (performs of part ∷ tasks) → ComesTo (Ends p) (Typed p) (begun_next named p.bodies (Names o) by done of part tasks operation (slice_get object.cell.parts part) s)
@@ -254,7 +250,7 @@ module _ (p : ProgramForm) (well : IsWellFormed p) (placed : ArePlaced p) where
           subst (λ (q : Option PartState). ComesTo (Ends p) (Typed p) (begun_next named p.bodies (Names o) by done of part tasks (Some procedure) q s)) (sym found.1)
           (subst (λ (b : Option BodyForm). ComesTo (Ends p) (Typed p) (operation_next named procedure b reference behind Quiet s)) (sym operation.there)
           (operating_typed procedure operation.body (variable.Record operation.object) reference behind s.activations s kinds operation.there operation.formals
-          (reference_has (begins_some by of procedure is) (frame.begins by done) procedure found.0 operation treated found.1)
+          (reference_has (frame.begins by done) procedure found.0 operation treated found.1)
           (same_filled p (procedure_of s.activations) (cells_of s.heap) ready.filled) ready.active ready.runs ready.deep (awaiting some treated fits) waiting))
 
       -- Finalize of a part is called.
@@ -268,7 +264,7 @@ module _ (p : ProgramForm) (well : IsWellFormed p) (placed : ArePlaced p) where
           let behind = frame.Confines ∷ left in
           let some = some_seen (procedure_of s.activations) (ends_some of procedure is) in
           let as_deep = treating_deep (Names o) (frame.ends cause) tasks s.control in
-          let has = kind_later p.types (cells_of s.heap) (cells_of heap) after.stay (variable.Record operation.object) reference (reference_has (ends_some of procedure is) (frame.ends cause) procedure q operation treated_so at) in
+          let has = kind_later p.types (cells_of s.heap) (cells_of heap) after.stay (variable.Record operation.object) reference (reference_has (frame.ends cause) procedure q operation treated_so at) in
           let kept = waiting_behind p (cells_of heap) (procedure_of s.activations) s.control behind (older s.activations) (behind_treating (Names o) (frame.ends cause) tasks s.control)
           (waiting_later p (cells_of s.heap) (cells_of heap) after.stay (procedure_of s.activations) s.control (older s.activations) waiting) in
           let awaits = confined some (treating_fits own_now (cells_of heap) kinds (Names o) (frame.ends cause) tasks s.control (treated_so.0, after.stay treated_so.0 o treated_so.1, (treated_so.2.0.1, treated_so.2.1.1), (tt, tt)) after.fits) in

@@ -1,6 +1,6 @@
 -- What is left to do fits what is there: each frame finds operands of the kinds that it waits for, and leaves one of the kind that is waited for.
 
-use Rattle.ada_typed.specs.Holding.{Cells, Designates, IsAccess, HaveKinds, cells_of, seen_now, parts_reached}
+use Rattle.ada_typed.specs.Holding.{Cells, Designates, IsAccess, HaveKinds, PartsLie, cells_of, seen_now}
 use Rattle.std.proofs.Common.{◌≡◌, ℕ, zero, suc, ◌+◌, ◌≤◌, Bool, true, false, List, [], ◌∷◌, ◌++◌, length, take, drop, reverse, Option, Some, None, arith, refl, sym, ap, ◌∙◌, subst}
 use Rattle.std.proofs.lemmas.List.{reverse-append}
 use Rattle.std.specs.List.{list_all, slice_get}
@@ -12,7 +12,7 @@ use Rattle.ada_program.specs.declared.program.VariableKind.TheVariants as variab
 use Rattle.ada_program.specs.Form.{ActualForm, in_value, in_null, in_access, in_record, in_out_path, in_out_access, in_out_component, in_out_record, StmtForm, StmtsForm, BranchesForm, HandlersForm}
 use Rattle.ada_program.specs.ProgramForm.{TypeForm, BodyForm, ProgramForm, seen_in}
 use Rattle.ada_program.specs.Freed.{statement_frees_own, statements_free_own, branches_free_own, handlers_free_own}
-use Rattle.ada_program.specs.WellFormed.{is_access, reached_components, record_components, held_kind, variable_kind, selected_kind, selectors_kind, path_kind, is_this, object_in, is_record_path, part_count, stands_alone, unary_type, binary_type, type_of, chain_type, has_record_at, has_parts_from, items_fit, kind_takes, initial_fits, condition_fits, has_statement, statement_fits, stmts_fit, branches_fit, handlers_fit, actuals_fit, formal_kinds, callable_in, overrides_none}
+use Rattle.ada_program.specs.WellFormed.{is_access, reached_components, record_components, held_kind, variable_kind, selected_kind, selectors_kind, path_kind, is_this, object_in, is_record_path, object_named, stands_alone, unary_type, binary_type, type_of, chain_type, has_record_at, items_fit, kind_takes, initial_fits, condition_fits, has_statement, statement_fits, stmts_fit, branches_fit, handlers_fit, actuals_fit, formal_kinds, callable_in, overrides_none}
 use Rattle.ada_parts.specs.Part.{Part as PartOf}
 use Rattle.ada_parts.specs.Task.{Task, performs}
 use Rattle.ada_meaning.specs.declared.event.Birth.{Birth}
@@ -196,7 +196,7 @@ abbrev mutual
   Fits p cells kinds (frame.Follows cs ∷ k) = (ks : List OperandKind) × (from : VariableKind) × (to : VariableKind) × (kinds ≡ of_kind from ∷ ks) × (selectors_kind p.types (Some from) cs ≡ Some to) × (is_record_kind from ≡ false) × Fits p cells (of_kind to ∷ ks) k
   Fits p cells kinds (frame.TestsNull equal ∷ k) = (ks : List OperandKind) × (access : TypeNo) × (kinds ≡ of_kind (variable.Access access) ∷ ks) × Fits p cells (of_kind variable.Boolean ∷ ks) k
   Fits p cells kinds (frame.Refers q ∷ k) = (kind : OperandKind) × (is_record_path p.types p.variables q ≡ true) × IsReference p.types kind q.record_type × Fits p cells (kind ∷ kinds) k
-  Fits p cells kinds (frame.RefersIn place t ∷ k) = (ks : List OperandKind) × (access : TypeNo) × (kind : OperandKind) × (rs : List ComponentKind) × (kinds ≡ of_kind (variable.Access access) ∷ ks) × (record_components p.types t ≡ Some rs) × (has_record_at (reached_components p.types access.0) place.component (Some rs) ≡ true) × (has_parts_from (part_count p.types t) place.part (parts_reached p.types access.0) ≡ true) × IsReference p.types kind t × Fits p cells (kind ∷ ks) k
+  Fits p cells kinds (frame.RefersIn place t ∷ k) = (ks : List OperandKind) × (access : TypeNo) × (kind : OperandKind) × (rs : List ComponentKind) × (kinds ≡ of_kind (variable.Access access) ∷ ks) × (record_components p.types t ≡ Some rs) × (has_record_at (reached_components p.types access.0) place.component (Some rs) ≡ true) × PartsLie p.types (object_named p.types (Some access.0)) (Some t) place.component place.part × IsReference p.types kind t × Fits p cells (kind ∷ ks) k
   Fits p cells kinds (frame.Opens path ∷ k) = (kind : VariableKind) × (path_kind p.types p.variables path ≡ Some kind) × (stands_alone path.selectors ≡ false) × Fits p cells (of_kind kind ∷ refers_to kind ∷ kinds) k
   Fits p cells kinds (frame.OpensIn c ∷ k) = (ks : List OperandKind) × (access : TypeNo) × (kind : VariableKind) × (kinds ≡ of_kind (variable.Access access) ∷ ks) × (selected_kind p.types (Some (variable.Access access)) c ≡ Some kind) × Fits p cells (of_kind kind ∷ refers_to kind ∷ ks) k
   Fits p cells kinds (frame.Continues links ∷ k) = (ks : List OperandKind) × (l : ScalarType) × (t : ScalarType) × (kinds ≡ of_kind (kind_of l) ∷ ks) × (chain_type p.types p.variables (Some l) links ≡ Some t) × Fits p cells (of_kind (kind_of t) ∷ ks) k

@@ -1,6 +1,6 @@
 -- How typed states change, and that what is evaluated has the type that is waited for.
 
-use Rattle.ada_typed.specs.Holding.{Cells, Designates, HasKind, HaveKinds, IsPooled, cells_of, parts_reached}
+use Rattle.ada_typed.specs.Holding.{Cells, Designates, HasKind, HaveKinds, IsPooled, PartsLie, cells_of}
 use Rattle.std.proofs.Common.{◌≡◌, ℕ, zero, suc, ◌<◌, ◌≤◌, ◌==◌, ◌&&◌, if◌then◌else◌, Bool, true, false, List, [], ◌∷◌, ◌++◌, length, map, take, drop, reverse, Option, Some, None, Result, Ok, Err, arith, refl, sym, ap, ◌∙◌, subst}
 use Rattle.std.specs.Prelude.{is_some}
 use Rattle.std.proofs.lemmas.Bool.{eqb-true}
@@ -16,7 +16,7 @@ use Rattle.ada_program.specs.declared.program.VariableKind.TheVariants as variab
 use Rattle.ada_program.specs.Form.{RecordPathForm, ExpressionForm, integer, boolean, reads, is_null, applied_to, chained, LinksForm, no_more_links, a_link, ItemForm, null_item, item_of_path, item_of_value, item_of_record, RightForm, nothing, value_of, allocates, allocates_default, computes}
 use Rattle.ada_program.specs.ProgramForm.{TypeForm, VariableForm, ProgramForm, type_form}
 use Rattle.ada_program.specs.Typed.{reached_of, count_of, words_of, width_of}
-use Rattle.ada_program.specs.WellFormed.{is_access, reached_components, record_components, held_kind, component_kind, kind_among, kind_behind, access_of, has_record_at, has_parts_from, part_count, parts_named, object_named, object_components, selected_kind, selectors_kind, variable_kind, root_kind, path_kind, value_access, scalar_of, is_this, type_of, chain_type, unary_type, binary_type, begins_with, begins_with_record, is_record_path, component_item_fits, first_fits, item_fits, item_width, width_in, items_fit, is_filled, kind_takes}
+use Rattle.ada_program.specs.WellFormed.{is_access, reached_components, record_components, held_kind, component_kind, kind_among, kind_behind, access_of, has_record_at, has_parts_at, parts_named, object_named, object_components, selected_kind, selectors_kind, variable_kind, root_kind, path_kind, value_access, scalar_of, is_this, type_of, chain_type, unary_type, binary_type, begins_with, begins_with_record, is_record_path, component_item_fits, first_fits, item_fits, item_width, width_in, items_fit, is_filled, kind_takes}
 use Rattle.ada_values.specs.declared.value.Value.TheVariants as scalar
 use Rattle.ada_values.specs.declared.operator.BinaryOperator.{BinaryOperator}
 use Rattle.ada_values.specs.declared.fault.OperatorFault.{OperatorFault}
@@ -46,6 +46,7 @@ use Rattle.ada_meaning.specs.Named.{Object, State, Next, named, look, seen, exis
 use Rattle.ada_typed.proofs.Treating.{new_held, all_within, treating_fits, treating_deep}
 use Rattle.ada_typed.proofs.Values.{OperandKind, of_kind, refers_to, RefersTo, IsOperand, is_record_kind, HasParts, AreFilled, IsActive, kind_of, root_same, filled_new, active_later, designated_more, newest_name, active_held, active_set, active_push, active_pop, active_newest, active_cleared, component_held, filled_at}
 use Rattle.ada_typed.proofs.Records.{onto_record, active_front, record_there, Begins, begins, stands_itself}
+use Rattle.ada_typed.proofs.Walking.{parts_lie_at}
 use Rattle.ada_typed.proofs.Shown.{same_record, same_components}
 use Rattle.ada_typed.proofs.Later.{fits_later}
 use Rattle.ada_typed.proofs.Operators.{and_left, and_right, typed, unary_operand, binary_operand, chain_left, decided_same, GivesKind}
@@ -458,47 +459,47 @@ module _ (p : ProgramForm) where
       held_fine c cs (held named s x) own.0 to frame_of s kinds ready own.1 own.2 deep fits
 
   -- The object in which a record lies to which a path leads.
-  abbrev FitsRecord : (rs : Option (List ComponentKind)) (count : ℕ) (frame_of : Place → Frame Value) (s : State) (kinds : List OperandKind) → Type 0
-  FitsRecord rs count frame_of s kinds =
-      (access : TypeNo) (place : Place) → has_record_at (reached_components p.types access.0) place.component rs ≡ true → has_parts_from count place.part (parts_reached p.types access.0) ≡ true
+  abbrev FitsRecord : (rs : Option (List ComponentKind)) (t : ℕ) (frame_of : Place → Frame Value) (s : State) (kinds : List OperandKind) → Type 0
+  FitsRecord rs t frame_of s kinds =
+      (access : TypeNo) (place : Place) → has_record_at (reached_components p.types access.0) place.component rs ≡ true → PartsLie p.types (object_named p.types (Some access.0)) (Some t) place.component place.part
       → Fits p (cells_of s.heap) (of_kind (variable.Access access) ∷ kinds) (frame_of place ∷ s.control)
 
-  -- How many controlled parts the object has that a value of a kind names.
-  abbrev parts_of_kind : VariableKind → ℕ
-  parts_of_kind kind = parts_named p.types (object_named p.types (access_of (Some kind)))
+  -- The controlled parts of a record lie in the object that a value of a kind names.
+  abbrev LieBehind : (kind : Option VariableKind) → (t first part : ℕ) → Type 0
+  LieBehind kind t first part = PartsLie p.types (object_named p.types (access_of kind)) (Some t) first part
 
-  record_from : (cs : List ℕ) (q : RecordPathForm) (v : Value) (from to : VariableKind) (rs : Option (List ComponentKind)) (count : ℕ) (frame_of : Place → Frame Value) (s : State) (kinds : List OperandKind) → Ready p kinds s → HasKind p.types (cells_of s.heap) from v → selectors_kind p.types (Some from) cs ≡ Some to → has_record_at (object_components p.types (access_of (Some to))) q.first rs ≡ true → has_parts_from count q.part (parts_of_kind to) ≡ true → ((place : Place) → depth (frame_of place ∷ s.control) ≤ length s.masters) → FitsRecord rs count frame_of s kinds → Fine p (path_next named (selected named v cs) (whole v) (at (frame_of (place_in named v cs q) ∷ s.control) s))
-  record_from [] q v from to rs count frame_of s kinds ready has leads lies parts deep fits =
+  record_from : (cs : List ℕ) (q : RecordPathForm) (v : Value) (from to : VariableKind) (rs : Option (List ComponentKind)) (t : ℕ) (frame_of : Place → Frame Value) (s : State) (kinds : List OperandKind) → Ready p kinds s → HasKind p.types (cells_of s.heap) from v → selectors_kind p.types (Some from) cs ≡ Some to → has_record_at (object_components p.types (access_of (Some to))) q.first rs ≡ true → LieBehind (Some to) t q.first q.part → ((place : Place) → depth (frame_of place ∷ s.control) ≤ length s.masters) → FitsRecord rs t frame_of s kinds → Fine p (path_next named (selected named v cs) (whole v) (at (frame_of (place_in named v cs q) ∷ s.control) s))
+  record_from [] q v from to rs t frame_of s kinds ready has leads lies parts deep fits =
       let b = begins p.types (cells_of s.heap) from v has in
       let same : to ≡ from = cc in
       let there =
-      b.records q.first q.part count rs (subst (λ (kind : VariableKind). has_record_at (object_components p.types (access_of (Some kind))) q.first rs ≡ true) same lies)
-      (subst (λ (kind : VariableKind). has_parts_from count q.part (parts_of_kind kind) ≡ true) same parts) in
+      b.records q.first q.part (Some t) rs (subst (λ (kind : VariableKind). has_record_at (object_components p.types (access_of (Some kind))) q.first rs ≡ true) same lies)
+      (subst (λ (kind : VariableKind). LieBehind (Some kind) t q.first q.part) same parts) in
       let place = place_in named v [] q in
       let behind = frame_of place ∷ s.control in
       path_fine [] (whole v) b.root (variable.Access there.0) (at behind s) kinds (ready_at kinds s behind ready (deep place)) b.has b.plain (ap Some there.1) (fits there.0 place there.2 there.3)
-  record_from (c ∷ cs) q v from to rs count frame_of s kinds ready has leads lies parts deep fits =
+  record_from (c ∷ cs) q v from to rs t frame_of s kinds ready has leads lies parts deep fits =
       let b = begins p.types (cells_of s.heap) from v has in
       let place = place_in named v (c ∷ cs) q in
       let behind = frame_of place ∷ s.control in
       let own = begun_selects from to v (cells_of s.heap) c cs b leads in
       let there = record_access p.types to q.first rs (plain_path p.types b.root (inside v c ∷ cs) to b.plain own) lies in
-      let own_parts = subst (λ (kind : VariableKind). has_parts_from count q.part (parts_of_kind kind) ≡ true) there.1 parts in
+      let own_parts = subst (λ (kind : VariableKind). LieBehind (Some kind) t q.first q.part) there.1 parts in
       path_fine (inside v c ∷ cs) (whole v) b.root (variable.Access there.0) (at behind s) kinds (ready_at kinds s behind ready (deep place)) b.has b.plain (own ∙ ap Some there.1) (fits there.0 place there.2 own_parts)
 
   -- The record is of the type of the path.
-  pub record_holder_fine : (q : RecordPathForm) (frame_of : Place → Frame Value) (s : State) (kinds : List OperandKind) → Ready p kinds s → is_record_path p.types p.variables q ≡ true → ((place : Place) → depth (frame_of place ∷ s.control) ≤ length s.masters) → ((access : TypeNo) (place : Place) (rs : List ComponentKind) → record_components p.types q.record_type ≡ Some rs → has_record_at (reached_components p.types access.0) place.component (Some rs) ≡ true → has_parts_from (part_count p.types q.record_type) place.part (parts_reached p.types access.0) ≡ true → Fits p (cells_of s.heap) (of_kind (variable.Access access) ∷ kinds) (frame_of place ∷ s.control)) → Fine p (record_holder_next named q frame_of s)
+  pub record_holder_fine : (q : RecordPathForm) (frame_of : Place → Frame Value) (s : State) (kinds : List OperandKind) → Ready p kinds s → is_record_path p.types p.variables q ≡ true → ((place : Place) → depth (frame_of place ∷ s.control) ≤ length s.masters) → ((access : TypeNo) (place : Place) (rs : List ComponentKind) → record_components p.types q.record_type ≡ Some rs → has_record_at (reached_components p.types access.0) place.component (Some rs) ≡ true → PartsLie p.types (object_named p.types (Some access.0)) (Some q.record_type) place.component place.part → Fits p (cells_of s.heap) (of_kind (variable.Access access) ∷ kinds) (frame_of place ∷ s.control)) → Fine p (record_holder_next named q frame_of s)
   record_holder_fine q frame_of s kinds ready is deep fits =
       let reached = path_kind p.types p.variables q.object in
       let rs = record_components p.types q.record_type in
-      let count = part_count p.types q.record_type in
       let components = has_record_at (object_components p.types (access_of reached)) q.first rs in
-      let counted = has_parts_from count q.part (parts_named p.types (object_named p.types (access_of reached))) in
+      let counted = has_parts_at p.types q.record_type (object_named p.types (access_of reached)) q.first q.part in
       let leads = record_leads p.types reached q.first rs (and_left components counted is) in
-      let parts : has_parts_from count q.part (parts_of_kind leads.0) ≡ true =
-      subst (λ (kind : Option VariableKind). has_parts_from count q.part (parts_named p.types (object_named p.types (access_of kind))) ≡ true) leads.1 (and_right components counted is) in
+      let parts : LieBehind (Some leads.0) q.record_type q.first q.part =
+      subst (λ (kind : Option VariableKind). LieBehind kind q.record_type q.first q.part) leads.1
+      (parts_lie_at p.types q.record_type (object_named p.types (access_of reached)) q.first q.part (and_right components counted is)) in
       let own = root_held q.object.of_record q.object.selectors q.object.root leads.0 s kinds ready leads.1 in
-      record_from q.object.selectors q (held named s q.object.root) own.0 leads.0 rs count frame_of s kinds ready own.1 own.2 leads.2 parts deep
+      record_from q.object.selectors q (held named s q.object.root) own.0 leads.0 rs q.record_type frame_of s kinds ready own.1 own.2 leads.2 parts deep
       (λ access place lies within. let there = record_there (reached_components p.types access.0) rs place.component lies in fits access place there.0 there.1 there.2 within)
 
   -- Expressions.

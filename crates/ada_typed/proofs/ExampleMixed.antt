@@ -1,6 +1,6 @@
--- A well-formed program that gets stuck: a path names a record by the component of one and the controlled part of another.
+-- A program that gets stuck: its path names a record by the component of one and the controlled part of another.
 
-use Rattle.ada_typed.specs.Stuck.{GetsStuck, AWellFormedProgramGetsStuck}
+use Rattle.ada_typed.specs.Stuck.{GetsStuck, AMixedPathGetsStuck}
 use Rattle.std.proofs.Common.{◌≡◌, ◌<◌, ℕ, false, true, List, [], ◌∷◌, arith, refl}
 use Rattle.std.specs.Prelude.{Some, None, pos}
 use Rattle.ada_program.specs.declared.program.ComponentKind.TheVariants as kind
@@ -21,13 +21,12 @@ use Rattle.ada_program.specs.declared.program.TypeDefinition.{TypeDefinition}
 use Rattle.ada_program.specs.declared.program.TypeDefinition.TheVariants as definition
 use Rattle.ada_program.specs.declared.program.Variable.{Variable}
 use Rattle.ada_program.specs.declared.program.VariableKind.TheVariants as variable
-use Rattle.ada_program.specs.Form.{expression_form, stmt_form}
+use Rattle.ada_program.specs.Form.{expression_form, stmt_form, record_path_form, item_of_record}
 use Rattle.ada_program.specs.ProgramForm.{program_form}
-use Rattle.ada_program.specs.WellFormed.{IsWellFormed}
+use Rattle.ada_program.specs.WellFormed.{is_record_path}
 use Rattle.ada_meaning.specs.Named.{next}
 use Rattle.ada_meaning.specs.Run.{settled, takes, here, there}
 use Rattle.ada_typed.proofs.Example.{vec, no_name, spot}
-use Rattle.ada_typed.proofs.Walking.{is_walked}
 
 -- type Guard is new Controlled with record Level : Integer := 1; end record;
 abbrev parts : List Part
@@ -99,24 +98,6 @@ program = record {
   handlers = vec [] (omega arith);
 }
 
-well_formed : IsWellFormed (program_form program)
-unfolding expression_form stmt_form
-well_formed = record {
-  types_fit = refl;
-  components_lie = refl;
-  operations_fit = refl;
-  pools_fit = refl;
-  variables_fit = refl;
-  creates_in_order = refl;
-  collections_first = refl;
-  collections_fit = refl;
-  has_one_each = refl;
-  initials_fit = refl;
-  statements_fit = refl;
-  handlers_fit = refl;
-  bodies_fit = refl;
-}
-
 -- A record object is the one member of its item.
 some_member : 0 < 1
 some_member = omega arith
@@ -128,12 +109,10 @@ gets_stuck : GetsStuck program
 unfolding next expression_form stmt_form
 gets_stuck = ([], _, _, there settled _ (refl, refl) (there (takes 0) _ (two_members, refl, refl) (there settled _ (refl, refl) (there (takes 0) _ (some_member, refl, refl) (there settled _ (refl, refl) (there settled _ (refl, refl) (there settled _ (refl, refl) (there settled _ (refl, refl) (there settled _ (refl, refl) (there settled _ (refl, refl) (there settled _ (refl, refl) (there settled _ (refl, refl) (there settled _ (refl, refl) (there settled _ (refl, refl) (there settled _ (refl, refl) (there settled _ (refl, refl) (there settled _ (refl, refl) (there settled _ (refl, refl) (there settled _ (refl, refl) (there settled _ (refl, refl) (there settled _ (refl, refl) (here))))))))))))))))))))), refl)
 
-pub overriding_gets_stuck : AWellFormedProgramGetsStuck
-overriding_gets_stuck = (program, well_formed, gets_stuck)
+pub mixed_gets_stuck : AMixedPathGetsStuck
+unfolding expression_form stmt_form
+mixed_gets_stuck = (program, record_path_form x_a, item_of_record (record_path_form y_all) ∷ [], refl, (refl, refl), gets_stuck)
 
--- The walk into X.A comes to another part.
-not_walked : is_walked (program_form program).types 6 0 3 0 1 ≡ false
-not_walked = refl
-
-walked_rightly : is_walked (program_form program).types 6 0 3 0 0 ≡ true
-walked_rightly = refl
+-- The walk to the record finds another one there.
+is_no_path : is_record_path (program_form program).types (program_form program).variables (record_path_form x_a) ≡ false
+is_no_path = refl

@@ -74,12 +74,12 @@ frees_running : (s : State) (access : ℕ) (o : Id) → AboutToFree s access o �
 frees_running s access o (inl f) = f.runs
 frees_running s access o (inr f) = f.runs
 
--- No call of an operation ends where a Free comes.
-abbrev starts : List (Frame Value) → Bool
+-- No call of an operation ends where a Free comes, or another step of a treatment.
+abbrev pub starts : List (Frame Value) → Bool
 starts [] = false
 starts (f ∷ k) = is_operation f
 
-starts_so : (p : ProgramForm) (cells : Cells) (kinds : List OperandKind) (k : List (Frame Value)) → AtOperation p cells kinds k → starts k ≡ true
+pub starts_so : (p : ProgramForm) (cells : Cells) (kinds : List OperandKind) (k : List (Frame Value)) → AtOperation p cells kinds k → starts k ≡ true
 starts_so p cells kinds _ (awaiting some treated fits) = refl
 starts_so p cells kinds _ (confined some fits) = refl
 
@@ -104,6 +104,6 @@ typed_freed p whole s access o object (out_of_operation e kinds jumps ended) fre
     absurd (cc)
 
 pub objects_are_freed_by_their_types : ObjectsAreFreedByTheirTypes
-objects_are_freed_by_their_types program well plain own input events last access o object run freeing found =
+objects_are_freed_by_their_types program well own input events last access o object run freeing found =
     let p = program_form program in
-    typed_freed (seen_now p last) (own_bodies p own (procedure_of last.activations)) last access o object (last_typed program well plain input events last run).inside freeing found
+    typed_freed (seen_now p last) (own_bodies p own (procedure_of last.activations)) last access o object (last_typed program well input events last run).inside freeing found

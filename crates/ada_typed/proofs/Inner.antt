@@ -1,6 +1,6 @@
 -- Where each declared component lies in its record, the controlled parts of objects are records that lie in them (7.6).
 
-use Rattle.ada_typed.specs.Holding.{parts_reached}
+use Rattle.ada_typed.specs.Holding.{WalksTo, parts_reached}
 use Rattle.std.proofs.Common.{◌≡◌, ◌≢◌, ℕ, zero, suc, ◌+◌, ◌<◌, ◌≤◌, ◌==◌, ◌&&◌, Bool, true, false, if◌then◌else◌, List, [], ◌∷◌, ◌++◌, length, map, get_or, Option, Some, None, inl, inr, arith, refl, sym, ap, ◌∙◌, subst}
 use Rattle.std.specs.Prelude.{not, ◌||◌, count_by}
 use Rattle.std.specs.List.{flat_map, list_all, slice_get}
@@ -24,9 +24,11 @@ use Rattle.ada_program.specs.declared.program.TypeDefinition.{TypeDefinition}
 use Rattle.ada_program.specs.declared.program.TypeNo.{TypeNo}
 use Rattle.ada_program.specs.Controlled.{number_in, number_of, number_reached, type_numbered, parts_by, is_parent, has_parent, if_parts, with_parts, components_with_parts, shape_by, shapes_up_to, has_parts, shapes_of, own_first, firsts_of_kind, firsts_up_to, part_firsts}
 use Rattle.ada_program.specs.ProgramForm.{PartForm, TypeForm, record_of, part_form, type_form, program_form}
+use Rattle.ada_program.specs.Walks.{Walks, ends, into}
 use Rattle.ada_program.specs.WellFormed.{IsWellFormed, component_lies, components_lie, components_within, components_in, is_alike, begins_with, finalization_in, finalization_of, named_in, reached_components, record_components, components_reached, has_record_at, has_parts_from, part_count, parts_within, is_parent as is_parent_form, is_numbered_below, is_of_earlier, parts_in_order, parent_first, type_fits}
 use Rattle.ada_program.proofs.Shapes.{same_number, parts_said, shapes_length, parts_for as known_parts}
 use Rattle.ada_program.proofs.Firsts.{as_many_firsts}
+use Rattle.ada_program.proofs.Walks.{one_step}
 use Rattle.ada_parts.proofs.Facts.{eq_self}
 use Rattle.ada_meaning.proofs.Places.{IsDeclared, is_declared, Known, known, numbers_are_alone, parts_begin_with_components}
 use Rattle.ada_meaning.specs.Step.{parts_for}
@@ -34,6 +36,7 @@ use Rattle.ada_typed.proofs.Operators.{and_left, and_right}
 use Rattle.ada_typed.proofs.Lying.{Lies, whole, placed, inner, PartsAreRecords}
 use Rattle.ada_typed.proofs.Parts.{shown_number, shapes_shown, known_firsts, known_number, parts_counted, parts_shown}
 use Rattle.ada_typed.proofs.Records.{inside_record}
+use Rattle.ada_typed.proofs.Walking.{walks_to, start_numbered}
 
 -- The shape of a number among the first ones is that of its type.
 shape_at : (types : List TypeDefinition) (count n : ℕ) → n < count → shape_of (shapes_up_to types count) n ≡ shape_by types (shapes_up_to types n) (parts_by (type_numbered types n))
@@ -230,37 +233,10 @@ pub record LiesAt (types : List TypeDefinition) (access of part : ℕ) : Type 0 
   pub first : ℕ
   pub numbered : number_of types (Some record_type) ≡ Some of
   pub lies : has_record_at (reached_components (map type_form types) access) first (record_components (map type_form types) record_type) ≡ true
+  pub walk : WalksTo (map type_form types) (named_in (slice_get (map type_form types) access)) (Some record_type) first part
   pub begins :
       (k c : ℕ) → slice_get (part_firsts types (Some of)) k ≡ Some c
       → slice_get (part_firsts types (number_reached types access)) (part + k) ≡ Some (first + c)
-
--- A record of a type is found in a record of another by walking into declared components: so many elementary components and controlled parts lie before it.
-pub data Walks (types : List TypeForm) : (t first part u : ℕ) → Type 0 where
-  ends : {t : ℕ} → Walks types t 0 0 t
-  into :
-      {t : ℕ} (i first part u m : ℕ) (name : List ℕ) (ps : List PartForm) (components : List ComponentKind) (f : Finalization) (p : PartForm) (v : TypeNo)
-      → slice_get types t ≡ Some (record_of name ps components (Some f)) → slice_get ps i ≡ Some p → p.kind ≡ kinds.Record v
-      → shown_number types (Some v.0) ≡ Some m → Walks types v.0 first part u → Walks types t (p.first + first) (p.part + part) u
-
--- Walks go on.
-pub walks_on : (types : List TypeForm) (t first part u first_behind part_behind w : ℕ) → Walks types t first part u → Walks types u first_behind part_behind w → Walks types t (first + first_behind) (part + part_behind) w
-walks_on types t _ _ u c k w ends more =
-    let first : c ≡ 0 + c = omega arith in
-    let number : k ≡ 0 + k = omega arith in
-    subst (λ (j : ℕ). Walks types t j (0 + k) w) first (subst (λ (j : ℕ). Walks types t c j w) number more)
-walks_on types t _ _ u c k w (into i first part _ m name ps components f p v at there is known_as walks) more =
-    let before : p.first + (first + c) ≡ p.first + first + c = omega arith in
-    let number : p.part + (part + k) ≡ p.part + part + k = omega arith in
-    subst (λ (j : ℕ). Walks types t j (p.part + part + k) w) before
-    (subst (λ (j : ℕ). Walks types t (p.first + (first + c)) j w) number
-    (into i (first + c) (part + k) w m name ps components f p v at there is known_as (walks_on types v.0 first part u c k w walks more)))
-
--- Each record that a path names lies so, where the path's numbers suit each other.
-abbrev pub PathsSuit : List TypeDefinition → Type 0
-PathsSuit types =
-    (access t n component part : ℕ) → shown_number (map type_form types) (Some t) ≡ Some n
-    → has_record_at (reached_components (map type_form types) access) component (record_components (map type_form types) t) ≡ true
-    → has_parts_from (part_count (map type_form types) t) part (parts_reached (map type_form types) access) ≡ true → LiesAt types access n part
 
 module _ (program : Program) (well : IsWellFormed (program_form program)) where
   abbrev types : List TypeDefinition
@@ -299,6 +275,8 @@ module _ (program : Program) (well : IsWellFormed (program_form program)) where
           first = l.first + p.first;
           numbered = numbered;
           lies = inside;
+          walk = walks_to forms (named_in (slice_get forms access)) (Some t) (Some u.0) l.first part p.first p.part l.walk
+              (one_step forms t i m d.declares.0 d.ps d.declares.1 d.f p u d.declares.2 at is (sym (same_number types u.0) ∙ numbered));
           begins = λ k e begun.
               let step = parts_begin_with_components program t i d.ps d.f p u m k e well d.declares at is numbered begun in
               let out = l.begins (p.part + k) (p.first + e) (ap (λ (j : ℕ). slice_get (part_firsts types (Some j)) (p.part + k)) (sym d.numbered) ∙ step) in
@@ -339,6 +317,7 @@ module _ (program : Program) (well : IsWellFormed (program_form program)) where
           lies =
               ap (λ (o : Option (List ComponentKind)). has_record_at o 0 (record_components forms t)) reached
               ∙ ap (λ (o : Option (List ComponentKind)). has_record_at (Some d.declares.1) 0 o) (declared_components t n d) ∙ begins_self d.declares.1;
+          walk = subst (λ (o : Option ℕ). WalksTo forms o (Some t) 0 0) (sym named) ends;
           begins = λ k c begun.
               let number : 0 + k ≡ k = omega arith in
               let sum : c ≡ 0 + c = omega arith in
@@ -368,45 +347,47 @@ module _ (program : Program) (well : IsWellFormed (program_form program)) where
       let sum : before + p.part + part ≡ before + (p.part + part) = omega arith in
       subst (LiesAt types access n) sum (walks_lie access m (before + p.part) next.0 v.0 first part u n next.1 walks numbered)
 
-  pub walks_suit :
-      (access t n component part u m : ℕ) → named_in (slice_get forms access) ≡ Some t → shown_number forms (Some t) ≡ Some n
-      → Walks forms t component part u → shown_number forms (Some u) ≡ Some m → LiesAt types access m part
-  walks_suit access t n component part u m named is walks numbered =
-      let whole_one = whole_lies access n t named is in
+  placed_lies :
+      (access t n first part : ℕ) (o : Option ℕ) → named_in (slice_get forms access) ≡ o → shown_number forms (Some t) ≡ Some n
+      → WalksTo forms o (Some t) first part → LiesAt types access n part
+  placed_lies access t n first part None named numbered walks = absurd walks
+  placed_lies access t n first part (Some w) named numbered walks =
+      let start = start_numbered forms w first part t n walks numbered in
+      let whole_one = whole_lies access start.0 w named start.1 in
       let number : 0 + part ≡ part = omega arith in
-      subst (LiesAt types access m) number (walks_lie access n 0 whole_one.0 t component part u m whole_one.1 walks (same_number types u ∙ numbered))
+      subst (LiesAt types access n) number (walks_lie access start.0 0 whole_one.0 w first part t n whole_one.1 walks (same_number types t ∙ numbered))
 
-  module _ (suit : PathsSuit program.types.items) where
-    lies_at : (access of part : ℕ) → Lies forms access of part → LiesAt types access of part
-    lies_at access _ _ (whole n is) = named_lies access n (named_in (slice_get forms access)) refl is
-    lies_at access _ _ (placed t n component part is there counted) = suit access t n component part is there counted
-    lies_at access _ _ (inner of part i c lies at) =
-        inner_lies access of part i c (lies_at access of part lies)
-        (ap (λ (shapes : List Shape). slice_get (components_of shapes of part) i) (sym (shapes_shown types forms refl)) ∙ at)
+  lies_at : (access of part : ℕ) → Lies forms access of part → LiesAt types access of part
+  lies_at access _ _ (whole n is) = named_lies access n (named_in (slice_get forms access)) refl is
+  lies_at access _ _ (placed t n first part is walks) = placed_lies access t n first part (named_in (slice_get forms access)) refl is walks
+  lies_at access _ _ (inner of part i c lies at) =
+      inner_lies access of part i c (lies_at access of part lies)
+      (ap (λ (shapes : List Shape). slice_get (components_of shapes of part) i) (sym (shapes_shown types forms refl)) ∙ at)
 
-    -- So the parts of objects are records that lie in them.
-    pub parts_are_records : PartsAreRecords (program_form program).types
-    parts_are_records access of part first t operable at numbered =
-        let l = lies_at access of part operable.0 in
-        let own : number_of types (Some t) ≡ Some of = same_number types t ∙ numbered in
-        let same : l.record_type ≡ t = numbers_are_alone program l.record_type t of well l.numbered own in
-        let d = is_declared program t of own in
-        let k = known program t d.ps d.f well d.declares in
-        let shape = declared_shape t of d k in
-        let controlled : has_parent k.qs ≡ true =
-        ap (λ (s : Shape). s.controlled) (sym shape) ∙ ap (λ (shapes : List Shape). (shape_of shapes of).controlled) (sym (shapes_shown types forms refl)) ∙ operable.1 in
-        let itself : slice_get (part_firsts types (Some of)) 0 ≡ Some 0 =
-        ap (λ (m : ℕ). slice_get (part_firsts types (Some m)) 0) (sym d.numbered) ∙ ap (λ (xs : List ℕ). slice_get xs 0) k.firsts
-        ∙ ap (λ (b : Bool). slice_get (own_first b ++ flat_map (λ r. firsts_of_kind types (firsts_up_to types d.f.number.0) r.first.0 r.kind) k.qs) 0) controlled in
-        let out = l.begins 0 0 itself in
-        let number : part ≡ part + 0 = omega arith in
-        let known_at : slice_get (part_firsts types (number_reached types access)) part ≡ Some first =
-        ap (λ (xs : List ℕ). slice_get xs part) (sym (known_firsts types forms access refl)) ∙ at in
-        let twice : Some first ≡ Some (l.first + 0) = sym known_at ∙ ap (slice_get (part_firsts types (number_reached types access))) number ∙ out in
-        let one : first ≡ l.first + 0 = cc twice in
-        let begun : l.first ≡ first = omega (arith, one) in (
-          ap (λ (m : ℕ). has_record_at (reached_components forms access) m (record_components forms t)) (sym begun)
-              ∙ ap (λ (v : ℕ). has_record_at (reached_components forms access) l.first (record_components forms v)) (sym same) ∙ l.lies,
+  -- So the parts of objects are records that lie in them.
+  pub parts_are_records : PartsAreRecords (program_form program).types
+  parts_are_records access of part first t operable at numbered =
+      let l = lies_at access of part operable.0 in
+      let own : number_of types (Some t) ≡ Some of = same_number types t ∙ numbered in
+      let same : l.record_type ≡ t = numbers_are_alone program l.record_type t of well l.numbered own in
+      let d = is_declared program t of own in
+      let k = known program t d.ps d.f well d.declares in
+      let shape = declared_shape t of d k in
+      let controlled : has_parent k.qs ≡ true =
+      ap (λ (s : Shape). s.controlled) (sym shape) ∙ ap (λ (shapes : List Shape). (shape_of shapes of).controlled) (sym (shapes_shown types forms refl)) ∙ operable.1 in
+      let itself : slice_get (part_firsts types (Some of)) 0 ≡ Some 0 =
+      ap (λ (m : ℕ). slice_get (part_firsts types (Some m)) 0) (sym d.numbered) ∙ ap (λ (xs : List ℕ). slice_get xs 0) k.firsts
+      ∙ ap (λ (b : Bool). slice_get (own_first b ++ flat_map (λ r. firsts_of_kind types (firsts_up_to types d.f.number.0) r.first.0 r.kind) k.qs) 0) controlled in
+      let out = l.begins 0 0 itself in
+      let number : part ≡ part + 0 = omega arith in
+      let known_at : slice_get (part_firsts types (number_reached types access)) part ≡ Some first =
+      ap (λ (xs : List ℕ). slice_get xs part) (sym (known_firsts types forms access refl)) ∙ at in
+      let twice : Some first ≡ Some (l.first + 0) = sym known_at ∙ ap (slice_get (part_firsts types (number_reached types access))) number ∙ out in
+      let one : first ≡ l.first + 0 = cc twice in
+      let begun : l.first ≡ first = omega (arith, one) in (
+        ap (λ (m : ℕ). has_record_at (reached_components forms access) m (record_components forms t)) (sym begun)
+            ∙ ap (λ (v : ℕ). has_record_at (reached_components forms access) l.first (record_components forms v)) (sym same) ∙ l.lies,
+        (
           parts_lie (part_count forms t) part (parts_reached forms access) (λ m last.
               let count : part_count forms t ≡ length (part_firsts types (Some of)) =
               parts_said types t well.types_fit ∙ ap (known_parts (shapes_of types)) own ∙ sym (as_many_firsts types (Some of)) in
@@ -417,4 +398,7 @@ module _ (program : Program) (well : IsWellFormed (program_form program)) where
               let met = last_there (part_firsts types (Some of)) m within in
               let far = slice_get_within (part_firsts types (number_reached types access)) (part + m) (l.first + met.0) (l.begins m met.0 met.1) in
               omega (arith, far, all)),
-        )
+          λ some. subst (λ (m : ℕ). WalksTo forms (named_in (slice_get forms access)) (Some t) m part) begun
+              (subst (λ (v : ℕ). WalksTo forms (named_in (slice_get forms access)) (Some v) l.first part) same l.walk),
+        ),
+      )

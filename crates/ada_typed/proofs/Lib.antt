@@ -14,6 +14,8 @@ pub mod Overriding
 pub mod Overridings
 -- what is left to do fits what is there
 pub mod Control
+-- walks into declared components
+pub mod Walking
 -- records that lie in objects
 pub mod Records
 -- it fits as well once objects have come to be or have changed
@@ -22,8 +24,6 @@ pub mod Later
 pub mod Treating
 -- records in records
 pub mod Inner
--- a test of that for the records that paths name
-pub mod Walking
 -- the program as each of its bodies sees it
 pub mod Bodies
 -- actual parameters, and the places of a body that begins
@@ -60,11 +60,13 @@ pub mod Calls
 pub mod Runs
 -- and what is freed is freed by the instance for its type
 pub mod Freeing
+-- what operations are called with
+pub mod Operated
 -- a program that is well formed, and one that is not
 pub mod Example
 -- a program that frees an object, by either instance
 pub mod ExampleFreeing
--- a well-formed program that gets stuck, which overrides an operation
+-- a program that names a record by the component of one and the part of another
 pub mod ExampleMixed
 -- a program whose type overrides an operation
 pub mod ExampleOperations

@@ -1,6 +1,6 @@
 -- Which records with controlled parts lie in the objects of a type (7.6): whatever is treated of an object is one of them.
 
-use Rattle.ada_typed.specs.Holding.{parts_reached}
+use Rattle.ada_typed.specs.Holding.{WalksTo, PartsLie}
 use Rattle.std.proofs.Common.{◌≡◌, ℕ, zero, suc, Bool, true, false, List, [], ◌∷◌, ◌++◌, map, Option, Some, None, refl}
 use Rattle.std.specs.Prelude.{if◌then◌else◌}
 use Rattle.std.specs.List.{remove, slice_get}
@@ -11,7 +11,7 @@ use Rattle.ada_parts.specs.Part.{Part, components_of}
 use Rattle.ada_parts.specs.Shape.{shape_of}
 use Rattle.ada_parts.specs.Task.{Task, performs, treats, treatment_of, operation_of, opened, opened_if, taken}
 use Rattle.ada_program.specs.ProgramForm.{TypeForm}
-use Rattle.ada_program.specs.WellFormed.{named_in, reached_components, record_components, has_record_at, has_parts_from, part_count}
+use Rattle.ada_program.specs.WellFormed.{named_in, object_named, reached_components, record_components, has_record_at}
 use Rattle.ada_meaning.specs.Step.{tasks_for, tasks_in}
 use Rattle.ada_typed.proofs.Parts.{shown_number, shown_shapes, firsts_known}
 
@@ -20,9 +20,7 @@ use Rattle.ada_typed.proofs.Parts.{shown_number, shown_shapes, firsts_known}
 pub data Lies (types : List TypeForm) (access : ℕ) : (of part : ℕ) → Type 0 where
   whole : (n : ℕ) → shown_number types (named_in (slice_get types access)) ≡ Some n → Lies types access n 0
   placed :
-      (t n component part : ℕ) → shown_number types (Some t) ≡ Some n
-      → has_record_at (reached_components types access) component (record_components types t) ≡ true
-      → has_parts_from (part_count types t) part (parts_reached types access) ≡ true → Lies types access n part
+      (t n first part : ℕ) → shown_number types (Some t) ≡ Some n → WalksTo types (named_in (slice_get types access)) (Some t) first part → Lies types access n part
   inner :
       (of part i : ℕ) (c : Component) → Lies types access of part → slice_get (components_of (shown_shapes types) of part) i ≡ Some c
       → Lies types access c.of c.first
@@ -113,11 +111,11 @@ module _ (types : List TypeForm) (access : ℕ) where
 
   -- So does all that is to be done for a record that lies where a place says.
   pub lying_record :
-      (direction : Direction) (t component part : ℕ) (o : Option ℕ) → shown_number types (Some t) ≡ o
-      → has_record_at (reached_components types access) component (record_components types t) ≡ true
-      → has_parts_from (part_count types t) part (parts_reached types access) ≡ true → Lying types access (tasks_in (shown_shapes types) direction o part)
-  lying_record direction t component part None is there counted = tt
-  lying_record direction t component part (Some n) is there counted = lying_opened direction n part (placed t n component part is there counted)
+      (direction : Direction) (t first part : ℕ) (o : Option ℕ) → shown_number types (Some t) ≡ o
+      → ((n : ℕ) → o ≡ Some n → WalksTo types (named_in (slice_get types access)) (Some t) first part)
+      → Lying types access (tasks_in (shown_shapes types) direction o part)
+  lying_record direction t first part None is walks = tt
+  lying_record direction t first part (Some n) is walks = lying_opened direction n part (placed t n first part is (walks n refl))
 
 -- Where such a record has operations of its own, its components lie where it begins, and its controlled parts from its number on.
 abbrev pub PartsAreRecords : List TypeForm → Type 0
@@ -125,7 +123,7 @@ PartsAreRecords types =
     (access of part first t : ℕ) → IsOperable types access of part → slice_get (firsts_known types access) part ≡ Some first
     → shown_number types (Some t) ≡ Some of
     → (has_record_at (reached_components types access) first (record_components types t) ≡ true)
-    × (has_parts_from (part_count types t) part (parts_reached types access) ≡ true)
+    × PartsLie types (object_named types (Some access)) (Some t) first part
 
 -- What has begun of an object, as the operations that would undo it.
 abbrev pub undoing : List Part → List Task

@@ -1,6 +1,6 @@
 -- Records that lie in objects: where components are alike, what they hold is of the same kinds.
 
-use Rattle.ada_typed.specs.Holding.{Cells, HasKind, HaveKinds, parts_reached}
+use Rattle.ada_typed.specs.Holding.{Cells, HasKind, HaveKinds, PartsLie}
 use Rattle.std.proofs.Common.{◌≡◌, ◌⊎◌, ℕ, zero, suc, ◌+◌, ◌<◌, ◌≤◌, ◌&&◌, if◌then◌else◌, Bool, true, false, List, [], ◌∷◌, length, take, drop, Option, Some, None, arith, refl, sym, ap, ◌∙◌, subst}
 use Rattle.std.proofs.lemmas.Bool.{eqb-true, eq-eqb}
 use Rattle.std.proofs.lemmas.Grind.{common_steps}
@@ -19,6 +19,7 @@ use Rattle.ada_meaning.specs.State.{Activation}
 use Rattle.ada_meaning.specs.Step.{operands_of, with_operands, in_front, record_in}
 use Rattle.ada_typed.proofs.Values.{OperandKind, of_kind, is_record_kind, AreComputed, IsActive}
 use Rattle.ada_typed.proofs.Operators.{and_left, and_right}
+use Rattle.ada_typed.proofs.Walking.{walks_to}
 use Rattle.ada_typed.proofs.Control.{onto}
 
 both : (a b : Bool) → a ≡ true → b ≡ true → (a && b) ≡ true
@@ -173,6 +174,18 @@ inside_parts count middle all i j outer inner =
     let within = parts_from count j middle inner in
     grind (arith, common_steps, out, within)
 
+some_around : (count part within : ℕ) → 0 < count → has_parts_from count part within ≡ true → 0 < within
+some_around count part within some is = let have = parts_from count part within is in grind (arith, common_steps, some, have)
+
+inside_lies :
+    (types : List TypeForm) (object middle t : Option ℕ) (first first_inside part part_inside : ℕ) → PartsLie types object middle first part
+    → PartsLie types middle t first_inside part_inside → PartsLie types object t (first + first_inside) (part + part_inside)
+inside_lies types object middle t first first_inside part part_inside outer inner = (
+  inside_parts (parts_named types t) (parts_named types middle) (parts_named types object) part part_inside outer.0 inner.0,
+  λ some. walks_to types object middle t first part first_inside part_inside
+      (outer.1 (some_around (parts_named types t) part_inside (parts_named types middle) some inner.0)) (inner.1 some),
+)
+
 -- So they are among the object's, where there are some.
 pub parts_behind : (count part within : ℕ) → 0 < count → has_parts_from count part within ≡ true → part + count ≤ within
 parts_behind count part within some is = let have = parts_from count part within is in grind (arith, common_steps, some, have)
@@ -185,32 +198,32 @@ pub record Begins (types : List TypeForm) (cells : Cells) (from : VariableKind) 
   pub has : HasKind types cells root (whole v)
   pub selects : (c : ℕ) (kind : VariableKind) → selected_kind types (Some from) c ≡ Some kind → selected_kind types (Some root) (inside v c) ≡ Some kind
   pub records :
-      (i j count : ℕ) (rs : Option (List ComponentKind)) → has_record_at (object_components types (access_of (Some from))) i rs ≡ true
-      → has_parts_from count j (parts_named types (object_named types (access_of (Some from)))) ≡ true
+      (i j : ℕ) (u : Option ℕ) (rs : Option (List ComponentKind)) → has_record_at (object_components types (access_of (Some from))) i rs ≡ true
+      → PartsLie types (object_named types (access_of (Some from))) u i j
       → (access : TypeNo) × (root ≡ variable.Access access) × (has_record_at (reached_components types access.0) (inside v i) rs ≡ true)
-      × (has_parts_from count (part_inside v j) (parts_reached types access.0) ≡ true)
+      × PartsLie types (object_named types (Some access.0)) u (inside v i) (part_inside v j)
 
 begins_integer : (types : List TypeForm) (cells : Cells) (v : Value) → HasKind types cells variable.Integer v → Begins types cells variable.Integer v
 begins_integer types cells Null h = absurd h
 begins_integer types cells (Names o) h = absurd h
-begins_integer types cells (Scalar held) h = record { root = variable.Integer; plain = refl; has = h; selects = λ c kind is. is; records = λ i j count rs is parts. absurd (cc) }
+begins_integer types cells (Scalar held) h = record { root = variable.Integer; plain = refl; has = h; selects = λ c kind is. is; records = λ i j u rs is parts. absurd (cc) }
 begins_integer types cells (Part o place) h = absurd h
 
 begins_boolean : (types : List TypeForm) (cells : Cells) (v : Value) → HasKind types cells variable.Boolean v → Begins types cells variable.Boolean v
 begins_boolean types cells Null h = absurd h
 begins_boolean types cells (Names o) h = absurd h
-begins_boolean types cells (Scalar held) h = record { root = variable.Boolean; plain = refl; has = h; selects = λ c kind is. is; records = λ i j count rs is parts. absurd (cc) }
+begins_boolean types cells (Scalar held) h = record { root = variable.Boolean; plain = refl; has = h; selects = λ c kind is. is; records = λ i j u rs is parts. absurd (cc) }
 begins_boolean types cells (Part o place) h = absurd h
 
 begins_access : (types : List TypeForm) (cells : Cells) (access : TypeNo) (v : Value) → HasKind types cells (variable.Access access) v → Begins types cells (variable.Access access) v
-begins_access types cells access Null h = record { root = variable.Access access; plain = refl; has = h; selects = λ c kind is. is; records = λ i j count rs is parts. (access, refl, is, parts) }
-begins_access types cells access (Names o) h = record { root = variable.Access access; plain = refl; has = h; selects = λ c kind is. is; records = λ i j count rs is parts. (access, refl, is, parts) }
+begins_access types cells access Null h = record { root = variable.Access access; plain = refl; has = h; selects = λ c kind is. is; records = λ i j u rs is parts. (access, refl, is, parts) }
+begins_access types cells access (Names o) h = record { root = variable.Access access; plain = refl; has = h; selects = λ c kind is. is; records = λ i j u rs is parts. (access, refl, is, parts) }
 begins_access types cells access (Scalar held) h = absurd h
 begins_access types cells access (Part o place) h = absurd h
 
 begins_object : (types : List TypeForm) (cells : Cells) (object : TypeNo) (v : Value) → HasKind types cells (variable.Record object) v → Begins types cells (variable.Record object) v
-begins_object types cells object Null h = record { root = variable.Access object; plain = refl; has = h; selects = λ c kind is. is; records = λ i j count rs is parts. (object, refl, is, parts) }
-begins_object types cells object (Names o) h = record { root = variable.Access object; plain = refl; has = h; selects = λ c kind is. is; records = λ i j count rs is parts. (object, refl, is, parts) }
+begins_object types cells object Null h = record { root = variable.Access object; plain = refl; has = h; selects = λ c kind is. is; records = λ i j u rs is parts. (object, refl, is, parts) }
+begins_object types cells object (Names o) h = record { root = variable.Access object; plain = refl; has = h; selects = λ c kind is. is; records = λ i j u rs is parts. (object, refl, is, parts) }
 begins_object types cells object (Scalar held) h = absurd h
 begins_object types cells object (Part o place) h =
     let access : TypeNo = record { 0 = h.0.access } in
@@ -219,11 +232,11 @@ begins_object types cells object (Part o place) h =
       plain = refl;
       has = (h.0, h.1, refl);
       selects = λ c kind is. inside_kind (reached_components types h.0.access) (reached_components types object.0) place.component c kind h.2 is;
-      records = λ i j count rs is parts. (
+      records = λ i j u rs is parts. (
         access,
         refl,
         inside_record (reached_components types h.0.access) (reached_components types object.0) rs place.component i h.2 is,
-        inside_parts count (parts_reached types object.0) (parts_reached types h.0.access) place.part j h.3 parts,
+        inside_lies types (object_named types (Some h.0.access)) (object_named types (Some object.0)) u place.component i place.part j h.3 parts,
       );
     }
 

@@ -1,11 +1,11 @@
 -- So no run of a well-formed program is stuck.
 
 use Rattle.ada_typed.specs.Holding.{cells_of, seen_now, HoldsKind, ObjectsHaveTheirKinds, ObjectsHaveTheirParts, VariablesHaveTheirKinds}
-use Rattle.std.proofs.Common.{◌≡◌, ℕ, ℤ, true, false, List, [], ◌∷◌, map, Some, refl, sym, ◌∙◌, subst, arith}
+use Rattle.std.proofs.Common.{◌≡◌, ℕ, ℤ, false, List, [], ◌∷◌, map, Some, refl, sym, ◌∙◌, subst, arith}
 use Rattle.ada_program.specs.declared.program.Program.{Program}
 use Rattle.ada_program.specs.ProgramForm.{TypeForm, ProgramForm, program_form, type_form, variable_form, body_forms}
 use Rattle.ada_program.specs.declared.program.VariableKind.{VariableKind}
-use Rattle.ada_program.specs.WellFormed.{IsWellFormed, overrides_none, variable_kind}
+use Rattle.ada_program.specs.WellFormed.{IsWellFormed, variable_kind}
 use Rattle.ada_meaning.specs.declared.event.Halt.TheVariants.{Finished, Unhandled, Escaped, Erroneous, Stuck, Memory}
 use Rattle.ada_meaning.specs.declared.event.Halt.{Halt}
 use Rattle.ada_meaning.specs.Step.{procedure_of, halts, moves, tells, asks, picks}
@@ -17,7 +17,8 @@ use Rattle.ada_typed.proofs.Values.{OperandKind, AreFilled, IsActive, active_pla
 use Rattle.ada_typed.proofs.Control.{Typed, TypedIn, running, on_jump, operated, out_of_operation}
 use Rattle.ada_typed.proofs.Evaluations.{ComesTo, cell_at}
 use Rattle.ada_typed.proofs.Bodies.{types_seen}
-use Rattle.ada_typed.proofs.Calls.{Ends, ArePlaced, same_filled, next_fine}
+use Rattle.ada_typed.proofs.Inner.{parts_are_records}
+use Rattle.ada_typed.proofs.Calls.{Ends, same_filled, next_fine}
 
 -- The first state is typed: each place holds a value of its variable's kind, and nothing waits for the main body.
 pub first_typed : (program : Program) (input : List ℤ) → IsWellFormed (program_form program) → Typed (program_form program) (first_state program input)
@@ -52,49 +53,36 @@ known_end p (Erroneous why) h = tt
 known_end p Stuck h = h
 known_end p Memory h = h
 
--- Of a program where, if a type overrides an operation, the parts of objects are records that lie in them.
-module _ (program : Program) (well : IsWellFormed (program_form program)) (placed : ArePlaced (program_form program)) where
-  -- A step leads from a typed state to a typed one.
-  pub step_placed : (s after : State) (choice : Choice) (event : Event) → Typed (program_form program) s → Step program s choice event after → Typed (program_form program) after
-  step_placed s after choice event typed step =
-      led (program_form program) (next program.types.items (body_forms program) s) choice event after (next_fine (program_form program) well placed program.types.items refl s typed) step
+module _ (program : Program) (well : IsWellFormed (program_form program)) where
+  -- A typed state's next step leads to typed states, or ends the run in a way that the language knows.
+  next_typed : (s : State) → Typed (program_form program) s → ComesTo (Ends (program_form program)) (Typed (program_form program)) (next program.types.items (body_forms program) s)
+  next_typed s typed = next_fine (program_form program) well (parts_are_records program well) program.types.items refl s typed
 
-  run_placed : (s last : State) (events : List Event) → Typed (program_form program) s → Run program s events last → Typed (program_form program) last
-  run_placed s last events typed here = typed
-  run_placed s last (e ∷ events) typed (there choice mid step rest) = run_placed mid last events (step_placed s mid choice e typed step) rest
+  -- A step leads from a typed state to a typed one.
+  pub step_typed : (s after : State) (choice : Choice) (event : Event) → Typed (program_form program) s → Step program s choice event after → Typed (program_form program) after
+  step_typed s after choice event typed step = led (program_form program) (next program.types.items (body_forms program) s) choice event after (next_typed s typed) step
+
+  run_typed : (s last : State) (events : List Event) → Typed (program_form program) s → Run program s events last → Typed (program_form program) last
+  run_typed s last events typed here = typed
+  run_typed s last (e ∷ events) typed (there choice mid step rest) = run_typed mid last events (step_typed s mid choice e typed step) rest
 
   -- So is the state that a run from the first one comes to.
-  pub last_placed : (input : List ℤ) (events : List Event) (last : State) → Run program (first_state program input) events last → Typed (program_form program) last
-  last_placed input events last run = run_placed (first_state program input) last events (first_typed program input well) run
+  pub last_typed : (input : List ℤ) (events : List Event) (last : State) → Run program (first_state program input) events last → Typed (program_form program) last
+  last_typed input events last run = run_typed (first_state program input) last events (first_typed program input well) run
 
-  pub ends_placed : (input : List ℤ) (events : List Event) (last : State) (halt : Halt) → Run program (first_state program input) events last → Halts program last halt → Ends (program_form program) halt
-  ends_placed input events last halt run halted =
-      let typed = last_placed input events last run in
-      subst (λ (coming : Next). ComesTo (Ends (program_form program)) (Typed (program_form program)) coming) halted (next_fine (program_form program) well placed program.types.items refl last typed)
-
--- So it is where no type overrides an operation.
-pub plain_placed : (p : ProgramForm) → overrides_none p ≡ true → ArePlaced p
-plain_placed p plain some = absurd (some plain)
-
--- A step of a program leads from a typed state to a typed one.
-pub step_typed : (program : Program) → IsWellFormed (program_form program) → overrides_none (program_form program) ≡ true → (s after : State) (choice : Choice) (event : Event) → Typed (program_form program) s → Step program s choice event after → Typed (program_form program) after
-step_typed program well plain = step_placed program well (plain_placed (program_form program) plain)
-
--- So is the state that a run from the first one comes to.
-pub last_typed : (program : Program) → IsWellFormed (program_form program) → overrides_none (program_form program) ≡ true → (input : List ℤ) (events : List Event) (last : State) → Run program (first_state program input) events last → Typed (program_form program) last
-last_typed program well plain = last_placed program well (plain_placed (program_form program) plain)
+  ends_so : (input : List ℤ) (events : List Event) (last : State) (halt : Halt) → Run program (first_state program input) events last → Halts program last halt → Ends (program_form program) halt
+  ends_so input events last halt run halted =
+      subst (λ (coming : Next). ComesTo (Ends (program_form program)) (Typed (program_form program)) coming) halted (next_typed last (last_typed input events last run))
 
 -- So each run ends in a way that the language knows.
 pub ends_by_the_language : WellFormedProgramsEndByTheLanguage
-ends_by_the_language program well plain input events last halt run halted =
-    known_end (program_form program) halt (ends_placed program well (plain_placed (program_form program) plain) input events last halt run halted)
+ends_by_the_language program well input events last halt run halted = known_end (program_form program) halt (ends_so program well input events last halt run halted)
 
 pub never_stuck : WellFormedProgramsAreNeverStuck
-never_stuck program well plain input events last run stuck = ends_by_the_language program well plain input events last Stuck run stuck
+never_stuck program well input events last run stuck = ends_by_the_language program well input events last Stuck run stuck
 
 pub nothing_escapes : NothingEscapesWellFormedPrograms
-nothing_escapes program well plain input events last e run out =
-    ends_placed program well (plain_placed (program_form program) plain) input events last (Escaped e) run out plain
+nothing_escapes program well plain input events last e run out = ends_so program well input events last (Escaped e) run out plain
 
 filled_in : (own : ProgramForm) (s : State) → TypedIn own s → AreFilled own.types (cells_of s.heap) (cells_of s.heap)
 filled_in own s (running kinds ready fits) = ready.filled
@@ -108,15 +96,15 @@ typed_filled p s typed =
     same_filled p (procedure_of s.activations) (cells_of s.heap) (filled_in (seen_now p s) s typed.inside)
 
 pub objects_have_their_kinds : ObjectsHaveTheirKinds
-objects_have_their_kinds program well plain input events last o object run is =
+objects_have_their_kinds program well input events last o object run is =
     let p = program_form program in
-    let typed = last_typed program well plain input events last run in
+    let typed = last_typed program well input events last run in
     filled_at p.types (cells_of last.heap) (cells_of last.heap) o.0 object.cell (typed_filled p last typed) (cell_at last.heap o.0 object is)
 
 pub objects_have_their_parts : ObjectsHaveTheirParts
-objects_have_their_parts program well plain input events last o object run is =
+objects_have_their_parts program well input events last o object run is =
     let p = program_form program in
-    let typed = last_typed program well plain input events last run in
+    let typed = last_typed program well input events last run in
     (parts_at p.types (cells_of last.heap) (cells_of last.heap) o.0 object.cell (typed_filled p last typed) (cell_at last.heap o.0 object is)).0
     ∙ sym (parts_counted program.types.items p.types object.cell.access refl well.types_fit)
 
@@ -132,7 +120,7 @@ typed_holds own s x kind (operated kinds ready ended) is = active_holds own s ki
 typed_holds own s x kind (out_of_operation e kinds jumps ended) is = active_holds own s [] x kind jumps.active is
 
 pub variables_have_their_kinds : VariablesHaveTheirKinds
-variables_have_their_kinds program well plain input events last x kind run is =
+variables_have_their_kinds program well input events last x kind run is =
     let p = program_form program in
     subst (λ (types : List TypeForm). HoldsKind types last x kind) (types_seen p (procedure_of last.activations))
-    (typed_holds (seen_now p last) last x kind (last_typed program well plain input events last run).inside is)
+    (typed_holds (seen_now p last) last x kind (last_typed program well input events last run).inside is)

@@ -1,7 +1,7 @@
 -- Values and their kinds: which value a variable or a component may hold, as objects come to be.
 
-use Rattle.ada_typed.specs.Holding.{Cells, Designates, IsAccess, IsRecord, HasKind, HaveKinds, IsPooled, IsFilled, parts_reached}
-use Rattle.std.proofs.Common.{◌≡◌, ℕ, zero, suc, Bool, true, false, List, [], ◌∷◌, ◌++◌, length, map, Option, Some, None, refl, ap, ◌∙◌, subst}
+use Rattle.ada_typed.specs.Holding.{Cells, Designates, IsAccess, IsRecord, HasKind, HaveKinds, IsPooled, IsFilled, PartsLie}
+use Rattle.std.proofs.Common.{◌≡◌, ℕ, zero, suc, Bool, true, false, List, [], ◌∷◌, ◌++◌, length, map, Option, Some, None, refl, sym, ap, ◌∙◌, subst}
 use Rattle.std.specs.List.{slice_get, slice_set, slice_index_or}
 use Rattle.ada_program.specs.declared.program.ComponentKind.{ComponentKind}
 use Rattle.ada_program.specs.declared.program.ScalarType.{ScalarType}
@@ -9,7 +9,7 @@ use Rattle.ada_program.specs.declared.program.ScalarType.TheVariants.{Integer, B
 use Rattle.ada_program.specs.declared.program.VariableKind.{VariableKind}
 use Rattle.ada_program.specs.declared.program.VariableKind.TheVariants as variable
 use Rattle.ada_program.specs.ProgramForm.{TypeForm, VariableForm}
-use Rattle.ada_program.specs.WellFormed.{reached_components, record_components, held_kind, component_kind, kind_among, root_kind, variable_kind, has_record_at, has_parts_from, part_count}
+use Rattle.ada_program.specs.WellFormed.{reached_components, record_components, held_kind, component_kind, kind_among, root_kind, variable_kind, has_record_at, object_named}
 use Rattle.ada_meaning.specs.declared.state.Id.{Id}
 use Rattle.ada_meaning.specs.declared.state.Value.{Value}
 use Rattle.ada_meaning.specs.declared.state.Value.TheVariants.{Null, Names, Scalar, Part}
@@ -55,7 +55,7 @@ RefersToRecord types cells t (Names o) = ⊥
 RefersToRecord types cells t (Scalar v) = ⊥
 RefersToRecord types cells t (Part o place) =
     (cell : Cell Value) × (slice_get cells o.0 ≡ Some cell) × (has_record_at (reached_components types cell.access) place.component (record_components types t) ≡ true)
-    × (has_parts_from (part_count types t) place.part (parts_reached types cell.access) ≡ true)
+    × PartsLie types (object_named types (Some cell.access)) (Some t) place.component place.part
 
 -- A value is an operand of this kind.
 abbrev pub IsOperand : List TypeForm → Cells → OperandKind → Value → Type 0
@@ -124,7 +124,7 @@ module _ (types : List TypeForm) (cells after : Cells) (stay : StayDesignated ce
         later.0,
         later.1,
         ap (λ (access : ℕ). has_record_at (reached_components types access) place.component (reached_components types t)) later.2 ∙ h.2,
-        ap (λ (access : ℕ). has_parts_from (parts_reached types t) place.part (parts_reached types access)) later.2 ∙ h.3,
+        subst (λ (access : ℕ). PartsLie types (object_named types (Some access)) (object_named types (Some t)) place.component place.part) (sym later.2) h.3,
       )
 
   pub refers_later : (kind : VariableKind) (v : Value) → RefersTo types cells kind v → RefersTo types after kind v
@@ -144,7 +144,7 @@ module _ (types : List TypeForm) (cells after : Cells) (stay : StayDesignated ce
         later.0,
         later.1,
         ap (λ (access : ℕ). has_record_at (reached_components types access) place.component (record_components types t)) later.2 ∙ h.2,
-        ap (λ (access : ℕ). has_parts_from (part_count types t) place.part (parts_reached types access)) later.2 ∙ h.3,
+        subst (λ (access : ℕ). PartsLie types (object_named types (Some access)) (Some t) place.component place.part) (sym later.2) h.3,
       )
 
   pub kind_later : (kind : VariableKind) (v : Value) → HasKind types cells kind v → HasKind types after kind v

@@ -1,101 +1,46 @@
--- A test of whether a record of a type is found in a record of another by walking into declared components (7.6).
+-- How records with controlled parts lie in others, by what a path says (7.6): walks into declared components go on.
 
-use Rattle.std.proofs.Common.{◌≡◌, ℕ, zero, suc, ◌+◌, ◌-◌, ◌==◌, ◌&&◌, Bool, true, false, List, [], ◌∷◌, Option, Some, None, arith, refl, sym, subst}
-use Rattle.std.specs.Prelude.{not, ◌||◌, nat_lt, is_some}
-use Rattle.std.specs.List.{slice_get}
-use Rattle.std.proofs.lemmas.Bool.{eqb-true}
-use Rattle.std.proofs.lemmas.Grind.{common_steps}
-use Rattle.ada_program.specs.declared.program.ComponentKind.{ComponentKind}
-use Rattle.ada_program.specs.declared.program.Finalization.{Finalization}
-use Rattle.ada_program.specs.declared.program.PartKind.{PartKind}
-use Rattle.ada_program.specs.declared.program.PartKind.TheVariants as kinds
+use Rattle.ada_typed.specs.Holding.{WalksTo, PartsLie}
+use Rattle.std.proofs.Common.{◌≡◌, ℕ, ◌+◌, ◌==◌, Bool, true, false, List, length, Option, Some, None, arith, ap}
+use Rattle.std.specs.Prelude.{◌||◌}
+use Rattle.ada_parts.proofs.Facts.{eq_not}
+use Rattle.ada_program.specs.ProgramForm.{TypeForm}
 use Rattle.ada_program.specs.Controlled.{number_in}
-use Rattle.ada_program.specs.ProgramForm.{PartForm, TypeForm, record_of, access_to, object_of}
-use Rattle.ada_program.specs.WellFormed.{finalization_of}
+use Rattle.ada_program.specs.Walks.{Walks, ends, into}
+use Rattle.ada_program.specs.WellFormed.{finalization_in, finalization_of, part_count, parts_named, has_parts_from, is_found, place_from, has_parts_at}
+use Rattle.ada_program.proofs.Walks.{none_found, walked, walks_on}
 use Rattle.ada_typed.proofs.Operators.{and_left, and_right}
-use Rattle.ada_typed.proofs.Inner.{Walks, ends, into}
 
--- The declared components of a record type that has controlled parts.
-abbrev pub parted_components : Option TypeForm → List PartForm
-parted_components None = []
-parted_components (Some (record_of name ps components None)) = []
-parted_components (Some (record_of name ps components (Some f))) = ps
-parted_components (Some (access_to name designated pool)) = []
-parted_components (Some (object_of record_type)) = []
+-- Walks go on, where these are types.
+pub walks_to :
+    (types : List TypeForm) (t u w : Option ℕ) (first part first_behind part_behind : ℕ) → WalksTo types t u first part
+    → WalksTo types u w first_behind part_behind → WalksTo types t w (first + first_behind) (part + part_behind)
+walks_to types None u w first part c k walks more = walks
+walks_to types (Some t) None w first part c k walks more = absurd walks
+walks_to types (Some t) (Some u) None first part c k walks more = absurd more
+walks_to types (Some t) (Some u) (Some w) first part c k walks more = walks_on types t first part u c k w walks more
 
--- So many elementary components and controlled parts lie before what is sought in a record of a type, where a test says what lies before it in a component.
-abbrev pub leads_into : List TypeForm → (further : ℕ → ℕ → ℕ → Bool) → (component part first number : ℕ) → PartKind → Bool
-leads_into types further c k first number (kinds.Elementary kind) = false
-leads_into types further c k first number (kinds.Record t) =
-    is_some (finalization_of types t.0) && not (nat_lt c first) && not (nat_lt k number) && further t.0 (c - first) (k - number)
-leads_into types further c k first number kinds.Parent = false
+-- What is walked into has controlled parts, where it leads to a record that has some.
+pub start_numbered : (types : List TypeForm) (t first part u m : ℕ) → Walks types t first part u → number_in (finalization_of types u) ≡ Some m → (n : ℕ) × (number_in (finalization_of types t) ≡ Some n)
+start_numbered types t _ _ _ m ends is = (m, is)
+start_numbered types t _ _ u m (into i first part _ number name ps components f p v at there kind known_as walks) is =
+    (f.number.0, ap (λ (o : Option TypeForm). number_in (finalization_in o)) at)
 
-abbrev pub some_leads : List TypeForm → (further : ℕ → ℕ → ℕ → Bool) → (component part : ℕ) → List PartForm → Bool
-some_leads types further c k [] = false
-some_leads types further c k (p ∷ ps) = leads_into types further c k p.first p.part p.kind || some_leads types further c k ps
+-- What a path says of the controlled parts of its record.
+second_holds : (a b : Bool) → (a || b) ≡ true → a ≡ false → b ≡ true
+second_holds true b is none = absurd (cc)
+second_holds false b is none = is
 
--- A record of the type `u` lies there in a record of the type `t`: it is that record, or lies in a declared component of it.
-abbrev pub is_walked : List TypeForm → (depth u t component part : ℕ) → Bool
-is_walked types zero u t c k = (t == u) && (c == 0) && (k == 0)
-is_walked types (suc depth) u t c k =
-    ((t == u) && (c == 0) && (k == 0)) || some_leads types (is_walked types depth u) c k (parted_components (slice_get types t))
+found_walks : (types : List TypeForm) (object : Option ℕ) (t first part : ℕ) → is_found types (length types) t (place_from object first part) ≡ true → WalksTo types object (Some t) first part
+found_walks types None t first part is = none_found types (length types) t is
+found_walks types (Some w) t first part is = walked types (length types) t w first part is
 
-either : (a b : Bool) (X : Type 0) → (a || b) ≡ true → (a ≡ true → X) → (b ≡ true → X) → X
-either true b X is f g = f refl
-either false b X is f g = g is
-
-here_walks : (types : List TypeForm) (u t c k : ℕ) → ((t == u) && (c == 0) && (k == 0)) ≡ true → Walks types t c k u
-here_walks types u t c k is =
-    let two = and_left ((t == u) && (c == 0)) (k == 0) is in
-    let same = eqb-true t u (and_left (t == u) (c == 0) two) in
-    let none = eqb-true c 0 (and_right (t == u) (c == 0) two) in
-    let no_part = eqb-true k 0 (and_right ((t == u) && (c == 0)) (k == 0) is) in
-    subst (λ (j : ℕ). Walks types t j k u) (sym none) (subst (λ (j : ℕ). Walks types t 0 j u) (sym no_part) (subst (λ (v : ℕ). Walks types t 0 0 v) same ends))
-
-numbered : (o : Option Finalization) → is_some o ≡ true → (m : ℕ) × (number_in o ≡ Some m)
-numbered None is = absurd (cc)
-numbered (Some g) is = (g.number.0, refl)
-
-not_less : (a b : ℕ) → not (nat_lt a b) ≡ true → b + (a - b) ≡ a
-not_less a b is = grind (arith, common_steps, is)
-
-module _ (types : List TypeForm) (u t : ℕ) (name : List ℕ) (all : List PartForm) (components : List ComponentKind) (f : Finalization) (declared : slice_get types t ≡ Some (record_of name all components (Some f))) (further : ℕ → ℕ → ℕ → Bool) (walks : (v c k : ℕ) → further v c k ≡ true → Walks types v c k u) where
-  by_kind : (c k i : ℕ) (p : PartForm) (kind : PartKind) → slice_get all i ≡ Some p → p.kind ≡ kind → leads_into types further c k p.first p.part kind ≡ true → Walks types t c k u
-  by_kind c k i p (kinds.Elementary kind) at is leads = absurd (cc)
-  by_kind c k i p (kinds.Record v) at is leads =
-      let known = is_some (finalization_of types v.0) in
-      let behind = not (nat_lt c p.first) in
-      let later = not (nat_lt k p.part) in
-      let on = further v.0 (c - p.first) (k - p.part) in
-      let three = and_left (known && behind && later) on leads in
-      let two = and_left (known && behind) later three in
-      let number = numbered (finalization_of types v.0) (and_left known behind two) in
-      let first : p.first + (c - p.first) ≡ c = not_less c p.first (and_right known behind two) in
-      let part : p.part + (k - p.part) ≡ k = not_less k p.part (and_right (known && behind) later three) in
-      let inside = walks v.0 (c - p.first) (k - p.part) (and_right (known && behind && later) on leads) in
-      subst (λ (j : ℕ). Walks types t j k u) first (subst (λ (j : ℕ). Walks types t (p.first + (c - p.first)) j u) part
-      (into i (c - p.first) (k - p.part) u number.0 name all components f p v declared at is number.1 inside))
-  by_kind c k i p kinds.Parent at is leads = absurd (cc)
-
-  by_parts : (c k : ℕ) (ps : List PartForm) → ((i : ℕ) (p : PartForm) → slice_get ps i ≡ Some p → (j : ℕ) × (slice_get all j ≡ Some p)) → some_leads types further c k ps ≡ true → Walks types t c k u
-  by_parts c k [] at leads = absurd (cc)
-  by_parts c k (p ∷ ps) at leads =
-      let found = at 0 p refl in
-      let behind = by_parts c k ps (λ i q there. at (suc i) q there) in
-      either (leads_into types further c k p.first p.part p.kind) (some_leads types further c k ps) (Walks types t c k u) leads
-      (λ here. by_kind c k found.0 p p.kind found.1 refl here) behind
-
--- So it is, where the test is passed.
-by_type : (types : List TypeForm) (u t c k : ℕ) (o : Option TypeForm) → slice_get types t ≡ o → (further : ℕ → ℕ → ℕ → Bool) → ((v d l : ℕ) → further v d l ≡ true → Walks types v d l u) → some_leads types further c k (parted_components o) ≡ true → Walks types t c k u
-by_type types u t c k None at further walks is = absurd (cc)
-by_type types u t c k (Some (record_of name ps components None)) at further walks is = absurd (cc)
-by_type types u t c k (Some (record_of name ps components (Some f))) at further walks is =
-    by_parts types u t name ps components f at further walks c k ps (λ i p there. (i, there)) is
-by_type types u t c k (Some (access_to name designated pool)) at further walks is = absurd (cc)
-by_type types u t c k (Some (object_of record_type)) at further walks is = absurd (cc)
-
-pub walked : (types : List TypeForm) (depth u t c k : ℕ) → is_walked types depth u t c k ≡ true → Walks types t c k u
-walked types zero u t c k is = here_walks types u t c k is
-walked types (suc depth) u t c k is =
-    either ((t == u) && (c == 0) && (k == 0)) (some_leads types (is_walked types depth u) c k (parted_components (slice_get types t))) (Walks types t c k u) is
-    (here_walks types u t c k) (by_type types u t c k (slice_get types t) refl (is_walked types depth u) (λ v d l passes. walked types depth u v d l passes))
+pub parts_lie_at : (types : List TypeForm) (t : ℕ) (object : Option ℕ) (first part : ℕ) → has_parts_at types t object first part ≡ true → PartsLie types object (Some t) first part
+parts_lie_at types t object first part is =
+    let counted = has_parts_from (part_count types t) part (parts_named types object) in
+    let found = is_found types (length types) t (place_from object first part) in
+    let none = part_count types t == 0 in (
+      and_left counted (none || found) is,
+      λ some. found_walks types object t first part
+          (second_holds none found (and_right counted (none || found) is) (eq_not (part_count types t) 0 (λ is_none. omega (arith, some, is_none)))),
+    )

@@ -1,6 +1,6 @@
 -- Records as wholes: the components of one are copied onto the operands, or get the values of the newest operands.
 
-use Rattle.ada_typed.specs.Holding.{Cells, Designates, IsAccess, HasKind, HaveKinds, cells_of, parts_reached}
+use Rattle.ada_typed.specs.Holding.{Cells, Designates, IsAccess, HasKind, HaveKinds, PartsLie, cells_of}
 use Rattle.std.proofs.Common.{◌≡◌, ℕ, zero, suc, ◌+◌, true, List, [], ◌∷◌, length, drop, Option, Some, None, arith, refl, sym, ap, ◌∙◌, subst}
 use Rattle.std.proofs.lemmas.Bool.{eqb-true}
 use Rattle.std.specs.List.{slice_get}
@@ -10,7 +10,7 @@ use Rattle.ada_program.specs.declared.program.TypeNo.{TypeNo}
 use Rattle.ada_program.specs.declared.program.VariableKind.TheVariants as variable
 use Rattle.ada_program.specs.Form.{ItemForm}
 use Rattle.ada_program.specs.ProgramForm.{TypeForm, record_of, access_to, object_of, ProgramForm}
-use Rattle.ada_program.specs.WellFormed.{components_reached, named_in, object_in, is_this, reached_components, record_components, has_parts_from, part_count, parts_named, held_kind, selected_kind, kind_among, begins_with, has_record_at, items_fit}
+use Rattle.ada_program.specs.WellFormed.{components_reached, named_in, object_in, is_this, reached_components, record_components, object_named, held_kind, selected_kind, kind_among, begins_with, has_record_at, items_fit}
 use Rattle.ada_meaning.specs.declared.state.Id.{Id}
 use Rattle.ada_meaning.specs.declared.state.Place.{Place}
 use Rattle.ada_meaning.specs.declared.state.Value.{Value}
@@ -93,7 +93,7 @@ module _ (p : ProgramForm) where
   copies_fine (Part q place) access first rs s kinds ready has lies fits = absurd has
 
   -- A record is referred to that is given, or assigned to another: what refers to it is an operand of the kind that is wanted.
-  referred : (o : Id) (place : Place) (access : TypeNo) (kind : OperandKind) (t : ℕ) (cells : Cells) → Designates cells access.0 o → has_record_at (reached_components p.types access.0) place.component (record_components p.types t) ≡ true → has_parts_from (part_count p.types t) place.part (parts_reached p.types access.0) ≡ true → IsReference p.types kind t → IsOperand p.types cells kind (Part o place)
+  referred : (o : Id) (place : Place) (access : TypeNo) (kind : OperandKind) (t : ℕ) (cells : Cells) → Designates cells access.0 o → has_record_at (reached_components p.types access.0) place.component (record_components p.types t) ≡ true → PartsLie p.types (object_named p.types (Some access.0)) (Some t) place.component place.part → IsReference p.types kind t → IsOperand p.types cells kind (Part o place)
   referred o place access (of_kind variable.Integer) t cells has lies parts is = absurd is
   referred o place access (of_kind variable.Boolean) t cells has lies parts is = absurd is
   referred o place access (of_kind (variable.Access other)) t cells has lies parts is = absurd is
@@ -103,8 +103,8 @@ module _ (p : ProgramForm) where
         has.1,
         ap (λ (a : ℕ). has_record_at (reached_components p.types a) place.component (reached_components p.types object.0)) has.2
             ∙ ap (λ (own : Option ℕ). has_record_at (reached_components p.types access.0) place.component (components_reached p.types own)) named_so ∙ lies,
-        ap (λ (a : ℕ). has_parts_from (parts_reached p.types object.0) place.part (parts_reached p.types a)) has.2
-            ∙ ap (λ (own : Option ℕ). has_parts_from (parts_named p.types own) place.part (parts_reached p.types access.0)) named_so ∙ parts,
+        subst (λ (a : ℕ). PartsLie p.types (object_named p.types (Some a)) (object_named p.types (Some object.0)) place.component place.part) (sym has.2)
+            (subst (λ (own : Option ℕ). PartsLie p.types (object_named p.types (Some access.0)) own place.component place.part) (sym named_so) parts),
       )
   referred o place access (refers_to kind) t cells has lies parts is = absurd is
   referred o place access (lies_in u) t cells has lies parts is =
@@ -112,26 +112,26 @@ module _ (p : ProgramForm) where
         has.0,
         has.1,
         ap (λ (a : ℕ). has_record_at (reached_components p.types a) place.component (record_components p.types t)) has.2 ∙ lies,
-        ap (λ (a : ℕ). has_parts_from (part_count p.types t) place.part (parts_reached p.types a)) has.2 ∙ parts,
+        subst (λ (a : ℕ). PartsLie p.types (object_named p.types (Some a)) (Some t) place.component place.part) (sym has.2) parts,
       )
 
-  referred_fine : (o : Id) (access : TypeNo) (kind : OperandKind) (t : ℕ) (place : Place) (rs : List ComponentKind) (object : Object) (s : State) (kinds : List OperandKind) → Ready p kinds s → Designates (cells_of s.heap) access.0 o → slice_get s.heap o.0 ≡ Some object → record_components p.types t ≡ Some rs → has_record_at (reached_components p.types access.0) place.component (Some rs) ≡ true → has_parts_from (part_count p.types t) place.part (parts_reached p.types access.0) ≡ true → IsReference p.types kind t → Fits p (cells_of s.heap) (kind ∷ kinds) s.control → Fine p (referred_next named (Names o) place (record_in object.cell.values place.component (length rs)) s)
+  referred_fine : (o : Id) (access : TypeNo) (kind : OperandKind) (t : ℕ) (place : Place) (rs : List ComponentKind) (object : Object) (s : State) (kinds : List OperandKind) → Ready p kinds s → Designates (cells_of s.heap) access.0 o → slice_get s.heap o.0 ≡ Some object → record_components p.types t ≡ Some rs → has_record_at (reached_components p.types access.0) place.component (Some rs) ≡ true → PartsLie p.types (object_named p.types (Some access.0)) (Some t) place.component place.part → IsReference p.types kind t → Fits p (cells_of s.heap) (kind ∷ kinds) s.control → Fine p (referred_next named (Names o) place (record_in object.cell.values place.component (length rs)) s)
   referred_fine o access kind t place rs object s kinds ready has is recorded lies parts wanted fits =
       let there = record_there o access place.component rs object s kinds ready has is lies in
       let own = ap (λ (found : Option (List ComponentKind)). has_record_at (reached_components p.types access.0) place.component found) recorded ∙ lies in
       subst (λ (found : Option (List Value)). Fine p (referred_next named (Names o) place found s)) (sym there.1)
       (running (kind ∷ kinds) (ready_operand p kinds s kind (Part o place) ready (referred o place access kind t (cells_of s.heap) has own parts wanted)) fits)
 
-  refers_stage : (stage : Stage) (o : Id) (access : TypeNo) (kind : OperandKind) (t : ℕ) (place : Place) (rs : List ComponentKind) (object : Object) (s : State) (kinds : List OperandKind) → Ready p kinds s → Designates (cells_of s.heap) access.0 o → slice_get s.heap o.0 ≡ Some object → record_components p.types t ≡ Some rs → has_record_at (reached_components p.types access.0) place.component (Some rs) ≡ true → has_parts_from (part_count p.types t) place.part (parts_reached p.types access.0) ≡ true → IsReference p.types kind t → Fits p (cells_of s.heap) (kind ∷ kinds) s.control → Fine p (refers_next named (Names o) place (length rs) (existing object stage) s)
+  refers_stage : (stage : Stage) (o : Id) (access : TypeNo) (kind : OperandKind) (t : ℕ) (place : Place) (rs : List ComponentKind) (object : Object) (s : State) (kinds : List OperandKind) → Ready p kinds s → Designates (cells_of s.heap) access.0 o → slice_get s.heap o.0 ≡ Some object → record_components p.types t ≡ Some rs → has_record_at (reached_components p.types access.0) place.component (Some rs) ≡ true → PartsLie p.types (object_named p.types (Some access.0)) (Some t) place.component place.part → IsReference p.types kind t → Fits p (cells_of s.heap) (kind ∷ kinds) s.control → Fine p (refers_next named (Names o) place (length rs) (existing object stage) s)
   refers_stage Gone o access kind t place rs object s kinds ready has is recorded lies parts wanted fits = tt
   refers_stage Building o access kind t place rs object s kinds ready has is recorded lies parts wanted fits = referred_fine o access kind t place rs object s kinds ready has is recorded lies parts wanted fits
   refers_stage Existing o access kind t place rs object s kinds ready has is recorded lies parts wanted fits = referred_fine o access kind t place rs object s kinds ready has is recorded lies parts wanted fits
 
-  refers_seen : (at_o : Option Object) (o : Id) (access : TypeNo) (kind : OperandKind) (t : ℕ) (place : Place) (rs : List ComponentKind) (s : State) (kinds : List OperandKind) → Ready p kinds s → Designates (cells_of s.heap) access.0 o → slice_get s.heap o.0 ≡ at_o → record_components p.types t ≡ Some rs → has_record_at (reached_components p.types access.0) place.component (Some rs) ≡ true → has_parts_from (part_count p.types t) place.part (parts_reached p.types access.0) ≡ true → IsReference p.types kind t → Fits p (cells_of s.heap) (kind ∷ kinds) s.control → Fine p (refers_next named (Names o) place (length rs) (seen at_o) s)
+  refers_seen : (at_o : Option Object) (o : Id) (access : TypeNo) (kind : OperandKind) (t : ℕ) (place : Place) (rs : List ComponentKind) (s : State) (kinds : List OperandKind) → Ready p kinds s → Designates (cells_of s.heap) access.0 o → slice_get s.heap o.0 ≡ at_o → record_components p.types t ≡ Some rs → has_record_at (reached_components p.types access.0) place.component (Some rs) ≡ true → PartsLie p.types (object_named p.types (Some access.0)) (Some t) place.component place.part → IsReference p.types kind t → Fits p (cells_of s.heap) (kind ∷ kinds) s.control → Fine p (refers_next named (Names o) place (length rs) (seen at_o) s)
   refers_seen None o access kind t place rs s kinds ready has is recorded lies parts wanted fits = tt
   refers_seen (Some object) o access kind t place rs s kinds ready has is recorded lies parts wanted fits = refers_stage object.stage o access kind t place rs object s kinds ready has is recorded lies parts wanted fits
 
-  pub refers_fine : (v : Value) (access : TypeNo) (kind : OperandKind) (t : ℕ) (place : Place) (rs : List ComponentKind) (s : State) (kinds : List OperandKind) → Ready p kinds s → HasKind p.types (cells_of s.heap) (variable.Access access) v → record_components p.types t ≡ Some rs → has_record_at (reached_components p.types access.0) place.component (Some rs) ≡ true → has_parts_from (part_count p.types t) place.part (parts_reached p.types access.0) ≡ true → IsReference p.types kind t → Fits p (cells_of s.heap) (kind ∷ kinds) s.control → Fine p (refers_next named v place (length rs) (look s.heap v) s)
+  pub refers_fine : (v : Value) (access : TypeNo) (kind : OperandKind) (t : ℕ) (place : Place) (rs : List ComponentKind) (s : State) (kinds : List OperandKind) → Ready p kinds s → HasKind p.types (cells_of s.heap) (variable.Access access) v → record_components p.types t ≡ Some rs → has_record_at (reached_components p.types access.0) place.component (Some rs) ≡ true → PartsLie p.types (object_named p.types (Some access.0)) (Some t) place.component place.part → IsReference p.types kind t → Fits p (cells_of s.heap) (kind ∷ kinds) s.control → Fine p (refers_next named v place (length rs) (look s.heap v) s)
   refers_fine Null access kind t place rs s kinds ready has recorded lies parts wanted fits = raises p kinds (kind ∷ kinds) ConstraintError s ready fits
   refers_fine (Names o) access kind t place rs s kinds ready has recorded lies parts wanted fits = refers_seen (slice_get s.heap o.0) o access kind t place rs s kinds ready has refl recorded lies parts wanted fits
   refers_fine (Scalar held) access kind t place rs s kinds ready has recorded lies parts wanted fits = absurd has

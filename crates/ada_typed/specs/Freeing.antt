@@ -1,12 +1,12 @@
 -- Which objects are freed, and by the instance of Unchecked_Deallocation for which access type (13.11.2).
 
-use Rattle.std.specs.Prelude.{◌≡◌, ◌≢◌, ◌⊎◌, ℕ, ℤ, true, List, [], ◌∷◌, Some}
+use Rattle.std.specs.Prelude.{◌≡◌, ◌≢◌, ◌⊎◌, ℕ, ℤ, List, [], ◌∷◌, Some}
 use Rattle.std.specs.List.{slice_get}
 use Rattle.ada_program.specs.declared.program.Program.{Program}
 use Rattle.ada_program.specs.Form.{PathForm, frees, StmtsForm, a_stmt}
 use Rattle.ada_program.specs.Freed.{FreesItsOwn}
 use Rattle.ada_program.specs.ProgramForm.{program_form}
-use Rattle.ada_program.specs.WellFormed.{IsWellFormed, overrides_none}
+use Rattle.ada_program.specs.WellFormed.{IsWellFormed}
 use Rattle.ada_meaning.specs.declared.state.Id.{Id}
 use Rattle.ada_meaning.specs.declared.state.Value.{Value}
 use Rattle.ada_meaning.specs.declared.state.Value.TheVariants.{Names}
@@ -51,7 +51,7 @@ FreesByItsType program =
 
 -- So it is in each program that is well formed, where each Free is by the instance for the access type of what it frees.
 abbrev pub ObjectsAreFreedByTheirTypes : Type 0
-ObjectsAreFreedByTheirTypes = (program : Program) → IsWellFormed (program_form program) → overrides_none (program_form program) ≡ true → FreesItsOwn (program_form program) → FreesByItsType program
+ObjectsAreFreedByTheirTypes = (program : Program) → IsWellFormed (program_form program) → FreesItsOwn (program_form program) → FreesByItsType program
 
 -- A run of the program comes to a Free that finds an object, of an access type of which this holds beside that of the instance.
 abbrev pub ComesToFree : Program → (ℕ → ℕ → Type 0) → Type 0

@@ -1,13 +1,14 @@
 -- Which value a variable or a component may hold, and what lies in an object.
 
-use Rattle.std.specs.Prelude.{◌≡◌, ℕ, ℤ, true, List, [], ◌∷◌, length, map, Some}
+use Rattle.std.specs.Prelude.{◌≡◌, ℕ, ◌<◌, ℤ, true, List, [], ◌∷◌, length, map, Option, Some, None}
 use Rattle.std.specs.List.{slice_get}
 use Rattle.ada_program.specs.declared.program.ComponentKind.{ComponentKind}
 use Rattle.ada_program.specs.declared.program.VariableKind.{VariableKind}
 use Rattle.ada_program.specs.declared.program.VariableKind.TheVariants as variable
 use Rattle.ada_program.specs.declared.program.Program.{Program}
 use Rattle.ada_program.specs.ProgramForm.{TypeForm, ProgramForm, program_form, seen_in}
-use Rattle.ada_program.specs.WellFormed.{IsWellFormed, overrides_none, is_access, reached_components, has_record_at, has_parts_from, object_named, parts_named, held_kind, variable_kind}
+use Rattle.ada_program.specs.Walks.{Walks}
+use Rattle.ada_program.specs.WellFormed.{IsWellFormed, is_access, reached_components, has_record_at, has_parts_from, object_named, parts_named, held_kind, variable_kind}
 use Rattle.ada_values.specs.declared.value.Value.TheVariants as scalar
 use Rattle.ada_meaning.specs.declared.state.Id.{Id}
 use Rattle.ada_meaning.specs.declared.state.Place.{Place}
@@ -53,13 +54,25 @@ IsAccess cells access (Part o place) = ⊥
 abbrev pub parts_reached : List TypeForm → (access : ℕ) → ℕ
 parts_reached types access = parts_named types (object_named types (Some access))
 
+-- A record of a type lies in the records of another, behind so many elementary components and controlled parts (7.6), where these are types.
+abbrev pub WalksTo : List TypeForm → (within record_type : Option ℕ) → (first part : ℕ) → Type 0
+WalksTo types None u first part = ⊥
+WalksTo types (Some t) None first part = ⊥
+WalksTo types (Some t) (Some u) first part = Walks types t first part u
+
+-- The controlled parts of a record lie in an object, behind so many elementary components and controlled parts (7.6): they are parts of the object, and where
+-- there are some, the record is found there by walking into declared components.
+abbrev pub PartsLie : List TypeForm → (object record_type : Option ℕ) → (first part : ℕ) → Type 0
+PartsLie types object t first part =
+    (has_parts_from (parts_named types t) part (parts_named types object) ≡ true) × (0 < parts_named types t → WalksTo types object t first part)
+
 -- A record of the type that is known by an object's type lies in the object of this name, where a place says (6.2): its components are components of the
--- object, and its controlled parts are parts of it (7.6).
+-- object, and so it is with its controlled parts (7.6).
 abbrev pub LiesIn : List TypeForm → Cells → (object_type : ℕ) → Id → Place → Type 0
 LiesIn types cells t o place =
     (cell : Cell Value) × (slice_get cells o.0 ≡ Some cell)
     × (has_record_at (reached_components types cell.access) place.component (reached_components types t) ≡ true)
-    × (has_parts_from (parts_reached types t) place.part (parts_reached types cell.access) ≡ true)
+    × PartsLie types (object_named types (Some cell.access)) (object_named types (Some t)) place.component place.part
 
 -- What a record object or a record parameter holds: null before it is declared; the name of the object that is known by its type; or what refers to a
 -- record of its type (6.2).
@@ -103,11 +116,11 @@ cells_of objects = map cell_of objects
 
 -- In every run of a well-formed program, what lies in an object is what the record type has that its access type designates.
 abbrev pub ObjectsHaveTheirKinds : Type 0
-ObjectsHaveTheirKinds = (program : Program) → IsWellFormed (program_form program) → overrides_none (program_form program) ≡ true → (input : List ℤ) (events : List Event) (last : State) (o : Id) (object : Object) → Run program (first_state program input) events last → object_at last.heap o ≡ Some object → IsFilled (program_form program).types (cells_of last.heap) object.cell
+ObjectsHaveTheirKinds = (program : Program) → IsWellFormed (program_form program) → (input : List ℤ) (events : List Event) (last : State) (o : Id) (object : Object) → Run program (first_state program input) events last → object_at last.heap o ≡ Some object → IsFilled (program_form program).types (cells_of last.heap) object.cell
 
 -- In every run of a well-formed program, an object has as many controlled parts as the program says of the objects of its type (7.6).
 abbrev pub ObjectsHaveTheirParts : Type 0
-ObjectsHaveTheirParts = (program : Program) → IsWellFormed (program_form program) → overrides_none (program_form program) ≡ true → (input : List ℤ) (events : List Event) (last : State) (o : Id) (object : Object) → Run program (first_state program input) events last → object_at last.heap o ≡ Some object → length object.cell.parts ≡ parts_reached (program_form program).types object.cell.access
+ObjectsHaveTheirParts = (program : Program) → IsWellFormed (program_form program) → (input : List ℤ) (events : List Event) (last : State) (o : Id) (object : Object) → Run program (first_state program input) events last → object_at last.heap o ≡ Some object → length object.cell.parts ≡ parts_reached (program_form program).types object.cell.access
 
 -- The program as the body sees it that runs.
 abbrev pub seen_now : ProgramForm → State → ProgramForm
@@ -120,7 +133,7 @@ HoldsKind types s x kind = (slice_get (places s) x ≡ Some (held named s x)) ×
 -- In every run of a well-formed program, each variable of the body that runs holds a value of its kind.
 abbrev pub VariablesHaveTheirKinds : Type 0
 VariablesHaveTheirKinds =
-    (program : Program) → IsWellFormed (program_form program) → overrides_none (program_form program) ≡ true →
+    (program : Program) → IsWellFormed (program_form program) →
     (input : List ℤ) (events : List Event) (last : State) (x : ℕ) (kind : VariableKind) →
     Run program (first_state program input) events last →
     variable_kind (seen_now (program_form program) last).variables x ≡ Some kind →

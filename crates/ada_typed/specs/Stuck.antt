@@ -6,9 +6,9 @@ use Rattle.ada_program.specs.declared.program.Exception.{Exception}
 use Rattle.ada_program.specs.declared.program.Finalization.{Finalization}
 use Rattle.ada_program.specs.declared.program.ProcedureNo.{ProcedureNo}
 use Rattle.ada_program.specs.declared.program.Program.{Program}
-use Rattle.ada_program.specs.Form.{no_stmts, no_handlers, a_handler, handler_forms}
-use Rattle.ada_program.specs.ProgramForm.{program_form}
-use Rattle.ada_program.specs.WellFormed.{finalization_of, IsWellFormed, overrides_none}
+use Rattle.ada_program.specs.Form.{RecordPathForm, ItemForm, assigns_record, a_stmt, no_stmts, stmt_forms, no_handlers, a_handler, handler_forms}
+use Rattle.ada_program.specs.ProgramForm.{ProgramForm, program_form}
+use Rattle.ada_program.specs.WellFormed.{access_of, path_kind, record_components, object_components, object_named, has_record_at, has_parts_from, part_count, parts_named, finalization_of, IsWellFormed, overrides_none}
 use Rattle.ada_meaning.specs.declared.event.Halt.{Halt}
 use Rattle.ada_meaning.specs.declared.event.Halt.TheVariants.{Finished, Unhandled, Escaped, Erroneous, Stuck, Memory}
 use Rattle.ada_meaning.specs.declared.state.Mode.TheVariants.{Running}
@@ -23,9 +23,9 @@ use Rattle.ada_meaning.specs.Run.{Event, Run, Halts, first_state}
 abbrev pub NeverStuck : Program → Type 0
 NeverStuck program = (input : List ℤ) (events : List Event) (last : State) → Run program (first_state program input) events last → Halts program last Stuck → ⊥
 
--- That holds of each program that is well formed, where its types override no operation.
+-- That holds of each program that is well formed.
 abbrev pub WellFormedProgramsAreNeverStuck : Type 0
-WellFormedProgramsAreNeverStuck = (program : Program) → IsWellFormed (program_form program) → overrides_none (program_form program) ≡ true → NeverStuck program
+WellFormedProgramsAreNeverStuck = (program : Program) → IsWellFormed (program_form program) → NeverStuck program
 
 -- No run of the program, whatever its input and whatever is granted and picked, has an exception leave an Adjust or a Finalize (7.6.1).
 abbrev pub NothingEscapes : Program → Type 0
@@ -46,9 +46,9 @@ EndsByTheLanguage (Erroneous why) = Unit {0}
 EndsByTheLanguage Stuck = ⊥
 EndsByTheLanguage Memory = ⊥
 
--- Each run of such a program ends so.
+-- Each run of a well-formed program ends so.
 abbrev pub WellFormedProgramsEndByTheLanguage : Type 0
-WellFormedProgramsEndByTheLanguage = (program : Program) → IsWellFormed (program_form program) → overrides_none (program_form program) ≡ true → (input : List ℤ) (events : List Event) (last : State) (halt : Halt) → Run program (first_state program input) events last → Halts program last halt → EndsByTheLanguage halt
+WellFormedProgramsEndByTheLanguage = (program : Program) → IsWellFormed (program_form program) → (input : List ℤ) (events : List Event) (last : State) (halt : Halt) → Run program (first_state program input) events last → Halts program last halt → EndsByTheLanguage halt
 
 -- A run of the program comes to its end.
 abbrev pub Finishes : Program → Type 0
@@ -87,14 +87,22 @@ RunsFinalize program =
 abbrev pub AWellFormedProgramCallsFinalize : Type 0
 AWellFormedProgramCallsFinalize = (program : Program) × IsWellFormed (program_form program) × RunsFinalize program × Finishes program
 
--- Where operations are overridden, being well formed is not enough so far: such a program gets stuck. It names a record by the component of one and the
--- controlled part of another, which no path of a source does.
-abbrev pub AWellFormedProgramGetsStuck : Type 0
-AWellFormedProgramGetsStuck = (program : Program) × IsWellFormed (program_form program) × GetsStuck program
-
 -- The premise is needed: a program that writes the image of a Boolean as that of an Integer gets stuck.
 abbrev pub AnIllTypedProgramGetsStuck : Type 0
 AnIllTypedProgramGetsStuck = (program : Program) × GetsStuck program
+
+-- The components of a path's record lie in the object to which the path leads, and its controlled parts do, where each are looked at alone (4.1, 7.6).
+abbrev pub LiesApart : ProgramForm → RecordPathForm → Type 0
+LiesApart p path =
+    let object = access_of (path_kind p.types p.variables path.object) in
+    (has_record_at (object_components p.types object) path.first (record_components p.types path.record_type) ≡ true)
+    × (has_parts_from (part_count p.types path.record_type) path.part (parts_named p.types (object_named p.types object)) ≡ true)
+
+-- That is not enough: a program gets stuck whose one statement assigns to a record that it names by the component of one and the controlled part of another.
+abbrev pub AMixedPathGetsStuck : Type 0
+AMixedPathGetsStuck =
+    (program : Program) × (path : RecordPathForm) × (items : List ItemForm) × (stmt_forms program ≡ a_stmt (assigns_record path items) no_stmts)
+    × LiesApart (program_form program) path × GetsStuck program
 
 -- The one handler of a program takes each exception, and has no statement (11.2).
 abbrev pub HasEmptyHandler : Program → Type 0
