@@ -27,7 +27,7 @@ use Rattle.ada_finalized.proofs.Ranks.{Heap, rank_of, rank_by, rank_at, set_same
 use Rattle.ada_finalized.proofs.Doings.{name, same_name, Doing, Treating, doings, OfTreatments, IsLeft, of_treatments, fewer_treating, fewer_treatments, alike, Fewer, Differs, apart_begun, on_same, on_other, gains, losses}
 use Rattle.ada_finalized.proofs.Stacks.{Control, code, Stack, Covers}
 use Rattle.ada_finalized.proofs.Claims.{Claimed, Claims, claims_part}
-use Rattle.ada_finalized.proofs.Invariant.{AllSane, begun_part, Recorded, Begins, Fine, Inv, inv_fewer, begins_on, fine_on, StaysThere, there_on, Origin, goes_on, NoneInside, NotCleared, Told, bears, Goes, Passed, GoesOn, origins_kept}
+use Rattle.ada_finalized.proofs.Invariant.{AllSane, begun_part, Recorded, Begins, Fine, Inv, inv_fewer, begins_on, fine_on, StaysThere, there_on, stands_on, Origin, goes_on, NoneInside, NotCleared, Told, bears, Goes, Passed, GoesOn, origins_kept}
 use Rattle.ada_finalized.proofs.Going.{begins_stand, one_here, other_here, sane_treated, sane_set, stays_set, sane_out}
 
 pub begins_of :
@@ -138,7 +138,7 @@ module _ (types : List TypeDefinition) (past : List Event) (s : State) (o : ℕ)
       apart = apart_begun (name o) by done (part ∷ done) (performs of n ∷ tasks) tasks (doings k) inv_before.apart;
       claims = subst (λ (xs : Heap). Claims shapes xs later) (sym changes) claims_later;
       sane = subst (AllSane types) (sym changes) (sane_set types s.heap o x y at_o (sane_treated types (born_part number) n x stage (inv_before.sane o x at_o)) inv_before.sane);
-      there = λ none. there_on s.heap after.heap before (subst (StaysThere s.heap) (sym changes) (stays_set s.heap o x y at_o (λ was. was))) (inv_before.there none);
+      there = there_on s.heap after.heap before (subst (StaysThere s.heap) (sym changes) (stays_set s.heap o x y at_o (λ was. was))) (inv_before.there);
     }
 
     few : after.control ≡ treating (name o) (begins by (part ∷ done)) tasks k → Fewer later (doings after.control)
@@ -176,12 +176,12 @@ module _ (types : List TypeDefinition) (past : List Event) (s : State) (o : ℕ)
         )
 
     goes :
-        after.mode ≡ Running → after.control ≡ treating (name o) (begins by (part ∷ done)) tasks k → Stack types code after.activations k
+        after.mode ≡ Running → after.control ≡ treating (name o) (begins by (part ∷ done)) tasks k → Stack types s.heap code after.activations k
         → Goes types past s (Born (name o) n p.turn of number by) after
     unfolding e
     goes running control h = record {
       fits = record {
-        stands = begins_stand types after o by (part ∷ done) tasks k running control h;
+        stands = stands_on types s.heap after passed.keeps (begins_stand types s.heap after o by (part ∷ done) tasks k running control h);
         inv = inv_fewer types (e ∷ past) after.heap after.next later (doings after.control) (few control) inv_later;
       };
       told = told (few control);
@@ -191,6 +191,6 @@ module _ (types : List TypeDefinition) (past : List Event) (s : State) (o : ℕ)
   -- So it goes on.
   pub born_goes :
       (after : State) → after.heap ≡ bear s.heap (name o) n number → after.next ≡ s.next → after.mode ≡ Running
-      → after.control ≡ treating (name o) (begins by (part ∷ done)) tasks k → Stack types code after.activations k
+      → after.control ≡ treating (name o) (begins by (part ∷ done)) tasks k → Stack types s.heap code after.activations k
       → GoesOn types past s (Born (name o) n p.turn of number by) after
   born_goes after heap same_next running control h passed = goes after passed heap same_next running control h

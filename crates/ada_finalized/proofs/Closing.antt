@@ -34,7 +34,7 @@ use Rattle.ada_meaning.specs.Finalization.{assigned_by}
 use Rattle.ada_finalized.proofs.Treated.{undoing, undoing_cleared}
 use Rattle.ada_finalized.proofs.Ranks.{stored_bare}
 use Rattle.ada_finalized.proofs.Doings.{name, Ending, doings, fewer_treating, alike}
-use Rattle.ada_finalized.proofs.Stacks.{Control, code, guard, finalization, Stack, calm, awaits, confines, to_end, to_copy, storing_then, ending_then, stack_acts, older_operands, covered, none_behind}
+use Rattle.ada_finalized.proofs.Stacks.{Control, code, guard, finalization, Stack, calm, awaits, confines, to_end, to_copy, storing_then, ending_then, stack_acts, older_operands, covered, others}
 use Rattle.ada_finalized.proofs.Invariant.{Inv, runs, ending, storing}
 use Rattle.ada_finalized.proofs.Going.{kept_goes, begins_stand, looked}
 use Rattle.ada_finalized.proofs.Begun.{begins_of}
@@ -46,18 +46,18 @@ module _ (types : List TypeDefinition) (bodies : List BodyForm) (past : List Eve
   -- An object ceases to exist.
   pub finish_leads :
       (o : ℕ) (cause : Cause) (pool : Option ℕ) (k : Control) → s.control ≡ ending_then o cause pool k → assigned_by (Some cause) ≡ None
-      → Stack types code s.activations k → (found : Found (Cell Value)) → look s.heap (name o) ≡ found
+      → Stack types s.heap code s.activations k → (found : Found (Cell Value)) → look s.heap (name o) ≡ found
       → Leads types past s (end_next named (name o) found (at (frame.GivesBack (name o) cause pool ∷ k) s))
   finish_leads o cause pool k is own h on_null found = tt
   finish_leads o cause pool k is own h on_gone found = tt
   finish_leads o cause pool k is own h on_other found = tt
   finish_leads o cause pool k is own h (finds cell) found =
       let t = looked types s.heap inv.sane o cell found in
-      finished_goes types past s _ o t.object cause pool k own t.at_place t.stage (ap doings is) (covered types code s.activations k h)
-      (λ none. none_behind types none s.activations k h) inv refl running refl h
+      finished_goes types past s _ o t.object cause pool k own t.at_place t.stage (ap doings is) (covered types s.heap code s.activations k h)
+      (others types s.heap code s.activations k h o (λ is_kind. absurd (cc is_kind))) inv refl running refl h
 
   -- Its words go back.
-  module _ (o : ℕ) (x : Object) (cause : Cause) (pool : Option ℕ) (k : Control) (is : s.control ≡ frame.GivesBack (name o) cause pool ∷ k) (own : assigned_by (Some cause) ≡ None) (h : Stack types code s.activations k) (at_o : slice_get s.heap o ≡ Some x) (gone : x.stage ≡ Gone) where
+  module _ (o : ℕ) (x : Object) (cause : Cause) (pool : Option ℕ) (k : Control) (is : s.control ≡ frame.GivesBack (name o) cause pool ∷ k) (own : assigned_by (Some cause) ≡ None) (h : Stack types s.heap code s.activations k) (at_o : slice_get s.heap o ≡ Some x) (gone : x.stage ≡ Gone) where
     told_leads :
         (told to subpool : Option ℕ) (access number : ℕ)
         → Leads types past s (told_back named told (name o) (Back (name o) access number to subpool cause) (record (at k s) { heap = on_object returned s.heap (name o) }))
@@ -79,7 +79,7 @@ module _ (types : List TypeDefinition) (bodies : List BodyForm) (past : List Eve
         subst (λ (found : Found (Cell Value)). Leads types past s (back_next named (name o) cause pool found (at k s))) (sym (ap lent_by at_o)) (lent_leads x.out)
 
   -- A record is copied to it.
-  module _ (o n to width : ℕ) (tasks : List Task) (k : Control) (h : Stack types code s.activations k) where
+  module _ (o n to width : ℕ) (tasks : List Task) (k : Control) (h : Stack types s.heap code s.activations k) where
     abbrev behind : Control
     behind = storing_then o n to width tasks k
 
@@ -88,7 +88,7 @@ module _ (types : List TypeDefinition) (bodies : List BodyForm) (past : List Eve
       copied_leads v None = tt
       copied_leads v (Some vs) =
           kept_goes types past s (Followed v) _ inv tt refl (sym (ap doings is))
-          (storing o n to width tasks k running refl (stack_acts types s.activations _ k (sym (older_operands _ (with_operands (older (operands s)) s.activations) ∙ older_operands (older (operands s)) s.activations)) h))
+          (storing o n to width tasks k running refl (stack_acts types s.heap s.activations _ k (sym (older_operands _ (with_operands (older (operands s)) s.activations) ∙ older_operands (older (operands s)) s.activations)) h))
 
       by_stage : (v : Value) (width' : ℕ) (z : Object) (stage : Stage) → Leads types past s (copies_next named v from width' (existing z stage) (popped (at behind s)))
       by_stage v width' z Building = copied_leads v (record_in z.cell.values from width')
@@ -112,7 +112,7 @@ module _ (types : List TypeDefinition) (bodies : List BodyForm) (past : List Eve
       record_stored_leads None vs = tt
       record_stored_leads (Some found) vs =
           kept_goes types past s (Followed (name o)) _ inv tt (stored_bare s.heap (name o) to vs) (sym (ap doings is))
-          (begins_stand types _ o (Adjustment n) [] tasks k running refl (stack_acts types s.activations _ k (sym (older_operands _ s.activations)) h))
+          (begins_stand types s.heap _ o (Adjustment n) [] tasks k running refl (stack_acts types s.heap s.activations _ k (sym (older_operands _ s.activations)) h))
 
       by_cell : (found : Found (Cell Value)) → Leads types past s (store_record_next named (name o) to width found (at adjusting s))
       by_cell on_null = tt
@@ -125,7 +125,7 @@ module _ (types : List TypeDefinition) (bodies : List BodyForm) (past : List Eve
 
   -- What is left of a finalization, and what it was begun for.
   pub ending_leads :
-      (f : Frame Value) (j : Control) → s.control ≡ f ∷ j → Stack types finalization s.activations (f ∷ j) → Leads types past s (frame_next named types bodies f (at j s))
+      (f : Frame Value) (j : Control) → s.control ≡ f ∷ j → Stack types s.heap finalization s.activations (f ∷ j) → Leads types past s (frame_next named types bodies f (at j s))
   ending_leads f j first (to_end o cause pool [] k is own once h) =
       let e : f ∷ j ≡ ending_then o cause pool k = is in
       subst (λ (c : Control). Leads types past s (running_next named types bodies c s)) (sym e)
@@ -133,7 +133,7 @@ module _ (types : List TypeDefinition) (bodies : List BodyForm) (past : List Eve
   ending_leads f j first (to_end o cause pool (task ∷ tasks) k is own once h) =
       let b = ending_then o cause pool k in
       subst (λ (c : Control). Leads types past s (running_next named types bodies c s)) (sym is)
-      (clearing_leads types bodies past s o cause b running inv task tasks (first ∙ is)
+      (clearing_leads types bodies past s o cause b running inv refl task tasks (first ∙ is)
       (λ left less. to_end o cause pool left k refl own (λ n. let a = less n in let c = once n in omega (arith, a, c)) h))
   ending_leads f j first (to_copy o n from t to width source [] later k is less once operand h) =
       let e : f ∷ j ≡ frame.Copies from t ∷ storing_then o n to width later k = is in
@@ -142,14 +142,14 @@ module _ (types : List TypeDefinition) (bodies : List BodyForm) (past : List Eve
   ending_leads f j first (to_copy o n from t to width source (task ∷ tasks) later k is less once operand h) =
       let b = frame.Copies from t ∷ storing_then o n to width later k in
       subst (λ (c : Control). Leads types past s (running_next named types bodies c s)) (sym is)
-      (clearing_leads types bodies past s o (Assigning n) b running inv task tasks (first ∙ is)
+      (clearing_leads types bodies past s o (Assigning n) b running inv refl task tasks (first ∙ is)
       (λ left fewer. to_copy o n from t to width source left later k refl (λ m. let a = fewer m in let c = less m in omega (arith, a, c)) once operand h))
 
 -- The body of an operation has ended, or a jump comes out of it.
 module _ (types : List TypeDefinition) (past : List Event) (s : State) (inv : Inv types past s.heap s.next (doings s.control)) where
   undo_leads :
       (e : Exception) (o of n : ℕ) (done : List Part) (tasks : List Task) (k : Control) → s.control ≡ frame.Awaits (name o) Creation done of n tasks ∷ k
-      → Stack types code s.activations k → (found : Found (Cell Value)) → look s.heap (name o) ≡ found → Leads types past s (undo_next named e (name o) done found (at k s))
+      → Stack types s.heap code s.activations k → (found : Found (Cell Value)) → look s.heap (name o) ≡ found → Leads types past s (undo_next named e (name o) done found (at k s))
   undo_leads e o of n done tasks k is h on_null found = tt
   undo_leads e o of n done tasks k is h on_gone found = tt
   undo_leads e o of n done tasks k is h on_other found = tt
@@ -163,18 +163,18 @@ module _ (types : List TypeDefinition) (past : List Event) (s : State) (inv : In
       undone_goes types past s _ o t.object done (performs of n ∷ tasks) (doings k) t.at_place t.stage (ap doings is) inv refl refl
       (fewer_treating (name o) (ends (Undoing s.next)) (undoing done) (Ending (name o) ∷ doings k) (ending_then o (Undoing s.next) cell.home.pool behind) alike)
       (ending refl (to_end o (Undoing s.next) cell.home.pool (undoing done) behind refl refl clearing.once
-      (calm (frame.Resumes (Raising e)) k tt (stack_acts types s.activations _ k (sym (older_operands [] s.activations)) h))))
+      (calm (frame.Resumes (Raising e)) k tt (stack_acts types s.heap s.activations _ k (sym (older_operands [] s.activations)) h))))
 
   broken_leads :
       (e : Exception) (o of n : ℕ) (by : Birth) (done : List Part) (tasks : List Task) (k : Control) → s.control ≡ frame.Awaits (name o) by done of n tasks ∷ k
-      → Stack types code s.activations k → Leads types past s (broken_next named e (name o) by done (at k s))
+      → Stack types s.heap code s.activations k → Leads types past s (broken_next named e (name o) by done (at k s))
   broken_leads e o of n Creation done tasks k is h = undo_leads e o of n done tasks k is h (look s.heap (name o)) refl
   broken_leads e o of n Copy done tasks k is h = tt
   broken_leads e o of n (Adjustment number) done tasks k is h = tt
 
   jump_awaits :
       (mode : Mode) (o of n : ℕ) (by : Birth) (done : List Part) (tasks : List Task) (k : Control) → s.control ≡ frame.Awaits (name o) by done of n tasks ∷ k
-      → Stack types code s.activations k → (mode ≡ Running → ⊥) → Leads types past s (jump_next named mode (frame.Awaits (name o) by done of n tasks ∷ k) s)
+      → Stack types s.heap code s.activations k → (mode ≡ Running → ⊥) → Leads types past s (jump_next named mode (frame.Awaits (name o) by done of n tasks ∷ k) s)
   jump_awaits Running o of n by done tasks k is h jumps = absurd (jumps refl)
   jump_awaits (Raising e) o of n by done tasks k is h jumps = broken_leads e o of n by done tasks k is h
   jump_awaits Exiting o of n by done tasks k is h jumps = tt
@@ -191,17 +191,17 @@ module _ (types : List TypeDefinition) (past : List Event) (s : State) (inv : In
   named_awaits v by done of n tasks k is =
       let f = (subst (Inv types past s.heap s.next) (ap doings is) inv).fine.0 in (f.0, f.1.0)
 
-  pub guard_jumps : (mode : Mode) (f : Frame Value) (k : Control) → s.control ≡ f ∷ k → Stack types guard s.activations (f ∷ k) → (mode ≡ Running → ⊥) → Leads types past s (jump_next named mode (f ∷ k) s)
-  guard_jumps mode _ _ is (awaits v by done of n tasks k some h) jumps =
+  pub guard_jumps : (mode : Mode) (f : Frame Value) (k : Control) → s.control ≡ f ∷ k → Stack types s.heap guard s.activations (f ∷ k) → (mode ≡ Running → ⊥) → Leads types past s (jump_next named mode (f ∷ k) s)
+  guard_jumps mode _ _ is (awaits v by done of n tasks k some p h) jumps =
       let o = named_awaits v by done of n tasks k is in
       let e = ap (λ (u : Value). frame.Awaits u by done of n tasks ∷ k) o.1 in
       subst (λ (c : Control). Leads types past s (jump_next named mode c s)) (sym e) (jump_awaits mode o.0 of n by done tasks k (is ∙ e) h jumps)
-  guard_jumps mode _ _ is (confines k some h) jumps = jump_confines mode k jumps
+  guard_jumps mode _ _ is (confines k some p h) jumps = jump_confines mode k jumps
 
-  pub guard_leads : (bodies : List BodyForm) (f : Frame Value) (k : Control) → s.mode ≡ Running → s.control ≡ f ∷ k → Stack types guard s.activations (f ∷ k) → Leads types past s (frame_next named types bodies f (at k s))
-  guard_leads bodies _ _ running is (awaits v by done of n tasks k some h) =
+  pub guard_leads : (bodies : List BodyForm) (f : Frame Value) (k : Control) → s.mode ≡ Running → s.control ≡ f ∷ k → Stack types s.heap guard s.activations (f ∷ k) → Leads types past s (frame_next named types bodies f (at k s))
+  guard_leads bodies _ _ running is (awaits v by done of n tasks k some p h) =
       let o = named_awaits v by done of n tasks k is in
       let e = ap (λ (u : Value). frame.Awaits u by done of n tasks ∷ k) o.1 in
       subst (λ (c : Control). Leads types past s (running_next named types bodies c s)) (sym e)
       (awaited_leads types bodies past s o.0 of n by done tasks k running (ap doings (is ∙ e)) h inv (look s.heap (name o.0)) refl)
-  guard_leads bodies _ _ running is (confines k some h) = kept_goes types past s Quiet _ inv tt refl (sym (ap doings is)) (ending running h)
+  guard_leads bodies _ _ running is (confines k some p h) = kept_goes types past s Quiet _ inv tt refl (sym (ap doings is)) (ending running h)

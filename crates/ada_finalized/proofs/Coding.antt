@@ -58,7 +58,7 @@ ending_goes :
     (types : List TypeDefinition) (past : List Event) (s : State) (e : Event) (after : State) (o : ℕ) (x : Object) (cause : Cause) (pool : Option ℕ) (k : Control)
     → Inv types past s.heap s.next (doings s.control) → Mild e → slice_get s.heap o ≡ Some x → x.listed ≡ true → Fresh cause x s after → assigned_by (Some cause) ≡ None
     → doings k ≡ doings s.control → after.mode ≡ Running → after.heap ≡ on_object parted s.heap (name o)
-    → after.control ≡ finalizing types (name o) x.cell cause (ending_then o cause pool k) → Stack types code after.activations k → GoesOn types past s e after
+    → after.control ≡ finalizing types (name o) x.cell cause (ending_then o cause pool k) → Stack types s.heap code after.activations k → GoesOn types past s e after
 ending_goes types past s e after o x cause pool k inv mild at_o listed fresh own same running heap control h =
     let shapes = shapes_of types in
     let ds = doings s.control in
@@ -152,15 +152,15 @@ calm_calls : (types : List TypeDefinition) (f : Frame Value) → Calm f → fram
 calm_calls types (frame.Treats v treatment tasks) c = absurd c
 calm_calls types f c = refl
 
-module _ (types : List TypeDefinition) (past : List Event) (s : State) (f : Frame Value) (k : Control) (is : s.control ≡ f ∷ k) (c : Calm f) (h : Stack types code s.activations k) (inv : Inv types past s.heap s.next (doings s.control)) where
+module _ (types : List TypeDefinition) (past : List Event) (s : State) (f : Frame Value) (k : Control) (is : s.control ≡ f ∷ k) (c : Calm f) (h : Stack types s.heap code s.activations k) (inv : Inv types past s.heap s.next (doings s.control)) where
   same_behind : doings s.control ≡ doings k
   same_behind = ap doings is ∙ calm_doings f k c
 
   alike_behind : (j : Control) → rest j ≡ rest k → doings j ≡ doings s.control
   alike_behind j same = same_doings j k same ∙ sym same_behind
 
-  stack_behind : (acts : Acts) (j : Control) → rest j ≡ rest k → older s.activations ≡ older acts → Stack types code acts j
-  stack_behind acts j same old = stack_acts types s.activations acts j old (stack_alike types s.activations k j same h)
+  stack_behind : (acts : Acts) (j : Control) → rest j ≡ rest k → older s.activations ≡ older acts → Stack types s.heap code acts j
+  stack_behind acts j same old = stack_acts types s.heap s.activations acts j old (stack_alike types s.heap s.activations k j same h)
 
   made_goes :
       (running : s.mode ≡ Running) (e : Event) (after : State) → Mild e → Made types s.heap s.mode s.next (rest k) after → shape after.activations ≡ shape s.activations
@@ -194,7 +194,7 @@ module _ (types : List TypeDefinition) (past : List Event) (s : State) (f : Fram
       kept_goes types past s e after inv mild same (ap doings control ∙ alike_behind j left)
       (finding (mode ∙ running)
       (subst (Finding after.heap (operands after)) (sym control) (seeks target (frame.Refers source ∷ frame.Assigns t ∷ j) (source_next source t j)))
-      (subst (λ (d : Control). AssignsThen types after.activations (rest d)) (sym control)
+      (subst (λ (d : Control). AssignsThen types s.heap after.activations (rest d)) (sym control)
       (stack_behind after.activations j left (same_older s.activations after.activations old))))
 
   pub calm_leads : (bodies : List BodyForm) → s.mode ≡ Running → IsWithin f → Leads types past s (frame_next named types bodies f (at k s))
@@ -238,18 +238,18 @@ module _ (types : List TypeDefinition) (past : List Event) (s : State) (actuals 
   variables = copied_back actuals (places s) (places_of (older s.activations))
 
   returned_stack :
-      Stack types code (older s.activations) k → Stack types code (with_operands back (with_places variables (older s.activations))) (storing named references k)
+      Stack types s.heap code (older s.activations) k → Stack types s.heap code (with_operands back (with_places variables (older s.activations))) (storing named references k)
   returned_stack h =
-      stack_acts types (older s.activations) (with_operands back (with_places variables (older s.activations))) (storing named references k)
+      stack_acts types s.heap (older s.activations) (with_operands back (with_places variables (older s.activations))) (storing named references k)
       (sym (older_operands back (with_places variables (older s.activations)) ∙ older_places variables (older s.activations)))
-      (stack_alike types (older s.activations) k (storing named references k) (rest_storing types references k) h)
+      (stack_alike types s.heap (older s.activations) k (storing named references k) (rest_storing types references k) h)
 
-  pub returns_lead : (bodies : List BodyForm) → Stack types code (older s.activations) k → Leads types past s (frame_next named types bodies (frame.Returns actuals references) (at k s))
+  pub returns_lead : (bodies : List BodyForm) → Stack types s.heap code (older s.activations) k → Leads types past s (frame_next named types bodies (frame.Returns actuals references) (at k s))
   returns_lead bodies h =
       kept_goes types past s Quiet _ inv tt refl (same_doings (storing named references k) k (rest_storing types references k) ∙ same_doing)
       (runs (returned_stack h))
 
-  pub returns_jump : (mode : Mode) → Stack types code (older s.activations) k → Leads types past s (jump_next named mode (frame.Returns actuals references ∷ k) s)
+  pub returns_jump : (mode : Mode) → Stack types s.heap code (older s.activations) k → Leads types past s (jump_next named mode (frame.Returns actuals references ∷ k) s)
   returns_jump Running h = kept_goes types past s Quiet _ inv tt refl same_doing (runs h)
   returns_jump (Raising e) h = kept_goes types past s Quiet _ inv tt refl same_doing (runs h)
   returns_jump Exiting h = kept_goes types past s Quiet _ inv tt refl same_doing (runs h)
@@ -257,9 +257,9 @@ module _ (types : List TypeDefinition) (past : List Event) (s : State) (actuals 
       kept_goes types past s Quiet _ inv tt refl (same_doings (storing named references k) k (rest_storing types references k) ∙ same_doing)
       (runs (returned_stack h))
 
-module _ (types : List TypeDefinition) (past : List Event) (s : State) (k : Control) (is : s.control ≡ frame.Returns [] [] ∷ k) (inv : Inv types past s.heap s.next (doings s.control)) (h : Stack types guard (older s.activations) k) where
-  operated_stack : Stack types guard (with_operands (operands_of (older s.activations)) (with_places (places_of (older s.activations)) (older s.activations))) k
-  operated_stack = subst (λ (acts : Acts). Stack types guard acts k) (sym (resumed_same (older s.activations))) h
+module _ (types : List TypeDefinition) (past : List Event) (s : State) (k : Control) (is : s.control ≡ frame.Returns [] [] ∷ k) (inv : Inv types past s.heap s.next (doings s.control)) (h : Stack types s.heap guard (older s.activations) k) where
+  operated_stack : Stack types s.heap guard (with_operands (operands_of (older s.activations)) (with_places (places_of (older s.activations)) (older s.activations))) k
+  operated_stack = subst (λ (acts : Acts). Stack types s.heap guard acts k) (sym (resumed_same (older s.activations))) h
 
   pub operation_ends : (bodies : List BodyForm) → Leads types past s (frame_next named types bodies (frame.Returns [] []) (at k s))
   operation_ends bodies = kept_goes types past s Quiet _ inv tt refl (sym (ap doings is)) (ends_operation operated_stack)

@@ -5,7 +5,7 @@ use Rattle.std.specs.List.{slice_get, slice_set}
 use Rattle.std.proofs.lemmas.Bool.Decides.{eqb_tells}
 use Rattle.std.proofs.lemmas.List.{length-map}
 use Rattle.ada_program.specs.declared.program.TypeDefinition.{TypeDefinition}
-use Rattle.ada_program.specs.Controlled.{OverridesNothing, number_reached, shapes_of, part_firsts}
+use Rattle.ada_program.specs.Controlled.{number_reached, shapes_of, part_firsts}
 use Rattle.ada_program.proofs.Firsts.{as_many_firsts}
 use Rattle.ada_parts.specs.declared.tasks.Direction.TheVariants.{PartsFirst, WholeFirst}
 use Rattle.ada_parts.specs.Shape.{Shape}
@@ -33,7 +33,7 @@ use Rattle.ada_finalized.proofs.Doings.{name, same_name, Doing, Treating, Ending
 use Rattle.ada_finalized.proofs.Stacks.{Control, code, Stack}
 use Rattle.ada_finalized.proofs.Claims.{Claims, claims_same, claims_more}
 use Rattle.ada_finalized.proofs.Made.{Mild}
-use Rattle.ada_finalized.proofs.Invariant.{all_of, Sane, exists, AllSane, Numbered, IsUnlisted, Caused, Begins, Fine, Exists, IsThere, Inv, inv_fewer, fine_on, StaysThere, there_on, Stands, Origin, creates, adjusts, clears, parts, Passed, GoesOn, origins_kept}
+use Rattle.ada_finalized.proofs.Invariant.{all_of, Sane, exists, AllSane, Numbered, IsUnlisted, Caused, Begins, Fine, Exists, IsThere, Inv, inv_fewer, fine_on, StaysThere, there_on, Stands, stands_on, Origin, creates, adjusts, clears, parts, Passed, GoesOn, origins_kept}
 use Rattle.ada_finalized.proofs.Going.{mild_still, begins_stand, sane_set, stays_set}
 
 -- A new object: nothing is done to it before.
@@ -135,15 +135,15 @@ module _ (types : List TypeDefinition) (past : List Event) (s : State) (cell : C
       apart = (of_map (Fine types past xs s.next) (Differs (Treating (name (length xs)) (begins by []) due)) ds (new_differs types past xs s.next by [] due own) inv.fine, inv.apart);
       claims = subst (λ (ys : Heap). Claims shapes ys later) (sym heap) claims_new;
       sane = subst (AllSane types) (sym heap) sane_new;
-      there = λ none. (
+      there = (
         (length xs, (refl, (x, (ap (λ (ys : Heap). slice_get ys (length xs)) heap ∙ more_at xs x, refl)))),
-        there_on xs after.heap ds (subst (StaysThere xs) (sym heap) (stays_more xs x)) (inv.there none),
+        there_on xs after.heap ds (subst (StaysThere xs) (sym heap) (stays_more xs x)) (inv.there),
       );
     }
 
   pub created_goes :
       (e : Event) (after : State) (k : Control) → Mild e → doings k ≡ doings s.control → after.mode ≡ Running → after.heap ≡ s.heap ++ new_object cell ∷ []
-      → after.control ≡ treating (name (length s.heap)) (begins by []) (all_tasks types cell.access PartsFirst) k → Stack types code after.activations k
+      → after.control ≡ treating (name (length s.heap)) (begins by []) (all_tasks types cell.access PartsFirst) k → Stack types s.heap code after.activations k
       → GoesOn types past s e after
   unfolding x
   created_goes e after k mild same running heap control h passed =
@@ -152,7 +152,7 @@ module _ (types : List TypeDefinition) (past : List Event) (s : State) (cell : C
       (fewer_treating (name (length xs)) (begins by []) due ds k (subst (Fewer ds) (sym same) alike)) in
       record {
         fits = record {
-          stands = begins_stand types after (length xs) by [] due k running control h;
+          stands = stands_on types xs after passed.keeps (begins_stand types xs after (length xs) by [] due k running control h);
           inv = inv_fewer types (e ∷ past) after.heap after.next later (doings after.control) few (inv_new e after passed heap);
         };
         told = mild_still types past s e after mild
@@ -201,11 +201,11 @@ fresh_origin types s after o x cause tasks at_o (by_leaving none listed) = parts
 pub parted_goes :
     (types : List TypeDefinition) (past : List Event) (s : State) (e : Event) (after : State) (o : ℕ) (x : Object) (cause : Cause) (tasks : List Task) (ds : List Doing)
     → Mild e → slice_get s.heap o ≡ Some x → Fresh cause x s after → Clearing (shapes_of types) tasks → AllSane types s.heap → Of (Fine types past s.heap s.next) ds → Apart ds
-    → (OverridesNothing types → Of (IsThere s.heap) ds) → x.stage ≡ Existing → Sane types (parted x)
+    → Of (IsThere s.heap) ds → x.stage ≡ Existing → Sane types (parted x)
     → Claims (shapes_of types) (slice_set s.heap o (parted x)) (Treating (name o) (ends cause) tasks ∷ Ending (name o) ∷ ds)
     → ((v : Value) (treatment : Treatment) (left : List Task) → IsLeft v treatment left ds → IsLeft v treatment left (doings s.control))
     → after.heap ≡ slice_set s.heap o (parted x) → Fewer (Treating (name o) (ends cause) tasks ∷ Ending (name o) ∷ ds) (doings after.control)
-    → Stands types after → GoesOn types past s e after
+    → Stands types s.heap after → GoesOn types past s e after
 parted_goes types past s e after o x cause tasks ds mild at_o fresh clearing sane fine apart there stage sane_now claims within changes few stands passed =
     let shapes = shapes_of types in
     let y = parted x in
@@ -220,13 +220,13 @@ parted_goes types past s e after o x cause tasks ds mild at_o fresh clearing san
       apart = ((tt, of_map (Fine types past s.heap s.next) (Differs (Treating (name o) (ends cause) tasks)) ds (fresh_differs types past s after o x cause tasks at_o fresh) fine), (over ds, apart));
       claims = subst (λ (ys : Heap). Claims shapes ys later) (sym changes) claims;
       sane = subst (AllSane types) (sym changes) (sane_set types s.heap o x y at_o sane_now sane);
-      there = λ none. (
+      there = (
         (o, (refl, (y, (at_y, stage)))),
-        (tt, there_on s.heap after.heap ds (subst (StaysThere s.heap) (sym changes) (stays_set s.heap o x y at_o (λ was. was))) (there none)),
+        ((o, (refl, (y, (at_y, stage)))), there_on s.heap after.heap ds (subst (StaysThere s.heap) (sym changes) (stays_set s.heap o x y at_o (λ was. was))) there),
       );
     } in
     record {
-      fits = record { stands = stands; inv = inv_fewer types (e ∷ past) after.heap after.next later (doings after.control) few inv_later };
+      fits = record { stands = stands_on types s.heap after passed.keeps stands; inv = inv_fewer types (e ∷ past) after.heap after.next later (doings after.control) few inv_later };
       told = mild_still types past s e after mild (λ j m. ap (λ (ys : Heap). rank_at ys j m) changes ∙ rank_kept s.heap o x y at_o refl j m);
       origins = fewer_treatments (Origin types s) later (doings after.control) few
           (fresh_origin types s after o x cause tasks at_o fresh, (tt, origins_kept types s ds within));
@@ -256,9 +256,9 @@ adjustment_differs types past xs next v done tasks (Ending w) h = tt
 
 pub assigning_goes :
     (types : List TypeDefinition) (past : List Event) (s after : State) (o t from : ℕ) → Inv types past s.heap s.next (doings s.control)
-    → (OverridesNothing types → Exists s.heap (name o)) → after.heap ≡ s.heap → after.next ≡ s.next + 1
+    → Exists s.heap (name o) → after.heap ≡ s.heap → after.next ≡ s.next + 1
     → Fewer (Treating (name o) (ends (Assigning s.next)) (record_tasks types t WholeFirst from) ∷ Treating (name o) (begins (Adjustment s.next) []) (record_tasks types t PartsFirst from) ∷ doings s.control) (doings after.control)
-    → Stands types after → GoesOn types past s Quiet after
+    → Stands types s.heap after → GoesOn types past s Quiet after
 assigning_goes types past s after o t from inv there heap more few stands passed =
     let shapes = shapes_of types in
     let n = s.next in
@@ -306,10 +306,10 @@ assigning_goes types past s after o t from inv there heap more few stands passed
           omega (arith, same))
           inv.claims);
       sane = subst (AllSane types) (sym heap) inv.sane;
-      there = λ none. subst (λ (ys : Heap). Of (IsThere ys) later) (sym heap) (there none, (there none, inv.there none));
+      there = subst (λ (ys : Heap). Of (IsThere ys) later) (sym heap) (there, (there, inv.there));
     } in
     record {
-      fits = record { stands = stands; inv = inv_fewer types (Quiet ∷ past) after.heap after.next later (doings after.control) few inv_later };
+      fits = record { stands = stands_on types s.heap after passed.keeps stands; inv = inv_fewer types (Quiet ∷ past) after.heap after.next later (doings after.control) few inv_later };
       told = mild_still types past s Quiet after tt (λ j m. ap (λ (ys : Heap). rank_at ys j m) heap);
       origins = fewer_treatments (Origin types s) later (doings after.control) few
           (clears (Assigning n) refl refl, (adjusts refl, origins_kept types s ds (λ w treatment rest is. is)));

@@ -154,6 +154,11 @@ of_treatments P Q [] then' h = tt
 of_treatments P Q (Treating v treatment tasks ∷ ds) then' h = (then' v treatment tasks h.0, of_treatments P Q ds then' h.1)
 of_treatments P Q (Ending v ∷ ds) then' h = (tt, of_treatments P Q ds then' h.1)
 
+-- Nothing is done to this object.
+abbrev pub Other : (object : ℕ) → Doing → Type 0
+Other o (Treating v treatment tasks) = v ≡ name o → ⊥
+Other o (Ending v) = v ≡ name o → ⊥
+
 -- A treatment of which nothing is left counts for nothing.
 pub data Fewer : List Doing → List Doing → Type 0 where
   alike : {ds : List Doing} → Fewer ds ds

@@ -22,7 +22,7 @@ use Rattle.ada_finalized.proofs.Treated.{clearing_performed, clearing_inside}
 use Rattle.ada_finalized.proofs.Ranks.{Heap, rank_of, rank_by, rank_at, on_is, risen}
 use Rattle.ada_finalized.proofs.Doings.{name, same_name, Doing, Treating, doings, IsLeft, of_treatments, fewer_treatments, Fewer, Differs, apart_ended, on_same, on_other, gains, losses}
 use Rattle.ada_finalized.proofs.Claims.{Claimed, Claims, claims_part}
-use Rattle.ada_finalized.proofs.Invariant.{AllSane, Clears, Fine, Inv, inv_fewer, caused_on, fine_on, StaysThere, there_on, Stands, Origin, goes_on, NotLeft, Told, finalizes, Goes, Passed, GoesOn, origins_kept}
+use Rattle.ada_finalized.proofs.Invariant.{AllSane, Clears, Fine, Inv, inv_fewer, caused_on, fine_on, StaysThere, there_on, Stands, stands_on, Origin, goes_on, NotLeft, Told, finalizes, Goes, Passed, GoesOn, origins_kept}
 use Rattle.ada_finalized.proofs.Going.{one_here, other_here, sane_treated, sane_set, stays_set, sane_out}
 
 pub clears_of :
@@ -101,7 +101,7 @@ module _ (types : List TypeDefinition) (past : List Event) (s : State) (o : ℕ)
       apart = apart_ended (name o) cause (performs of n ∷ tasks) tasks ds inv_before.apart;
       claims = subst (λ (xs : Heap). Claims shapes xs later) (sym changes) claims_later;
       sane = subst (AllSane types) (sym changes) (sane_set types s.heap o x y at_o (sane_treated types finalized_part n x stage (inv_before.sane o x at_o)) inv_before.sane);
-      there = λ none. there_on s.heap after.heap before (subst (StaysThere s.heap) (sym changes) (stays_set s.heap o x y at_o (λ was. was))) (inv_before.there none);
+      there = there_on s.heap after.heap before (subst (StaysThere s.heap) (sym changes) (stays_set s.heap o x y at_o (λ was. was))) (inv_before.there);
     }
 
     is_left : IsLeft (name o) (ends cause) (performs of n ∷ tasks) (doings s.control)
@@ -122,10 +122,10 @@ module _ (types : List TypeDefinition) (past : List Event) (s : State) (o : ℕ)
         ))
         (λ m lies. clearing_inside shapes of n tasks cleared.clearing m lies)
 
-    goes : Stands types after → Goes types past s (Finalized (name o) n p.turn of p.number cause) after
+    goes : Stands types s.heap after → Goes types past s (Finalized (name o) n p.turn of p.number cause) after
     unfolding e
     goes stands = record {
-      fits = record { stands = stands; inv = inv_fewer types (e ∷ past) after.heap after.next later (doings after.control) fewer inv_later };
+      fits = record { stands = stands_on types s.heap after passed.keeps stands; inv = inv_fewer types (e ∷ past) after.heap after.next later (doings after.control) fewer inv_later };
       told = told;
       origins = fewer_treatments (Origin types s) later (doings after.control) fewer (
         goes_on (ends cause) (performs of n ∷ tasks) is_left refl (λ m. omega arith),
@@ -135,6 +135,6 @@ module _ (types : List TypeDefinition) (past : List Event) (s : State) (o : ℕ)
 
   -- So it goes on.
   pub ended_goes :
-      (after : State) → after.heap ≡ finalize s.heap (name o) n → Fewer later (doings after.control) → Stands types after
+      (after : State) → after.heap ≡ finalize s.heap (name o) n → Fewer later (doings after.control) → Stands types s.heap after
       → GoesOn types past s (Finalized (name o) n p.turn of p.number cause) after
   ended_goes after heap fewer stands passed = goes after passed heap fewer stands

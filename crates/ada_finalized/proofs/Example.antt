@@ -57,7 +57,7 @@ variables =
     ∷ []
 
 -- A record object as a whole.
-abbrev whole : ℕ → RecordPath
+abbrev pub whole : ℕ → RecordPath
 whole x = record {
   object = record { root = record { 0 = x }; of_record = true; selectors = vec [] (omega arith); spot = spot };
   first = record { 0 = 0 };

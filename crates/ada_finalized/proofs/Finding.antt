@@ -136,21 +136,21 @@ module _ (s : State) where
         referred_seeks v place (record_in cell.values place.component width) u on heap (referred s.heap v place cell is) h
 
 -- Code is behind that, whatever the operands are.
-assigns_acts : (types : List TypeDefinition) (acts bs : Acts) (k : Control) → older acts ≡ older bs → AssignsThen types acts k → AssignsThen types bs k
-assigns_acts types acts bs [] old h = absurd h
-assigns_acts types acts bs (frame.Assigns t ∷ k) old h = stack_acts types acts bs k old h
-assigns_acts types acts bs (f ∷ k) old h = absurd h
+assigns_acts : (types : List TypeDefinition) (xs : Heap) (acts bs : Acts) (k : Control) → older acts ≡ older bs → AssignsThen types xs acts k → AssignsThen types xs bs k
+assigns_acts types xs acts bs [] old h = absurd h
+assigns_acts types xs acts bs (frame.Assigns t ∷ k) old h = stack_acts types xs acts bs k old h
+assigns_acts types xs acts bs (f ∷ k) old h = absurd h
 
 module _ (types : List TypeDefinition) (past : List Event) (s : State) (inv : Inv types past s.heap s.next (doings s.control)) where
-  module _ (h : AssignsThen types s.activations (rest s.control)) where
+  module _ (h : AssignsThen types s.heap s.activations (rest s.control)) where
     seeks_goes : (e : Event) (u : State) → Seeks s e u → shape u.activations ≡ shape s.activations → GoesOn types past s e u
     seeks_goes e u (goes mild runs_on heap f left) old =
         kept_goes types past s e u inv mild (ap (map bare) heap) (same_doings u.control s.control left)
         (finding runs_on (subst (λ (xs : Heap). Finding xs (operands u) u.control) (sym heap) f)
-        (subst (AssignsThen types u.activations) (sym left) (assigns_acts types s.activations u.activations (rest s.control) (same_older s.activations u.activations old) h)))
+        (subst (AssignsThen types s.heap u.activations) (sym left) (assigns_acts types s.heap s.activations u.activations (rest s.control) (same_older s.activations u.activations old) h)))
     seeks_goes e u (raises x mild raising heap p left) old =
         kept_goes types past s e u inv mild (ap (map bare) heap) (same_doings u.control s.control left)
-        (passing x raising p (subst (AssignsThen types u.activations) (sym left) (assigns_acts types s.activations u.activations (rest s.control) (same_older s.activations u.activations old) h)))
+        (passing x raising p (subst (AssignsThen types s.heap u.activations) (sym left) (assigns_acts types s.heap s.activations u.activations (rest s.control) (same_older s.activations u.activations old) h)))
 
     seeks_lead : (n : Next) → Leading (Seeks s) n → Leading (λ e u. shape u.activations ≡ shape s.activations) n → Leads types past s n
     seeks_lead n a b =
@@ -158,13 +158,13 @@ module _ (types : List TypeDefinition) (past : List Event) (s : State) (inv : In
         (leading_both (Seeks s) (λ e u. shape u.activations ≡ shape s.activations) n a b)
 
   -- Both are known.
-  module _ (running : s.mode ≡ Running) (t : ℕ) (k : Control) (is : s.control ≡ frame.Assigns t ∷ k) (h : Stack types code s.activations k) (pending : List Value) (a : Activation Value) (suspended : List (Activation Value)) (acts : s.activations ≡ a ∷ suspended) where
+  module _ (running : s.mode ≡ Running) (t : ℕ) (k : Control) (is : s.control ≡ frame.Assigns t ∷ k) (h : Stack types s.heap code s.activations k) (pending : List Value) (a : Activation Value) (suspended : List (Activation Value)) (acts : s.activations ≡ a ∷ suspended) where
     -- The state with the rest of the operands.
     abbrev known : State
     known = record s { control = k; activations = record a { operands = pending } ∷ suspended }
 
-    stack_then : (vs : List Value) → Stack types code (record a { operands = vs } ∷ suspended) k
-    stack_then vs = stack_acts types s.activations (record a { operands = vs } ∷ suspended) k (ap older acts) h
+    stack_then : (vs : List Value) → Stack types s.heap code (record a { operands = vs } ∷ suspended) k
+    stack_then vs = stack_acts types s.heap s.activations (record a { operands = vs } ∷ suspended) k (ap older acts) h
 
     -- They are one record.
     onto_itself : GoesOn types past s Quiet known
@@ -184,7 +184,7 @@ module _ (types : List TypeDefinition) (past : List Event) (s : State) (inv : In
         let x = record_first types WholeFirst t place.part in
         let y = record_first types PartsFirst t place.part in
         let width = width_of types t in
-        assigning_goes types past s (assigning named types t (Inside o place) (Inside source other) known) o.0 t place.part inv (λ none. target_exists o cell found) refl refl
+        assigning_goes types past s (assigning named types t (Inside o place) (Inside source other) known) o.0 t place.part inv (target_exists o cell found) refl refl
         (fewer_treating (name o.0) (ends (Assigning n)) cleared (Treating (name o.0) (begins (Adjustment n) []) copied ∷ doings s.control)
         (frame.Copies other.component t ∷ storing_then o.0 n place.component width copied k)
         (fewer_treating (name o.0) (begins (Adjustment n) []) copied (doings s.control) k (subst (λ (ds : List Doing). Fewer ds (doings k)) (sym (ap doings is)) alike)))
@@ -207,7 +207,7 @@ module _ (types : List TypeDefinition) (past : List Event) (s : State) (inv : In
     both_known (Inside o place) (Inside p other) (cell, found) = by_same ((o.0 == p.0) && (place.part == other.part)) o p place other cell found
 
   assigns_lead :
-      (running : s.mode ≡ Running) (bodies : List BodyForm) (t : ℕ) (k : Control) → s.control ≡ frame.Assigns t ∷ k → Stack types code s.activations k
+      (running : s.mode ≡ Running) (bodies : List BodyForm) (t : ℕ) (k : Control) → s.control ≡ frame.Assigns t ∷ k → Stack types s.heap code s.activations k
       → (acts : List (Activation Value)) → s.activations ≡ acts → Referred s.heap (first_or Null (older (operands_of acts)))
       → Leads types past s (frame_next named types bodies (frame.Assigns t) (at k (record s { activations = acts })))
   assigns_lead running bodies t k is h [] same_acts r = tt
@@ -216,31 +216,31 @@ module _ (types : List TypeDefinition) (past : List Event) (s : State) (inv : In
 
   pub finding_leads :
       (bodies : List BodyForm) (f : Frame Value) (k : Control) → s.mode ≡ Running → s.control ≡ f ∷ k → Finding s.heap (operands s) (f ∷ k)
-      → AssignsThen types s.activations (rest (f ∷ k)) → Leads types past s (frame_next named types bodies f (at k s))
+      → AssignsThen types s.heap s.activations (rest (f ∷ k)) → Leads types past s (frame_next named types bodies f (at k s))
   finding_leads bodies _ _ running is (seeks p behind h) after =
       let v = held named s p.object.root in
-      seeks_lead (subst (λ (c : Control). AssignsThen types s.activations (rest c)) (sym is) after) (frame_next named types bodies (frame.Refers p) (at behind s))
+      seeks_lead (subst (λ (c : Control). AssignsThen types s.heap s.activations (rest c)) (sym is) after) (frame_next named types bodies (frame.Refers p) (at behind s))
       (path_seeks s (place_in named v p.object.selectors p) p.record_type behind (sym (ap rest is)) (selected named v p.object.selectors) (whole v) s running refl h)
       (keeps_leads (shape s.activations) (frame_next named types bodies (frame.Refers p) (at behind s)) (frame_keeps types bodies (frame.Refers p) (at behind s) tt refl refl))
   finding_leads bodies _ _ running is (follows cs place t behind h) after =
       let j = frame.RefersIn place t ∷ behind in
-      seeks_lead (subst (λ (c : Control). AssignsThen types s.activations (rest c)) (sym is) after) (frame_next named types bodies (frame.Follows cs) (at j s))
+      seeks_lead (subst (λ (c : Control). AssignsThen types s.heap s.activations (rest c)) (sym is) after) (frame_next named types bodies (frame.Follows cs) (at j s))
       (path_seeks s place t behind (sym (ap rest is)) cs (newest named s) (popped s) running refl (subst (λ (ops : List Value). Then s.heap ops behind) (sym (operands_popped s)) h))
       (keeps_leads (shape s.activations) (frame_next named types bodies (frame.Follows cs) (at j s)) (frame_keeps types bodies (frame.Follows cs) (at j s) tt refl refl))
   finding_leads bodies _ _ running is (reaches place t behind h) after =
-      seeks_lead (subst (λ (c : Control). AssignsThen types s.activations (rest c)) (sym is) after) (frame_next named types bodies (frame.RefersIn place t) (at behind s))
+      seeks_lead (subst (λ (c : Control). AssignsThen types s.heap s.activations (rest c)) (sym is) after) (frame_next named types bodies (frame.RefersIn place t) (at behind s))
       (refers_seeks s behind (sym (ap rest is)) (newest named s) place (width_of types t) (look s.heap (newest named s)) (popped s) refl running refl
       (subst (λ (ops : List Value). Then s.heap ops behind) (sym (operands_popped s)) h))
       (keeps_leads (shape s.activations) (frame_next named types bodies (frame.RefersIn place t) (at behind s)) (frame_keeps types bodies (frame.RefersIn place t) (at behind s) tt refl refl))
   finding_leads bodies _ _ running is (assigns t k r) after = assigns_lead running bodies t k is after s.activations refl r
 
   -- An exception passes on.
-  passes_on : (x : Exception) (f : Frame Value) (k : Control) → s.mode ≡ Raising x → s.control ≡ f ∷ k → rest (f ∷ k) ≡ rest k → Passing k → AssignsThen types s.activations (rest (f ∷ k)) → GoesOn types past s Quiet (at k s)
+  passes_on : (x : Exception) (f : Frame Value) (k : Control) → s.mode ≡ Raising x → s.control ≡ f ∷ k → rest (f ∷ k) ≡ rest k → Passing k → AssignsThen types s.heap s.activations (rest (f ∷ k)) → GoesOn types past s Quiet (at k s)
   passes_on x f k raising is left p after =
       kept_goes types past s Quiet (at k s) inv tt refl (same_doings k (f ∷ k) (sym left) ∙ sym (ap doings is))
-      (passing x raising p (subst (AssignsThen types s.activations) left after))
+      (passing x raising p (subst (AssignsThen types s.heap s.activations) left after))
 
-  pub passing_leads : (x : Exception) (k : Control) → s.mode ≡ Raising x → s.control ≡ k → Passing k → AssignsThen types s.activations (rest k) → Leads types past s (jump_next named (Raising x) k s)
+  pub passing_leads : (x : Exception) (k : Control) → s.mode ≡ Raising x → s.control ≡ k → Passing k → AssignsThen types s.heap s.activations (rest k) → Leads types past s (jump_next named (Raising x) k s)
   passing_leads x _ raising is (passes_assigns t k) after = kept_goes types past s Quiet (at k s) inv tt refl (sym (ap doings is)) (runs after)
   passing_leads x _ raising is (passes_refers p k h) after = passes_on x (frame.Refers p) k raising is refl h after
   passing_leads x _ raising is (passes_in place t k h) after = passes_on x (frame.RefersIn place t) k raising is refl h after

@@ -26,7 +26,7 @@ use Rattle.ada_finalized.proofs.Ranks.{Heap, rank_at, rank_alike, bare, set_same
 use Rattle.ada_finalized.proofs.Doings.{name, doings, IsLeft}
 use Rattle.ada_finalized.proofs.Stacks.{Control, code, Stack}
 use Rattle.ada_finalized.proofs.Made.{Mild}
-use Rattle.ada_finalized.proofs.Invariant.{Sane, exists, is_gone, AllSane, Inv, StaysThere, inv_alike, Stands, runs, beginning, Untold, Told, still, GoesOn, origins_kept}
+use Rattle.ada_finalized.proofs.Invariant.{Sane, exists, is_gone, AllSane, Inv, StaysThere, inv_alike, Stands, stands_on, runs, beginning, Untold, Told, still, GoesOn, origins_kept}
 
 -- A mild event tells nothing.
 mild_untold : (e : Event) → Mild e → Untold e
@@ -71,10 +71,10 @@ next_is types bodies s f k running is =
 -- A step that keeps all values, and what is being done.
 pub kept_goes :
     (types : List TypeDefinition) (past : List Event) (s : State) (e : Event) (after : State) → Inv types past s.heap s.next (doings s.control) → Mild e
-    → map bare after.heap ≡ map bare s.heap → doings after.control ≡ doings s.control → Stands types after → GoesOn types past s e after
+    → map bare after.heap ≡ map bare s.heap → doings after.control ≡ doings s.control → Stands types s.heap after → GoesOn types past s e after
 kept_goes types past s e after inv mild alike same stands passed = record {
   fits = record {
-    stands = stands;
+    stands = stands_on types s.heap after passed.keeps stands;
     inv = subst (Inv types (e ∷ past) after.heap after.next) (sym same) (inv_alike types past e s.heap after.heap s.next after.next (doings s.control) passed.keeps passed.grows alike inv);
   };
   told = mild_still types past s e after mild (rank_alike s.heap after.heap alike);
@@ -83,10 +83,10 @@ kept_goes types past s e after inv mild alike same stands passed = record {
 
 -- An object is initialized or adjusted next, or code goes on.
 pub begins_stand :
-    (types : List TypeDefinition) (after : State) (o : ℕ) (by : Birth) (done : List Part) (tasks : List Task) (k : Control) → after.mode ≡ Running
-    → after.control ≡ treating (name o) (begins by done) tasks k → Stack types code after.activations k → Stands types after
-begins_stand types after o by done [] k running is h = runs (subst (Stack types code after.activations) (sym is) h)
-begins_stand types after o by done (task ∷ tasks) k running is h = beginning o by done task tasks k running is h
+    (types : List TypeDefinition) (xs : Heap) (after : State) (o : ℕ) (by : Birth) (done : List Part) (tasks : List Task) (k : Control) → after.mode ≡ Running
+    → after.control ≡ treating (name o) (begins by done) tasks k → Stack types xs code after.activations k → Stands types xs after
+begins_stand types xs after o by done [] k running is h = runs (subst (Stack types xs code after.activations) (sym is) h)
+begins_stand types xs after o by done (task ∷ tasks) k running is h = beginning o by done task tasks k running is h
 
 -- Truths by their counts.
 pub dead_of : (b : Bool) → one_if b ≡ 0 → b ≡ false

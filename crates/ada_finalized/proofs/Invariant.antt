@@ -2,11 +2,11 @@
 -- the order of parts and wholes; and code stands in front of that which its operations were called for.
 
 use Rattle.std.proofs.Common.{◌≡◌, ◌≢◌, ℕ, zero, suc, ◌+◌, ◌<◌, ◌≤◌, Bool, true, false, List, [], ◌∷◌, length, map, Option, Some, None, refl, sym, ap, ◌∙◌, inl, inr, subst, arith}
-use Rattle.std.specs.List.{slice_get, Contains}
+use Rattle.std.specs.List.{slice_get, slice_set, Contains}
 use Rattle.ada_program.specs.declared.program.TypeDefinition.{TypeDefinition}
 use Rattle.ada_program.specs.declared.program.Exception.{Exception}
 use Rattle.ada_program.specs.Form.{RecordPathForm}
-use Rattle.ada_program.specs.Controlled.{OverridesNothing, number_reached, shapes_of}
+use Rattle.ada_program.specs.Controlled.{number_reached, shapes_of}
 use Rattle.ada_parts.specs.declared.tasks.Direction.TheVariants.{PartsFirst}
 use Rattle.ada_parts.specs.Shape.{Shape as TypeShape}
 use Rattle.ada_parts.specs.Part.{Part, LiesIn, parts_at}
@@ -35,9 +35,9 @@ use Rattle.ada_meaning.specs.Life.{KeepsObjects}
 use Rattle.ada_meaning.specs.Finalization.{BegunPart, begun_of, EndedPart, adjusted_by, assigned_by}
 use Rattle.ada_finalized.proofs.Counts.{count}
 use Rattle.ada_finalized.proofs.Treated.{Treated, Clearing, parts_in_all, undoing}
-use Rattle.ada_finalized.proofs.Ranks.{Heap, rank_at, rise, bare, alike_at}
-use Rattle.ada_finalized.proofs.Doings.{name, Doing, Treating, Ending, doings, rest, begin, end, key, number_of, Of, of_map, OfTreatments, IsLeft, Apart, Fewer, fewer_of, fewer_apart}
-use Rattle.ada_finalized.proofs.Stacks.{Acts, Control, code, guard, finalization, Stack, storing_then}
+use Rattle.ada_finalized.proofs.Ranks.{Heap, rank_at, rise, bare, set_other, alike_at}
+use Rattle.ada_finalized.proofs.Doings.{name, Doing, Treating, Ending, doings, rest, begin, end, key, number_of, Of, of_map, Other, OfTreatments, IsLeft, Apart, Fewer, fewer_of, fewer_apart}
+use Rattle.ada_finalized.proofs.Stacks.{Acts, Control, code, guard, finalization, Stack, stack_on, storing_then}
 use Rattle.ada_finalized.proofs.Claims.{Claims, claims_fewer, claims_alike}
 
 -- All controlled parts of an object.
@@ -109,13 +109,13 @@ Fine types past xs next (Treating v (begins by done) tasks) = (o : ℕ) × ((v �
 Fine types past xs next (Treating v (ends cause) tasks) = (o : ℕ) × ((v ≡ name o) × Clears types xs next o cause tasks)
 Fine types past xs next (Ending v) = (o : ℕ) × ((v ≡ name o) × IsUnlisted xs o)
 
--- What is treated exists.
+-- What something is done to exists.
 abbrev pub Exists : Heap → Value → Type 0
 Exists xs v = (o : ℕ) × ((v ≡ name o) × ((x : Object) × ((slice_get xs o ≡ Some x) × (x.stage ≡ Existing))))
 
 abbrev pub IsThere : Heap → Doing → Type 0
 IsThere xs (Treating v treatment tasks) = Exists xs v
-IsThere xs (Ending v) = Unit {0}
+IsThere xs (Ending v) = Exists xs v
 
 -- What holds of the objects, and of what is being done to them.
 pub record Inv (types : List TypeDefinition) (past : List Event) (xs : Heap) (next : ℕ) (ds : List Doing) : Type 0 where
@@ -123,7 +123,7 @@ pub record Inv (types : List TypeDefinition) (past : List Event) (xs : Heap) (ne
   pub apart : Apart ds
   pub claims : Claims (shapes_of types) xs ds
   pub sane : AllSane types xs
-  pub there : OverridesNothing types → Of (IsThere xs) ds
+  pub there : Of (IsThere xs) ds
 
 pub inv_fewer : (types : List TypeDefinition) (past : List Event) (xs : Heap) (next : ℕ) (ds es : List Doing) → Fewer ds es → Inv types past xs next ds → Inv types past xs next es
 inv_fewer types past xs next ds es f h = record {
@@ -131,7 +131,7 @@ inv_fewer types past xs next ds es f h = record {
   apart = fewer_apart ds es f h.apart;
   claims = claims_fewer (shapes_of types) xs ds es f h.claims;
   sane = h.sane;
-  there = λ none. fewer_of (IsThere xs) ds es f (h.there none);
+  there = fewer_of (IsThere xs) ds es f (h.there);
 }
 
 -- Objects stay there, and what has left its collection stays out of it.
@@ -193,10 +193,22 @@ StaysThere xs ys = (o : ℕ) (x : Object) → slice_get xs o ≡ Some x → x.st
 
 there_one : (xs ys : Heap) (d : Doing) → StaysThere xs ys → IsThere xs d → IsThere ys d
 there_one xs ys (Treating v treatment tasks) stays h = (h.0, (h.1.0, stays h.0 h.1.1.0 h.1.1.1.0 h.1.1.1.1))
-there_one xs ys (Ending v) stays h = tt
+there_one xs ys (Ending v) stays h = (h.0, (h.1.0, stays h.0 h.1.1.0 h.1.1.1.0 h.1.1.1.1))
 
 pub there_on : (xs ys : Heap) (ds : List Doing) → StaysThere xs ys → Of (IsThere xs) ds → Of (IsThere ys) ds
 there_on xs ys ds stays h = of_map (IsThere xs) (IsThere ys) ds (λ d. there_one xs ys d stays) h
+
+-- So it is where one object changes to which nothing is done.
+pub there_others : (xs : Heap) (o : ℕ) (y : Object) (ds : List Doing) → Of (Other o) ds → Of (IsThere xs) ds → Of (IsThere (slice_set xs o y)) ds
+there_others xs o y [] others h = tt
+there_others xs o y (Treating v treatment tasks ∷ ds) others h =
+    let t = h.0 in
+    let ne : o ≢ t.0 = λ same. others.0 (t.1.0 ∙ sym (ap name same)) in
+    ((t.0, (t.1.0, (t.1.1.0, (set_other xs o t.0 y ne ∙ t.1.1.1.0, t.1.1.1.1)))), there_others xs o y ds others.1 h.1)
+there_others xs o y (Ending v ∷ ds) others h =
+    let t = h.0 in
+    let ne : o ≢ t.0 = λ same. others.0 (t.1.0 ∙ sym (ap name same)) in
+    ((t.0, (t.1.0, (t.1.1.0, (set_other xs o t.0 y ne ∙ t.1.1.1.0, t.1.1.1.1)))), there_others xs o y ds others.1 h.1)
 
 -- Components do not count.
 pub stays_alike : (xs ys : Heap) → map bare ys ≡ map bare xs → StaysThere xs ys
@@ -212,7 +224,7 @@ inv_alike types past e xs ys next later ds keeps grows same h = record {
   apart = h.apart;
   claims = claims_alike (shapes_of types) xs ys ds same h.claims;
   sane = λ j y is. (let x = alike_at xs ys j y same is in sane_alike types x.0 y x.1.1 (h.sane j x.0 x.1.0));
-  there = λ none. there_on xs ys ds (stays_alike xs ys same) (h.there none);
+  there = there_on xs ys ds (stays_alike xs ys same) (h.there);
 }
 
 -- How a state stands.
@@ -246,30 +258,47 @@ pub data Passing : Control → Type 0 where
   passes_in : (place : Place) (t : ℕ) (k : Control) → Passing k → Passing (frame.RefersIn place t ∷ k)
 
 -- Code is behind that.
-abbrev pub AssignsThen : List TypeDefinition → Acts → Control → Type 0
-AssignsThen types acts [] = ⊥
-AssignsThen types acts (frame.Assigns t ∷ k) = Stack types code acts k
-AssignsThen types acts (f ∷ k) = ⊥
+abbrev pub AssignsThen : List TypeDefinition → Heap → Acts → Control → Type 0
+AssignsThen types xs acts [] = ⊥
+AssignsThen types xs acts (frame.Assigns t ∷ k) = Stack types xs code acts k
+AssignsThen types xs acts (f ∷ k) = ⊥
 
-pub data Stands (types : List TypeDefinition) (s : State) : Type 0 where
-  runs : Stack types code s.activations s.control → Stands types s
-  finding : s.mode ≡ Running → Finding s.heap (operands s) s.control → AssignsThen types s.activations (rest s.control) → Stands types s
-  passing : (e : Exception) → s.mode ≡ Raising e → Passing s.control → AssignsThen types s.activations (rest s.control) → Stands types s
-  ends_operation : Stack types guard s.activations s.control → Stands types s
+-- The state, with these objects behind its operations: those that are there, or those that were there before a step.
+pub data Stands (types : List TypeDefinition) (xs : Heap) (s : State) : Type 0 where
+  runs : Stack types xs code s.activations s.control → Stands types xs s
+  finding : s.mode ≡ Running → Finding s.heap (operands s) s.control → AssignsThen types xs s.activations (rest s.control) → Stands types xs s
+  passing : (e : Exception) → s.mode ≡ Raising e → Passing s.control → AssignsThen types xs s.activations (rest s.control) → Stands types xs s
+  ends_operation : Stack types xs guard s.activations s.control → Stands types xs s
   beginning :
       (o : ℕ) (by : Birth) (done : List Part) (task : Task) (tasks : List Task) (k : Control) → s.mode ≡ Running
-      → s.control ≡ frame.Treats (name o) (begins by done) (task ∷ tasks) ∷ k → Stack types code s.activations k → Stands types s
-  ending : s.mode ≡ Running → Stack types finalization s.activations s.control → Stands types s
+      → s.control ≡ frame.Treats (name o) (begins by done) (task ∷ tasks) ∷ k → Stack types xs code s.activations k → Stands types xs s
+  ending : s.mode ≡ Running → Stack types xs finalization s.activations s.control → Stands types xs s
   leaving :
       (o : ℕ) (x : Object) (cause : Cause) (pool : Option ℕ) (k : Control) → s.mode ≡ Running → s.control ≡ frame.GivesBack (name o) cause pool ∷ k
-      → assigned_by (Some cause) ≡ None → Stack types code s.activations k → slice_get s.heap o ≡ Some x → x.stage ≡ Gone → Stands types s
+      → assigned_by (Some cause) ≡ None → Stack types xs code s.activations k → slice_get s.heap o ≡ Some x → x.stage ≡ Gone → Stands types xs s
   storing :
       (o n to width : ℕ) (tasks : List Task) (k : Control) → s.mode ≡ Running → s.control ≡ storing_then o n to width tasks k
-      → Stack types code s.activations k → Stands types s
+      → Stack types xs code s.activations k → Stands types xs s
+
+assigns_on : (types : List TypeDefinition) (xs ys : Heap) (acts : Acts) (k : Control) → KeepsObjects xs ys → AssignsThen types xs acts k → AssignsThen types ys acts k
+assigns_on types xs ys acts [] keeps h = absurd h
+assigns_on types xs ys acts (frame.Assigns t ∷ k) keeps h = stack_on types xs ys keeps h
+assigns_on types xs ys acts (f ∷ k) keeps h = absurd h
+
+pub stands_on : (types : List TypeDefinition) (xs : Heap) (s : State) → KeepsObjects xs s.heap → Stands types xs s → Stands types s.heap s
+stands_on types xs s keeps (runs h) = runs (stack_on types xs s.heap keeps h)
+stands_on types xs s keeps (finding running f after) = finding running f (assigns_on types xs s.heap s.activations (rest s.control) keeps after)
+stands_on types xs s keeps (passing e raises p after) = passing e raises p (assigns_on types xs s.heap s.activations (rest s.control) keeps after)
+stands_on types xs s keeps (ends_operation h) = ends_operation (stack_on types xs s.heap keeps h)
+stands_on types xs s keeps (beginning o by done task tasks k running is h) = beginning o by done task tasks k running is (stack_on types xs s.heap keeps h)
+stands_on types xs s keeps (ending running h) = ending running (stack_on types xs s.heap keeps h)
+stands_on types xs s keeps (leaving o x cause pool k running is own h at_o gone) =
+    leaving o x cause pool k running is own (stack_on types xs s.heap keeps h) at_o gone
+stands_on types xs s keeps (storing o n to width tasks k running is h) = storing o n to width tasks k running is (stack_on types xs s.heap keeps h)
 
 -- A state of a run, after these events, the newest first.
 pub record Fits (types : List TypeDefinition) (past : List Event) (s : State) : Type 0 where
-  pub stands : Stands types s
+  pub stands : Stands types s.heap s
   pub inv : Inv types past s.heap s.next (doings s.control)
 
 -- Where a treatment comes from that is left after a step: it goes on, or it is a new one.

@@ -45,10 +45,10 @@ pub mod Told
 pub mod Runs
 -- objects have the values of their parts
 pub mod Standing
--- no treatment comes to a value that does not exist
+-- what something is done to exists, and no treatment comes to a value that does not
 pub mod Twice
 -- programs with controlled types
 pub mod Example
-pub mod Undone
+pub mod OperationExamples
 -- what the laws refuse
 pub mod Refused

@@ -1,6 +1,6 @@
 -- Steps that treat an object: an operation of one of its parts is called, or a component is picked.
 
-use Rattle.std.proofs.Common.{◌≡◌, ℕ, ◌≤◌, Bool, true, false, ◌==◌, if◌then◌else◌, List, ◌∷◌, length, Option, Some, None, refl, sym, ap, ◌∙◌, inr, subst, arith}
+use Rattle.std.proofs.Common.{◌≡◌, ℕ, ◌≤◌, Bool, true, false, ◌==◌, if◌then◌else◌, List, [], ◌∷◌, length, Option, Some, None, refl, sym, ap, ◌∙◌, inr, subst, arith}
 use Rattle.std.specs.List.{slice_get}
 use Rattle.ada_program.specs.declared.program.Operations.{Operations}
 use Rattle.ada_program.specs.declared.program.TypeDefinition.{TypeDefinition}
@@ -28,14 +28,15 @@ use Rattle.ada_meaning.specs.Named.{Object, State, Next, named, look, finalize}
 use Rattle.ada_meaning.specs.Run.{Event}
 use Rattle.ada_meaning.proofs.Treatments.{member_within, are_table}
 use Rattle.ada_finalized.proofs.Counts.{count}
-use Rattle.ada_finalized.proofs.Treated.{picked, picked_left, clearing_left, clearing_picked}
-use Rattle.ada_finalized.proofs.Doings.{name, Treating, doings, fewer_treating, alike}
-use Rattle.ada_finalized.proofs.Stacks.{Control, Overrides, code, finalization, Stack, calm, operates, awaits, confines, covered}
-use Rattle.ada_finalized.proofs.Invariant.{Inv, runs, ending}
-use Rattle.ada_finalized.proofs.Going.{kept_goes, begins_stand, looked}
+use Rattle.ada_finalized.proofs.Treated.{get_within, picked, picked_left, clearing_left, clearing_picked}
+use Rattle.ada_finalized.proofs.Ranks.{Heap}
+use Rattle.ada_finalized.proofs.Doings.{name, Treating, doings, fewer_treating, alike, on_same, fewer_gains, fewer_losses}
+use Rattle.ada_finalized.proofs.Stacks.{Control, Overrides, IsPart, IsSpare, about, code, finalization, Stack, calm, operates, awaits, confines, covered}
+use Rattle.ada_finalized.proofs.Invariant.{Sane, Inv, runs, ending}
+use Rattle.ada_finalized.proofs.Going.{kept_goes, begins_stand, looked, one_here}
 use Rattle.ada_finalized.proofs.Begun.{begins_of, born_goes}
 use Rattle.ada_finalized.proofs.Ended.{clears_of, ended_goes}
-use Rattle.ada_finalized.proofs.Passing.{waits_goes}
+use Rattle.ada_finalized.proofs.Passing.{parts_of_sane, waits_goes}
 use Rattle.ada_finalized.proofs.Coding.{Leads}
 
 -- Where a type overrides nothing, no operation is called.
@@ -58,14 +59,23 @@ picks_lead : (types : List TypeDefinition) (past : List Event) (s : State) (none
 picks_lead types past s true n h = tt
 picks_lead types past s false n h = h
 
+-- What is found is a part.
+part_of :
+    (types : List TypeDefinition) (xs : Heap) (o n : ℕ) (x : Object) (p : PartState) → slice_get xs o ≡ Some x → x.stage ≡ Existing → slice_get x.cell.parts n ≡ Some p
+    → Sane types x → IsPart types xs o n
+part_of types xs o n x p at_o stage at_n sane =
+    let lt = get_within x.cell.parts n p at_n in
+    let le = parts_of_sane types x stage sane in
+    (x, (at_o, omega (arith, lt, le)))
+
 -- A part is to begin.
-module _ (types : List TypeDefinition) (bodies : List BodyForm) (past : List Event) (s : State) (o of n : ℕ) (by : Birth) (done : List Part) (tasks : List Task) (k : Control) (running : s.mode ≡ Running) (is : doings s.control ≡ Treating (name o) (begins by done) (performs of n ∷ tasks) ∷ doings k) (h : Stack types code s.activations k) (inv : Inv types past s.heap s.next (doings s.control)) where
+module _ (types : List TypeDefinition) (bodies : List BodyForm) (past : List Event) (s : State) (o of n : ℕ) (by : Birth) (done : List Part) (tasks : List Task) (k : Control) (running : s.mode ≡ Running) (is : doings s.control ≡ Treating (name o) (begins by done) (performs of n ∷ tasks) ∷ doings k) (h : Stack types s.heap code s.activations k) (inv : Inv types past s.heap s.next (doings s.control)) where
   born_leads :
       (x : Object) → slice_get s.heap o ≡ Some x → x.stage ≡ Existing → (found : Option PartState) → slice_get x.cell.parts n ≡ found
       → Leads types past s (born_next named (name o) by done of n tasks found (at k s))
   born_leads x at_o stage None at_n = tt
   born_leads x at_o stage (Some p) at_n =
-      born_goes types past s o x at_o stage of n (counted s.born) by done tasks k is (covered types code s.activations k h) inv p at_n _ refl refl running refl h
+      born_goes types past s o x at_o stage of n (counted s.born) by done tasks k is (covered types s.heap code s.activations k h) inv p at_n _ refl refl running refl h
 
   pub awaited_leads : (found : Found (Cell Value)) → look s.heap (name o) ≡ found → Leads types past s (awaited_next named (name o) by done of n tasks found (at k s))
   awaited_leads on_null found = tt
@@ -75,10 +85,10 @@ module _ (types : List TypeDefinition) (bodies : List BodyForm) (past : List Eve
       let t = looked types s.heap inv.sane o cell found in
       born_leads t.object t.at_place t.stage (slice_get cell.parts n) (ap (λ (c : Cell Value). slice_get c.parts n) (sym t.same))
 
-  operating_leads : (procedure : ℕ) (found : Option BodyForm) (reference : Value) → Overrides types → Leads types past s (operation_next named procedure found reference (frame.Awaits (name o) by done of n tasks ∷ k) Quiet (at k s))
-  operating_leads procedure None reference some = tt
-  operating_leads procedure (Some b) reference some =
-      kept_goes types past s Quiet _ inv tt refl (sym is) (runs (calm _ _ tt (operates _ (awaits (name o) by done of n tasks k some h))))
+  operating_leads : (procedure : ℕ) (found : Option BodyForm) (reference : Value) → Overrides types → IsPart types s.heap o n → Leads types past s (operation_next named procedure found reference (frame.Awaits (name o) by done of n tasks ∷ k) Quiet (at k s))
+  operating_leads procedure None reference some part = tt
+  operating_leads procedure (Some b) reference some part =
+      kept_goes types past s Quiet _ inv tt refl (sym is) (runs (calm _ _ tt (operates _ (awaits (name o) by done of n tasks k some (o, (refl, part)) h))))
 
   begun_leads :
       (x : Object) → slice_get s.heap o ≡ Some x → x.stage ≡ Existing → (operation : Option ℕ) → operation_of by (operations_of types of) ≡ operation
@@ -86,7 +96,7 @@ module _ (types : List TypeDefinition) (bodies : List BodyForm) (past : List Eve
   begun_leads x at_o stage operation called None at_n = tt
   begun_leads x at_o stage None called (Some p) at_n = born_leads x at_o stage (Some p) at_n
   begun_leads x at_o stage (Some procedure) called (Some p) at_n =
-      operating_leads procedure (slice_get bodies procedure) (part_reference named (name o) n p) (begins_some types by of procedure called)
+      operating_leads procedure (slice_get bodies procedure) (part_reference named (name o) n p) (begins_some types by of procedure called) (part_of types s.heap o n x p at_o stage at_n (inv.sane o x at_o))
 
   pub begins_lead : (found : Found (Cell Value)) → look s.heap (name o) ≡ found → Leads types past s (performed_next named types bodies (name o) (begins by done) of n tasks found (at k s))
   begins_lead on_null found = tt
@@ -99,7 +109,7 @@ module _ (types : List TypeDefinition) (bodies : List BodyForm) (past : List Eve
 -- What is left of an initialization or an adjustment.
 pub beginning_leads :
     (types : List TypeDefinition) (bodies : List BodyForm) (past : List Event) (s : State) (o : ℕ) (by : Birth) (done : List Part) (task : Task) (tasks : List Task)
-    (k : Control) → s.mode ≡ Running → s.control ≡ frame.Treats (name o) (begins by done) (task ∷ tasks) ∷ k → Stack types code s.activations k
+    (k : Control) → s.mode ≡ Running → s.control ≡ frame.Treats (name o) (begins by done) (task ∷ tasks) ∷ k → Stack types s.heap code s.activations k
     → Inv types past s.heap s.next (doings s.control)
     → Leads types past s (treats_next named types bodies (name o) (begins by done) (task ∷ tasks) (task_next (task ∷ tasks)) (at k s))
 beginning_leads types bodies past s o by done (performs of n) tasks k running is h inv =
@@ -128,19 +138,37 @@ beginning_leads types bodies past s o by done (treats cs) tasks k running is h i
         },
       ),
     )
-    refl refl (fewer_treating (name o) (begins by done) left (doings k) k alike) (begins_stand types _ o by done left k running refl h))
+    refl refl (fewer_treating (name o) (begins by done) left (doings k) k alike) (begins_stand types s.heap _ o by done left k running refl h))
 
 -- A value of a part is to be finalized; what is left behind stands as this says.
-module _ (types : List TypeDefinition) (bodies : List BodyForm) (past : List Event) (s : State) (o : ℕ) (cause : Cause) (b : Control) (running : s.mode ≡ Running) (inv : Inv types past s.heap s.next (doings s.control)) where
+module _ (types : List TypeDefinition) (bodies : List BodyForm) (past : List Event) (s : State) (o : ℕ) (cause : Cause) (b : Control) (running : s.mode ≡ Running) (inv : Inv types past s.heap s.next (doings s.control)) (named_so : about b ≡ name o) where
   -- What is left of it stands, where no more is left of any part.
   abbrev pub Rebuilds : List Task → Type 0
   Rebuilds tasks =
       (left : List Task) → ((n : ℕ) → count n (parts_left (shapes_of types) left) ≤ count n (parts_left (shapes_of types) tasks))
-      → Stack types finalization s.activations (treating (name o) (ends cause) left b)
+      → Stack types s.heap finalization s.activations (treating (name o) (ends cause) left b)
 
   module _ (of n : ℕ) (tasks : List Task) (is : s.control ≡ frame.Treats (name o) (ends cause) (performs of n ∷ tasks) ∷ b) (rebuilds : Rebuilds (performs of n ∷ tasks)) where
-    stands_on : Stack types finalization s.activations (treating (name o) (ends cause) tasks b)
+    stands_on : Stack types s.heap finalization s.activations (treating (name o) (ends cause) tasks b)
     stands_on = rebuilds tasks (λ m. omega arith)
+
+    about_left : (left : List Task) → about (treating (name o) (ends cause) left b) ≡ name o
+    about_left [] = named_so
+    about_left (task ∷ left) = refl
+
+    is_spare : IsSpare types o n (doings (treating (name o) (ends cause) tasks b))
+    is_spare =
+        let shapes = shapes_of types in
+        let before = performs of n ∷ tasks in
+        let few = fewer_treating (name o) (ends cause) tasks (doings b) b alike in
+        let ds = Treating (name o) (ends cause) tasks ∷ doings b in
+        let le = covered types s.heap finalization s.activations (treating (name o) (ends cause) before b) (rebuilds before (λ m. omega arith)) o n in
+        let one = one_here (record { of = of; number = n }) (parts_left shapes tasks) in
+        let x = on_same o (count n (parts_left shapes before)) in
+        let y = on_same o (count n (parts_left shapes tasks)) in
+        let g = fewer_gains shapes o n ds (doings (treating (name o) (ends cause) tasks b)) few in
+        let l = fewer_losses shapes o n ds (doings (treating (name o) (ends cause) tasks b)) few in
+        omega (arith, le, one, x, y, g, l)
 
     module _ (x : Object) (at_o : slice_get s.heap o ≡ Some x) (stage : x.stage ≡ Existing) (p : PartState) (at_n : slice_get x.cell.parts n ≡ Some p) (alive : p.alive ≡ true) where
       abbrev shown : Event
@@ -154,7 +182,7 @@ module _ (types : List TypeDefinition) (bodies : List BodyForm) (past : List Eve
       ends_by procedure None reference some = tt
       ends_by procedure (Some body) reference some =
           ended_goes types past s o x at_o stage of n cause tasks (doings b) (ap doings is) inv p at_n alive _ refl (fewer_treating (name o) (ends cause) tasks (doings b) b alike)
-          (runs (calm _ _ tt (operates _ (confines _ some stands_on))))
+          (runs (calm _ _ tt (operates _ (confines _ some (o, (n, (about_left tasks, (part_of types s.heap o n x p at_o stage at_n (inv.sane o x at_o), is_spare)))) stands_on))))
 
       pub ended_leads :
           (operation : Option ℕ) → procedure_number (operations_of types of).finalize ≡ operation

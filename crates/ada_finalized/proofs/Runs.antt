@@ -73,7 +73,7 @@ first_holds program input = record {
       apart = tt;
       claims = λ j n. refl;
       sane = λ j y is. absurd (cc is);
-      there = λ none. tt;
+      there = tt;
     };
   };
   kept = kept_first program input;

@@ -1,13 +1,15 @@
 -- How what is left to do stands: code, of which a jump passes all frames up to the end of an operation's body; behind that waits what the operation was
 -- called for.
 
-use Rattle.std.proofs.Common.{◌≡◌, ℕ, ◌≤◌, List, [], ◌∷◌, Option, Some, None, refl, sym, ◌∙◌, subst, arith}
+use Rattle.std.proofs.Common.{◌≡◌, ◌≢◌, ℕ, zero, suc, ◌+◌, ◌<◌, ◌≤◌, List, [], ◌∷◌, Option, Some, None, refl, sym, ap, ◌∙◌, subst, arith}
+use Rattle.std.specs.List.{slice_get}
 use Rattle.ada_program.specs.declared.program.TypeDefinition.{TypeDefinition}
 use Rattle.ada_program.specs.Controlled.{OverridesNothing, shapes_of}
 use Rattle.ada_program.specs.Form.{ActualForm}
 use Rattle.ada_parts.specs.Part.{Part}
 use Rattle.ada_parts.specs.Shape.{Shape}
-use Rattle.ada_parts.specs.Task.{Task}
+use Rattle.ada_parts.specs.Task.{Task, performs}
+use Rattle.ada_parts.proofs.Facts.{eq_self}
 use Rattle.ada_parts.specs.Law.{parts_left}
 use Rattle.ada_meaning.specs.declared.state.Id.{Id}
 use Rattle.ada_meaning.specs.declared.state.Value.{Value}
@@ -19,10 +21,14 @@ use Rattle.ada_meaning.specs.declared.event.Cause.TheVariants.{Assigning}
 use Rattle.ada_meaning.specs.Frame.{Frame, Treatment, begins, ends}
 use Rattle.ada_meaning.specs.Frame as frame
 use Rattle.ada_meaning.specs.State.{Activation}
-use Rattle.ada_meaning.specs.Step.{treating, operands_of, with_operands, with_places, first_or, older}
+use Rattle.ada_meaning.specs.Step.{parts_held, treating, operands_of, with_operands, with_places, first_or, older}
+use Rattle.ada_meaning.specs.Named.{Object}
 use Rattle.ada_meaning.specs.Finalization.{assigned_by}
-use Rattle.ada_finalized.proofs.Counts.{count}
-use Rattle.ada_finalized.proofs.Doings.{name, Doing, Treating, Ending, doings, Calm, rest, calm_rest, calm_doings, Fewer, alike, fewer_treating, on_less, gains, losses, fewer_gains, fewer_losses}
+use Rattle.ada_meaning.specs.Life.{KeepsObjects}
+use Rattle.ada_finalized.specs.Law.{NoOperationRuns}
+use Rattle.ada_finalized.proofs.Counts.{one_if, count}
+use Rattle.ada_finalized.proofs.Ranks.{Heap}
+use Rattle.ada_finalized.proofs.Doings.{name, same_name, Doing, Treating, Ending, doings, Calm, rest, calm_rest, calm_doings, Of, Other, Fewer, fewer_of, alike, fewer_treating, on, on_less, on_same, on_other, gains, losses, fewer_gains, fewer_losses}
 
 abbrev pub Acts : Type 0
 Acts = List (Activation Value)
@@ -41,40 +47,63 @@ storing_then o n to width tasks k = frame.StoresRecord (name o) to width ∷ tre
 abbrev pub ending_then : (object : ℕ) → Cause → (pool : Option ℕ) → Control → Control
 ending_then o cause pool k = frame.Ends (name o) ∷ frame.GivesBack (name o) cause pool ∷ k
 
+-- An object has a part of this number.
+abbrev pub IsPart : List TypeDefinition → Heap → (object part : ℕ) → Type 0
+IsPart types xs o n = (x : Object) × ((slice_get xs o ≡ Some x) × (n < parts_held types x.cell.access))
+
+abbrev pub HasPart : List TypeDefinition → Heap → Value → (part : ℕ) → Type 0
+HasPart types xs v n = (o : ℕ) × ((v ≡ name o) × IsPart types xs o n)
+
+-- A part of an object is to be without a value at its end, or to get one, and is not to be finalized before.
+abbrev pub IsSpare : List TypeDefinition → (object part : ℕ) → List Doing → Type 0
+IsSpare types o n ds = losses (shapes_of types) o n ds < gains (shapes_of types) o n ds
+
+-- The object of what is first of this, which is left of a finalization.
+abbrev pub about : Control → Value
+about (frame.Treats v treatment tasks ∷ k) = v
+about (frame.Ends v ∷ k) = v
+about (frame.StoresRecord v to width ∷ k) = v
+about (frame.Copies first t ∷ k) = about k
+about k = Null
+
+-- The object of a finalization has a part that was finalized.
+abbrev pub Spared : List TypeDefinition → Heap → Control → Type 0
+Spared types xs k = (o : ℕ) × ((n : ℕ) × ((about k ≡ name o) × (IsPart types xs o n × IsSpare types o n (doings k))))
+
 -- Code; the end of an operation's body; what is left of a finalization, and what it was begun for.
 pub data Kind : Type 0 where
   code : Kind
   guard : Kind
   finalization : Kind
 
-pub data Stack (types : List TypeDefinition) : Kind → Acts → Control → Type 0 where
-  nothing : {acts : Acts} → Stack types code acts []
-  calm : {acts : Acts} (f : Frame Value) (k : Control) → Calm f → Stack types code acts k → Stack types code acts (f ∷ k)
+pub data Stack (types : List TypeDefinition) (xs : Heap) : Kind → Acts → Control → Type 0 where
+  nothing : {acts : Acts} → Stack types xs code acts []
+  calm : {acts : Acts} (f : Frame Value) (k : Control) → Calm f → Stack types xs code acts k → Stack types xs code acts (f ∷ k)
   comes_back :
-      {acts : Acts} (actuals : List ActualForm) (references : List Value) (k : Control) → Stack types code (older acts) k
-      → Stack types code acts (frame.Returns actuals references ∷ k)
-  operates : {acts : Acts} (k : Control) → Stack types guard (older acts) k → Stack types code acts (frame.Returns [] [] ∷ k)
+      {acts : Acts} (actuals : List ActualForm) (references : List Value) (k : Control) → Stack types xs code (older acts) k
+      → Stack types xs code acts (frame.Returns actuals references ∷ k)
+  operates : {acts : Acts} (k : Control) → Stack types xs guard (older acts) k → Stack types xs code acts (frame.Returns [] [] ∷ k)
   awaits :
-      {acts : Acts} (v : Value) (by : Birth) (done : List Part) (of part : ℕ) (tasks : List Task) (k : Control) → Overrides types → Stack types code acts k
-      → Stack types guard acts (frame.Awaits v by done of part tasks ∷ k)
-  confines : {acts : Acts} (k : Control) → Overrides types → Stack types finalization acts k → Stack types guard acts (frame.Confines ∷ k)
+      {acts : Acts} (v : Value) (by : Birth) (done : List Part) (of part : ℕ) (tasks : List Task) (k : Control) → Overrides types
+      → HasPart types xs v part → Stack types xs code acts k → Stack types xs guard acts (frame.Awaits v by done of part tasks ∷ k)
+  confines : {acts : Acts} (k : Control) → Overrides types → Spared types xs k → Stack types xs finalization acts k → Stack types xs guard acts (frame.Confines ∷ k)
   to_end :
       {acts : Acts} {control : Control} (o : ℕ) (cause : Cause) (pool : Option ℕ) (tasks : List Task) (k : Control)
       → control ≡ treating (name o) (ends cause) tasks (ending_then o cause pool k) → assigned_by (Some cause) ≡ None
-      → ((n : ℕ) → count n (parts_left (shapes_of types) tasks) ≤ 1) → Stack types code acts k → Stack types finalization acts control
+      → ((n : ℕ) → count n (parts_left (shapes_of types) tasks) ≤ 1) → Stack types xs code acts k → Stack types xs finalization acts control
   to_copy :
       {acts : Acts} {control : Control} (o n first t to width : ℕ) (source : Id) (tasks left : List Task) (k : Control)
       → control ≡ treating (name o) (ends (Assigning n)) tasks (frame.Copies first t ∷ storing_then o n to width left k)
       → ((m : ℕ) → count m (parts_left (shapes_of types) tasks) ≤ count m (parts_left (shapes_of types) left))
-      → ((m : ℕ) → count m (parts_left (shapes_of types) left) ≤ 1) → first_or Null (operands_of acts) ≡ Names source → Stack types code acts k → Stack types finalization acts control
+      → ((m : ℕ) → count m (parts_left (shapes_of types) left) ≤ 1) → first_or Null (operands_of acts) ≡ Names source → Stack types xs code acts k → Stack types xs finalization acts control
 
 -- The running activation alone does not count.
-pub stack_acts : (types : List TypeDefinition) (acts bs : Acts) (k : Control) → older acts ≡ older bs → Stack types code acts k → Stack types code bs k
-stack_acts types acts bs _ same nothing = nothing
-stack_acts types acts bs _ same (calm f k c h) = calm f k c (stack_acts types acts bs k same h)
-stack_acts types acts bs _ same (comes_back actuals references k h) =
-    comes_back actuals references k (subst (λ (cs : Acts). Stack types code cs k) same h)
-stack_acts types acts bs _ same (operates k h) = operates k (subst (λ (cs : Acts). Stack types guard cs k) same h)
+pub stack_acts : (types : List TypeDefinition) (xs : Heap) (acts bs : Acts) (k : Control) → older acts ≡ older bs → Stack types xs code acts k → Stack types xs code bs k
+stack_acts types xs acts bs _ same nothing = nothing
+stack_acts types xs acts bs _ same (calm f k c h) = calm f k c (stack_acts types xs acts bs k same h)
+stack_acts types xs acts bs _ same (comes_back actuals references k h) =
+    comes_back actuals references k (subst (λ (cs : Acts). Stack types xs code cs k) same h)
+stack_acts types xs acts bs _ same (operates k h) = operates k (subst (λ (cs : Acts). Stack types xs guard cs k) same h)
 
 pub older_operands : (vs : List Value) (acts : Acts) → older (with_operands vs acts) ≡ older acts
 older_operands vs [] = refl
@@ -85,52 +114,74 @@ older_places vs [] = refl
 older_places vs (a ∷ acts) = refl
 
 -- Calm frames do not count.
-pub stack_rest : (types : List TypeDefinition) (acts : Acts) (k : Control) → Stack types code acts k → Stack types code acts (rest k)
-stack_rest types acts _ nothing = nothing
-stack_rest types acts _ (calm f k c h) = subst (Stack types code acts) (sym (calm_rest f k c)) (stack_rest types acts k h)
-stack_rest types acts _ (comes_back actuals references k h) = comes_back actuals references k h
-stack_rest types acts _ (operates k h) = operates k h
+pub stack_rest : (types : List TypeDefinition) (xs : Heap) (acts : Acts) (k : Control) → Stack types xs code acts k → Stack types xs code acts (rest k)
+stack_rest types xs acts _ nothing = nothing
+stack_rest types xs acts _ (calm f k c h) = subst (Stack types xs code acts) (sym (calm_rest f k c)) (stack_rest types xs acts k h)
+stack_rest types xs acts _ (comes_back actuals references k h) = comes_back actuals references k h
+stack_rest types xs acts _ (operates k h) = operates k h
 
-stack_from : (types : List TypeDefinition) (acts : Acts) (k : Control) → Stack types code acts (rest k) → Stack types code acts k
-stack_from types acts [] h = h
-stack_from types acts (frame.Treats v treatment tasks ∷ k) h = h
-stack_from types acts (frame.Awaits v by done of part tasks ∷ k) h = h
-stack_from types acts (frame.Confines ∷ k) h = h
-stack_from types acts (frame.Assigns t ∷ k) h = h
-stack_from types acts (frame.Ends v ∷ k) h = h
-stack_from types acts (frame.GivesBack v cause pool ∷ k) h = h
-stack_from types acts (frame.Returns actuals references ∷ k) h = h
-stack_from types acts (f ∷ k) h = calm f k tt (stack_from types acts k h)
+stack_from : (types : List TypeDefinition) (xs : Heap) (acts : Acts) (k : Control) → Stack types xs code acts (rest k) → Stack types xs code acts k
+stack_from types xs acts [] h = h
+stack_from types xs acts (frame.Treats v treatment tasks ∷ k) h = h
+stack_from types xs acts (frame.Awaits v by done of part tasks ∷ k) h = h
+stack_from types xs acts (frame.Confines ∷ k) h = h
+stack_from types xs acts (frame.Assigns t ∷ k) h = h
+stack_from types xs acts (frame.Ends v ∷ k) h = h
+stack_from types xs acts (frame.GivesBack v cause pool ∷ k) h = h
+stack_from types xs acts (frame.Returns actuals references ∷ k) h = h
+stack_from types xs acts (f ∷ k) h = calm f k tt (stack_from types xs acts k h)
 
-pub stack_alike : (types : List TypeDefinition) (acts : Acts) (k j : Control) → rest j ≡ rest k → Stack types code acts k → Stack types code acts j
-stack_alike types acts k j same h = stack_from types acts j (subst (Stack types code acts) (sym same) (stack_rest types acts k h))
+pub stack_alike : (types : List TypeDefinition) (xs : Heap) (acts : Acts) (k j : Control) → rest j ≡ rest k → Stack types xs code acts k → Stack types xs code acts j
+stack_alike types xs acts k j same h = stack_from types xs acts j (subst (Stack types xs code acts) (sym same) (stack_rest types xs acts k h))
+
+-- Parts stay.
+part_kept : (types : List TypeDefinition) (xs ys : Heap) (o n : ℕ) → KeepsObjects xs ys → IsPart types xs o n → IsPart types ys o n
+part_kept types [] ys o n k (x, (is, lt)) = absurd (cc is)
+part_kept types (z ∷ xs) [] o n k p = absurd k
+part_kept types (z ∷ xs) (y ∷ ys) zero n k (x, (is, lt)) =
+    let one : z ≡ x = cc is in
+    (y, (refl, subst (λ (access : ℕ). n < parts_held types access) (sym (k.0.access ∙ ap (λ (u : Object). u.cell.access) one)) lt))
+part_kept types (z ∷ xs) (y ∷ ys) (suc o) n k (x, (is, lt)) = part_kept types xs ys o n k.1 (x, (is, lt))
+
+module _ (types : List TypeDefinition) (xs ys : Heap) (keeps : KeepsObjects xs ys) where
+  pub stack_on : {kind : Kind} {acts : Acts} {k : Control} → Stack types xs kind acts k → Stack types ys kind acts k
+  stack_on nothing = nothing
+  stack_on (calm f k c h) = calm f k c (stack_on h)
+  stack_on (comes_back actuals references k h) = comes_back actuals references k (stack_on h)
+  stack_on (operates k h) = operates k (stack_on h)
+  stack_on (awaits v by done of part tasks k some (o, (is, p)) h) =
+      awaits v by done of part tasks k some (o, (is, part_kept types xs ys o part keeps p)) (stack_on h)
+  stack_on (confines k some (o, (n, (is, (p, spare)))) h) = confines k some (o, (n, (is, (part_kept types xs ys o n keeps p, spare)))) (stack_on h)
+  stack_on (to_end o cause pool tasks k is own once h) = to_end o cause pool tasks k is own once (stack_on h)
+  stack_on (to_copy o n first t to width source tasks left k is less once operand h) =
+      to_copy o n first t to width source tasks left k is less once operand (stack_on h)
 
 -- Each part that is to be finalized is to be without a value behind that.
-module _ (types : List TypeDefinition) where
+abbrev pub Covers : List TypeDefinition → List Doing → Type 0
+Covers types ds = (j n : ℕ) → losses (shapes_of types) j n ds ≤ gains (shapes_of types) j n ds
+
+module _ (types : List TypeDefinition) (xs : Heap) where
   abbrev shapes : List Shape
   shapes = shapes_of types
 
-  abbrev pub Covers : List Doing → Type 0
-  Covers ds = (j n : ℕ) → losses (shapes_of types) j n ds ≤ gains (shapes_of types) j n ds
-
-  fewer_covers : (ds es : List Doing) → Fewer ds es → Covers ds → Covers es
+  fewer_covers : (ds es : List Doing) → Fewer ds es → Covers types ds → Covers types es
   fewer_covers ds es f c j n =
       let a = fewer_gains shapes j n ds es f in let b = fewer_losses shapes j n ds es f in let d = c j n in omega (arith, a, b, d)
 
-  pub covered : (kind : Kind) (acts : Acts) (k : Control) → Stack types kind acts k → Covers (doings k)
+  pub covered : (kind : Kind) (acts : Acts) (k : Control) → Stack types xs kind acts k → Covers types (doings k)
   covered code acts _ nothing j n = omega arith
-  covered code acts _ (calm f k c h) j n = subst Covers (sym (calm_doings f k c)) (covered code acts k h) j n
+  covered code acts _ (calm f k c h) j n = subst (Covers types) (sym (calm_doings f k c)) (covered code acts k h) j n
   covered code acts _ (comes_back actuals references k h) j n = covered code (older acts) k h j n
   covered code acts _ (operates k h) j n = covered guard (older acts) k h j n
-  covered guard acts _ (awaits v by done of part tasks k some h) j n = let le = covered code acts k h j n in omega (arith, le)
-  covered guard acts _ (confines k some h) j n = covered finalization acts k h j n
+  covered guard acts _ (awaits v by done of part tasks k some p h) j n = let le = covered code acts k h j n in omega (arith, le)
+  covered guard acts _ (confines k some p h) j n = covered finalization acts k h j n
   covered finalization acts control (to_end o cause pool tasks k is own once h) j n =
-      subst (λ (c : Control). Covers (doings c)) (sym is)
+      subst (λ (c : Control). Covers types (doings c)) (sym is)
       (fewer_covers (Treating (name o) (ends cause) tasks ∷ Ending (name o) ∷ doings k) (doings (treating (name o) (ends cause) tasks (ending_then o cause pool k)))
       (fewer_treating (name o) (ends cause) tasks (Ending (name o) ∷ doings k) (ending_then o cause pool k) alike)
       (λ i m. let a = on_less (name o) i (count m (parts_left shapes tasks)) 1 (once m) in let le = covered code acts k h i m in omega (arith, a, le))) j n
   covered finalization acts control (to_copy o m from t to width source tasks left k is less once operand h) j n =
-      subst (λ (c : Control). Covers (doings c)) (sym is)
+      subst (λ (c : Control). Covers types (doings c)) (sym is)
       (fewer_covers (Treating (name o) (ends (Assigning m)) tasks ∷ Treating (name o) (begins (Adjustment m) []) left ∷ doings k)
       (doings (treating (name o) (ends (Assigning m)) tasks (frame.Copies from t ∷ storing_then o m to width left k)))
       (fewer_treating (name o) (ends (Assigning m)) tasks (Treating (name o) (begins (Adjustment m) []) left ∷ doings k) (frame.Copies from t ∷ storing_then o m to width left k)
@@ -140,13 +191,99 @@ module _ (types : List TypeDefinition) where
       let le = covered code acts k h i p in
       omega (arith, a, le))) j n
 
-  -- Where no type overrides an operation, nothing is done behind code.
-  pub none_behind : OverridesNothing types → (acts : Acts) (k : Control) → Stack types code acts k → doings k ≡ []
-  none_behind none acts _ nothing = refl
-  none_behind none acts _ (calm f k c h) = calm_doings f k c ∙ none_behind none acts k h
-  none_behind none acts _ (comes_back actuals references k h) = none_behind none (older acts) k h
-  none_behind none acts _ (operates k h) = absurd (no_guard (older acts) k h)
-    where
-      no_guard : (bs : Acts) (j : Control) → Stack types guard bs j → ⊥
-      no_guard bs _ (awaits v by done of part tasks j some h') = some none
-      no_guard bs _ (confines j some h') = some none
+  -- Where no operation runs, nothing is done behind code.
+  pub guard_never : (acts : Acts) (k : Control) → Stack types xs guard acts k → NoOperationRuns k → ⊥
+  guard_never acts _ (awaits v by done of part tasks k some p h) still = cc still.0
+  guard_never acts _ (confines k some p h) still = cc still.0
+
+  pub none_behind : (acts : Acts) (k : Control) → Stack types xs code acts k → NoOperationRuns k → doings k ≡ []
+  none_behind acts _ nothing still = refl
+  none_behind acts _ (calm f k c h) still = calm_doings f k c ∙ none_behind acts k h still.1
+  none_behind acts _ (comes_back actuals references k h) still = none_behind (older acts) k h still.1
+  none_behind acts _ (operates k h) still = absurd (guard_never (older acts) k h still.1)
+
+  -- Nothing is done behind code to an object of which no part is spared.
+  abbrev pub Never : ℕ → List Doing → Type 0
+  Never o ds = (n : ℕ) → IsPart types xs o n → IsSpare types o n ds → ⊥
+
+  never_on :
+      (o : ℕ) (ds es : List Doing)
+      → ((n : ℕ) → gains (shapes_of types) o n ds + losses (shapes_of types) o n es ≤ gains (shapes_of types) o n es + losses (shapes_of types) o n ds)
+      → Never o es → Never o ds
+  never_on o ds es more never n p spare = never n p (let le = more n in omega (arith, spare, le))
+
+  one_more : (of n : ℕ) (tasks : List Task) → 1 ≤ count n (parts_left (shapes_of types) (performs of n ∷ tasks))
+  one_more of n tasks = let one = ap one_if (eq_self n) in omega (arith, one)
+
+  about_ending : (o : ℕ) (cause : Cause) (pool : Option ℕ) (tasks : List Task) (k : Control) → about (treating (name o) (ends cause) tasks (ending_then o cause pool k)) ≡ name o
+  about_ending o cause pool [] k = refl
+  about_ending o cause pool (task ∷ tasks) k = refl
+
+  about_copying :
+      (o n first t to width : ℕ) (cause : Cause) (tasks left : List Task) (k : Control)
+      → about (treating (name o) (ends cause) tasks (frame.Copies first t ∷ storing_then o n to width left k)) ≡ name o
+  about_copying o n first t to width cause [] left k = refl
+  about_copying o n first t to width cause (task ∷ tasks) left k = refl
+
+  pub others : (kind : Kind) (acts : Acts) (k : Control) → Stack types xs kind acts k → (o : ℕ) → (kind ≡ finalization → about k ≡ name o → ⊥) → Never o (doings k) → Of (Other o) (doings k)
+  others code acts _ nothing o apart never = tt
+  others code acts _ (calm f k c h) o apart never =
+      subst (Of (Other o)) (sym (calm_doings f k c)) (others code acts k h o (λ is. absurd (cc is)) (subst (Never o) (calm_doings f k c) never))
+  others code acts _ (comes_back actuals references k h) o apart never = others code (older acts) k h o (λ is. absurd (cc is)) never
+  others code acts _ (operates k h) o apart never = others guard (older acts) k h o (λ is. absurd (cc is)) never
+  others guard acts _ (awaits v by done of part tasks k some (i, (is, p)) h) o apart never = (
+    (λ same.
+        let e : i ≡ o = same_name i o (sym is ∙ same) in
+        let le = covered code acts k h o part in
+        let a = ap (λ (u : Value). on u o (count part (parts_left (shapes_of types) (performs of part ∷ tasks)))) same in
+        let b = on_same o (count part (parts_left (shapes_of types) (performs of part ∷ tasks))) in
+        let c = one_more of part tasks in
+        never part (subst (λ (j : ℕ). IsPart types xs j part) e p) (omega (arith, le, a, b, c))),
+    others code acts k h o (λ never_is. absurd (cc never_is))
+        (never_on o (doings k) (Treating v (begins by done) (performs of part ∷ tasks) ∷ doings k) (λ n. omega arith) never),
+  )
+  others guard acts _ (confines k some (i, (n, (is, (p, spare)))) h) o apart never =
+      others finalization acts k h o (λ kind_is same.
+      let e : i ≡ o = same_name i o (sym is ∙ same) in
+      never n (subst (λ (j : ℕ). IsPart types xs j n) e p) (subst (λ (j : ℕ). IsSpare types j n (doings k)) e spare)) never
+  others finalization acts control (to_end i cause pool tasks k is own once h) o apart never =
+      let ds = Treating (name i) (ends cause) tasks ∷ Ending (name i) ∷ doings k in
+      let ne : i ≢ o = λ same. apart refl (ap about is ∙ about_ending i cause pool tasks k ∙ ap name same) in
+      let few : Fewer ds (doings control) =
+      subst (λ (c : Control). Fewer ds (doings c)) (sym is)
+      (fewer_treating (name i) (ends cause) tasks (Ending (name i) ∷ doings k) (ending_then i cause pool k) alike) in
+      fewer_of (Other o) ds (doings control) few (
+        (λ same. ne (same_name i o same)),
+        (
+          (λ same. ne (same_name i o same)),
+          others code acts k h o (λ never_is. absurd (cc never_is))
+              (never_on o (doings k) (doings control)
+              (λ n.
+              let g = fewer_gains shapes o n ds (doings control) few in
+              let l = fewer_losses shapes o n ds (doings control) few in
+              let a = on_other i o (count n (parts_left shapes tasks)) ne in
+              let b = on_other i o 1 ne in
+              omega (arith, g, l, a, b)) never),
+        ),
+      )
+  others finalization acts control (to_copy i m from t to width source tasks left k is less once operand h) o apart never =
+      let ds = Treating (name i) (ends (Assigning m)) tasks ∷ Treating (name i) (begins (Adjustment m) []) left ∷ doings k in
+      let ne : i ≢ o = λ same. apart refl (ap about is ∙ about_copying i m from t to width (Assigning m) tasks left k ∙ ap name same) in
+      let few : Fewer ds (doings control) =
+      subst (λ (c : Control). Fewer ds (doings c)) (sym is)
+      (fewer_treating (name i) (ends (Assigning m)) tasks (Treating (name i) (begins (Adjustment m) []) left ∷ doings k) (frame.Copies from t ∷ storing_then i m to width left k)
+      (fewer_treating (name i) (begins (Adjustment m) []) left (doings k) k alike)) in
+      fewer_of (Other o) ds (doings control) few (
+        (λ same. ne (same_name i o same)),
+        (
+          (λ same. ne (same_name i o same)),
+          others code acts k h o (λ never_is. absurd (cc never_is))
+              (never_on o (doings k) (doings control)
+              (λ n.
+              let g = fewer_gains shapes o n ds (doings control) few in
+              let l = fewer_losses shapes o n ds (doings control) few in
+              let a = on_other i o (count n (parts_left shapes tasks)) ne in
+              let b = on_other i o (count n (parts_left shapes left)) ne in
+              omega (arith, g, l, a, b)) never),
+        ),
+      )

@@ -1,5 +1,5 @@
--- An object that is in its collection has the values of all its parts, where nothing is treated; and where no type overrides an operation, nothing is treated
--- but in front of all else that is left to do.
+-- An object that is in its collection has the values of all its parts, where nothing is treated; and while no operation runs, nothing is treated but in front
+-- of all else that is left to do.
 
 use Rattle.std.proofs.Common.{◌≡◌, ◌≢◌, ℕ, ℤ, zero, suc, ◌<◌, true, false, List, [], ◌∷◌, length, Option, Some, refl, sym, ap, ◌∙◌, inl, inr, subst, arith}
 use Rattle.std.specs.List.{slice_get}
@@ -7,20 +7,22 @@ use Rattle.std.proofs.lemmas.Bool.Decides.{eqb_tells}
 use Rattle.ada_program.specs.declared.program.Program.{Program}
 use Rattle.ada_program.specs.declared.program.TypeDefinition.{TypeDefinition}
 use Rattle.ada_program.specs.Controlled.{OverridesNothing, shapes_of}
+use Rattle.ada_parts.specs.Task.{Task}
 use Rattle.ada_meaning.specs.declared.state.Value.{Value}
+use Rattle.ada_meaning.specs.declared.state.Value.TheVariants.{Names}
 use Rattle.ada_meaning.specs.declared.state.Mode.{Mode}
 use Rattle.ada_meaning.specs.declared.state.Mode.TheVariants.{Running, Raising, Exiting, Returning}
-use Rattle.ada_meaning.specs.Frame.{Frame, begins, begins_by}
+use Rattle.ada_meaning.specs.Frame.{Frame, Treatment, begins, ends, begins_by}
 use Rattle.ada_meaning.specs.Frame as frame
 use Rattle.ada_meaning.specs.State.{begins_in, begins_among}
-use Rattle.ada_meaning.specs.Step.{parts_held}
+use Rattle.ada_meaning.specs.Step.{parts_held, treating, older}
 use Rattle.ada_meaning.specs.Named.{Object, State}
 use Rattle.ada_meaning.specs.Run.{Event, Run, first_state}
 use Rattle.ada_meaning.specs.Finalization.{NothingTreated, HasParts}
-use Rattle.ada_finalized.specs.Law.{AllPartsStand, StatementsTreatNothing}
+use Rattle.ada_finalized.specs.Law.{waits_for_operation, NoOperationRuns, AllPartsStand, StatementsTreatNothing}
 use Rattle.ada_finalized.proofs.Ranks.{Heap}
 use Rattle.ada_finalized.proofs.Doings.{Calm, Doing, Treating, Ending, doings, rest, rest_doings, Of, on_other, gains, losses}
-use Rattle.ada_finalized.proofs.Stacks.{Acts, Control, code, guard, finalization, Stack, nothing, calm, comes_back, operates, awaits, confines, to_end, to_copy, ending_then, none_behind}
+use Rattle.ada_finalized.proofs.Stacks.{Acts, Control, Kind, code, guard, finalization, Stack, nothing, calm, comes_back, operates, awaits, confines, to_end, to_copy, ending_then, guard_never, none_behind}
 use Rattle.ada_finalized.proofs.Claims.{Claimed}
 use Rattle.ada_finalized.proofs.Invariant.{Sane, exists, is_gone, Fine, AssignsThen, Stands, runs, finding, passing, ends_operation, beginning, ending, leaving, storing, Fits}
 use Rattle.ada_finalized.proofs.Going.{alive_of, listed_exists}
@@ -113,28 +115,30 @@ TreatsNothing (frame.Copies from t) = ⊥
 TreatsNothing (frame.StoresRecord v to width) = ⊥
 TreatsNothing f = Unit {0}
 
--- The end of an operation's body.
-abbrev pub EndsOperation : Frame Value → Type 0
-EndsOperation (frame.Awaits v by done of part tasks) = Unit {0}
-EndsOperation frame.Confines = Unit {0}
-EndsOperation f = ⊥
+-- Frames that no jump and no treatment stops at wait for no operation.
+still_rest : (k : Control) → NoOperationRuns k → NoOperationRuns (rest k)
+still_rest [] still = tt
+still_rest (frame.Treats v treatment tasks ∷ k) still = still
+still_rest (frame.Awaits v by done of part tasks ∷ k) still = still
+still_rest (frame.Confines ∷ k) still = still
+still_rest (frame.Assigns t ∷ k) still = still
+still_rest (frame.Ends v ∷ k) still = still
+still_rest (frame.GivesBack v cause pool ∷ k) still = still
+still_rest (frame.Returns actuals references ∷ k) still = still
+still_rest (f ∷ k) still = still_rest k still.1
 
--- Where no type overrides an operation, nothing is treated but in front of all else.
-module _ (types : List TypeDefinition) (none : OverridesNothing types) (past : List Event) (s : State) where
-  pub code_nothing : (k : Control) (acts : Acts) → Stack types code acts k → NothingTreated k
-  code_nothing k acts h = nothing_done k (none_behind types none acts k h)
+-- While no operation runs, nothing is treated but in front of all else.
+module _ (types : List TypeDefinition) (s : State) (still : NoOperationRuns s.control) where
+  pub code_nothing : (k : Control) (acts : Acts) → NoOperationRuns k → Stack types s.heap code acts k → NothingTreated k
+  code_nothing k acts none h = nothing_done k (none_behind types s.heap acts k h none)
 
-  pub assigns_nothing : (acts : Acts) (k : Control) → AssignsThen types acts (rest k) → NothingTreated k
-  assigns_nothing acts k h = nothing_done k (sym (rest_doings k) ∙ go (rest k) h)
+  pub assigns_nothing : (acts : Acts) (k : Control) → NoOperationRuns k → AssignsThen types s.heap acts (rest k) → NothingTreated k
+  assigns_nothing acts k none h = nothing_done k (sym (rest_doings k) ∙ go (rest k) (still_rest k none) h)
     where
-      go : (j : Control) → AssignsThen types acts j → doings j ≡ []
-      go [] h' = absurd h'
-      go (frame.Assigns t ∷ j) h' = none_behind types none acts j h'
-      go (f ∷ j) h' = absurd h'
-
-  pub guard_never : (acts : Acts) (k : Control) → Stack types guard acts k → ⊥
-  guard_never acts _ (awaits v by done of part tasks k some h) = some none
-  guard_never acts _ (confines k some h) = some none
+      go : (j : Control) → NoOperationRuns j → AssignsThen types s.heap acts j → doings j ≡ []
+      go [] none' h' = absurd h'
+      go (frame.Assigns t ∷ j) none' h' = none_behind types s.heap acts j h' none'.1
+      go (f ∷ j) none' h' = absurd h'
 
   first_of : Frame Value → Control → Frame Value
   first_of d [] = d
@@ -144,69 +148,32 @@ module _ (types : List TypeDefinition) (none : OverridesNothing types) (past : L
   unfolding first_of
   by_first f g k j e never h = absurd (never (subst TreatsNothing (ap (first_of f) e) h))
 
-  finalization_nothing : (acts : Acts) (f : Frame Value) (k : Control) → TreatsNothing f → Stack types finalization acts (f ∷ k) → NothingTreated (f ∷ k)
-  finalization_nothing acts f k h (to_end o cause pool [] j is own once st) =
+  finalization_nothing : (acts : Acts) (f : Frame Value) (k : Control) → NoOperationRuns (f ∷ k) → TreatsNothing f → Stack types s.heap finalization acts (f ∷ k) → NothingTreated (f ∷ k)
+  finalization_nothing acts f k still h (to_end o cause pool [] j is own once st) =
       let e : f ∷ k ≡ ending_then o cause pool j = is in
-      subst NothingTreated (sym e) (code_nothing j acts st)
-  finalization_nothing acts f k h (to_end o cause pool (task ∷ tasks) j is own once st) = by_first f _ k _ is (λ never. never) h
-  finalization_nothing acts f k h (to_copy o n from t to width source [] later j is less once operand st) = by_first f _ k _ is (λ never. never) h
-  finalization_nothing acts f k h (to_copy o n from t to width source (task ∷ tasks) later j is less once operand st) = by_first f _ k _ is (λ never. never) h
+      subst NothingTreated (sym e) (code_nothing j acts (subst NoOperationRuns e still).1.1 st)
+  finalization_nothing acts f k still h (to_end o cause pool (task ∷ tasks) j is own once st) = by_first f _ k _ is (λ never. never) h
+  finalization_nothing acts f k still h (to_copy o n from t to width source [] later j is less once operand st) = by_first f _ k _ is (λ never. never) h
+  finalization_nothing acts f k still h (to_copy o n from t to width source (task ∷ tasks) later j is less once operand st) = by_first f _ k _ is (λ never. never) h
 
-  pub nothing_fits : (f : Frame Value) (k : Control) → s.control ≡ f ∷ k → TreatsNothing f → Stands types s → NothingTreated s.control
-  nothing_fits f k is h (runs st) = code_nothing s.control s.activations st
-  nothing_fits f k is h (finding running g after) = assigns_nothing s.activations s.control after
-  nothing_fits f k is h (passing e raises p after) = assigns_nothing s.activations s.control after
-  nothing_fits f k is h (ends_operation st) = absurd (guard_never s.activations s.control st)
+  pub nothing_fits : (f : Frame Value) (k : Control) → s.control ≡ f ∷ k → TreatsNothing f → Stands types s.heap s → NothingTreated s.control
+  nothing_fits f k is h (runs st) = code_nothing s.control s.activations still st
+  nothing_fits f k is h (finding running g after) = assigns_nothing s.activations s.control still after
+  nothing_fits f k is h (passing e raises p after) = assigns_nothing s.activations s.control still after
+  nothing_fits f k is h (ends_operation st) = absurd (guard_never types s.heap s.activations s.control st still)
   nothing_fits f k is h (beginning o by done task tasks j running c st) = subst NothingTreated (sym is) (by_first f _ k _ (sym is ∙ c) (λ never. never) h)
   nothing_fits f k is h (ending running st) =
-      subst NothingTreated (sym is) (finalization_nothing s.activations f k h (subst (Stack types finalization s.activations) is st))
-  nothing_fits f k is h (leaving o x cause pool j running c own st at_o gone) = subst NothingTreated (sym c) (code_nothing j s.activations st)
+      subst NothingTreated (sym is) (finalization_nothing s.activations f k (subst NoOperationRuns is still) h (subst (Stack types s.heap finalization s.activations) is st))
+  nothing_fits f k is h (leaving o x cause pool j running c own st at_o gone) = subst NothingTreated (sym c) (code_nothing j s.activations (subst NoOperationRuns c still).1 st)
   nothing_fits f k is h (storing o n to width tasks j running c st) = subst NothingTreated (sym is) (by_first f _ k _ (sym is ∙ c) (λ never. never) h)
-
-  -- No operation's body ends.
-  guard_first : (f g : Frame Value) (k j : Control) → f ∷ k ≡ g ∷ j → EndsOperation f → EndsOperation g
-  unfolding first_of
-  guard_first f g k j e h = subst EndsOperation (ap (first_of f) e) h
-
-  calm_no_guard : (f : Frame Value) → Calm f → EndsOperation f → ⊥
-  calm_no_guard (frame.Awaits v by done of part tasks) c h = c
-  calm_no_guard frame.Confines c h = c
-  calm_no_guard f c h = h
-
-  code_no_guard : (f : Frame Value) (k c : Control) (acts : Acts) → c ≡ f ∷ k → EndsOperation f → Stack types code acts c → ⊥
-  code_no_guard f k _ acts e h nothing = cc e
-  code_no_guard f k _ acts e h (calm g j c st) = calm_no_guard g c (guard_first f g k j (sym e) h)
-  code_no_guard f k _ acts e h (comes_back actuals references j st) = guard_first f _ k j (sym e) h
-  code_no_guard f k _ acts e h (operates j st) = guard_first f _ k j (sym e) h
-
-  finding_no_guard : (f : Frame Value) (k : Control) (acts : Acts) → EndsOperation f → AssignsThen types acts (rest (f ∷ k)) → ⊥
-  finding_no_guard (frame.Awaits v by done of part tasks) k acts h after = after
-  finding_no_guard frame.Confines k acts h after = after
-  finding_no_guard f k acts h after = h
-
-  finalization_no_guard : (f : Frame Value) (k : Control) (acts : Acts) → EndsOperation f → Stack types finalization acts (f ∷ k) → ⊥
-  finalization_no_guard f k acts h (to_end o cause pool [] j is own once st) = guard_first f _ k _ is h
-  finalization_no_guard f k acts h (to_end o cause pool (task ∷ tasks) j is own once st) = guard_first f _ k _ is h
-  finalization_no_guard f k acts h (to_copy o n from t to width source [] later j is less once operand st) = guard_first f _ k _ is h
-  finalization_no_guard f k acts h (to_copy o n from t to width source (task ∷ tasks) later j is less once operand st) = guard_first f _ k _ is h
-
-  pub fits_no_guard : (f : Frame Value) (k : Control) → s.control ≡ f ∷ k → EndsOperation f → Stands types s → ⊥
-  fits_no_guard f k is h (runs st) = code_no_guard f k s.control s.activations is h st
-  fits_no_guard f k is h (finding running g after) = finding_no_guard f k s.activations h (subst (λ (c : Control). AssignsThen types s.activations (rest c)) is after)
-  fits_no_guard f k is h (passing e raises p after) = finding_no_guard f k s.activations h (subst (λ (c : Control). AssignsThen types s.activations (rest c)) is after)
-  fits_no_guard f k is h (ends_operation st) = guard_never s.activations s.control st
-  fits_no_guard f k is h (beginning o by done task tasks j running c st) = guard_first f _ k _ (sym is ∙ c) h
-  fits_no_guard f k is h (ending running st) = finalization_no_guard f k s.activations h (subst (Stack types finalization s.activations) is st)
-  fits_no_guard f k is h (leaving o x cause pool j running c own st at_o gone) = guard_first f _ k _ (sym is ∙ c) h
-  fits_no_guard f k is h (storing o n to width tasks j running c st) = guard_first f _ k _ (sym is ∙ c) h
 
 -- So it is at any frame that treats nothing, as one of a Free does.
 pub nothing_treated_at :
-    (program : Program) (input : List ℤ) (events : List Event) (last : State) → OverridesNothing program.types.items
+    (program : Program) (input : List ℤ) (events : List Event) (last : State) → NoOperationRuns last.control
     → Run program (first_state program input) events last → (f : Frame Value) (k : Control) → last.control ≡ f ∷ k → TreatsNothing f
     → NothingTreated last.control
-nothing_treated_at program input events last none run f k is h =
-    nothing_fits program.types.items none (past_then events []) last f k is h (last_holds program input events last run).fits.stands
+nothing_treated_at program input events last still run f k is h =
+    nothing_fits program.types.items last still f k is h (last_holds program input events last run).fits.stands
 
 -- And so it is where a statement begins.
 beginning_in : (mode : Mode) (k : Control) → begins_in mode k ≡ true → begins_among k ≡ true
@@ -224,13 +191,63 @@ beginning_among [] e = absurd (cc e)
 beginning_among (f ∷ j) e = (f, (j, (refl, beginning_first f e)))
 
 pub nothing_treated : StatementsTreatNothing
-nothing_treated program input events last none run e =
+nothing_treated program input events last still run e =
     let f = beginning_among last.control (beginning_in last.mode last.control e) in
-    nothing_treated_at program input events last none run f.0 f.1.0 f.1.1.0 f.1.1.1
+    nothing_treated_at program input events last still run f.0 f.1.0 f.1.1.0 f.1.1.1
 
--- Where no type overrides an operation, no run comes to the end of one's body.
-pub no_operation_ends :
+-- Where no type overrides an operation, none runs in any state of a run.
+calm_waits : (f : Frame Value) → Calm f → waits_for_operation f ≡ false
+calm_waits (frame.Awaits v by done of part tasks) c = absurd c
+calm_waits frame.Confines c = absurd c
+calm_waits f c = refl
+
+still_from : (k : Control) → NoOperationRuns (rest k) → NoOperationRuns k
+still_from [] still = tt
+still_from (frame.Treats v treatment tasks ∷ k) still = still
+still_from (frame.Awaits v by done of part tasks ∷ k) still = still
+still_from (frame.Confines ∷ k) still = still
+still_from (frame.Assigns t ∷ k) still = still
+still_from (frame.Ends v ∷ k) still = still
+still_from (frame.GivesBack v cause pool ∷ k) still = still
+still_from (frame.Returns actuals references ∷ k) still = still
+still_from (f ∷ k) still = (refl, still_from k still)
+
+still_treating : (v : Value) (treatment : Treatment) (tasks : List Task) (k : Control) → NoOperationRuns k → NoOperationRuns (treating v treatment tasks k)
+still_treating v treatment [] k still = still
+still_treating v treatment (task ∷ tasks) k still = (refl, still)
+
+module _ (types : List TypeDefinition) (xs : Heap) (none : OverridesNothing types) where
+  stack_still : (kind : Kind) (acts : Acts) (k : Control) → Stack types xs kind acts k → NoOperationRuns k
+  stack_still code acts _ nothing = tt
+  stack_still code acts _ (calm f k c h) = (calm_waits f c, stack_still code acts k h)
+  stack_still code acts _ (comes_back actuals references k h) = (refl, stack_still code (older acts) k h)
+  stack_still code acts _ (operates k h) = (refl, stack_still guard (older acts) k h)
+  stack_still guard acts _ (awaits v by done of part tasks k some p h) = absurd (some none)
+  stack_still guard acts _ (confines k some p h) = absurd (some none)
+  stack_still finalization acts control (to_end o cause pool tasks k is own once h) =
+      subst NoOperationRuns (sym is) (still_treating (Names _) (ends cause) tasks _ (refl, (refl, stack_still code acts k h)))
+  stack_still finalization acts control (to_copy o n first t to width source tasks left k is less once operand h) =
+      subst NoOperationRuns (sym is)
+      (still_treating (Names _) (ends _) tasks _ (refl, (refl, still_treating (Names _) (begins _ []) left k (stack_still code acts k h))))
+
+  assigns_still : (acts : Acts) (k : Control) → AssignsThen types xs acts k → NoOperationRuns k
+  assigns_still acts [] h = absurd h
+  assigns_still acts (frame.Assigns t ∷ k) h = (refl, stack_still code acts k h)
+  assigns_still acts (f ∷ k) h = absurd h
+
+  state_still : (s : State) → Stands types xs s → NoOperationRuns s.control
+  state_still s (runs h) = stack_still code s.activations s.control h
+  state_still s (finding running f after) = still_from s.control (assigns_still s.activations (rest s.control) after)
+  state_still s (passing e raises p after) = still_from s.control (assigns_still s.activations (rest s.control) after)
+  state_still s (ends_operation h) = stack_still guard s.activations s.control h
+  state_still s (beginning o by done task tasks k running is h) = subst NoOperationRuns (sym is) (refl, stack_still code s.activations k h)
+  state_still s (ending running h) = stack_still finalization s.activations s.control h
+  state_still s (leaving o x cause pool k running is own h at_o gone) = subst NoOperationRuns (sym is) (refl, stack_still code s.activations k h)
+  state_still s (storing o n to width tasks k running is h) =
+      subst NoOperationRuns (sym is) (refl, still_treating (Names _) (begins _ []) tasks k (stack_still code s.activations k h))
+
+pub none_runs :
     (program : Program) (input : List ℤ) (events : List Event) (last : State) → OverridesNothing program.types.items
-    → Run program (first_state program input) events last → (f : Frame Value) (k : Control) → last.control ≡ f ∷ k → EndsOperation f → ⊥
-no_operation_ends program input events last none run f k is h =
-    fits_no_guard program.types.items none (past_then events []) last f k is h (last_holds program input events last run).fits.stands
+    → Run program (first_state program input) events last → NoOperationRuns last.control
+none_runs program input events last none run =
+    state_still program.types.items last.heap none last (last_holds program input events last run).fits.stands

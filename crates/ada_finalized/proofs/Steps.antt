@@ -41,12 +41,12 @@ module _ (types : List TypeDefinition) (bodies : List BodyForm) (past : List Eve
   by_jump mode k is jumps c h = subst (Leads types past s) (sym (jump_is types bodies s mode k is jumps c)) h
 
   -- A frame of code.
-  calm_runs : (f : Frame Value) (k : Control) → s.mode ≡ Running → s.control ≡ f ∷ k → Calm f → Stack types code s.activations k → Leads types past s (frame_next named types bodies f (at k s))
+  calm_runs : (f : Frame Value) (k : Control) → s.mode ≡ Running → s.control ≡ f ∷ k → Calm f → Stack types s.heap code s.activations k → Leads types past s (frame_next named types bodies f (at k s))
   calm_runs (frame.Calls procedure b actuals) k running is c h = calls_leads types past s (frame.Calls procedure b actuals) k is c h inv bodies procedure b actuals refl
   calm_runs (frame.Returns actuals references) k running is c h = absurd c
   calm_runs f k running is c h = calm_leads types past s f k is c h inv bodies running tt
 
-  code_runs : (k : Control) → s.mode ≡ Running → s.control ≡ k → Stack types code s.activations k → Leads types past s (next types bodies s)
+  code_runs : (k : Control) → s.mode ≡ Running → s.control ≡ k → Stack types s.heap code s.activations k → Leads types past s (next types bodies s)
   code_runs _ running is nothing = subst (Leads types past s) (sym (next_none types bodies s running is)) tt
   code_runs _ running is (calm f k c h) = by_frame f k running is (calm_runs f k running is c h)
   code_runs _ running is (comes_back actuals references k h) =
@@ -59,51 +59,51 @@ module _ (types : List TypeDefinition) (bodies : List BodyForm) (past : List Eve
   none_jumps Exiting = tt
   none_jumps Returning = tt
 
-  code_jumps : (mode : Mode) (k : Control) → s.mode ≡ mode → (mode ≡ Running → ⊥) → s.control ≡ k → Stack types code s.activations k → Leads types past s (next types bodies s)
+  code_jumps : (mode : Mode) (k : Control) → s.mode ≡ mode → (mode ≡ Running → ⊥) → s.control ≡ k → Stack types s.heap code s.activations k → Leads types past s (next types bodies s)
   code_jumps mode _ is jumps c nothing = by_jump mode [] is jumps c (none_jumps mode)
   code_jumps mode _ is jumps c (calm f k calm_f h) = by_jump mode (f ∷ k) is jumps c (jump_leads types past s f k c calm_f h inv mode)
   code_jumps mode _ is jumps c (comes_back actuals references k h) =
       by_jump mode (frame.Returns actuals references ∷ k) is jumps c (returns_jump types past s actuals references k c inv mode h)
   code_jumps mode _ is jumps c (operates k h) = by_jump mode (frame.Returns [] [] ∷ k) is jumps c (operation_jumps types past s k c inv h mode)
 
-  code_leads : (mode : Mode) → s.mode ≡ mode → Stack types code s.activations s.control → Leads types past s (next types bodies s)
+  code_leads : (mode : Mode) → s.mode ≡ mode → Stack types s.heap code s.activations s.control → Leads types past s (next types bodies s)
   code_leads Running is h = code_runs s.control is refl h
   code_leads (Raising e) is h = code_jumps (Raising e) s.control is (λ never. absurd (cc never)) refl h
   code_leads Exiting is h = code_jumps Exiting s.control is (λ never. absurd (cc never)) refl h
   code_leads Returning is h = code_jumps Returning s.control is (λ never. absurd (cc never)) refl h
 
   -- The body of an operation has ended.
-  guard_runs : (k : Control) → s.mode ≡ Running → s.control ≡ k → Stack types guard s.activations k → Leads types past s (next types bodies s)
+  guard_runs : (k : Control) → s.mode ≡ Running → s.control ≡ k → Stack types s.heap guard s.activations k → Leads types past s (next types bodies s)
   guard_runs [] running is h = absurd (guard_some [] h refl)
     where
-      guard_some : (j : Control) → Stack types guard s.activations j → j ≡ [] → ⊥
-      guard_some _ (awaits v by done of part tasks j some h') e = absurd (cc e)
-      guard_some _ (confines j some h') e = absurd (cc e)
+      guard_some : (j : Control) → Stack types s.heap guard s.activations j → j ≡ [] → ⊥
+      guard_some _ (awaits v by done of part tasks j some p h') e = absurd (cc e)
+      guard_some _ (confines j some p h') e = absurd (cc e)
   guard_runs (f ∷ k) running is h = by_frame f k running is (guard_leads types past s inv bodies f k running is h)
 
-  guard_passes : (mode : Mode) (k : Control) → s.mode ≡ mode → (mode ≡ Running → ⊥) → s.control ≡ k → Stack types guard s.activations k → Leads types past s (next types bodies s)
+  guard_passes : (mode : Mode) (k : Control) → s.mode ≡ mode → (mode ≡ Running → ⊥) → s.control ≡ k → Stack types s.heap guard s.activations k → Leads types past s (next types bodies s)
   guard_passes mode [] is jumps c h = by_jump mode [] is jumps c (none_jumps mode)
   guard_passes mode (f ∷ k) is jumps c h = by_jump mode (f ∷ k) is jumps c (guard_jumps types past s inv mode f k c h jumps)
 
-  operation_leads : (mode : Mode) → s.mode ≡ mode → Stack types guard s.activations s.control → Leads types past s (next types bodies s)
+  operation_leads : (mode : Mode) → s.mode ≡ mode → Stack types s.heap guard s.activations s.control → Leads types past s (next types bodies s)
   operation_leads Running is h = guard_runs s.control is refl h
   operation_leads (Raising e) is h = guard_passes (Raising e) s.control is (λ never. absurd (cc never)) refl h
   operation_leads Exiting is h = guard_passes Exiting s.control is (λ never. absurd (cc never)) refl h
   operation_leads Returning is h = guard_passes Returning s.control is (λ never. absurd (cc never)) refl h
 
   -- What is left of a finalization; where nothing is left to do, the run has ended.
-  finalization_leads : (k : Control) → s.mode ≡ Running → s.control ≡ k → Stack types finalization s.activations k → Leads types past s (next types bodies s)
+  finalization_leads : (k : Control) → s.mode ≡ Running → s.control ≡ k → Stack types s.heap finalization s.activations k → Leads types past s (next types bodies s)
   finalization_leads [] running is h = subst (Leads types past s) (sym (next_none types bodies s running is)) tt
   finalization_leads (f ∷ k) running is h = by_frame f k running is (ending_leads types bodies past s running inv f k is h)
 
   -- The records of an assignment are found.
   found_leads :
-      (k : Control) → s.mode ≡ Running → s.control ≡ k → Finding s.heap (operands s) k → AssignsThen types s.activations (rest k)
+      (k : Control) → s.mode ≡ Running → s.control ≡ k → Finding s.heap (operands s) k → AssignsThen types s.heap s.activations (rest k)
       → Leads types past s (next types bodies s)
   found_leads [] running is f after = absurd after
   found_leads (f ∷ k) running is h after = by_frame f k running is (finding_leads types past s inv bodies f k running is h after)
 
-  stands_lead : Stands types s → Leads types past s (next types bodies s)
+  stands_lead : Stands types s.heap s → Leads types past s (next types bodies s)
   stands_lead (runs h) = code_leads s.mode refl h
   stands_lead (finding running f after) = found_leads s.control running refl f after
   stands_lead (passing e raises p after) =

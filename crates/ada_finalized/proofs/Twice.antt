@@ -1,40 +1,42 @@
--- Where no type overrides an operation, no treatment comes to a value that does not exist.
+-- What is treated exists; and while no operation runs, no treatment comes to a value that does not exist.
 
-use Rattle.std.proofs.Common.{◌≡◌, ℕ, ◌+◌, ◌≤◌, ◌==◌, Bool, true, false, if◌then◌else◌, List, [], ◌∷◌, length, Option, Some, None, refl, sym, ap, ◌∙◌, subst, arith}
+use Rattle.std.proofs.Common.{◌≡◌, ℕ, ℤ, ◌+◌, ◌≤◌, ◌==◌, Bool, true, false, if◌then◌else◌, List, [], ◌∷◌, length, Option, Some, None, refl, sym, ap, ◌∙◌, subst, arith}
 use Rattle.std.specs.List.{slice_get}
+use Rattle.ada_program.specs.declared.program.Exception.{Exception}
+use Rattle.ada_program.specs.declared.program.Program.{Program}
 use Rattle.ada_program.specs.declared.program.TypeDefinition.{TypeDefinition}
-use Rattle.ada_program.specs.Controlled.{OverridesNothing, operations_of, procedure_number, shapes_of}
+use Rattle.ada_program.specs.Controlled.{operations_of, procedure_number, shapes_of}
 use Rattle.ada_program.specs.ProgramForm.{BodyForm, body_forms}
 use Rattle.ada_parts.specs.Part.{Part}
 use Rattle.ada_parts.specs.Task.{Task, performs, treats, next as task_next}
 use Rattle.ada_parts.specs.Law.{parts_left}
 use Rattle.ada_meaning.specs.declared.state.Value.{Value}
-use Rattle.ada_meaning.specs.declared.state.Mode.TheVariants.{Running}
+use Rattle.ada_meaning.specs.declared.state.Mode.{Mode}
+use Rattle.ada_meaning.specs.declared.state.Mode.TheVariants.{Running, Raising, Exiting, Returning}
 use Rattle.ada_meaning.specs.declared.event.Birth.{Birth}
-use Rattle.ada_meaning.specs.declared.event.Birth.TheVariants.{Adjustment}
+use Rattle.ada_meaning.specs.declared.event.Birth.TheVariants.{Creation, Copy, Adjustment}
 use Rattle.ada_meaning.specs.declared.event.Cause.{Cause}
 use Rattle.ada_meaning.specs.declared.event.Cause.TheVariants.{Assigning}
 use Rattle.ada_meaning.specs.declared.event.Halt.TheVariants.{Erroneous, Stuck}
 use Rattle.ada_meaning.specs.declared.event.Why.TheVariants.{FinalizesTwice}
-use Rattle.ada_meaning.specs.Event.{Finalized}
+use Rattle.ada_meaning.specs.Event.{Finalized, Quiet}
 use Rattle.ada_meaning.specs.Frame.{Frame, Treatment, begins, ends}
 use Rattle.ada_meaning.specs.Frame as frame
-use Rattle.ada_meaning.specs.Heap.{PartState, Cell, Found, finds}
-use Rattle.ada_meaning.specs.Step.{halts, picks, at, direction_of, picked_task, treating, treated_on, beginning as operation_of, begun_next, ended_next, finalized_next, performed_next, treats_next}
+use Rattle.ada_meaning.specs.Heap.{PartState, Cell, Found, on_null, on_gone, on_other, finds}
+use Rattle.ada_meaning.specs.Step.{halts, picks, at, direction_of, picked_task, treating, treated_on, beginning as operation_of, operation_next, part_reference, begun_next, ended_next, finalized_next, performed_next, treats_next, born_next, awaited_next, undo_next, broken_next, mode_next}
 use Rattle.ada_meaning.specs.Named.{Object, State, Next, named, next, look, existing, seen, finalize}
-use Rattle.ada_meaning.specs.Run.{Event}
+use Rattle.ada_meaning.specs.Run.{Event, Run, first_state}
 use Rattle.ada_meaning.specs.Finalization.{NothingTreated}
-use Rattle.ada_finalized.specs.Law.{NeverFinalizesTwice}
+use Rattle.ada_finalized.specs.Law.{waits_for_operation, NoOperationRuns, NeverFinalizesTwice, OperationsEndWell, NamesExisting, TreatedExist, TreatedObjectsExist}
 use Rattle.ada_finalized.proofs.Counts.{one_if, count}
 use Rattle.ada_finalized.proofs.Ranks.{Heap}
-use Rattle.ada_finalized.proofs.Doings.{name, same_name, Doing, Treating, Ending, doings, Fewer, fewer_treating, alike, fewer_gains, fewer_losses, on_same, gains, losses}
-use Rattle.ada_finalized.proofs.Stacks.{Control, code, finalization, Stack, to_end, to_copy, storing_then, ending_then, none_behind}
+use Rattle.ada_finalized.proofs.Doings.{name, same_name, Doing, Treating, Ending, doings, Of, Fewer, fewer_treating, alike, fewer_gains, fewer_losses, on_same, gains, losses}
+use Rattle.ada_finalized.proofs.Stacks.{Control, code, finalization, Stack, to_end, to_copy, storing_then, ending_then, guard_never, none_behind}
 use Rattle.ada_finalized.proofs.Claims.{Claimed}
-use Rattle.ada_finalized.proofs.Invariant.{Exists, Inv, Stands, runs, finding, passing, ends_operation, beginning, ending, leaving, storing}
+use Rattle.ada_finalized.proofs.Invariant.{Exists, IsThere, Inv, Stands, runs, finding, passing, ends_operation, beginning, ending, leaving, storing}
 use Rattle.ada_finalized.proofs.Going.{next_is, alive_of, one_here}
-use Rattle.ada_finalized.proofs.Operating.{begins_some, ends_some}
 use Rattle.ada_finalized.proofs.Runs.{past_then, last_holds}
-use Rattle.ada_finalized.proofs.Standing.{code_nothing, assigns_nothing, guard_never}
+use Rattle.ada_finalized.proofs.Standing.{code_nothing, assigns_nothing}
 
 -- What comes next does not halt so.
 abbrev NotTwice : Next → Type 0
@@ -48,17 +50,25 @@ pick_not_twice : (none : Bool) (n : ℕ) (taking : ℕ → State) → NotTwice (
 pick_not_twice true n taking e = cc e
 pick_not_twice false n taking e = cc e
 
-module _ (types : List TypeDefinition) (bodies : List BodyForm) (none : OverridesNothing types) (past : List Event) (s : State) (inv : Inv types past s.heap s.next (doings s.control)) where
+module _ (types : List TypeDefinition) (bodies : List BodyForm) (past : List Event) (s : State) (inv : Inv types past s.heap s.next (doings s.control)) where
   -- What is treated exists.
-  treated_exists : (v : Value) (treatment : Treatment) (tasks : List Task) (k : Control) → s.control ≡ frame.Treats v treatment tasks ∷ k → Exists s.heap v
-  treated_exists v treatment tasks k is = ((subst (Inv types past s.heap s.next) (ap doings is) inv).there none).0
+  pub treated_there : (v : Value) (treatment : Treatment) (tasks : List Task) (k : Control) → s.control ≡ frame.Treats v treatment tasks ∷ k → Exists s.heap v
+  treated_there v treatment tasks k is = (subst (Inv types past s.heap s.next) (ap doings is) inv).there.0
+
+  -- The body of an operation begins, or there is none.
+  operation_not_twice :
+      (procedure : ℕ) (found : Option BodyForm) (reference : Value) (behind : Control) (shown : Event) (u : State)
+      → NotTwice (operation_next named procedure found reference behind shown u)
+  operation_not_twice procedure None reference behind shown u e = cc e
+  operation_not_twice procedure (Some b) reference behind shown u e = cc e
 
   begun_not_twice :
-      (v : Value) (by : Birth) (done : List Part) (of n : ℕ) (tasks : List Task) (operation : Option ℕ) → operation_of by (operations_of types of) ≡ operation
-      → (found : Option PartState) (u : State) → NotTwice (begun_next named bodies v by done of n tasks operation found u)
-  begun_not_twice v by done of n tasks operation called None u e = cc e
-  begun_not_twice v by done of n tasks None called (Some p) u e = cc e
-  begun_not_twice v by done of n tasks (Some procedure) called (Some p) u e = begins_some types by of procedure called none
+      (v : Value) (by : Birth) (done : List Part) (of n : ℕ) (tasks : List Task) (operation : Option ℕ) (found : Option PartState) (u : State)
+      → NotTwice (begun_next named bodies v by done of n tasks operation found u)
+  begun_not_twice v by done of n tasks operation None u e = cc e
+  begun_not_twice v by done of n tasks None (Some p) u e = cc e
+  begun_not_twice v by done of n tasks (Some procedure) (Some p) u e =
+      operation_not_twice procedure (slice_get bodies procedure) (part_reference named v n p) (frame.Awaits v by done of n tasks ∷ u.control) Quiet u e
 
   begins_not_twice :
       (v : Value) (by : Birth) (done : List Part) (task : Task) (tasks : List Task) (k : Control)
@@ -67,16 +77,17 @@ module _ (types : List TypeDefinition) (bodies : List BodyForm) (none : Override
   begins_not_twice v by done (treats cs) tasks k is =
       pick_not_twice (length cs == 0) (length cs) (λ i. treated_on named v (begins by done) (picked_task (shapes_of types) (direction_of (begins by done)) (treats cs ∷ tasks) i) (at k s))
   begins_not_twice v by done (performs of n) tasks k is =
-      let x = exists_found s.heap v (treated_exists v (begins by done) (performs of n ∷ tasks) k is) in
+      let x = exists_found s.heap v (treated_there v (begins by done) (performs of n ∷ tasks) k is) in
       subst (λ (found : Found (Cell Value)). NotTwice (performed_next named types bodies v (begins by done) of n tasks found (at k s))) (sym x.1)
-      (begun_not_twice v by done of n tasks (operation_of by (operations_of types of)) refl (slice_get x.0.cell.parts n) (at k s))
+      (begun_not_twice v by done of n tasks (operation_of by (operations_of types of)) (slice_get x.0.cell.parts n) (at k s))
 
   -- A value of a part is to be finalized.
   ended_not_twice :
-      (v : Value) (of n : ℕ) (p : PartState) (behind : Control) (operation : Option ℕ) → procedure_number (operations_of types of).finalize ≡ operation
-      → (shown : Event) (u : State) → NotTwice (ended_next named bodies v n p behind operation shown u)
-  ended_not_twice v of n p behind None called shown u e = cc e
-  ended_not_twice v of n p behind (Some procedure) called shown u e = ends_some types of procedure called none
+      (v : Value) (n : ℕ) (p : PartState) (behind : Control) (operation : Option ℕ) (shown : Event) (u : State)
+      → NotTwice (ended_next named bodies v n p behind operation shown u)
+  ended_not_twice v n p behind None shown u e = cc e
+  ended_not_twice v n p behind (Some procedure) shown u e =
+      operation_not_twice procedure (slice_get bodies procedure) (part_reference named v n p) (frame.Confines ∷ behind) shown u e
 
   finalized_not_twice :
       (v : Value) (cause : Cause) (of n : ℕ) (tasks : List Task) (k : Control) (found : Option PartState) → ((p : PartState) → found ≡ Some p → p.alive ≡ true)
@@ -86,7 +97,7 @@ module _ (types : List TypeDefinition) (bodies : List BodyForm) (none : Override
       subst
       (λ (b : Bool). NotTwice (if b then ended_next named bodies v n p (treating v (ends cause) tasks k) (procedure_number (operations_of types of).finalize) (Finalized v n p.turn of p.number cause) (record (at k s) { heap = finalize s.heap v n }) else halts (Erroneous FinalizesTwice)))
       (sym (alive p refl))
-      (ended_not_twice v of n p (treating v (ends cause) tasks k) (procedure_number (operations_of types of).finalize) refl (Finalized v n p.turn of p.number cause) (record (at k s) { heap = finalize s.heap v n }))
+      (ended_not_twice v n p (treating v (ends cause) tasks k) (procedure_number (operations_of types of).finalize) (Finalized v n p.turn of p.number cause) (record (at k s) { heap = finalize s.heap v n }))
 
   ends_not_twice :
       (o : ℕ) (cause : Cause) (task : Task) (tasks : List Task) (k : Control) → s.control ≡ frame.Treats (name o) (ends cause) (task ∷ tasks) ∷ k
@@ -98,7 +109,7 @@ module _ (types : List TypeDefinition) (bodies : List BodyForm) (none : Override
       pick_not_twice (length cs == 0) (length cs) (λ i. treated_on named (name o) (ends cause) (picked_task (shapes_of types) (direction_of (ends cause)) (treats cs ∷ tasks) i) (at k s))
   ends_not_twice o cause (performs of n) tasks k is waits =
       let shapes = shapes_of types in
-      let there = treated_exists (name o) (ends cause) (performs of n ∷ tasks) k is in
+      let there = treated_there (name o) (ends cause) (performs of n ∷ tasks) k is in
       let x = exists_found s.heap (name o) there in
       subst (λ (found : Found (Cell Value)). NotTwice (performed_next named types bodies (name o) (ends cause) of n tasks found (at k s))) (sym x.1)
       (finalized_not_twice (name o) cause of n tasks k (slice_get x.0.cell.parts n)
@@ -113,15 +124,20 @@ module _ (types : List TypeDefinition) (bodies : List BodyForm) (none : Override
           let at_o : slice_get s.heap o ≡ Some x = ap (slice_get s.heap) (same_name o i same) ∙ at_i in
           subst (λ (found : Option Object). Claimed found n (gains (shapes_of types) o n (doings s.control)) (losses (shapes_of types) o n (doings s.control))) at_o (inv.claims o n) stage p at_n
 
+  -- No operation runs behind what is left of a treatment.
+  still_behind : (v : Value) (treatment : Treatment) (tasks : List Task) (k : Control) → NoOperationRuns (treating v treatment tasks k) → NoOperationRuns k
+  still_behind v treatment [] k still = still
+  still_behind v treatment (task ∷ tasks) k still = still.1
+
   -- What is left of a finalization.
   ending_not_twice :
       (o : ℕ) (cause : Cause) (pool : Option ℕ) (task : Task) (tasks : List Task) (k : Control)
-      → s.control ≡ frame.Treats (name o) (ends cause) (task ∷ tasks) ∷ ending_then o cause pool k → Stack types code s.activations k
+      → s.control ≡ frame.Treats (name o) (ends cause) (task ∷ tasks) ∷ ending_then o cause pool k → NoOperationRuns k → Stack types s.heap code s.activations k
       → NotTwice (treats_next named types bodies (name o) (ends cause) (task ∷ tasks) (task_next (task ∷ tasks)) (at (ending_then o cause pool k) s))
-  ending_not_twice o cause pool task tasks k is h =
+  ending_not_twice o cause pool task tasks k is still h =
       let shapes = shapes_of types in
       let ds = Treating (name o) (ends cause) (task ∷ tasks) ∷ Ending (name o) ∷ [] in
-      let same : doings s.control ≡ ds = ap doings is ∙ ap (λ (es : List Doing). Treating (name o) (ends cause) (task ∷ tasks) ∷ Ending (name o) ∷ es) (none_behind types none s.activations k h) in
+      let same : doings s.control ≡ ds = ap doings is ∙ ap (λ (es : List Doing). Treating (name o) (ends cause) (task ∷ tasks) ∷ Ending (name o) ∷ es) (none_behind types s.heap s.activations k h still) in
       ends_not_twice o cause task tasks (ending_then o cause pool k) is
       (λ n some.
       let a = on_same o 1 in
@@ -131,9 +147,9 @@ module _ (types : List TypeDefinition) (bodies : List BodyForm) (none : Override
   copying_not_twice :
       (o m from t to width : ℕ) (task : Task) (tasks later : List Task) (k : Control)
       → s.control ≡ frame.Treats (name o) (ends (Assigning m)) (task ∷ tasks) ∷ frame.Copies from t ∷ storing_then o m to width later k
-      → ((n : ℕ) → count n (parts_left (shapes_of types) later) ≤ 1) → Stack types code s.activations k
+      → ((n : ℕ) → count n (parts_left (shapes_of types) later) ≤ 1) → NoOperationRuns k → Stack types s.heap code s.activations k
       → NotTwice (treats_next named types bodies (name o) (ends (Assigning m)) (task ∷ tasks) (task_next (task ∷ tasks)) (at (frame.Copies from t ∷ storing_then o m to width later k) s))
-  copying_not_twice o m from t to width task tasks later k is once h =
+  copying_not_twice o m from t to width task tasks later k is once still h =
       let shapes = shapes_of types in
       let b = frame.Copies from t ∷ storing_then o m to width later k in
       let first = Treating (name o) (ends (Assigning m)) (task ∷ tasks) in
@@ -142,7 +158,7 @@ module _ (types : List TypeDefinition) (bodies : List BodyForm) (none : Override
       subst (Fewer ds) (sym (ap doings is))
       (fewer_treating (name o) (ends (Assigning m)) (task ∷ tasks) (Treating (name o) (begins (Adjustment m) []) later ∷ doings k) b
       (fewer_treating (name o) (begins (Adjustment m) []) later (doings k) k alike)) in
-      let behind = none_behind types none s.activations k h in
+      let behind = none_behind types s.heap s.activations k h still in
       ends_not_twice o (Assigning m) task tasks b is
       (λ n some.
       let g = fewer_gains shapes o n ds (doings s.control) few in
@@ -160,30 +176,96 @@ module _ (types : List TypeDefinition) (bodies : List BodyForm) (none : Override
   treated_never : (v : Value) (treatment : Treatment) (tasks : List Task) (k : Control) → s.control ≡ frame.Treats v treatment tasks ∷ k → NothingTreated s.control → ⊥
   treated_never v treatment tasks k is h = subst NothingTreated is h
 
-  finalization_not_twice : (v : Value) (treatment : Treatment) (tasks : List Task) (k : Control) → s.mode ≡ Running → s.control ≡ frame.Treats v treatment tasks ∷ k → (c : Control) → s.control ≡ c → Stack types finalization s.activations c → NotTwice (next types bodies s)
-  finalization_not_twice v treatment tasks k running first c is (to_end o cause pool [] j e own once h) =
+  finalization_not_twice : (v : Value) (treatment : Treatment) (tasks : List Task) (k : Control) → s.mode ≡ Running → s.control ≡ frame.Treats v treatment tasks ∷ k → NoOperationRuns s.control → (c : Control) → s.control ≡ c → Stack types s.heap finalization s.activations c → NotTwice (next types bodies s)
+  finalization_not_twice v treatment tasks k running first still c is (to_end o cause pool [] j e own once h) =
       let never : frame.Treats v treatment tasks ∷ k ≡ ending_then o cause pool j = sym first ∙ is ∙ e in absurd (cc never)
-  finalization_not_twice v treatment tasks k running first c is (to_end o cause pool (task ∷ left) j e own once h) =
-      by_next (name o) (ends cause) (task ∷ left) (ending_then o cause pool j) running (is ∙ e) (ending_not_twice o cause pool task left j (is ∙ e) h)
-  finalization_not_twice v treatment tasks k running first c is (to_copy o n from t to width source [] later j e less once operand h) =
+  finalization_not_twice v treatment tasks k running first still c is (to_end o cause pool (task ∷ left) j e own once h) =
+      by_next (name o) (ends cause) (task ∷ left) (ending_then o cause pool j) running (is ∙ e) (ending_not_twice o cause pool task left j (is ∙ e) (subst NoOperationRuns (is ∙ e) still).1.1.1 h)
+  finalization_not_twice v treatment tasks k running first still c is (to_copy o n from t to width source [] later j e less once operand h) =
       let never : frame.Treats v treatment tasks ∷ k ≡ frame.Copies from t ∷ storing_then o n to width later j = sym first ∙ is ∙ e in absurd (cc never)
-  finalization_not_twice v treatment tasks k running first c is (to_copy o n from t to width source (task ∷ left) later j e less once operand h) =
-      by_next (name o) (ends (Assigning n)) (task ∷ left) (frame.Copies from t ∷ storing_then o n to width later j) running (is ∙ e) (copying_not_twice o n from t to width task left later j (is ∙ e) once h)
+  finalization_not_twice v treatment tasks k running first still c is (to_copy o n from t to width source (task ∷ left) later j e less once operand h) =
+      by_next (name o) (ends (Assigning n)) (task ∷ left) (frame.Copies from t ∷ storing_then o n to width later j) running (is ∙ e) (copying_not_twice o n from t to width task left later j (is ∙ e) once (still_behind (name o) (begins (Adjustment n) []) later j (subst NoOperationRuns (is ∙ e) still).1.1.1) h)
 
-  pub treats_not_twice : (v : Value) (treatment : Treatment) (tasks : List Task) (k : Control) → s.control ≡ frame.Treats v treatment tasks ∷ k → Stands types s → NotTwice (next types bodies s)
-  treats_not_twice v treatment tasks k is (runs h) = absurd (treated_never v treatment tasks k is (code_nothing types none past s s.control s.activations h))
-  treats_not_twice v treatment tasks k is (finding running f after) = absurd (treated_never v treatment tasks k is (assigns_nothing types none past s s.activations s.control after))
-  treats_not_twice v treatment tasks k is (passing e raises p after) = absurd (treated_never v treatment tasks k is (assigns_nothing types none past s s.activations s.control after))
-  treats_not_twice v treatment tasks k is (ends_operation h) = absurd (guard_never types none past s s.activations s.control h)
-  treats_not_twice v treatment tasks k is (beginning o by done task left j running c h) =
+  pub treats_not_twice : (v : Value) (treatment : Treatment) (tasks : List Task) (k : Control) → s.control ≡ frame.Treats v treatment tasks ∷ k → NoOperationRuns s.control → Stands types s.heap s → NotTwice (next types bodies s)
+  treats_not_twice v treatment tasks k is still (runs h) = absurd (treated_never v treatment tasks k is (code_nothing types s still s.control s.activations still h))
+  treats_not_twice v treatment tasks k is still (finding running f after) = absurd (treated_never v treatment tasks k is (assigns_nothing types s still s.activations s.control still after))
+  treats_not_twice v treatment tasks k is still (passing e raises p after) = absurd (treated_never v treatment tasks k is (assigns_nothing types s still s.activations s.control still after))
+  treats_not_twice v treatment tasks k is still (ends_operation h) = absurd (guard_never types s.heap s.activations s.control h still)
+  treats_not_twice v treatment tasks k is still (beginning o by done task left j running c h) =
       by_next (name o) (begins by done) (task ∷ left) j running c (begins_not_twice (name o) by done task left j c)
-  treats_not_twice v treatment tasks k is (ending running h) = finalization_not_twice v treatment tasks k running is s.control refl h
-  treats_not_twice v treatment tasks k is (leaving o x cause pool j running c own h at_o gone) =
+  treats_not_twice v treatment tasks k is still (ending running h) = finalization_not_twice v treatment tasks k running is still s.control refl h
+  treats_not_twice v treatment tasks k is still (leaving o x cause pool j running c own h at_o gone) =
       let never : frame.Treats v treatment tasks ∷ k ≡ frame.GivesBack (name o) cause pool ∷ j = sym is ∙ c in absurd (cc never)
-  treats_not_twice v treatment tasks k is (storing o n to width left j running c h) =
+  treats_not_twice v treatment tasks k is still (storing o n to width left j running c h) =
       let never : frame.Treats v treatment tasks ∷ k ≡ storing_then o n to width left j = sym is ∙ c in absurd (cc never)
 
+-- In every run, that to which something is done is there, whatever operations do.
+named_existing : (xs : Heap) (v : Value) → Exists xs v → NamesExisting xs v
+named_existing xs v t = (record { 0 = t.0 }, t.1.0, t.1.1.0, t.1.1.1.0, t.1.1.1.1)
+
+all_exist : (xs : Heap) (k : Control) → Of (IsThere xs) (doings k) → TreatedExist xs k
+all_exist xs [] h = tt
+all_exist xs (frame.Treats v treatment tasks ∷ k) h = (named_existing xs v h.0, all_exist xs k h.1)
+all_exist xs (frame.Awaits v by done of part tasks ∷ k) h = (named_existing xs v h.0, all_exist xs k h.1)
+all_exist xs (frame.Ends v ∷ k) h = (named_existing xs v h.0, all_exist xs k h.1)
+all_exist xs (f ∷ k) h = all_exist xs k h
+
+pub treated_exist : TreatedObjectsExist
+treated_exist program input events last run = all_exist last.heap last.control (last_holds program input events last run).fits.inv.there
+
+-- What is treated next.
+pub treated_exists :
+    (program : Program) (input : List ℤ) (events : List Event) (last : State) → Run program (first_state program input) events last
+    → (v : Value) (treatment : Treatment) (tasks : List Task) (k : Control) → last.control ≡ frame.Treats v treatment tasks ∷ k → NamesExisting last.heap v
+treated_exists program input events last run v treatment tasks k is =
+    (subst (TreatedExist last.heap) is (treated_exist program input events last run)).0
+
+-- Where the body of an operation has ended, or an exception comes out of it, the object is there.
+module _ (types : List TypeDefinition) (bodies : List BodyForm) (s : State) where
+  awaited_not_twice :
+      (v : Value) (by : Birth) (done : List Part) (of n : ℕ) (tasks : List Task) (found : Option PartState) (u : State)
+      → NotTwice (born_next named v by done of n tasks found u)
+  awaited_not_twice v by done of n tasks None u e = cc e
+  awaited_not_twice v by done of n tasks (Some p) u e = cc e
+
+  undo_not_twice : (x : Exception) (v : Value) (done : List Part) (found : Found (Cell Value)) (u : State) → NotTwice (undo_next named x v done found u)
+  undo_not_twice x v done on_null u e = cc e
+  undo_not_twice x v done on_gone u e = cc e
+  undo_not_twice x v done on_other u e = cc e
+  undo_not_twice x v done (finds cell) u e = cc e
+
+  broken_not_twice : (x : Exception) (v : Value) (by : Birth) (done : List Part) (u : State) → NotTwice (broken_next named x v by done u)
+  broken_not_twice x v Creation done u = undo_not_twice x v done (look u.heap v) u
+  broken_not_twice x v Copy done u = λ e. cc e
+  broken_not_twice x v (Adjustment n) done u = λ e. cc e
+
+  guard_not_twice : (mode : Mode) (f : Frame Value) (k : Control) → waits_for_operation f ≡ true → TreatedExist s.heap (f ∷ k) → NotTwice (mode_next named types bodies mode (record s { control = f ∷ k }))
+  unfolding exists_found
+  guard_not_twice Running (frame.Awaits v by done of n tasks) k waits h =
+      let o = h.0.0.0 in
+      let x = exists_found s.heap v (o, (h.0.1, (h.0.2, (h.0.3, h.0.4)))) in
+      let u = record s { control = k } in
+      subst (λ (found : Found (Cell Value)). NotTwice (awaited_next named v by done of n tasks found u)) (sym x.1)
+      (awaited_not_twice v by done of n tasks (slice_get x.0.cell.parts n) u)
+  guard_not_twice Running frame.Confines k waits h = λ e. cc e
+  guard_not_twice (Raising x) (frame.Awaits v by done of n tasks) k waits h = broken_not_twice x v by done (record s { control = k })
+  guard_not_twice (Raising x) frame.Confines k waits h = λ e. cc e
+  guard_not_twice Exiting (frame.Awaits v by done of n tasks) k waits h = λ e. cc e
+  guard_not_twice Exiting frame.Confines k waits h = λ e. cc e
+  guard_not_twice Returning (frame.Awaits v by done of n tasks) k waits h = λ e. cc e
+  guard_not_twice Returning frame.Confines k waits h = λ e. cc e
+  guard_not_twice mode f k waits h = absurd (cc waits)
+
+pub operations_end_well : OperationsEndWell
+unfolding next
+operations_end_well program input events last run f k is waits halted =
+    let types = program.types.items in
+    let bodies = body_forms program in
+    let exist = subst (TreatedExist last.heap) is (treated_exist program input events last run) in
+    let same : last ≡ record last { control = f ∷ k } = ap (λ (c : Control). record last { control = c }) is in
+    guard_not_twice types bodies last last.mode f k waits exist (ap (λ (u : State). mode_next named types bodies last.mode u) (sym same) ∙ halted)
+
 pub never_twice : NeverFinalizesTwice
-never_twice program input events last none run v treatment tasks k is halted =
+never_twice program input events last still run v treatment tasks k is halted =
     let fits = (last_holds program input events last run).fits in
-    treats_not_twice program.types.items (body_forms program) none (past_then events []) last fits.inv v treatment tasks k is fits.stands halted
+    treats_not_twice program.types.items (body_forms program) (past_then events []) last fits.inv v treatment tasks k is still fits.stands halted

@@ -8,17 +8,24 @@ use Rattle.ada_program.specs.declared.program.Operations.{Operations}
 use Rattle.ada_program.specs.declared.program.Program.{Program}
 use Rattle.ada_program.specs.declared.program.VariableKind.TheVariants as variable
 use Rattle.ada_program.specs.Controlled.{shapes_of, operations_of}
-use Rattle.ada_program.specs.Form.{RecordPathForm, item_of_record, nothing, allocates_default, skips, assigns, assigns_record, frees, raises, encloses, StmtsForm, no_stmts, a_stmt, no_handlers, collects, declares, declares_record, stmt_forms}
-use Rattle.ada_program.specs.ProgramForm.{BodyForm, body_forms}
+use Rattle.ada_program.specs.Form.{RecordPathForm, item_of_record, nothing, allocates_default, skips, assigns, assigns_record, frees, raises, encloses, StmtsForm, no_stmts, a_stmt, no_handlers, DeclarationForm, collects, declares, declares_record, stmt_forms}
+use Rattle.ada_program.specs.ProgramForm.{VariableForm, BodyForm, body_forms}
 use Rattle.ada_parts.specs.Shape.{Shape}
+use Rattle.ada_parts.specs.Task.{Task}
 use Rattle.ada_meaning.specs.declared.state.Value.{Value}
 use Rattle.ada_meaning.specs.declared.state.Value.TheVariants.{Names}
 use Rattle.ada_meaning.specs.declared.event.Birth.TheVariants.{Creation, Copy, Adjustment}
 use Rattle.ada_meaning.specs.declared.event.Cause.TheVariants.{Leaving, Freeing, Assigning, Undoing}
-use Rattle.ada_meaning.specs.declared.event.Halt.TheVariants.{Finished, Unhandled}
+use Rattle.ada_meaning.specs.declared.event.Halt.TheVariants.{Finished, Unhandled, Erroneous}
+use Rattle.ada_meaning.specs.declared.event.Why.TheVariants.{FinalizesTwice}
 use Rattle.ada_meaning.specs.Event.{Born, Finalized, Back, Followed, Left}
+use Rattle.ada_meaning.specs.Frame.{Frame, ends, Treats}
+use Rattle.ada_meaning.specs.State.{begins}
+use Rattle.ada_meaning.specs.Named.{State}
+use Rattle.ada_meaning.specs.Finalization.{NothingTreated}
 use Rattle.ada_meaning.specs.Run.{Event, Halts}
 use Rattle.ada_order.specs.Example.{InSomeRun, is_seen, variable_at}
+use Rattle.ada_finalized.specs.Law.{NoOperationRuns}
 
 -- type Inner is new Controlled with record V : Integer; end record; type Outer is new Controlled with record C : Inner; end record; type Outer_Access is
 -- access Outer; and what X and Y are known by. Of these, the newest first, Outer is controlled and has a controlled component.
@@ -91,21 +98,29 @@ ValuesAreFinalized =
     (program : Program) × (shapes_of program.types.items ≡ controlled_shapes) × (stmt_forms program ≡ controlled_stmts)
     × InSomeRun program (λ events last. Halts program last Finished × (filter is_seen events ≡ controlled_events))
 
--- procedure Initialize (X : in out Outer) is begin raise Constraint_Error; end Initialize;
-abbrev pub raising_initialize : BodyForm
-raising_initialize = record {
+-- A record object that is known by the type of this number.
+abbrev pub known_by : ℕ → VariableForm
+known_by t = record { name = []; spot = record { line = 1; column = 1 }; kind = variable.Record (record { 0 = t }); borrows = false }
+
+-- The body of an operation of Outer with these objects of its own, which does these statements.
+abbrev pub body_of_outer : List VariableForm → List DeclarationForm → StmtsForm → BodyForm
+body_of_outer own declarations statements = record {
   formals = InOut ∷ [];
-  variables = record { name = []; spot = record { line = 1; column = 1 }; kind = variable.Record (record { 0 = 3 }); borrows = false } ∷ [];
-  declarations = [];
-  statements = a_stmt (raises ConstraintError) no_stmts;
+  variables = known_by 3 ∷ own;
+  declarations = declarations;
+  statements = statements;
   handlers = no_handlers;
   start_spot = record { line = 1; column = 1 };
   end_spot = record { line = 1; column = 1 };
 }
 
+-- procedure Initialize (X : in out Outer) is begin raise Constraint_Error; end Initialize;
+abbrev pub raising_initialize : BodyForm
+raising_initialize = body_of_outer [] [] (a_stmt (raises ConstraintError) no_stmts)
+
 -- declare X : Outer; begin null; end;
-abbrev pub undone_stmts : StmtsForm
-undone_stmts = a_stmt (encloses (declares_record 0 2 None ∷ []) (a_stmt skips no_stmts) no_handlers) no_stmts
+abbrev pub object_stmts : StmtsForm
+object_stmts = a_stmt (encloses (declares_record 0 2 None ∷ []) (a_stmt skips no_stmts) no_handlers) no_stmts
 
 -- Outer overrides Initialize, by this procedure.
 abbrev pub outer_operations : Operations
@@ -127,5 +142,51 @@ undone_events =
 abbrev pub InitializationIsUndone : Type 0
 InitializationIsUndone =
     (program : Program) × (shapes_of program.types.items ≡ controlled_shapes) × (operations_of program.types.items 1 ≡ outer_operations)
-    × (body_forms program ≡ raising_initialize ∷ []) × (stmt_forms program ≡ undone_stmts)
+    × (body_forms program ≡ raising_initialize ∷ []) × (stmt_forms program ≡ object_stmts)
     × InSomeRun program (λ events last. Halts program last (Unhandled ConstraintError) × (filter is_seen events ≡ undone_events))
+
+-- procedure Finalize (X : in out Outer) is begin null; end Finalize;
+abbrev pub quiet_finalize : BodyForm
+quiet_finalize = body_of_outer [] [] (a_stmt skips no_stmts)
+
+-- Outer overrides Finalize, by this procedure.
+abbrev pub outer_finalizes : Operations
+outer_finalizes = record { initialize = None; adjust = None; finalize = Some (record { 0 = 0 }) }
+
+-- A statement begins while no operation runs.
+abbrev pub BeginsAlone : State → Type 0
+BeginsAlone s = (begins s ≡ true) × NoOperationRuns s.control
+
+-- X is finalized next, at the leaving of the block, while no operation runs.
+abbrev pub TreatsAlone : State → Type 0
+TreatsAlone s =
+    (tasks : List Task) × (behind : List (Frame Value)) × (s.control ≡ Treats object_x (ends (Leaving 1 0)) tasks ∷ behind) × NoOperationRuns s.control
+
+-- A statement begins while something is finalized: an operation runs then.
+abbrev pub BeginsWithin : State → Type 0
+BeginsWithin s = (begins s ≡ true) × (NothingTreated s.control → ⊥)
+
+-- In a run of a program with these types, this procedure and these statements the statement of the block begins, then X is finalized, and then the statement
+-- of Finalize begins, with the component of X still to be finalized.
+abbrev pub FinalizeIsCalled : Type 0
+FinalizeIsCalled =
+    (program : Program) × (shapes_of program.types.items ≡ controlled_shapes) × (operations_of program.types.items 1 ≡ outer_finalizes)
+    × (body_forms program ≡ quiet_finalize ∷ []) × (stmt_forms program ≡ object_stmts) × InSomeRun program (λ events last. BeginsAlone last)
+    × InSomeRun program (λ events last. TreatsAlone last) × InSomeRun program (λ events last. BeginsWithin last)
+
+-- procedure Finalize (X : in out Outer) is Y : Outer; begin X := Y; end Finalize;
+abbrev pub assigning_finalize : BodyForm
+assigning_finalize =
+    body_of_outer (known_by 4 ∷ []) (declares_record 1 4 None ∷ []) (a_stmt (assigns_record (outer_at 0) (item_of_record (outer_at 1) ∷ [])) no_stmts)
+
+-- X is to be finalized by an assignment, and halts the run.
+abbrev pub TreatsTwice : Program → State → Type 0
+TreatsTwice program s =
+    (number : ℕ) × (tasks : List Task) × (behind : List (Frame Value)) × (s.control ≡ Treats object_x (ends (Assigning number)) tasks ∷ behind)
+    × Halts program s (Erroneous FinalizesTwice)
+
+-- In a run of a program with these types, this procedure and these statements X is finalized, and its Finalize assigns to it, when it has no value.
+abbrev pub FinalizeAssigns : Type 0
+FinalizeAssigns =
+    (program : Program) × (shapes_of program.types.items ≡ controlled_shapes) × (operations_of program.types.items 1 ≡ outer_finalizes)
+    × (body_forms program ≡ assigning_finalize ∷ []) × (stmt_forms program ≡ object_stmts) × InSomeRun program (λ events last. TreatsTwice program last)

@@ -1,16 +1,19 @@
 -- What is said of every run of every program, from its first state.
 
-use Rattle.std.specs.Prelude.{◌≡◌, ℤ, true, List, ◌∷◌}
+use Rattle.std.specs.Prelude.{◌≡◌, ℤ, Bool, true, false, List, [], ◌∷◌, Some}
 use Rattle.ada_program.specs.declared.program.Program.{Program}
-use Rattle.ada_program.specs.Controlled.{OverridesNothing, shapes_of}
+use Rattle.ada_program.specs.Controlled.{shapes_of}
 use Rattle.ada_parts.specs.Shape.{Shape}
 use Rattle.ada_parts.specs.Task.{Task}
+use Rattle.ada_meaning.specs.declared.state.Id.{Id}
+use Rattle.ada_meaning.specs.declared.state.Stage.TheVariants.{Existing}
 use Rattle.ada_meaning.specs.declared.state.Value.{Value}
+use Rattle.ada_meaning.specs.declared.state.Value.TheVariants.{Names}
 use Rattle.ada_meaning.specs.declared.event.Halt.TheVariants.{Erroneous}
 use Rattle.ada_meaning.specs.declared.event.Why.TheVariants.{FinalizesTwice}
-use Rattle.ada_meaning.specs.Frame.{Frame, Treatment, Treats}
+use Rattle.ada_meaning.specs.Frame.{Frame, Treatment, Treats, Awaits, Confines, Ends}
 use Rattle.ada_meaning.specs.State.{begins}
-use Rattle.ada_meaning.specs.Named.{State}
+use Rattle.ada_meaning.specs.Named.{Object, State, object_at}
 use Rattle.ada_meaning.specs.Finalization.{NothingTreated, PartsStand}
 use Rattle.ada_meaning.specs.Run.{Event, Run, Halts, first_state}
 
@@ -20,12 +23,48 @@ InEveryRun P =
     (program : Program) (input : List ℤ) (events : List Event) (last : State) → Run program (first_state program input) events last
     → P (shapes_of program.types.items) events
 
--- Where no type overrides an operation, no treatment of an object comes to a value that does not exist (7.6.1): a run that halts so is at a Free.
+-- A frame waits for an operation: the body of one is in front of it (7.6, 7.6.1).
+abbrev pub waits_for_operation : {V : Type 0} → Frame V → Bool
+waits_for_operation (Awaits v by done of part tasks) = true
+waits_for_operation Confines = true
+waits_for_operation f = false
+
+-- No operation runs: nothing that is left to do waits for one.
+abbrev pub NoOperationRuns : List (Frame Value) → Type 0
+NoOperationRuns [] = Unit {0}
+NoOperationRuns (f ∷ k) = (waits_for_operation f ≡ false) × NoOperationRuns k
+
+-- While no operation runs, no treatment of an object comes to a value that does not exist (7.6.1): a run that halts so is then at a Free.
 abbrev pub NeverFinalizesTwice : Type 0
 NeverFinalizesTwice =
-    (program : Program) (input : List ℤ) (events : List Event) (last : State) → OverridesNothing program.types.items
+    (program : Program) (input : List ℤ) (events : List Event) (last : State) → NoOperationRuns last.control
     → Run program (first_state program input) events last → (object : Value) (treatment : Treatment) (tasks : List Task) (behind : List (Frame Value))
     → last.control ≡ Treats object treatment tasks ∷ behind → Halts program last (Erroneous FinalizesTwice) → ⊥
+
+-- Behind the body of an operation none does, either, whatever runs there.
+abbrev pub OperationsEndWell : Type 0
+OperationsEndWell =
+    (program : Program) (input : List ℤ) (events : List Event) (last : State) → Run program (first_state program input) events last
+    → (f : Frame Value) (behind : List (Frame Value)) → last.control ≡ f ∷ behind → waits_for_operation f ≡ true
+    → Halts program last (Erroneous FinalizesTwice) → ⊥
+
+-- A value names an object that has come to exist, and has not ceased to.
+abbrev pub NamesExisting : List Object → Value → Type 0
+NamesExisting objects v = (o : Id) × (v ≡ Names o) × (x : Object) × (object_at objects o ≡ Some x) × (x.stage ≡ Existing)
+
+-- So does each that is initialized, adjusted or finalized, or is to cease to exist, by what is left to do.
+abbrev pub TreatedExist : List Object → List (Frame Value) → Type 0
+TreatedExist objects [] = Unit {0}
+TreatedExist objects (Treats v treatment tasks ∷ k) = NamesExisting objects v × TreatedExist objects k
+TreatedExist objects (Awaits v by done of part tasks ∷ k) = NamesExisting objects v × TreatedExist objects k
+TreatedExist objects (Ends v ∷ k) = NamesExisting objects v × TreatedExist objects k
+TreatedExist objects (f ∷ k) = TreatedExist objects k
+
+-- In every run, whatever operations do, an object exists as long as something is done to it: it ceases to exist once (7.6.1).
+abbrev pub TreatedObjectsExist : Type 0
+TreatedObjectsExist =
+    (program : Program) (input : List ℤ) (events : List Event) (last : State) → Run program (first_state program input) events last
+    → TreatedExist last.heap last.control
 
 -- In every run an object that is in its collection has the values of all its parts, but while one is initialized, adjusted or finalized (7.6, 7.6.1).
 abbrev pub AllPartsStand : Type 0
@@ -33,8 +72,8 @@ AllPartsStand =
     (program : Program) (input : List ℤ) (events : List Event) (last : State) → Run program (first_state program input) events last
     → PartsStand program.types.items last
 
--- Where no type overrides an operation, none is initialized, adjusted or finalized at the beginning of a statement: so a Free finds all values.
+-- While no operation runs, nothing is initialized, adjusted or finalized at the beginning of a statement: so a Free finds all values.
 abbrev pub StatementsTreatNothing : Type 0
 StatementsTreatNothing =
-    (program : Program) (input : List ℤ) (events : List Event) (last : State) → OverridesNothing program.types.items
+    (program : Program) (input : List ℤ) (events : List Event) (last : State) → NoOperationRuns last.control
     → Run program (first_state program input) events last → begins last ≡ true → NothingTreated last.control

@@ -4,8 +4,8 @@ ghost use Rattle.std.specs.Prelude.{All, AllPairs};
 ghost use Rattle.ada_meaning.specs.Law.{FinalizedTwoValues};
 ghost use Rattle.ada_meaning.specs.Finalization.{BornTwoValues, BornBeforeFinalized, IsBorn, FinalizedByBack, NothingAfterBack};
 ghost use Rattle.ada_meaning.specs.Finalization.{PartsComeFirst, WholesComeFirst, EndsBeforeItAdjusts, InsideIsBegun, FinalizationLaw};
-ghost use Rattle.ada_finalized.specs.Example.{ValuesAreFinalized, InitializationIsUndone};
-ghost use Rattle.ada_finalized.specs.Law.{InEveryRun, NeverFinalizesTwice, AllPartsStand, StatementsTreatNothing};
+ghost use Rattle.ada_finalized.specs.Example.{ValuesAreFinalized, InitializationIsUndone, FinalizeIsCalled, FinalizeAssigns};
+ghost use Rattle.ada_finalized.specs.Law.{InEveryRun, NeverFinalizesTwice, OperationsEndWell, TreatedObjectsExist, AllPartsStand, StatementsTreatNothing};
 
 /// A controlled value comes to exist once, and is finalized once, after that and before the words of its object go back
 /// (7.6, 7.6.1, 13.11.2).
@@ -18,10 +18,13 @@ pub fn values_are_finalized_once()
     ensures nothing_after_back { InEveryRun (λ shapes events. AllPairs NothingAfterBack events) }
 {}
 
-/// Where no type overrides an operation, no treatment of an object comes to a value that does not exist, whether or not the
-/// program obeys any rule (7.6.1). A Free may, and the body of an operation may bring one to do so.
+/// While no operation runs, no treatment of an object comes to a value that does not exist, whether or not the program obeys
+/// any rule (7.6.1). A Free may, and the body of an operation may bring one to do so. Whatever operations do, none does behind
+/// the body of one, and an object exists as long as something is done to it, so it ceases to exist once.
 pub fn never_finalizes_twice()
-    ensures { NeverFinalizesTwice }
+    ensures never { NeverFinalizesTwice }
+    ensures behind { OperationsEndWell }
+    ensures exist { TreatedObjectsExist }
 {}
 
 /// Components are initialized and adjusted before the record in which they lie, and finalized after it (7.6, 7.6.1); an
@@ -33,8 +36,8 @@ pub fn parts_go_in_order()
 {}
 
 /// Each part of an object is initialized or adjusted: those that lie in a record before it, and all before anything else is
-/// done; so an object that is in its collection has all its values (7.6). Where no type overrides an operation, that is so at
-/// the beginning of each statement.
+/// done; so an object that is in its collection has all its values (7.6). That is so at the beginning of each statement while
+/// no operation runs.
 pub fn all_parts_are_initialized()
     ensures inside_begun { InEveryRun InsideIsBegun }
     ensures all_stand { AllPartsStand }
@@ -48,8 +51,12 @@ pub fn runs_keep_the_law()
 
 /// The laws are not empty: a record object with a controlled component, and an allocated one, are initialized; the one is
 /// assigned to the other; and they are finalized at the leaving of their block, and by a Free. In another run an Initialize
-/// raises an exception, and the initialization of its object is undone.
+/// raises an exception, and the initialization of its object is undone. In a third one a type overrides Finalize: a statement
+/// begins, and an object is finalized next, while no operation runs; and a statement of Finalize begins while the object is
+/// still finalized. In a fourth one Finalize assigns to its object, and halts the run. So the premise is needed.
 pub fn premises_are_met()
     ensures finalized { ValuesAreFinalized }
     ensures undone { InitializationIsUndone }
+    ensures called { FinalizeIsCalled }
+    ensures assigns { FinalizeAssigns }
 {}

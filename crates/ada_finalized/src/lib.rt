@@ -3,8 +3,8 @@
 //! the statement.
 //!
 //! What a crate above takes from here, for the `Law` and the `Safe` of a program: `finalized_once` and `finalizations` of
-//! `proofs::Runs`, `all_stand`, `nothing_treated`, `nothing_treated_at` and `no_operation_ends` of `proofs::Standing`, and
-//! `never_twice` of `proofs::Twice`.
+//! `proofs::Runs`, `all_stand`, `nothing_treated`, `nothing_treated_at` and `none_runs` of `proofs::Standing`, and
+//! `never_twice`, `operations_end_well`, `treated_exist` and `treated_exists` of `proofs::Twice`.
 #![tactic(auto)]
 
 pub mod laws;
