@@ -6,6 +6,9 @@ pub mod Members
 pub mod Jumps
 -- each step makes a state lighter
 pub mod Weight
+-- no step leaves more operations to be called, so each makes another number smaller
+pub mod OperationsLeft
+pub mod Pace
 -- what one step does to the heap
 pub mod Deeds
 -- objects over any run
@@ -43,6 +46,8 @@ pub mod Places
 pub mod PartsKept
 -- a program whose operations are called
 pub mod OperationExamples
+-- a program whose Initialize calls itself before any statement begins
+pub mod Endless
 -- where a statement begins
 pub mod Beginnings
 -- what the law of the innermost master refuses

@@ -59,7 +59,7 @@ pub member_listed : (objects : List Object) (item : ℕ) (vs : List Value) (i : 
 member_listed objects item vs i is lt = one_of (IsListed 0 objects) vs i lt (subst (λ (ws : List Value). AllByRecursion (IsListed 0 objects) ws) is (all_listed item 0 objects))
 
 -- The name of a value that is listed among all objects, and what is found there.
-named_so : (objects : List Object) (v : Value) (h : IsListed 0 objects v) → v ≡ Names (record { 0 = h.place })
+pub named_so : (objects : List Object) (v : Value) (h : IsListed 0 objects v) → v ≡ Names (record { 0 = h.place })
 named_so objects v h =
     let same : h.place ≡ 0 + h.place = omega arith in
     h.named ∙ sym (ap (λ (i : ℕ). Names (record { 0 = i })) same)

@@ -43,20 +43,20 @@ use Rattle.ada_meaning.specs.Operations.{operation as operation_next, of_finaliz
 use Rattle.ada_meaning.specs.OperationExamples.{Meets, gone_object_is_not_treated, ended_value_is_not_finalized, nothing_escapes, frees_once, frees_to_its_pool, frees_finalize, here, goes, meets, operations_first, operations_second, operations_both, AnInitializeIsUndone, OthersAreMet, APartBeginsWithAComponent}
 use denote.RawPtr.{null_ptr}
 
-abbrev heap : Global
+abbrev pub heap : Global
 heap = record { memory = record { seal = tt } }
 
-abbrev vec : {X : Type 0} (items : List X) → length items ≤ 8 → Vec X
+abbrev pub vec : {X : Type 0} (items : List X) → length items ≤ 8 → Vec X
 vec items le = record { ptr = null_ptr; len = length items; cap = length items; alloc = heap; items = items; ok = (refl, omega arith); small = omega (arith, le) }
 
-abbrev no_name : String Global
+abbrev pub no_name : String Global
 no_name = record { bytes = vec [] (omega arith); ok = ∣ ([], (refl, refl)) ∣₁ }
 
-abbrev spot : Spot
+abbrev pub spot : Spot
 spot = record { line = 1; column = 1 }
 
 -- A component, with the numbers of the first elementary component and of the first controlled part in it.
-abbrev component_of : PartKind → (first number : ℕ) → Part
+abbrev pub component_of : PartKind → (first number : ℕ) → Part
 component_of kind first number = record { name = no_name; kind = kind; first = record { 0 = first }; part = record { 0 = number } }
 
 -- The components of Both.
@@ -82,7 +82,7 @@ types first second both =
     ∷ []
 
 -- A variable, or formal parameter, that is known by a type.
-abbrev known_by : ℕ → Variable
+abbrev pub known_by : ℕ → Variable
 known_by t = record { name = no_name; spot = spot; kind = variable.Record (record { 0 = t }); borrows = false }
 
 -- procedure P (T : in out ..) is begin .. end P;

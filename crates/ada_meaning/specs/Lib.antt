@@ -44,5 +44,7 @@ pub mod References
 pub mod Beginning
 -- every run ends
 pub mod Ending
+-- so it does where operations are called, too (7.6)
+pub mod Pace
 -- what the run's words print
 pub mod Text
