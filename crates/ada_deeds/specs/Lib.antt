@@ -16,5 +16,3 @@ pub mod View
 pub mod Graph
 -- what the code keeps of the deeds of a program
 pub mod Rows
--- what the bodies of operations must not do
-pub mod Operations

@@ -32,14 +32,3 @@ pub enum Callee {
     /// An operation of the controlled parts of an object of a record type, implicitly (7.6).
     Parts(Operation, TypeNo),
 }
-
-/// A rule on the bodies that override operations of controlled types.
-#[derive(Clone, Copy, Debug, PartialEq, Eq)]
-pub enum OperationRule {
-    /// S8: Adjust or Finalize uses objects of an access type whose collection may have ended.
-    FinalizeOrder,
-    /// S9: an exception may come out of Adjust or Finalize.
-    MayPropagate,
-    /// S10: Finalize creates an object.
-    FinalizeAllocates,
-}

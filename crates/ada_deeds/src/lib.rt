@@ -17,6 +17,6 @@ mod nodes;
 mod statements;
 mod walk;
 
-pub use crate::deed::{Callee, Deed, Operation, OperationRule};
+pub use crate::deed::{Callee, Deed, Operation};
 pub use crate::deeds::Deeds;
 pub use crate::statements::{declaration_does, ending_does, statement_does};

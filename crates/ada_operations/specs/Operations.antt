@@ -1,6 +1,6 @@
 -- What the bodies that override operations of controlled types must not do (7.6, 7.6.1).
 
-use Rattle.std.specs.Prelude.{◌≡◌, ◌⊎◌, ℕ, Bool, true, false, ◌&&◌, ◌||◌, ◌==◌, nat_lt, if◌then◌else◌, List, [], ◌∷◌, ◌++◌, flat_map, Option, Some, None}
+use Rattle.std.specs.Prelude.{◌≡◌, ◌⊎◌, ℕ, Bool, true, false, ◌&&◌, ◌||◌, ◌==◌, nat_lt, List, Option, Some, None}
 use Rattle.std.specs.List.{list_any, slice_get}
 use Rattle.ada_text.specs.declared.spot.Spot.{Spot}
 use Rattle.ada_deeds.specs.Does.{Does}
@@ -9,16 +9,15 @@ use Rattle.ada_deeds.specs.declared.deed.Callee.TheVariants as callee
 use Rattle.ada_deeds.specs.declared.deed.Deed.TheVariants as deed
 use Rattle.ada_deeds.specs.declared.deed.Operation.{Operation}
 use Rattle.ada_deeds.specs.declared.deed.Operation.TheVariants.{Adjust, Finalize}
-use Rattle.ada_deeds.specs.declared.deed.OperationRule.{OperationRule}
-use Rattle.ada_deeds.specs.declared.deed.OperationRule.TheVariants.{FinalizeOrder, MayPropagate, FinalizeAllocates}
+use Rattle.ada_operations.specs.declared.rule.OperationRule.{OperationRule}
+use Rattle.ada_operations.specs.declared.rule.OperationRule.TheVariants.{FinalizeOrder, MayPropagate, FinalizeAllocates}
+use Rattle.ada_operations.specs.Created.{collections_of, is_created_before}
 use Rattle.ada_program.specs.declared.program.Exception.{Exception}
 use Rattle.ada_program.specs.declared.program.Finalization.{Finalization}
 use Rattle.ada_program.specs.declared.program.PartKind.{PartKind}
 use Rattle.ada_program.specs.declared.program.PartKind.TheVariants as part
 use Rattle.ada_program.specs.declared.program.ProcedureNo.{ProcedureNo}
-use Rattle.ada_program.specs.Form.{StmtForm, skips, assigns, assigns_record, frees, gets, writes, writes_text, chooses, repeats, counts, exits, calls, returns, raises, encloses, StmtsForm, no_stmts, a_stmt, BranchesForm, otherwise, a_branch, HandlersForm, no_handlers, a_handler}
-use Rattle.ada_program.specs.Nested.{collected, is_one_of}
-use Rattle.ada_program.specs.ProgramForm.{TypeForm, record_of, access_to, object_of, BodyForm, ProgramForm, main_body}
+use Rattle.ada_program.specs.ProgramForm.{TypeForm, record_of, access_to, object_of, BodyForm, ProgramForm}
 use Rattle.ada_program.specs.WellFormed.{designated_type, finalization_of}
 
 -- Which procedure overrides an operation of a record type, where one does (7.6).
@@ -51,61 +50,6 @@ has_component (Some (object_of record_type)) r = false
 pub data HasPart (types : List TypeForm) (record_type : ℕ) : (whole : ℕ) → Type 0 where
   itself : HasPart types record_type record_type
   within : {component whole : ℕ} → HasPart types record_type component → has_component (slice_get types whole) component ≡ true → HasPart types record_type whole
-
--- The order in which collections are created (7.6.1).
-
-abbrev mutual
-  -- The collections that the blocks in a statement create, those of one declarative part together (5.6).
-  pub stmt_collections : StmtForm → List (List ℕ)
-  stmt_collections skips = []
-  stmt_collections (assigns target right) = []
-  stmt_collections (assigns_record target items) = []
-  stmt_collections (frees access path) = []
-  stmt_collections (gets target) = []
-  stmt_collections (writes e) = []
-  stmt_collections (writes_text text) = []
-  stmt_collections (chooses branches) = branches_collections branches
-  stmt_collections (repeats condition fs end_spot) = stmts_collections fs
-  stmt_collections (counts x low high fs end_spot) = stmts_collections fs
-  stmt_collections (exits condition spot) = []
-  stmt_collections (calls procedure actuals) = []
-  stmt_collections (returns spot) = []
-  stmt_collections (raises e) = []
-  stmt_collections (encloses ds fs hs) = collected ds ∷ stmts_collections fs ++ handlers_collections hs
-
-  -- Those of statements.
-  pub stmts_collections : StmtsForm → List (List ℕ)
-  stmts_collections no_stmts = []
-  stmts_collections (a_stmt f fs) = stmt_collections f ++ stmts_collections fs
-
-  -- Those of branches.
-  pub branches_collections : BranchesForm → List (List ℕ)
-  branches_collections (otherwise fs) = stmts_collections fs
-  branches_collections (a_branch e fs branches) = stmts_collections fs ++ branches_collections branches
-
-  -- Those of handlers.
-  pub handlers_collections : HandlersForm → List (List ℕ)
-  handlers_collections no_handlers = []
-  handlers_collections (a_handler choices fs hs) = stmts_collections fs ++ handlers_collections hs
-
--- Those of a body.
-abbrev pub body_collections : BodyForm → List (List ℕ)
-body_collections b = collected b.declarations ∷ stmts_collections b.statements ++ handlers_collections b.handlers
-
--- Those of a program.
-abbrev pub collections_of : ProgramForm → List (List ℕ)
-collections_of p = body_collections (main_body p) ++ flat_map body_collections p.bodies
-
--- Does one type stand before another one in a list? None stands before itself.
-abbrev pub stands_before : List ℕ → (access other : ℕ) → Bool
-stands_before [] u t = false
-stands_before (v ∷ vs) u t = if v == t then false else ((v == u) || stands_before vs u t)
-
--- Is the collection of one access type created before that of another one? In one part in the order of their declarations; those of different parts in the
--- order of their types.
-abbrev pub is_created_before : (parts : List (List ℕ)) → (access other : ℕ) → Bool
-is_created_before [] u t = nat_lt u t
-is_created_before (us ∷ parts) u t = if is_one_of us u && is_one_of us t then stands_before us u t else is_created_before parts u t
 
 -- A procedure frees objects of an access type (13.11.2), or follows its values (4.1).
 abbrev pub Uses : ProgramForm → (procedure : ProcedureNo) → (access : ℕ) → Type 0

@@ -1,0 +1,14 @@
+-- places of collections, and faults, in order
+pub mod Orders
+-- the table of places
+pub mod Table
+-- what is used too late
+pub mod Using
+-- the first fault
+pub mod Checking
+-- what quiet bodies do
+pub mod Silence
+-- the laws
+pub mod Proved
+-- the examples
+pub mod Shown

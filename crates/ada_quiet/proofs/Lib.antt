@@ -1,0 +1,4 @@
+-- the first of some things in an order
+pub mod Firsts
+-- the first place of a body that is not quiet, or leaves a component
+pub mod Unquiet

@@ -1,0 +1,10 @@
+use Rattle.std.proofs.Common.{◌≡◌, drop}
+use Rattle.std.specs.List.{list_all}
+use Rattle.ada_program.specs.Kept.{variables_in}
+use Rattle.ada_quiet.specs.Quiet.{is_elementary}
+use Rattle.ada_quiet.proofs.bodies.are_elementary.Given as goal
+
+-- what is left tells of all
+abbrev pub invariant-variables : goal.invariant-variables
+invariant-variables l =
+    list_all (λ x. is_elementary x.kind) (variables_in (drop l.variable-index l.variables)) ≡ list_all (λ x. is_elementary x.kind) (variables_in l.variables)

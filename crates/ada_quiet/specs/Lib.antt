@@ -1,0 +1,6 @@
+-- The definitions of this crate, in the order in which they are read.
+
+-- operations that touch no storage
+pub mod Quiet
+-- the first one in the text that is not quiet
+pub mod First
