@@ -16,15 +16,17 @@ use Rattle.ada_flow.specs.Flow.{Holds, hold_at, variable_access}
 use Rattle.ada_meaning.specs.declared.state.Id.{Id}
 use Rattle.ada_meaning.specs.declared.state.Value.{Value}
 use Rattle.ada_meaning.specs.declared.state.Value.TheVariants.{Null, Names, Scalar, Part}
-use Rattle.ada_meaning.specs.Frame.{Does}
+use Rattle.ada_meaning.specs.declared.state.Mode.TheVariants.{Running}
+use Rattle.ada_meaning.specs.Frame.{Does, Treatment}
+use Rattle.ada_meaning.specs.Frame as frame
 use Rattle.ada_meaning.specs.State.{Master}
 use Rattle.ada_meaning.specs.Heap.{finds}
-use Rattle.ada_meaning.specs.Step.{places, last_of, selected}
+use Rattle.ada_meaning.specs.Step.{places, last_of, selected, treating}
 use Rattle.ada_meaning.specs.Beginning.{BeginsStatement}
 use Rattle.ada_meaning.specs.Named.{Object, State, object_at, store, named, whole, inside}
 use Rattle.ada_meaning.specs.Law.{items_of}
 use Rattle.ada_typed.specs.Holding.{Cells, Designates, HasKind, HaveKinds, cells_of}
-use Rattle.ada_typed.proofs.Values.{AreFilled, filled_at, active_held}
+use Rattle.ada_typed.proofs.Values.{filled_at, active_held}
 use Rattle.ada_typed.proofs.Evaluations.{cell_at}
 use Rattle.ada_typed.proofs.Control as typed
 use Rattle.ada_owners.specs.Places.{Place, variable, component, elsewhere, value_at, access_at}
@@ -34,11 +36,14 @@ use Rattle.ada_owners.specs.Keeping.{IsThere}
 use Rattle.ada_owners.proofs.Kernel.{same_place, of_same}
 use Rattle.ada_owners.proofs.Objects.{listed_at}
 use Rattle.ada_owners.proofs.Changes.{store_access, store_reads}
+use Rattle.ada_finalized.specs.Law.{NoOperationRuns}
+use Rattle.ada_sound.specs.Always.{AgreesThere}
 use Rattle.ada_sound.specs.Agreement.{IsAtHome, Exists, IsValid, IsAs, Turning, here, IsFlowAt, IsBehind, running_procedure, component_access, IsKept, IsOwning, IsCleared, Agrees, value_in}
 use Rattle.ada_sound.specs.Agreement as agreement
 use Rattle.ada_sound.proofs.Items as items
 use Rattle.ada_sound.proofs.Stored.{Stored, exists_out}
 use Rattle.ada_sound.proofs.Back.{stored_before}
+use Rattle.ada_sound.proofs.Calm.{filled_in}
 use Rattle.ada_sound.proofs.Steps.{heap_typed}
 use Rattle.ada_sound.proofs.Fits.{Outsiders, Fit, IsRelied, none_spared, hold_in, stacked, component_value, access_is, names_object}
 use Rattle.ada_sound.proofs.Scalars.{scalars_lost}
@@ -46,7 +51,8 @@ use Rattle.ada_sound.proofs.Invariant.{Known, Control, RunsOn, Working, Half, Re
 use Rattle.ada_typed.proofs.Bodies.{SeenFits, seen_fits}
 use Rattle.ada_sound.proofs.Callers.{Suspension, rest_of, known_in}
 use Rattle.ada_sound.proofs.Returns.{same_types}
-use Rattle.ada_sound.proofs.Starts.{Sound}
+use Rattle.ada_sound.proofs.Operating.{Sight, WaitsFor, Quietly, Comes, Body, Operates}
+use Rattle.ada_sound.proofs.Starts.{Ordinary, Sound}
 
 -- What is in its collection exists, and an open collection of its type is its home.
 exists_there : {heap : List Object} {masters : List Master} (o : Id) (x : Object) (access : Option ℕ) → Stored None heap masters → object_at heap o ≡ Some x → x.listed ≡ true → access ≡ Some x.cell.access → Exists heap masters access o
@@ -61,12 +67,6 @@ exists_by None o stored of = absurd of
 exists_by {heap} (Some t) o stored of = let h = listed_at heap o t of in exists_there o h.object (Some t) stored h.found h.listed (ap Some (sym h.access))
 
 -- What typing says.
-typed_filled : (p : ProgramForm) (s : State) → typed.TypedIn p s → AreFilled p.types (cells_of s.heap) (cells_of s.heap)
-typed_filled p s (typed.running kinds r fits) = r.filled
-typed_filled p s (typed.on_jump mode j goes) = j.filled
-typed_filled p s (typed.operated kinds r ended) = r.filled
-typed_filled p s (typed.out_of_operation e kinds j ended) = j.filled
-
 typed_held : (p : ProgramForm) (s : State) (x : ℕ) (kind : VariableKind) → typed.TypedIn p s → variable_kind p.variables x ≡ Some kind → HasKind p.types (cells_of s.heap) kind (slice_index_or (places s) x Null)
 typed_held p s x kind (typed.running kinds r fits) is = active_held p.types (cells_of s.heap) p.variables kinds s.activations x kind r.active is
 typed_held p s x kind (typed.on_jump mode j goes) is = active_held p.types (cells_of s.heap) p.variables [] s.activations x kind j.active is
@@ -90,7 +90,7 @@ named_at types cells (d ∷ cs) (v ∷ vs) (suc c) k have is = named_at types ce
 -- What a component of an object names exists if it is there.
 kept_exists : (own : ProgramForm) (s : State) (o : Id) (object : Object) (c : ℕ) (k : Id) → typed.TypedIn own s → Stored None s.heap s.masters → object_at s.heap o ≡ Some object → slice_get object.cell.values c ≡ Some (Names k) → IsThere s.heap k → Exists s.heap s.masters (component_access own.types object c) k
 kept_exists own s o object c k t stored found at (x, there, listed) =
-    let filled = filled_at own.types (cells_of s.heap) (cells_of s.heap) o.0 object.cell (typed_filled own s t) (cell_at s.heap o.0 object found) in
+    let filled = filled_at own.types (cells_of s.heap) (cells_of s.heap) o.0 object.cell (filled_in own s t) (cell_at s.heap o.0 object found) in
     let named = named_at own.types (cells_of s.heap) filled.0 object.cell.values c k filled.2 at in
     let of_type : component_access own.types object c ≡ Some named.0 = ap (λ components. access_of (kind_among components c)) filled.1 ∙ named.1 in
     let same : Some x.cell ≡ Some named.2.0 = sym (cell_at s.heap k.0 x there) ∙ named.2.1 in
@@ -204,12 +204,6 @@ cleared_is s path later outer o c (d ∷ ds) is begins last leads =
     let same : last_of (inside (value_in s path.root) d) ds ≡ c = cc last in
     record { path = path; later = later; outer = outer; c = d; cs = ds; object = o; begins = begins; selects = is; leads = leads; is = ap (component o) (sym same) }
 
--- Flow at a place is flow at what is left to do there.
-AgreesThere : Program → State → Type 0
-AgreesThere program s =
-    (rest : agreement.Place) × (way : List Turning) × (holds : Holds) × IsBehind (running_procedure s) rest × IsFlowAt program (running_procedure s) rest way s.control holds
-    × Agrees (program_form program).types (seen_in (running_procedure s) (program_form program)).variables s holds
-
 place_is : (program : Program) (procedure : Option ℕ) (rest : agreement.Place) (way : List Turning) (control place : agreement.Place) (holds : Holds) → control ≡ place → IsFlowAt program procedure rest way place holds → IsFlowAt program procedure rest way control holds
 place_is program procedure rest way control place holds is at = rw is at
 
@@ -221,7 +215,6 @@ module _ (program : Program) (s : State) (gs : List Suspension) (fits : SeenFits
   own = known.program
 
   there : (way : List Turning) (holds : Holds) → IsFlowAt program (running_procedure s) (rest_of gs) way (Does (a_stmt b.stmt b.later) ∷ b.outer) holds → Agrees own.types own.variables s holds → AgreesThere program s
-  unfolding AgreesThere
   there way holds comes agrees = (
     rest_of gs,
     way,
@@ -257,8 +250,53 @@ module _ (program : Program) (s : State) (gs : List Suspension) (fits : SeenFits
   resumes_agrees (inl w) = whole_agrees w
   resumes_agrees (inr h) = half_agrees h
 
--- Wherever a statement begins.
-pub agrees_at : (program : Program) (s : State) → Sound program s → BeginsStatement s → (rest : agreement.Place) × (way : List Turning) × (holds : Holds) × IsBehind (running_procedure s) rest × IsFlowAt program (running_procedure s) rest way s.control holds × Agrees (program_form program).types (seen_in (running_procedure s) (program_form program)).variables s holds
-unfolding AgreesThere
-agrees_at program s sound b =
-    resumes_agrees program s sound.suspensions (seen_fits (program_form program) sound.well (running_procedure s)) sound.typed.inside sound.stands.behind b (rw (b.runs, b.first) at (sound.ready.1))
+-- Where the body of an operation runs, something waits for its end.
+waits_for_end : (sight : Sight) (behind k : Control) (ms : List Master) → Quietly sight behind ms k → NoOperationRuns k → NoOperationRuns behind
+waits_for_end sight behind [] ms leads none = absurd leads
+waits_for_end sight behind (frame.Elaborates ds fs hs ∷ k) [] leads none = absurd leads
+waits_for_end sight behind (frame.Elaborates ds fs hs ∷ k) (m ∷ ms) leads none = waits_for_end sight behind k ms leads.1 none.1
+waits_for_end sight behind (frame.Does fs ∷ k) ms leads none = waits_for_end sight behind k ms leads.1 none.1
+waits_for_end sight behind (frame.Decides fs branches ∷ k) ms leads none = waits_for_end sight behind k ms leads.1 none.1
+waits_for_end sight behind (frame.Repeats condition fs ∷ k) ms leads none = waits_for_end sight behind k ms leads.1 none.1
+waits_for_end sight behind (frame.Turns e fs ∷ k) ms leads none = waits_for_end sight behind k ms leads.1 none.1
+waits_for_end sight behind (frame.Ranges x fs ∷ k) ms leads none = waits_for_end sight behind k ms leads.1 none.1
+waits_for_end sight behind (frame.Counts x value last fs ∷ k) ms leads none = waits_for_end sight behind k ms leads.1 none.1
+waits_for_end sight behind (frame.Exits ∷ k) ms leads none = waits_for_end sight behind k ms leads.1 none.1
+waits_for_end sight behind (frame.Handles hs ∷ k) ms leads none = waits_for_end sight behind k ms leads.1 none.1
+waits_for_end sight behind (frame.Closes ∷ k) [] leads none = absurd leads
+waits_for_end sight behind (frame.Closes ∷ k) (m ∷ ms) leads none = waits_for_end sight behind k ms leads.1 none.1
+waits_for_end sight behind (frame.Evaluates right ∷ k) ms leads none = waits_for_end sight behind k ms leads.1 none.1
+waits_for_end sight behind (frame.Computes e ∷ k) ms leads none = waits_for_end sight behind k ms leads.1 none.1
+waits_for_end sight behind (frame.Continues links ∷ k) ms leads none = waits_for_end sight behind k ms leads.1 none.1
+waits_for_end sight behind (frame.Applies operator ∷ k) ms leads none = waits_for_end sight behind k ms leads.1 none.1
+waits_for_end sight behind (frame.AppliesAlone operator ∷ k) ms leads none = waits_for_end sight behind k ms leads.1 none.1
+waits_for_end sight behind (frame.Stores x ∷ k) ms leads none = waits_for_end sight behind k ms leads.1 none.1
+waits_for_end sight behind (frame.Declares x ∷ k) [] leads none = absurd leads
+waits_for_end sight behind (frame.Declares x ∷ k) (m ∷ ms) leads none = waits_for_end sight behind k (m ∷ ms) leads.1 none.1
+waits_for_end sight behind (frame.StoresIn v c ∷ k) ms leads none = waits_for_end sight behind k ms leads.1 none.1
+waits_for_end sight behind (frame.Writes ∷ k) ms leads none = waits_for_end sight behind k ms leads.1 none.1
+waits_for_end sight behind (frame.Returns actuals references ∷ k) ms leads none = rw (leads.2) at (none.1)
+waits_for_end sight behind (f ∷ k) ms leads none = absurd leads
+
+none_waits : (o : Id) (treatment : Treatment) (k behind : Control) → WaitsFor o treatment k behind → NoOperationRuns behind → ⊥
+none_waits o (frame.begins by done) k behind (of, part, tasks, is) none = let there : NoOperationRuns (frame.Awaits (Names o) by done of part tasks ∷ k) = rw is at none in absurd (cc (there.0))
+none_waits o (frame.ends cause) k behind (tasks, is) none = let there : NoOperationRuns (frame.Confines ∷ treating (Names o) (frame.ends cause) tasks k) = rw is at none in absurd (cc (there.0))
+
+-- Wherever a statement begins while no operation runs.
+pub agrees_at : (program : Program) (s : State) → Sound program s → BeginsStatement s → NoOperationRuns s.control → AgreesThere program s
+agrees_at program s sound b none = by sound.goes
+  where
+    no_statement : (sight : Sight) (behind : Control) (ms : List Master) (operands : List Value) → Comes sight behind ms Running (Does (a_stmt b.stmt b.later) ∷ b.outer) operands → Quietly sight behind ms (Does (a_stmt b.stmt b.later) ∷ b.outer)
+    no_statement sight behind ms operands (inl (all, goes, leads)) = leads
+    no_statement sight behind ms [] (inr (running, next)) = absurd next
+    no_statement sight behind ms (v ∷ vs) (inr (running, next)) = absurd next
+
+    by : Ordinary program s ⊎ Operates program s → AgreesThere program s
+    by (inl o) =
+        resumes_agrees program s o.suspensions (seen_fits (program_form program) sound.well (running_procedure s)) sound.typed.inside o.stands.behind b (rw (b.runs, b.first) at (o.ready.1))
+    by (inr o) =
+        let sight : Sight = record { program = seen_in (Some o.procedure) (program_form program); object = o.object; access = o.access } in
+        let body : Body sight o.behind o.upper s.heap o.places o.operands Running (Does (a_stmt b.stmt b.later) ∷ b.outer) = rw (b.runs, b.first) at o.body in
+        let none_here : NoOperationRuns (Does (a_stmt b.stmt b.later) ∷ b.outer) = rw b.first at none in
+        absurd (none_waits o.object o.suspended.treatment o.suspended.after o.behind o.suspended.waits
+        (waits_for_end sight o.behind (Does (a_stmt b.stmt b.later) ∷ b.outer) o.upper (no_statement sight o.behind o.upper o.operands body.comes) none_here))

@@ -8,7 +8,7 @@ use Rattle.ada_text.specs.declared.spot.Spot.{Spot}
 use Rattle.ada_program.specs.declared.program.Program.{Program}
 use Rattle.ada_program.specs.Form.{StmtsForm, HandlersForm, declaration_forms, stmt_forms, handler_forms}
 use Rattle.ada_program.specs.ProgramForm.{BodyForm, ProgramForm, main_body, body_forms, program_form}
-use Rattle.ada_program.specs.WellFormed.{type_fits, variable_fits, creations, creates_from, collections_first, collection_fits, has_collections, pools_fit, initial_fits, stmts_fit, handlers_fit, bodies_fit, all_creations, callable_in, components_lie, have_operations, overrides_none, IsWellFormed}
+use Rattle.ada_program.specs.WellFormed.{type_fits, variable_fits, creations, creates_from, collections_first, collection_fits, has_collections, pools_fit, initial_fits, stmts_fit, handlers_fit, bodies_fit, all_creations, callable_in, components_lie, have_operations, IsWellFormed}
 use Rattle.ada_program.specs.Nested.{collected, part_nests, statements_nest, handlers_nest, callees_of, CollectionsNest}
 use Rattle.ada_program.specs.Freed.{statements_free_own, handlers_free_own, body_frees_own, FreesItsOwn}
 use Rattle.ada_effects.specs.Effects.{effects_of}
@@ -20,7 +20,8 @@ use Rattle.ada_meaning.specs.Event.{Quiet}
 use Rattle.ada_meaning.specs.Step.{halts, moves, tells, asks, picks}
 use Rattle.ada_meaning.specs.Named.{State, Next, next}
 use Rattle.ada_meaning.specs.Run.{Event, Choice, settled, grants, takes, Leads, Run, here, there, Halts, first_state}
-use Rattle.ada_sound.specs.Always.{IsChecked, Breaks, IsIllFormed, IsIllNested, FreesOthers, InSomeRun, is_seen, IsFineAtEnds, HaltsAfter, HaltsSomewhere}
+use Rattle.ada_quiet.specs.Quiet.{operations_are_quiet}
+use Rattle.ada_sound.specs.Always.{IsChecked, Breaks, IsIllFormed, IsIllNested, FreesOthers, NotQuiet, InSomeRun, is_seen, IsFineAtEnds, HaltsAfter, HaltsSomewhere}
 
 -- Events, and the state that they lead to.
 abbrev pub Came : Type 0
@@ -133,10 +134,13 @@ is_formed p =
     (list_all (initial_fits p.types p.variables) p.declarations && (stmts_fit p.types p.variables p.texts p.exceptions (callable_in p) false p.statements &&
     (handlers_fit p.types p.variables p.texts p.exceptions (callable_in p) false p.handlers && bodies_fit p.types p.texts p.exceptions [] p.bodies)))))))))
 
--- Whether a program is well formed and overrides no operation, whether its collections nest, and whether it frees by the instances for what it frees.
+-- Whether a program is well formed.
+abbrev pub fits : ProgramForm → Bool
+fits p = list_all (components_lie p.types) p.types && (have_operations p.types (callable_in p) 0 p.types && is_formed p)
+
+-- Whether what overrides its operations is quiet, too; whether its collections nest; and whether it frees by the instances for what it frees.
 abbrev pub is_fine : ProgramForm → Bool
-is_fine p =
-    overrides_none p && (list_all (components_lie p.types) p.types && (have_operations p.types (callable_in p) 0 p.types && is_formed p))
+is_fine p = operations_are_quiet p && fits p
 
 abbrev pub is_nested : ProgramForm → Bool
 is_nested p =
@@ -151,12 +155,12 @@ is_own p =
 abbrev pub is_kept : ProgramForm → Bool
 is_kept p = is_nested p && is_own p
 
-plain_is : (p : ProgramForm) → is_fine p ≡ true → overrides_none p ≡ true
-plain_is p e = (and_parts _ _ e).0
+quiet_is : (p : ProgramForm) → is_fine p ≡ true → operations_are_quiet p ≡ true
+quiet_is p e = (and_parts _ _ e).0
 
-fine_is : (p : ProgramForm) → is_fine p ≡ true → IsWellFormed p
-fine_is p e =
-    let lie = and_parts _ _ (and_parts _ _ e).1 in
+fits_is : (p : ProgramForm) → fits p ≡ true → IsWellFormed p
+fits_is p e =
+    let lie = and_parts _ _ e in
     let operations = and_parts _ _ lie.1 in
     let a = and_parts _ _ operations.1 in
     let z = and_parts _ _ a.1 in
@@ -183,6 +187,9 @@ fine_is p e =
       handlers_fit = j.0;
       bodies_fit = j.1;
     }
+
+fine_is : (p : ProgramForm) → is_fine p ≡ true → IsWellFormed p
+fine_is p e = fits_is p (and_parts _ _ e).1
 
 nested_is : (p : ProgramForm) → is_nested p ≡ true → CollectionsNest p
 nested_is p e =
@@ -211,8 +218,8 @@ module _ (program : Program) (bodies : List BodyForm) (fs : StmtsForm) (hs : Han
   fine_in : is_fine (form_with program bodies fs hs) ≡ true → IsWellFormed (program_form program)
   fine_in e = subst IsWellFormed (sym form_is) (fine_is (form_with program bodies fs hs) e)
 
-  plain_in : is_fine (form_with program bodies fs hs) ≡ true → overrides_none (program_form program) ≡ true
-  plain_in e = subst (λ (p : ProgramForm). overrides_none p ≡ true) (sym form_is) (plain_is (form_with program bodies fs hs) e)
+  quiet_in : is_fine (form_with program bodies fs hs) ≡ true → operations_are_quiet (program_form program) ≡ true
+  quiet_in e = subst (λ (p : ProgramForm). operations_are_quiet p ≡ true) (sym form_is) (quiet_is (form_with program bodies fs hs) e)
 
   nested_in : is_nested (form_with program bodies fs hs) ≡ true → CollectionsNest (program_form program)
   nested_in e = subst CollectionsNest (sym form_is) (nested_is (form_with program bodies fs hs) e)
@@ -227,7 +234,7 @@ module _ (program : Program) (bodies : List BodyForm) (fs : StmtsForm) (hs : Han
       let both = and_parts _ _ kept in
       record {
         well_formed = fine_in fine;
-        inherits = plain_in fine;
+        quiet = quiet_in fine;
         nests = nested_in both.0;
         frees_own = own_in both.1;
         obeys = (normal, raising, flow_in (goes normal raising) e);
@@ -239,11 +246,24 @@ module _ (program : Program) (bodies : List BodyForm) (fs : StmtsForm) (hs : Han
       let both = and_parts _ _ kept in
       record {
         well_formed = fine_in fine;
-        inherits = plain_in fine;
+        quiet = quiet_in fine;
         nests = nested_in both.0;
         frees_own = own_in both.1;
         spot = spot;
         faults_there = flow_in (faults spot rule) e;
+      }
+
+  pub not_quiet_in : (normal raising : Option Holds) → fits (form_with program bodies fs hs) ≡ true
+      → operations_are_quiet (form_with program bodies fs hs) ≡ false → is_kept (form_with program bodies fs hs) ≡ true
+      → flow_with program bodies fs hs ≡ goes normal raising → NotQuiet program
+  not_quiet_in normal raising formed loud kept e =
+      let both = and_parts _ _ kept in
+      record {
+        well_formed = subst IsWellFormed (sym form_is) (fits_is (form_with program bodies fs hs) formed);
+        not_quiet = subst (λ (p : ProgramForm). operations_are_quiet p ≡ false) (sym form_is) loud;
+        nests = nested_in both.0;
+        frees_own = own_in both.1;
+        obeys = (normal, raising, flow_in (goes normal raising) e);
       }
 
   -- Its parts, where its handlers would be fine at the ends of its statements.
@@ -292,13 +312,13 @@ module _ (program : Program) (fs : StmtsForm) (hs : HandlersForm) (is : stmt_for
   breaks_by rule spot fine kept e = breaks_in program (body_forms program) fs hs refl is has rule spot fine kept e
 
   pub ill_formed_by : (normal raising : Option Holds)
-      → stmts_fit whole.types whole.variables whole.texts whole.exceptions (callable_in whole) false fs ≡ false → overrides_none whole ≡ true
+      → stmts_fit whole.types whole.variables whole.texts whole.exceptions (callable_in whole) false fs ≡ false → operations_are_quiet whole ≡ true
       → is_kept whole ≡ true → flow_of whole ≡ goes normal raising → IsIllFormed program
-  ill_formed_by normal raising unfit plain kept e = record {
+  ill_formed_by normal raising unfit quiet kept e = record {
     ill_formed = λ w.
         let fits : stmts_fit whole.types whole.variables whole.texts whole.exceptions (callable_in whole) false fs ≡ true = rw is at (w.statements_fit) in
         cc (unfit, fits);
-    inherits = subst (λ (p : ProgramForm). overrides_none p ≡ true) (sym (form_is program (body_forms program) fs hs refl is has)) plain;
+    quiet = subst (λ (p : ProgramForm). operations_are_quiet p ≡ true) (sym (form_is program (body_forms program) fs hs refl is has)) quiet;
     nests = nested_in program (body_forms program) fs hs refl is has (and_parts _ _ kept).0;
     frees_own = own_in program (body_forms program) fs hs refl is has (and_parts _ _ kept).1;
     obeys = (normal, raising, flow_in program (body_forms program) fs hs refl is has (goes normal raising) e);
@@ -308,7 +328,7 @@ module _ (program : Program) (fs : StmtsForm) (hs : HandlersForm) (is : stmt_for
       → is_own whole ≡ true → flow_of whole ≡ goes normal raising → IsIllNested program
   ill_nested_by normal raising fine unnested own e = record {
     well_formed = fine_in program (body_forms program) fs hs refl is has fine;
-    inherits = plain_in program (body_forms program) fs hs refl is has fine;
+    quiet = quiet_in program (body_forms program) fs hs refl is has fine;
     ill_nested = λ w. cc (unnested, w.declarations);
     frees_own = own_in program (body_forms program) fs hs refl is has own;
     obeys = (normal, raising, flow_in program (body_forms program) fs hs refl is has (goes normal raising) e);
@@ -318,7 +338,7 @@ module _ (program : Program) (fs : StmtsForm) (hs : HandlersForm) (is : stmt_for
       → statements_free_own whole.types whole.variables fs ≡ false → flow_of whole ≡ goes normal raising → FreesOthers program
   frees_others_by normal raising fine nested other e = record {
     well_formed = fine_in program (body_forms program) fs hs refl is has fine;
-    inherits = plain_in program (body_forms program) fs hs refl is has fine;
+    quiet = quiet_in program (body_forms program) fs hs refl is has fine;
     nests = nested_in program (body_forms program) fs hs refl is has nested;
     frees_others = λ w.
         let own : statements_free_own whole.types whole.variables fs ≡ true = rw is at (w.statements) in

@@ -1,6 +1,6 @@
 -- Effects cover what calls do: each activation that waits may free what the running one may.
 
-use Rattle.std.proofs.Common.{◌≡◌, ℕ, zero, suc, true, List, [], ◌∷◌, refl, ◌∙◌}
+use Rattle.std.proofs.Common.{◌≡◌, ℕ, zero, suc, true, List, [], ◌∷◌, refl, ◌∙◌, ◌⊎◌, inl, inr}
 use Rattle.std.specs.Prelude.{ℤ, Option, Some}
 use Rattle.std.specs.List.{slice_get}
 use Rattle.ada_program.specs.declared.program.Program.{Program}
@@ -26,7 +26,9 @@ use Rattle.ada_sound.specs.Callees.{IsCovered, FreesAreCovered, RaisesAreCovered
 use Rattle.ada_sound.proofs.Bodies.{IsBody, seen_is, effect_at}
 use Rattle.ada_sound.proofs.Invariant.{Control, Rooms, Working, GoesOn, ReadyIn, Says, CoveredIn, AllWait, body_among}
 use Rattle.ada_sound.proofs.Callers.{Suspension, callers_of, known_in, AreOf, Stands}
-use Rattle.ada_sound.proofs.Starts.{Sound, sound_first}
+use Rattle.ada_sound.proofs.Starts.{Ordinary, Sound, sound_first}
+use Rattle.ada_sound.proofs.Operating.{Sight, Comes, Body, Operates}
+use Rattle.ada_sound.proofs.Runs.{Led}
 use Rattle.ada_sound.proofs.Runs as runs
 
 module _ (program : Program) where
@@ -89,18 +91,28 @@ module _ (program : Program) where
 
 module _ (program : Program) (accepted : IsChecked program) where
   first : (input : List ℤ) → Sound program (first_state program input)
-  first input = sound_first program input accepted.well_formed accepted.inherits accepted.nests accepted.frees_own accepted.obeys
+  first input = sound_first program input accepted.well_formed accepted.quiet accepted.nests accepted.frees_own accepted.obeys
 
   pub frees : FreesAreCovered program
   frees input events before after choice e run step depth a number at is =
-      let c = runs.crossed program before choice e after (runs.sound_run run (first input)) step in
-      covered_by program e before.heap after c.suspensions c.stands c.stepped.says depth a number at is
+      by (runs.led program before choice e after (runs.sound_run run (first input)) step)
+    where
+      by : Led program before.heap e after → IsCovered program number e
+      by (inl (c, calm)) = covered_by program e before.heap after c.suspensions c.stands c.stepped.says depth a number at is
+      by (inr c) = c.covered number
 
-  raises_in : (s : State) → Sound program s → (procedure : Option ℕ) (number : ℕ) (e : Exception) → running_procedure s ≡ procedure → procedure ≡ Some number → EndsBody s → s.mode ≡ Raising e → call_raises (slice_get (effects_of (program_form program)) number) (is_same e) ≡ true
-  raises_in s sound procedure number e runs is ends mode =
-      let may = leaves_by program (running_procedure s) sound.suspensions e ends.actuals ends.references ends.outer s.control s.mode s.heap _ _ s.masters (sound.ready.1) mode ends.first in
-      called_raises program number e (rw (runs ∙ is) at (sound.stands.body)) (rw (runs ∙ is) at may)
+  raises_in : (s : State) → Ordinary program s ⊎ Operates program s → (procedure : Option ℕ) (number : ℕ) (e : Exception) → running_procedure s ≡ procedure → procedure ≡ Some number → EndsBody s → s.mode ≡ Raising e → call_raises (slice_get (effects_of (program_form program)) number) (is_same e) ≡ true
+  raises_in s (inl o) procedure number e runs is ends mode =
+      let may = leaves_by program (running_procedure s) o.suspensions e ends.actuals ends.references ends.outer s.control s.mode s.heap _ _ s.masters (o.ready.1) mode ends.first in
+      called_raises program number e (rw (runs ∙ is) at (o.stands.body)) (rw (runs ∙ is) at may)
+  raises_in s (inr o) procedure number e runs is ends mode =
+      let body : Body (record { program = seen_in (Some o.procedure) (program_form program); object = o.object; access = o.access }) o.behind o.upper s.heap o.places o.operands (Raising e) (Returns ends.actuals ends.references ∷ ends.outer) = rw (mode, ends.first) at o.body in
+      absurd (none_leaves (record { program = seen_in (Some o.procedure) (program_form program); object = o.object; access = o.access }) o.behind o.upper o.operands body.comes)
+    where
+      none_leaves : (sight : Sight) (behind : Control) (ms : List Master) (operands : List Value) → Comes sight behind ms (Raising e) (Returns ends.actuals ends.references ∷ ends.outer) operands → ⊥
+      none_leaves sight behind ms operands (inl (all, stays, leads)) = stays
+      none_leaves sight behind ms operands (inr (running, finds)) = cc running
 
   pub raises : RaisesAreCovered program
   raises input events last run number e is ends mode =
-      raises_in last (runs.sound_run run (first input)) (running_procedure last) number e refl is ends mode
+      raises_in last (runs.sound_run run (first input)).goes (running_procedure last) number e refl is ends mode

@@ -1,13 +1,13 @@
 -- Laws of finalization, of any run of any program, as they are used here.
 
-use Rattle.std.proofs.Common.{◌≡◌, ℕ, zero, suc, ◌<◌, true, List, [], ◌∷◌, length, Some, refl, sym, ◌∙◌, subst, arith}
+use Rattle.std.proofs.Common.{◌≡◌, ℕ, zero, suc, ◌<◌, true, false, List, [], ◌∷◌, length, Some, refl, sym, ◌∙◌, subst, arith}
 use Rattle.std.specs.Prelude.{ℤ, AllPairs}
 use Rattle.std.specs.List.{slice_get}
 use Rattle.ada_program.specs.declared.program.Program.{Program}
 use Rattle.ada_program.specs.declared.program.TypeDefinition.{TypeDefinition}
-use Rattle.ada_program.specs.Controlled.{OverridesNothing, shapes_of}
+use Rattle.ada_program.specs.Controlled.{shapes_of}
 use Rattle.ada_program.specs.ProgramForm.{BodyForm, program_form, body_forms}
-use Rattle.ada_program.specs.WellFormed.{IsWellFormed, overrides_none}
+use Rattle.ada_program.specs.WellFormed.{IsWellFormed}
 use Rattle.ada_meaning.specs.declared.event.Halt.TheVariants.{Erroneous}
 use Rattle.ada_meaning.specs.declared.event.Why.TheVariants.{FinalizesTwice}
 use Rattle.ada_meaning.specs.declared.state.Id.{Id}
@@ -22,13 +22,18 @@ use Rattle.ada_meaning.specs.Named.{Object, State, object_at, all_alive, next}
 use Rattle.ada_meaning.specs.Run.{Event, Run, Halts, first_state}
 use Rattle.ada_meaning.specs.Law.{FinalizedTwoValues}
 use Rattle.ada_meaning.specs.Finalization.{FinalizationLaw, PartsStand}
-use Rattle.ada_typed.proofs.Overriding.{well_formed_overrides_nothing}
+use Rattle.ada_typed.specs.Holding.{seen_now}
+use Rattle.ada_typed.proofs.Control as typed
+use Rattle.ada_typed.proofs.Kept.{behind_call}
 use Rattle.ada_typed.proofs.Parts.{parts_counted, parts_shown}
 use Rattle.ada_typed.proofs.Runs.{objects_have_their_parts}
 use Rattle.ada_finalized.proofs.Runs as runs
 use Rattle.ada_finalized.proofs.Standing as standing
 use Rattle.ada_finalized.proofs.Standing.{TreatsNothing, nothing_treated_at}
 use Rattle.ada_finalized.proofs.Twice.{never_twice}
+use Rattle.ada_finalized.specs.Law.{NoOperationRuns}
+use Rattle.ada_sound.proofs.Calm.{ends_operation, typed_calm}
+use Rattle.ada_sound.proofs.Operating.{IsCalm}
 use Rattle.ada_sound.proofs.Standing.{AllStand, FinalizesBy, FinalizesIn}
 use Rattle.ada_sound.proofs.Starts.{IsReached}
 
@@ -53,28 +58,29 @@ all_have (p ∷ parts) each =
     let later = all_have parts (λ n lt. each (suc n) (omega (arith, lt))) in
     rw (one, first.2) later
 
--- What a run of a well-formed program comes to.
-module _ (program : Program) (well : IsWellFormed (program_form program)) (inherited : overrides_none (program_form program) ≡ true) (s : State) (reached : IsReached program s) where
+-- What a run of a well-formed program comes to, where no operation runs behind the call of the running body.
+module _ (program : Program) (well : IsWellFormed (program_form program)) (s : State) (reached : IsReached program s) (typing : typed.Typed (program_form program) s) (calm : IsCalm (behind_call s.control)) where
   abbrev types : List TypeDefinition
   types = program.types.items
 
   abbrev bodies : List BodyForm
   bodies = body_forms program
 
-  inherits : OverridesNothing types
-  inherits = well_formed_overrides_nothing program inherited
-
   -- An object has as many parts as its type says.
   parts_counted_so : (o : Id) (x : Object) → object_at s.heap o ≡ Some x → length x.cell.parts ≡ parts_held types x.cell.access
   parts_counted_so o x found =
       let forms = (program_form program).types in
-      objects_have_their_parts program well inherited reached.0 reached.1 s o x reached.2 found
+      objects_have_their_parts program well reached.0 reached.1 s o x reached.2 found
       ∙ (parts_counted types forms x.cell.access refl well.types_fit ∙ parts_shown types forms x.cell.access refl)
 
+  -- No operation runs, if none ends next.
+  none_runs : ends_operation s.control ≡ false → NoOperationRuns s.control
+  none_runs none = typed_calm (seen_now (program_form program) s) s typing.inside none calm
+
   -- So each has a value, at a frame with which no treatment begins.
-  stand_before : (f : Frame Value) (k : List (Frame Value)) → s.control ≡ f ∷ k → TreatsNothing f → AllStand s.heap
-  stand_before f k is plain o x found listed =
-      let untreated = nothing_treated_at program reached.0 reached.1 s inherits reached.2 f k is plain in
+  stand_before : (f : Frame Value) (k : List (Frame Value)) → s.control ≡ f ∷ k → TreatsNothing f → typed.is_operation f ≡ false → AllStand s.heap
+  stand_before f k is plain none o x found listed =
+      let untreated = nothing_treated_at program reached.0 reached.1 s (none_runs (rw is none)) reached.2 f k is plain in
       let counted = parts_counted_so o x found in
       all_have x.cell.parts (λ n lt. stands program reached.0 reached.1 s reached.2 untreated o x found listed n (omega (arith, lt, counted)))
 
@@ -87,10 +93,10 @@ module _ (program : Program) (well : IsWellFormed (program_form program)) (inher
   -- What finalization leaves of a step, by the frame that is next.
   by_frame : (f : Frame Value) (k : List (Frame Value)) → s.mode ≡ Running → s.control ≡ f ∷ k → FinalizesBy types bodies f (record s { mode = Running; control = k })
   unfolding next
-  by_frame (frame.Does fs) k running is = stand_before (frame.Does fs) k is tt
-  by_frame (frame.FreesIn access c) k running is = stand_before (frame.FreesIn access c) k is tt
+  by_frame (frame.Does fs) k running is = stand_before (frame.Does fs) k is tt refl
+  by_frame (frame.FreesIn access c) k running is = stand_before (frame.FreesIn access c) k is tt refl
   by_frame (frame.Treats v treatment tasks) k running is = λ twice.
-      never_twice program reached.0 reached.1 s inherits reached.2 v treatment tasks k is
+      never_twice program reached.0 reached.1 s (none_runs (rw is refl)) reached.2 v treatment tasks k is
       (subst (λ (t : State). Halts program t (Erroneous FinalizesTwice)) (sym (state_is Running (frame.Treats v treatment tasks ∷ k) running is)) twice)
   by_frame f k running is = tt
 

@@ -26,13 +26,13 @@ use Rattle.ada_sound.proofs.Agreeing.{agrees_at}
 -- Every run of a program that is accepted keeps the invariant.
 module _ (program : Program) (accepted : IsChecked program) where
   first : (input : List ℤ) → Sound program (first_state program input)
-  first input = sound_first program input accepted.well_formed accepted.inherits accepted.nests accepted.frees_own accepted.obeys
+  first input = sound_first program input accepted.well_formed accepted.quiet accepted.nests accepted.frees_own accepted.obeys
 
   sound_last : (input : List ℤ) (events : List Event) (last : State) → Run program (first_state program input) events last → Sound program last
   sound_last input events last run = runs.sound_run run (first input)
 
   pub agrees : AgreesWithFlow program
-  agrees input events last run begins = agrees_at program last (sound_last input events last run) begins
+  agrees input events last run begins none = agrees_at program last (sound_last input events last run) begins none
 
   pub never : (why : Why) → NeverErroneous why program
   never why input events last run halted = runs.none_is_next program last why (sound_last input events last run) halted
@@ -56,23 +56,20 @@ module _ (program : Program) (accepted : IsChecked program) where
   back_is_told input events last run = runs.back_is_told refl run (first input)
 
   pub items_fall : InEveryRun program (λ events last. AllPairs Falls (items_of last.masters))
-  items_fall input events last run =
-      let stored = runs.stored_in program last (sound_last input events last run) in
-      items.items_fall (items_of last.masters) stored.1.counted
+  items_fall input events last run = order.items_fall program input events last run
 
   pub masters_fall : InEveryRun program (λ events last. AllPairs MastersFall last.masters)
   masters_fall input events last run = order.masters_fall program input events last run
 
   pub housed : InEveryRun program OutsAreHoused
   housed input events last run o x found out =
-      let stored = runs.stored_in program last (sound_last input events last run) in
-      let i = items.contains_item x.cell.home.item x.cell.access x.cell.home.pool (items_of last.masters) ((stored.1.sane o x found).housed out) in
+      let i = items.contains_item x.cell.home.item x.cell.access x.cell.home.pool (items_of last.masters) (runs.housed program last (sound_last input events last run) o x found out) in
       (i.0, i.1, i.2, i.4)
 
   pub pooled : InEveryRun program OutsHavePools
   pooled input events last run o x found out =
-      let stored = runs.stored_in program last (sound_last input events last run) in
-      pool_exists program.types.items (items_of last.masters) x.cell.home.item x.cell.access x.cell.home.pool (order.pools_last program input events last run) ((stored.1.sane o x found).housed out)
+      pool_exists program.types.items (items_of last.masters) x.cell.home.item x.cell.access x.cell.home.pool (order.pools_last program input events last run)
+      (runs.housed program last (sound_last input events last run) o x found out)
 
   pub pools_differ : InEveryRun program PoolNumbersDiffer
   pools_differ input events last run = order.pools_differ program input events last run
@@ -83,8 +80,8 @@ module _ (program : Program) (accepted : IsChecked program) where
   pub safe : Safe program
   safe = record {
     never_erroneous = λ input events last why run halted. never why input events last run halted;
-    never_stuck = typed.never_stuck program accepted.well_formed accepted.inherits;
-    nothing_escapes = typed.nothing_escapes program accepted.well_formed accepted.inherits;
+    never_stuck = typed.never_stuck program accepted.well_formed;
+    nothing_escapes = λ input events last e run halted. runs.nothing_escapes program last e (sound_last input events last run) halted;
     keeps = λ input events last run. record {
       back_once = back_once input events last run;
       finalized_once = finalized_once input events last run;

@@ -88,9 +88,14 @@ pub mod Written
 pub mod Waiting
 -- the body of a quiet operation runs
 pub mod Operating
+-- where none does
+pub mod Calm
+-- what overrides an operation is quiet
+pub mod QuietOperations
 -- the body of a quiet operation begins and ends
 pub mod OperationCalls
 pub mod OperationStarts
+pub mod OperationBegins
 -- it takes a step
 pub mod OperationSteps
 pub mod OperationStatements
@@ -171,6 +176,10 @@ pub mod ExampleCalls
 pub mod ExamplePools
 -- and one with controlled record types
 pub mod ExampleControlled
+-- and those that override operations of controlled types
+pub mod ExampleOperations
+-- where flow is not agreed with
+pub mod ExampleInside
 -- where a statement begins
 pub mod Agreeing
 -- what effects cover

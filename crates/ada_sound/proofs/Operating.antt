@@ -27,7 +27,9 @@ use Rattle.ada_meaning.specs.State.{Activation, Owned, declared, collection, rec
 use Rattle.ada_parts.specs.Task.{Task}
 use Rattle.ada_meaning.specs.Step.{treating}
 use Rattle.ada_meaning.specs.Named.{Object, State, object_at}
-use Rattle.ada_sound.specs.Quiet.{is_elementary, holds_elementary, is_quiet_expression, are_quiet_links, is_quiet_condition, are_quiet_declarations, are_quiet, are_quiet_branches, are_quiet_handlers}
+use Rattle.ada_typed.proofs.Kept.{Behind, behind_call}
+use Rattle.ada_finalized.specs.Law.{NoOperationRuns}
+use Rattle.ada_quiet.specs.Quiet.{is_elementary, holds_elementary, is_quiet_expression, are_quiet_links, is_quiet_condition, are_quiet_declarations, are_quiet, are_quiet_branches, are_quiet_handlers}
 use Rattle.ada_sound.proofs.Fits.{IsWithin, place_at}
 use Rattle.ada_sound.proofs.Invariant.{Control, TreatsBy}
 use Rattle.ada_sound.proofs.Callers.{Suspension, known_in, Stands}
@@ -224,6 +226,11 @@ module _ (sight : Sight) where
 abbrev pub behind_operation : (suspended : List (Activation Value)) → (behind : Control) → (lower : List Master) → State → State
 behind_operation suspended behind lower s = record s { mode = Running; control = behind; activations = suspended; masters = lower }
 
+-- No other operation runs while the body of a call does: none waits behind it.
+abbrev pub IsCalm : Option Behind → Type 0
+IsCalm None = Unit {0}
+IsCalm (Some behind) = NoOperationRuns behind.left
+
 -- The object that a quiet operation is called for is treated; and what waits for it goes on behind that, whatever the body does.
 pub record Suspended (program : Program) (object : Id) (caller : Activation Value) (rest : List (Activation Value)) (behind : Control) (lower : List Master) (s : State) : Type 0 where
   pub suspensions : List Suspension
@@ -232,6 +239,7 @@ pub record Suspended (program : Program) (object : Id) (caller : Activation Valu
   pub waits : WaitsFor object treatment after behind
   pub treats : TreatsBy (known_in program caller.procedure suspensions) (Names object) treatment after s.heap caller.places caller.operands lower
   pub stands : Stands program suspensions (behind_operation (caller ∷ rest) behind lower s)
+  pub calm : IsCalm (behind_call behind)
 
 -- The body of a quiet operation runs.
 pub record Operates (program : Program) (s : State) : Type 0 where

@@ -59,6 +59,7 @@ module _ (program : Program) (o : Id) (caller : Activation Value) (rest : List (
     stands = stands_kept program (behind_operation (caller ∷ rest) behind lower s) (behind_operation (caller ∷ rest) behind lower after) w.suspensions w.stands Quiet
         (record { procedure = refl; suspended = refl })
         (rw heap (alters_set s.heap Quiet o x (filled c v x) found (refl, refl, refl) (λ h. h) (λ h. inl h)));
+    calm = w.calm;
   }
 
   -- It writes nothing.
@@ -71,4 +72,5 @@ module _ (program : Program) (o : Id) (caller : Activation Value) (rest : List (
     treats = rw heap w.treats;
     stands = stands_kept program (behind_operation (caller ∷ rest) behind lower s) (behind_operation (caller ∷ rest) behind lower after) w.suspensions w.stands Quiet
         (record { procedure = refl; suspended = refl }) (rw heap (alters_same s.heap Quiet));
+    calm = w.calm;
   }

@@ -24,7 +24,7 @@ use Rattle.ada_meaning.specs.State.{Activation, Master, Item, Owned, declared, c
 use Rattle.ada_meaning.specs.Step.{first_or, older, at, declarations_next, decided_next, is_decided, link_next, links_next, right_next, turn_next, repeats_next, turned_next, exited_next, line_next, moves, count_turn_next, counts_next, ranges_next, stored_next, store_next, received_next, receive_next, target_next, owned, put, leave_next, master_leave_next, item_leave_next}
 use Rattle.ada_meaning.specs.Named.{State, Next, named, look, store, filled, as_value, unary_given, binary_given}
 use Rattle.ada_meaning.specs.Run.{Event}
-use Rattle.ada_sound.specs.Quiet.{holds_elementary, is_quiet_expression, are_quiet_links, is_quiet_right, are_quiet_declarations}
+use Rattle.ada_quiet.specs.Quiet.{holds_elementary, is_quiet_expression, are_quiet_links, is_quiet_right, are_quiet_declarations}
 use Rattle.ada_sound.proofs.Invariant.{Control}
 use Rattle.ada_sound.proofs.Raising.{or_left, or_right}
 use Rattle.ada_owners.proofs.Changes.{store_is}

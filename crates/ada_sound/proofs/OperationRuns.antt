@@ -18,7 +18,7 @@ use Rattle.ada_meaning.specs.Frame.{Frame, is_return, Elaborates, Does, Decides,
 use Rattle.ada_meaning.specs.State.{Activation, Master}
 use Rattle.ada_meaning.specs.Step.{first_or, older, frame_next, landed, jump_next}
 use Rattle.ada_meaning.specs.Named.{State, Next, named}
-use Rattle.ada_sound.specs.Quiet.{are_quiet, are_quiet_handlers}
+use Rattle.ada_quiet.specs.Quiet.{are_quiet, are_quiet_handlers}
 use Rattle.ada_sound.proofs.Invariant.{Control}
 use Rattle.ada_sound.proofs.Raising.{or_left, or_right, unary_only, binary_only}
 use Rattle.ada_sound.proofs.OperationStarts.{apart}

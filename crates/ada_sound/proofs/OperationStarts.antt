@@ -15,20 +15,21 @@ use Rattle.ada_meaning.specs.declared.state.Id.{Id}
 use Rattle.ada_meaning.specs.declared.state.Value.{Value}
 use Rattle.ada_meaning.specs.declared.state.Value.TheVariants.{Names}
 use Rattle.ada_meaning.specs.declared.state.Mode.TheVariants.{Running}
-use Rattle.ada_meaning.specs.Event.{Quiet}
-use Rattle.ada_meaning.specs.Frame.{Treatment, Elaborates, Returns}
+use Rattle.ada_meaning.specs.Frame.{Treatment, begins, ends, Elaborates, Returns}
 use Rattle.ada_meaning.specs.State.{Activation, Master}
 use Rattle.ada_meaning.specs.Step.{blank, blanks, given_places, operating}
 use Rattle.ada_meaning.specs.Named.{Object, State, named, object_at}
+use Rattle.ada_meaning.specs.Run.{Event}
 use Rattle.ada_typed.proofs.Bodies.{seen_as}
-use Rattle.ada_sound.specs.Quiet.{is_elementary}
+use Rattle.ada_typed.proofs.Kept.{behind_call, behind_treating}
+use Rattle.ada_quiet.specs.Quiet.{is_elementary}
 use Rattle.ada_sound.proofs.Alters.{Alters}
 use Rattle.ada_sound.proofs.Callers.{Suspension, known_in, Stands}
 use Rattle.ada_sound.proofs.Fits.{place_at}
 use Rattle.ada_sound.proofs.Invariant.{Control, TreatsBy}
 use Rattle.ada_sound.proofs.Raising.{or_left, or_right, same_is, declarations_more, stmts_more, handlers_more}
 use Rattle.ada_sound.proofs.Waiting.{stands_kept}
-use Rattle.ada_sound.proofs.Operating.{Sight, StaysLive, WaitsFor, Holds, HoldScalars, Quietly, Body, Operates, QuietBody, behind_operation}
+use Rattle.ada_sound.proofs.Operating.{Sight, StaysLive, WaitsFor, Holds, HoldScalars, Quietly, Body, Operates, QuietBody, IsCalm, behind_operation}
 
 -- Both of two.
 pub apart : (a b : Bool) → (a && b) ≡ true → (a ≡ true) × (b ≡ true)
@@ -93,16 +94,21 @@ starts sight b same quiet behind m = (
   ((refl, refl), refl, refl),
 )
 
+-- No operation but this one runs.
+calm_behind : (o : Id) (treatment : Treatment) (k behind : Control) → WaitsFor o treatment k behind → IsCalm (behind_call k) → IsCalm (behind_call behind)
+calm_behind o (begins by done) k behind (of, part, tasks, is) calm = rw is calm
+calm_behind o (ends cause) k behind (tasks, is) calm = rw (is, behind_treating (Names o) (ends cause) tasks k) calm
+
 -- The operation of a part of an object begins: what waits for it is behind the treatment of the object.
 module _ (program : Program) (number : ℕ) (b : BodyForm) (there : slice_get (body_forms program) number ≡ Some b) (quiet : QuietBody (program_form program).types b) (caller : Activation Value) (rest : List (Activation Value)) (gs : List Suspension) (s : State) (stands : Stands program gs (record s { activations = caller ∷ rest })) (o : Id) (treatment : Treatment) (k behind : Control) (reference : Value) where
   abbrev pub sight : Object → Sight
   sight x = record { program = seen_by number b (program_form program); object = o; access = x.cell.access }
 
-  pub operation_begins : (heap : List Object) (x : Object) → object_at heap o ≡ Some x → StaysLive x.stage → Alters s.heap Quiet heap → WaitsFor o treatment k behind
+  pub operation_begins : (e : Event) (heap : List Object) (x : Object) → object_at heap o ≡ Some x → StaysLive x.stage → Alters s.heap e heap → WaitsFor o treatment k behind
       → TreatsBy (known_in program caller.procedure gs) (Names o) treatment k heap caller.places caller.operands s.masters
-      → Holds (sight x) (variable_kind b.variables 0) reference → HoldScalars (sight x) x
+      → Holds (sight x) (variable_kind b.variables 0) reference → HoldScalars (sight x) x → IsCalm (behind_call k)
       → Operates program (operating named number b reference behind (record s { activations = caller ∷ rest; heap = heap; mode = Running }))
-  operation_begins heap x found live alters waits treats formal scalars =
+  operation_begins e heap x found live alters waits treats formal scalars calm =
       let after = operating named number b reference behind (record s { activations = caller ∷ rest; heap = heap; mode = Running }) in
       let body : Body (sight x) behind (record { number = s.next; items = [] } ∷ []) heap (given_places named (reference ∷ []) b.variables) [] Running (Elaborates b.declarations b.statements b.handlers ∷ Returns [] [] ∷ behind) = record {
         x = x;
@@ -134,7 +140,8 @@ module _ (program : Program) (number : ℕ) (b : BodyForm) (there : slice_get (b
           after = k;
           waits = waits;
           treats = treats;
-          stands = stands_kept program (record s { activations = caller ∷ rest }) (behind_operation (caller ∷ rest) behind s.masters after) gs stands Quiet
+          stands = stands_kept program (record s { activations = caller ∷ rest }) (behind_operation (caller ∷ rest) behind s.masters after) gs stands e
               (record { procedure = refl; suspended = refl }) alters;
+          calm = calm_behind o treatment k behind waits calm;
         };
       }

@@ -26,7 +26,7 @@ use Rattle.ada_meaning.specs.Named.{State, Next, named, whole}
 use Rattle.ada_meaning.specs.Run.{Event}
 use Rattle.ada_owners.proofs.Kernel.{same_or_not}
 use Rattle.ada_owners.proofs.Objects.{read_other}
-use Rattle.ada_sound.specs.Quiet.{is_near, holds_elementary, is_quiet_path, is_quiet_expression, is_quiet_condition, is_quiet_right, are_quiet_declarations, is_quiet_stmt, are_quiet, are_quiet_branches, are_quiet_handlers}
+use Rattle.ada_quiet.specs.Quiet.{is_near, holds_elementary, is_quiet_path, is_quiet_expression, is_quiet_condition, is_quiet_right, are_quiet_declarations, is_quiet_stmt, are_quiet, are_quiet_branches, are_quiet_handlers}
 use Rattle.ada_sound.proofs.Fits.{place_at}
 use Rattle.ada_sound.proofs.Invariant.{Control}
 use Rattle.ada_sound.proofs.Raising.{or_left, or_right, both, same_here, same_is, stmts_more}

@@ -25,7 +25,7 @@ use Rattle.ada_meaning.specs.State.{Activation, Master}
 use Rattle.ada_meaning.specs.Step.{halts, moves, tells, asks, picks, raised, component_next, path_next, named_next, expression_next, outcome_next}
 use Rattle.ada_meaning.specs.Named.{Object, State, Next, named, object_at, filled, look, whole}
 use Rattle.ada_meaning.specs.Run.{Event}
-use Rattle.ada_sound.specs.Quiet.{is_near, holds_elementary, is_quiet_expression, are_quiet_links}
+use Rattle.ada_quiet.specs.Quiet.{is_near, holds_elementary, is_quiet_expression, are_quiet_links}
 use Rattle.ada_sound.proofs.Fits.{place_at}
 use Rattle.ada_sound.proofs.Invariant.{Control}
 use Rattle.ada_sound.proofs.Raising.{RaisesOnly, or_left, or_right}

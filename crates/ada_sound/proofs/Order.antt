@@ -4,7 +4,7 @@ use Rattle.std.specs.Prelude.{ℤ, List, All, AllPairs}
 use Rattle.ada_program.specs.declared.program.Program.{Program}
 use Rattle.ada_meaning.specs.Named.{State}
 use Rattle.ada_meaning.specs.Run.{Event, Choice, Step, Run, first_state}
-use Rattle.ada_meaning.specs.Law.{InReverseOrder, items_of, MastersFall, OwnTwoPools, IsDeclaredPool, LeavesInnermost}
+use Rattle.ada_meaning.specs.Law.{InReverseOrder, items_of, Falls, MastersFall, OwnTwoPools, IsDeclaredPool, LeavesInnermost}
 use Rattle.ada_order.specs.Masters.{HaveTheirPools}
 use Rattle.ada_order.proofs.Orders as orders
 
@@ -27,3 +27,7 @@ pools_last program input events last run = orders.pools_last program input event
 -- No two pools that exist have one number, and none has that of the standard pool.
 pub pools_differ : (program : Program) (input : List ℤ) (events : List Event) (last : State) → Run program (first_state program input) events last → AllPairs OwnTwoPools (items_of last.masters) × All IsDeclaredPool (items_of last.masters)
 pools_differ program input events last run = orders.pools_differ program input events last run
+
+-- Numbers fall along the items of the masters that are entered.
+pub items_fall : (program : Program) (input : List ℤ) (events : List Event) (last : State) → Run program (first_state program input) events last → AllPairs Falls (items_of last.masters)
+items_fall program input events last run = orders.items_fall program input events last run

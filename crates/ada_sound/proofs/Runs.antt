@@ -2,14 +2,15 @@
 
 use Rattle.std.proofs.Common.{◌≡◌, ℕ, suc, ◌≤◌, Bool, true, false, List, [], ◌∷◌, ◌++◌, refl, sym, ap, subst, ◌∙◌, ◌⊎◌, inl, inr, arith, reverse}
 use Rattle.std.specs.Prelude.{◌↔◌, Option, Some, None}
-use Rattle.std.specs.List.{All, AllPairs, slice_get, slice_index_or, list_all}
+use Rattle.std.specs.List.{All, AllPairs, slice_get, slice_index_or}
 use Rattle.std.proofs.lemmas.Option.{slice_get-get_or}
 use Rattle.std.proofs.lemmas.List.Elements.{All-nil, All-cons}
 use Rattle.std.proofs.lemmas.List.Kept.{AllPairs-cons}
 use Rattle.ada_program.specs.declared.program.Program.{Program}
 use Rattle.ada_program.specs.Form.{ActualForm}
 use Rattle.ada_program.specs.ProgramForm.{TypeForm, BodyForm, ProgramForm, program_form, body_forms, main_body, seen_by, seen_in}
-use Rattle.ada_program.specs.WellFormed.{IsWellFormed, finalization_in, overrides_nothing, overrides_none}
+use Rattle.ada_program.specs.WellFormed.{IsWellFormed}
+use Rattle.ada_parts.specs.Task.{Task, next as task_next}
 use Rattle.ada_effects.specs.Effects.{body_frees, effects_of}
 use Rattle.ada_flow.specs.Flow.{first_holds, gone_with, ObeysRules}
 use Rattle.ada_meaning.specs.declared.state.Id.{Id}
@@ -18,40 +19,43 @@ use Rattle.ada_meaning.specs.declared.state.Value.TheVariants.{Names}
 use Rattle.ada_meaning.specs.declared.event.Halt.{Halt}
 use Rattle.ada_meaning.specs.declared.event.Halt.TheVariants.{Finished, Unhandled, Escaped, Erroneous, Stuck, Memory}
 use Rattle.ada_meaning.specs.declared.event.Why.{Why}
+use Rattle.ada_meaning.specs.declared.state.Stage.{Stage}
+use Rattle.ada_meaning.specs.declared.state.Stage.TheVariants.{Gone}
 use Rattle.ada_meaning.specs.Event.{Born, Finalized, Back, Followed, Left, Line, Quiet}
 use Rattle.ada_meaning.specs.State.{Activation, Master}
 use Rattle.ada_meaning.specs.declared.state.Mode.{Mode}
 use Rattle.ada_meaning.specs.declared.state.Mode.TheVariants.{Running, Raising, Exiting, Returning}
-use Rattle.ada_meaning.specs.Frame.{Frame, Elaborates, Calls, Returns, is_master, landing}
+use Rattle.ada_meaning.specs.Frame.{Frame, Treatment, Elaborates, Calls, Returns, Treats, is_master, landing}
+use Rattle.ada_finalized.specs.Law.{NoOperationRuns}
 use Rattle.ada_sound.specs.Agreement.{running_procedure}
+use Rattle.ada_sound.specs.Callees.{IsCovered}
 use Rattle.ada_program.specs.declared.program.Exception.{Exception}
 use Rattle.ada_program.specs.WellFormed.{record_components, reached_components}
 use Rattle.ada_program.specs.Typed.{components_of, reached_of}
-use Rattle.ada_meaning.specs.Step.{halts, moves, tells, asks, picks, older, frame_next, pass_next, jump_next, mode_next}
-use Rattle.ada_meaning.specs.Named.{Object, State, Next, named, object_at, next}
+use Rattle.ada_meaning.specs.Step.{halts, moves, tells, asks, picks, older, procedure_of, storing, frame_next, pass_next, jump_next, mode_next}
+use Rattle.ada_meaning.specs.Named.{Object, State, Next, named, object_at, filled, next}
 use Rattle.ada_meaning.specs.Run.{Event, Choice, settled, grants, takes, Leads, Step, Run, here, there, Halts, run_more}
 use Rattle.ada_meaning.specs.Law.{named_by, back_of, followed_of, Differ, BackTwoObjects, FollowedBeforeBack, leaving_by, IsBackHome, GoesHome, GivesBackOf, Happened, IsBack, HasEnded, items_of}
 use Rattle.ada_typed.specs.Holding.{cells_of}
-use Rattle.ada_typed.proofs.Values.{AreFilled, filled_at, active_placed}
+use Rattle.ada_typed.proofs.Values.{filled_at, active_placed}
 use Rattle.ada_sound.proofs.GivenBack.{ArePlaced}
 use Rattle.ada_typed.proofs.Control as typed
 use Rattle.ada_typed.proofs.Evaluations as typing
 use Rattle.ada_typed.proofs.Bodies.{seen_fits, sees, own_bodies}
-use Rattle.ada_typed.proofs.Kept.{crosses, Keeps, Each}
-use Rattle.ada_typed.proofs.KeptSteps.{frame_keeps, pass_keeps}
-use Rattle.ada_typed.proofs.Overriding.{well_formed_overrides_nothing}
+use Rattle.ada_typed.proofs.Kept.{behind_call, crosses, is_treatment, Keeps, Each}
+use Rattle.ada_typed.proofs.KeptSteps.{step_keeps, pass_keeps}
 use Rattle.ada_typed.proofs.Runs.{step_typed}
 use Rattle.ada_scopes.specs.Scopes.{InnermostHeldInside}
 use Rattle.ada_scopes.proofs.Components.{AreOfKinds, collect_two, held_outside, held_inside}
 use Rattle.ada_scopes.proofs.Runs.{step_nested}
 use Rattle.ada_sound.proofs.Defaults.{reached_same, Reaches}
-use Rattle.ada_sound.proofs.Items.{NoMaster, items_fall}
+use Rattle.ada_sound.proofs.Items.{NoMaster, HasItem, has_after, items_fall}
 use Rattle.ada_sound.proofs.Stored.{Stored}
-use Rattle.ada_sound.proofs.Alters.{BackIn, StaysItself, Alters}
-use Rattle.ada_sound.proofs.Invariant.{Known, Control, Working, RunsOn, CallsOn, Spares, Says, Stepped, EndsWell, Fine, outers, ArePassed}
+use Rattle.ada_sound.proofs.Alters.{BackIn, StaysItself, Alters, alters_same, alters_set}
+use Rattle.ada_sound.proofs.Invariant.{Known, Control, Working, RunsOn, CallsOn, Spares, Says, GoesOn, Stepped, EndsWell, Fine, outers, ArePassed}
 use Rattle.ada_sound.proofs.Callers.{Suspension, rest_of, known_in, Stands}
 use Rattle.ada_sound.proofs.Bodies.{IsBody, seen_is, callee_get}
-use Rattle.ada_sound.proofs.Returns.{Crosses, same_types, left_fine}
+use Rattle.ada_sound.proofs.Returns.{Crosses, same_types, resumed_in, behind_call as behind_mode, behind_frames, behind_body, left_fine}
 use Rattle.ada_sound.proofs.Fits.{NoOuterAlias}
 use Rattle.ada_typed.proofs.Objects.{record_no_access}
 use Rattle.std.proofs.lemmas.Bool.{eq-eqb}
@@ -66,7 +70,13 @@ use Rattle.ada_sound.proofs.CallStatements.{MayCall}
 use Rattle.ada_sound.proofs.Steps as inside
 use Rattle.ada_sound.proofs.StoredStates.{IsStored, ready_stored}
 use Rattle.ada_sound.proofs.Finalization.{finalizes_in}
-use Rattle.ada_sound.proofs.Starts.{IsReached, Sound, body_obeys, none_out, none_on}
+use Rattle.ada_sound.proofs.Starts.{IsReached, Ordinary, Sound, body_obeys, none_out, none_on}
+use Rattle.ada_sound.proofs.Calm.{filled_in, typed_calm, behind_calm}
+use Rattle.ada_sound.proofs.Treatments.{TellsNothing, Begins, StaysHere, Treated, treats_fine}
+use Rattle.ada_sound.proofs.Operating.{Sight, StaysLive, IsCalm, Operates, behind_operation}
+use Rattle.ada_sound.proofs.OperationBegins.{begins_operation}
+use Rattle.ada_sound.proofs.OperationSteps.{acting, Wrote, IsMild}
+use Rattle.ada_sound.proofs.OperationLaw.{operates_on, operation_ends, StepsOn, steps_on}
 
 -- An object whose words are out.
 OutIn : List Object → Id → Type 0
@@ -162,36 +172,77 @@ pub record Does (before : List Object) (e : Event) (after : State) : Type 0 wher
   pub alters : Alters before e after.heap
   pub says : Says body e before after
 
-each_same : (s mid : State) (n : Next) → running_procedure mid ≡ running_procedure s → older mid.activations ≡ older s.activations → Each (Keeps mid) n → Each (SameBody s) n
-each_same s mid (halts halt) p r e = tt
-each_same s mid (moves shown after) p r e = record { procedure = e.procedure ∙ p; suspended = e.suspended ∙ r }
-each_same s mid (tells request shown after) p r e = record { procedure = e.procedure ∙ p; suspended = e.suspended ∙ r }
-each_same s mid (asks request answers) p r e = λ granted. record { procedure = (e granted).procedure ∙ p; suspended = (e granted).suspended ∙ r }
-each_same s mid (picks n taking) p r e = λ i lt. record { procedure = (e i lt).procedure ∙ p; suspended = (e i lt).suspended ∙ r }
+-- From one state to the other the same body runs, what waits for it stays as it is, and what is left to do behind it does.
+record Stays (s after : State) : Type 0 where
+  same : SameBody s after
+  behind : behind_call after.control ≡ behind_call s.control
+
+stays_by : (s mid after : State) → running_procedure mid ≡ running_procedure s → older mid.activations ≡ older s.activations → behind_call mid.control ≡ behind_call s.control → Keeps mid after → Stays s after
+stays_by s mid after p r b keeps = record { same = record { procedure = keeps.procedure ∙ p; suspended = keeps.suspended ∙ r }; behind = keeps.behind ∙ b }
+
+each_stays : (s mid : State) (n : Next) → running_procedure mid ≡ running_procedure s → older mid.activations ≡ older s.activations → behind_call mid.control ≡ behind_call s.control → Each (Keeps mid) n → Each (Stays s) n
+each_stays s mid (halts halt) p r b e = tt
+each_stays s mid (moves shown after) p r b e = stays_by s mid after p r b e
+each_stays s mid (tells request shown after) p r b e = stays_by s mid after p r b e
+each_stays s mid (asks request answers) p r b e = λ granted. stays_by s mid (answers granted) p r b (e granted)
+each_stays s mid (picks n taking) p r b e = λ i lt. stays_by s mid (taking i) p r b (e i lt)
+
+-- The body of a quiet operation runs behind a step that gives nothing back; and what that does to objects.
+pub record InOperation (program : Program) (before : List Object) (e : Event) (after : State) : Type 0 where
+  pub operates : Operates program after
+  pub alters : Alters before e after.heap
+  pub says : (p : ProgramForm) → Says p e before after
+  pub covered : (number : ℕ) → IsCovered program number e
+
+-- What a step leads to: the ordinary invariant, or the body of a quiet operation runs.
+abbrev pub Led : Program → List Object → Event → State → Type 0
+Led program before e after = (Crosses program before e after × IsCalm (behind_call after.control)) ⊎ InOperation program before e after
+
+-- What tells of no storage says nothing of objects, and covers nothing.
+told_says : (e : Event) (before : List Object) (after : State) → TellsNothing e → (p : ProgramForm) → Says p e before after
+told_says (Born v part turn type number by) before after told p = tt
+told_says (Finalized v part turn type number cause) before after told p = tt
+told_says (Back v access number pool subpool cause) before after told p = absurd told
+told_says (Followed v) before after told p = absurd told
+told_says (Left master) before after told p = tt
+told_says (Line line) before after told p = tt
+told_says Quiet before after told p = tt
+
+told_covered : (program : Program) (e : Event) → TellsNothing e → (number : ℕ) → IsCovered program number e
+told_covered program (Born v part turn type number by) told n = tt
+told_covered program (Finalized v part turn type number cause) told n = tt
+told_covered program (Back v access number pool subpool cause) told n = absurd told
+told_covered program (Followed v) told n = absurd told
+told_covered program (Left master) told n = tt
+told_covered program (Line line) told n = tt
+told_covered program Quiet told n = tt
 
 -- A step that begins no call and ends none keeps what is known of callers.
-module _ (program : Program) (s after : State) (gs : List Suspension) (stands : Stands program gs s) (e : Event) (same : SameBody s after) (alters : Alters s.heap e after.heap) where
-  pub kept_on : Stepped (known_in program (running_procedure s) gs) s.heap e after → Crosses program s.heap e after
-  kept_on st = record {
-    suspensions = gs;
-    stepped = subst (λ (procedure : Option ℕ). Stepped (known_in program procedure gs) s.heap e after) (sym same.procedure) st;
-    stands = stands_kept program s after gs stands e same alters;
-  }
+module _ (program : Program) (s after : State) (gs : List Suspension) (stands : Stands program gs s) (calm : IsCalm (behind_call s.control)) (e : Event) (kept : Stays s after) where
+  kept_on : Stepped (known_in program (running_procedure s) gs) s.heap e after → Led program s.heap e after
+  kept_on st = inl (
+    record {
+      suspensions = gs;
+      stepped = subst (λ (procedure : Option ℕ). Stepped (known_in program procedure gs) s.heap e after) (sym kept.same.procedure) st;
+      stands = stands_kept program s after gs stands e kept.same st.alters;
+    },
+    rw kept.behind calm,
+  )
 
 -- What comes next is known, whichever body runs then.
 abbrev pub FineIn : Program → State → Next → Type 0
 FineIn program s (halts halt) = EndsWell halt s.heap s.masters
-FineIn program s (moves e after) = Crosses program s.heap e after
-FineIn program s (tells request e after) = Crosses program s.heap e after
-FineIn program s (asks request answered) = (granted : Bool) → Crosses program s.heap Quiet (answered granted)
-FineIn program s (picks n taken) = (i : ℕ) → suc i ≤ n → Crosses program s.heap Quiet (taken i)
+FineIn program s (moves e after) = Led program s.heap e after
+FineIn program s (tells request e after) = Led program s.heap e after
+FineIn program s (asks request answered) = (granted : Bool) → Led program s.heap Quiet (answered granted)
+FineIn program s (picks n taken) = (i : ℕ) → suc i ≤ n → Led program s.heap Quiet (taken i)
 
-fine_in : (program : Program) (s : State) (gs : List Suspension) → Stands program gs s → (n : Next) → Each (SameBody s) n → Fine (known_in program (running_procedure s) gs) s.heap s.masters n → FineIn program s n
-fine_in program s gs stands (halts halt) same fine = fine
-fine_in program s gs stands (moves e after) same fine = kept_on program s after gs stands e same fine.alters fine
-fine_in program s gs stands (tells request e after) same fine = kept_on program s after gs stands e same fine.alters fine
-fine_in program s gs stands (asks request answered) same fine = λ granted. kept_on program s (answered granted) gs stands Quiet (same granted) (fine granted).alters (fine granted)
-fine_in program s gs stands (picks n taken) same fine = λ i lt. kept_on program s (taken i) gs stands Quiet (same i lt) (fine i lt).alters (fine i lt)
+fine_in : (program : Program) (s : State) (gs : List Suspension) → Stands program gs s → IsCalm (behind_call s.control) → (n : Next) → Each (Stays s) n → Fine (known_in program (running_procedure s) gs) s.heap s.masters n → FineIn program s n
+fine_in program s gs stands calm (halts halt) same fine = fine
+fine_in program s gs stands calm (moves e after) same fine = kept_on program s after gs stands calm e same fine
+fine_in program s gs stands calm (tells request e after) same fine = kept_on program s after gs stands calm e same fine
+fine_in program s gs stands calm (asks request answered) same fine = λ granted. kept_on program s (answered granted) gs stands calm Quiet (same granted) (fine granted)
+fine_in program s gs stands calm (picks n taken) same fine = λ i lt. kept_on program s (taken i) gs stands calm Quiet (same i lt) (fine i lt)
 
 -- Each variable of the running body has a place.
 placed_in : (p : ProgramForm) (a : Activation Value) (rest : List (Activation Value)) (s : State) → s.activations ≡ a ∷ rest → typed.TypedIn p s → ArePlaced p.variables a.places
@@ -229,23 +280,17 @@ module _ (program : Program) (number : ℕ) (b : BodyForm) (given : List ActualF
       subst (λ (c : BodyForm). RunsOn called (Elaborates c.declarations c.statements c.handlers ∷ Returns given (references program number b given k a [] gs s) ∷ k) (gone_with c.declarations ∷ []) (first_holds c.formals c.variables)) same_body
       (body_runs program (Some number) (waiting program number b given k a [] gs s w ∷ gs) (body_obeys program (Some number) (b, seen_body) obeys) (none_out program (Some number) well) (none_on program (Some number) well) (spares_called rest stands) (callee_keeps (program_form program) a.procedure number b is w.rest.0))
 
-filled_in : (p : ProgramForm) (s : State) → typed.TypedIn p s → AreFilled p.types (cells_of s.heap) (cells_of s.heap)
-filled_in p s (typed.running kinds ready fits) = ready.filled
-filled_in p s (typed.on_jump mode jumps goes) = jumps.filled
-filled_in p s (typed.operated kinds ready ended) = ready.filled
-filled_in p s (typed.out_of_operation e kinds jumps ended) = jumps.filled
-
 are_of_kinds : (p : ProgramForm) (s : State) → typed.TypedIn p s → AreOfKinds p.types s
 are_of_kinds p s t o x found = filled_at p.types (cells_of s.heap) (cells_of s.heap) o.0 x.cell (filled_in p s t) (typing.cell_at s.heap o.0 x found)
 
--- Objects are stored in a sound state, and none of an outer master names one of the innermost.
-pub stored_in : (program : Program) (s : State) → Sound program s → IsStored s.heap s.masters
-stored_in program s sound = ready_stored (known_in program (running_procedure s) sound.suspensions) s sound.ready
+-- Objects are stored where no operation runs, and none of an outer master names one of the innermost.
+stored_in : (program : Program) (s : State) → Ordinary program s → IsStored s.heap s.masters
+stored_in program s o = ready_stored (known_in program (running_procedure s) o.suspensions) s o.ready
 
-held_inside_it : (program : Program) (s : State) → Sound program s → InnermostHeldInside s
-held_inside_it program s sound =
+held_inside_it : (program : Program) (s : State) → Sound program s → Ordinary program s → InnermostHeldInside s
+held_inside_it program s sound o =
     let own = seen_in (running_procedure s) (program_form program) in
-    held_inside s (items_fall (items_of s.masters) (stored_in program s sound).1.counted)
+    held_inside s (items_fall (items_of s.masters) (stored_in program s o).1.counted)
     (held_outside (program_form program) s sound.nested (subst (λ (ts : List TypeForm). AreOfKinds ts s) (same_types (running_procedure s) (program_form program)) (are_of_kinds own s sound.typed.inside)))
 
 -- A state with these parts.
@@ -269,20 +314,31 @@ may_call program procedure gs well = record {
       );
 }
 
--- A step that begins no call and ends none.
--- As a body sees it, the program overrides no operation either.
-plain_in : (program : Program) (procedure : Option ℕ) → overrides_none (program_form program) ≡ true → overrides_none (seen_in procedure (program_form program)) ≡ true
-plain_in program procedure plain =
-    subst (λ (types : List TypeForm). list_all (λ t. overrides_nothing (finalization_in (Some t))) types ≡ true) (sym (same_types procedure (program_form program))) plain
-
-ordinary : (program : Program) (s : State) (sound : Sound program s) → inside.crosses s.mode s.control ≡ false → (n : Next) → mode_next named program.types.items (body_forms program) s.mode s ≡ n → Each (SameBody s) n → FineIn program s n
+-- A step that begins no call and ends none, and treats nothing.
+ordinary : (program : Program) (s : State) (sound : Sound program s) (o : Ordinary program s) → inside.crosses s.mode s.control ≡ false → (n : Next) → mode_next named program.types.items (body_forms program) s.mode s ≡ n → Each (Stays s) n → FineIn program s n
 unfolding next
-ordinary program s sound inner n is same =
-    let known = known_in program (running_procedure s) sound.suspensions in
-    fine_in program s sound.suspensions sound.stands n same
-    (subst (λ (coming : Next). Fine known s.heap s.masters coming) is (inside.fine known (plain_in program (running_procedure s) sound.inherits) program.types.items (well_formed_overrides_nothing program sound.inherits) (reaches_in program (running_procedure s) sound.suspensions) (body_forms program) (may_call program (running_procedure s) sound.suspensions sound.well) s inner sound.typed.inside (own_bodies (program_form program) sound.frees_own (running_procedure s)) (collect_two (program_form program) s sound.nested) (finalizes_in program sound.well sound.inherits s sound.reached) (held_inside_it program s sound)
-    (λ left behind runs at_leaving. named_below known s.heap sound.stands.standing.waiting sound.stands.standing.low left behind s.masters (rw (runs, at_leaving) at (sound.ready.1)))
-    sound.ready))
+ordinary program s sound o inner n is same =
+    let known = known_in program (running_procedure s) o.suspensions in
+    fine_in program s o.suspensions o.stands o.calm n same
+    (subst (λ (coming : Next). Fine known s.heap s.masters coming) is (inside.fine known program.types.items (reaches_in program (running_procedure s) o.suspensions) (body_forms program) (may_call program (running_procedure s) o.suspensions sound.well) s inner sound.typed.inside (own_bodies (program_form program) sound.frees_own (running_procedure s)) (collect_two (program_form program) s sound.nested) (finalizes_in program sound.well s sound.reached sound.typed o.calm) (held_inside_it program s sound o)
+    (λ left behind runs at_leaving. named_below known s.heap o.stands.standing.waiting o.stands.standing.low left behind s.masters (rw (runs, at_leaving) at (o.ready.1)))
+    o.ready))
+
+-- A frame at which no call begins is none behind which the body of one is left.
+no_return : (f : Frame Value) (k : Control) → crosses f ≡ false → behind_call (f ∷ k) ≡ behind_call k
+no_return (Returns actuals references) k none = absurd (cc none)
+no_return f k none = refl
+
+storing_calm : (references : List Value) (k : Control) → NoOperationRuns k → IsCalm (behind_call (storing named references k))
+storing_calm [] k calm = behind_calm k calm
+storing_calm (r ∷ rs) k calm = storing_calm rs k calm
+
+-- Behind a call no operation runs.
+left_calm : (mode : Mode) (given : List Value) (k : Control) → NoOperationRuns k → IsCalm (behind_call (behind_frames mode given k))
+left_calm Running given k calm = storing_calm given k calm
+left_calm (Raising e) given k calm = behind_calm k calm
+left_calm Exiting given k calm = behind_calm k calm
+left_calm Returning given k calm = storing_calm given k calm
 
 module _ (program : Program) (a : Activation Value) (rest : List (Activation Value)) (k : Control) (s : State) where
   -- What is known of callers is so whatever is left to do.
@@ -294,61 +350,179 @@ module _ (program : Program) (a : Activation Value) (rest : List (Activation Val
     standing = record { suspended = stands.standing.suspended; waiting = stands.standing.waiting; low = stands.standing.low };
   }
 
-  -- A frame at which no call begins, and none ends.
-  crossing_none : (f : Frame Value) → crosses f ≡ false → Sound program (state_with Running (f ∷ k) (a ∷ rest) s) → FineIn program (state_with Running (f ∷ k) (a ∷ rest) s) (frame_next named program.types.items (body_forms program) f (state_with Running k (a ∷ rest) s))
-  crossing_none f none sound =
-      ordinary program (state_with Running (f ∷ k) (a ∷ rest) s) sound none _ refl
-      (each_same (state_with Running (f ∷ k) (a ∷ rest) s) (state_with Running k (a ∷ rest) s) _ refl refl (frame_keeps program.types.items (well_formed_overrides_nothing program sound.inherits) (body_forms program) f (state_with Running k (a ∷ rest) s) none))
+  -- A frame at which no call begins, and none ends, and that treats nothing.
+  crossing_none : (f : Frame Value) → crosses f ≡ false → is_treatment f ≡ false → (sound : Sound program (state_with Running (f ∷ k) (a ∷ rest) s)) → Ordinary program (state_with Running (f ∷ k) (a ∷ rest) s) → FineIn program (state_with Running (f ∷ k) (a ∷ rest) s) (frame_next named program.types.items (body_forms program) f (state_with Running k (a ∷ rest) s))
+  crossing_none f none plain sound o =
+      ordinary program (state_with Running (f ∷ k) (a ∷ rest) s) sound o (rw (none, plain) refl) _ refl
+      (each_stays (state_with Running (f ∷ k) (a ∷ rest) s) (state_with Running k (a ∷ rest) s) _ refl refl (sym (no_return f k none)) (step_keeps program.types.items (body_forms program) f (state_with Running k (a ∷ rest) s) (λ treats. absurd (cc (plain, treats))) none))
 
-  passing_none : (mode : Mode) (f : Frame Value) → inside.crosses mode (f ∷ k) ≡ false → (n : Next) → mode_next named program.types.items (body_forms program) mode (state_with mode (f ∷ k) (a ∷ rest) s) ≡ n → n ≡ pass_next named (is_master f) (landing mode f) mode (state_with mode k (a ∷ rest) s) → Sound program (state_with mode (f ∷ k) (a ∷ rest) s) → FineIn program (state_with mode (f ∷ k) (a ∷ rest) s) n
-  passing_none mode f none n is passes sound =
-      ordinary program (state_with mode (f ∷ k) (a ∷ rest) s) sound none n is
-      (each_same (state_with mode (f ∷ k) (a ∷ rest) s) (state_with mode k (a ∷ rest) s) n refl refl
+  -- A step of a treatment.
+  module _ (v : Value) (treatment : Treatment) (tasks : List Task) (sound : Sound program (state_with Running (Treats v treatment tasks ∷ k) (a ∷ rest) s)) (o : Ordinary program (state_with Running (Treats v treatment tasks ∷ k) (a ∷ rest) s)) where
+    abbrev whole : State
+    whole = state_with Running (Treats v treatment tasks ∷ k) (a ∷ rest) s
+
+    abbrev treater : Known
+    treater = known_in program a.procedure o.suspensions
+
+    goes_here : (e : Event) (after : State) → Stepped treater s.heap e after × StaysHere treater a rest s program.types.items (body_forms program) k after → Led program s.heap e after
+    goes_here e after (st, (acts, behind)) =
+        kept_on program whole after o.suspensions o.stands o.calm e
+        (record { same = record { procedure = ap procedure_of acts; suspended = ap older acts }; behind = behind }) st
+
+    begins_there : (e : Event) (after : State) → next program.types.items (body_forms program) whole ≡ moves e after → Begins treater a rest s program.types.items (body_forms program) k e after → Led program s.heap e after
+    begins_there e after is c = inr (record {
+      operates = begins_operation program sound.well sound.quiet a rest o.suspensions s k e after (restand Running (Treats v treatment tasks) o.suspensions o.stands) o.calm
+          (step_typed program sound.well whole after settled e sound.typed (rw is (refl, refl))) c;
+      alters = rw c.is c.alters;
+      says = told_says e s.heap after c.tells;
+      covered = told_covered program e c.tells;
+    })
+
+    treated_led : (n : Next) → next program.types.items (body_forms program) whole ≡ n → Treated treater a rest s program.types.items (body_forms program) k n → FineIn program whole n
+    treated_led (halts halt) is t = t
+    treated_led (moves e after) is (inl st) = goes_here e after st
+    treated_led (moves e after) is (inr c) = begins_there e after is c
+    treated_led (tells request e after) is t = absurd t
+    treated_led (asks request answered) is t = absurd t
+    treated_led (picks n taken) is t = λ i lt. goes_here Quiet (taken i) (t i lt)
+
+    treating_step : FineIn program whole (frame_next named program.types.items (body_forms program) (Treats v treatment tasks) (state_with Running k (a ∷ rest) s))
+    unfolding next
+    treating_step =
+        treated_led _ refl (treats_fine treater a rest s program.types.items (body_forms program) k v (task_next tasks) treatment tasks (finalizes_in program sound.well whole sound.reached sound.typed o.calm) o.ready.1)
+
+  passing_none : (mode : Mode) (f : Frame Value) → inside.crosses mode (f ∷ k) ≡ false → behind_call (f ∷ k) ≡ behind_call k → (n : Next) → mode_next named program.types.items (body_forms program) mode (state_with mode (f ∷ k) (a ∷ rest) s) ≡ n → n ≡ pass_next named (is_master f) (landing mode f) mode (state_with mode k (a ∷ rest) s) → (sound : Sound program (state_with mode (f ∷ k) (a ∷ rest) s)) → Ordinary program (state_with mode (f ∷ k) (a ∷ rest) s) → FineIn program (state_with mode (f ∷ k) (a ∷ rest) s) n
+  passing_none mode f none behind n is passes sound o =
+      ordinary program (state_with mode (f ∷ k) (a ∷ rest) s) sound o none n is
+      (each_stays (state_with mode (f ∷ k) (a ∷ rest) s) (state_with mode k (a ∷ rest) s) n refl refl (sym behind)
       (subst (λ (coming : Next). Each (Keeps (state_with mode k (a ∷ rest) s)) coming) (sym passes) (pass_keeps (is_master f) (landing mode f) mode (state_with mode k (a ∷ rest) s))))
 
+  -- The body of a call comes to its end.
+  leaving_step : (mode : Mode) (actuals : List ActualForm) (references : List Value) → (sound : Sound program (state_with mode (Returns actuals references ∷ k) (a ∷ rest) s)) (o : Ordinary program (state_with mode (Returns actuals references ∷ k) (a ∷ rest) s))
+      → Working (known_in program a.procedure o.suspensions) s.heap a.places s.masters (GoesOn (known_in program a.procedure o.suspensions) mode (Returns actuals references ∷ k))
+      → Led program s.heap Quiet (resumed_in (behind_mode mode) (behind_frames mode references k) (behind_body mode actuals a.places rest) s)
+  leaving_step mode actuals references sound o w =
+      inl (
+        left_fine program a actuals references k s mode rest o.suspensions (restand mode (Returns actuals references) o.suspensions o.stands) (placed_in (seen_in a.procedure (program_form program)) a rest (state_with mode (Returns actuals references ∷ k) (a ∷ rest) s) refl sound.typed.inside) w,
+        left_calm mode references k o.calm,
+      )
+
   -- The step of a frame, where no jump is on its way.
-  running_step : (f : Frame Value) → Sound program (state_with Running (f ∷ k) (a ∷ rest) s) → FineIn program (state_with Running (f ∷ k) (a ∷ rest) s) (mode_next named program.types.items (body_forms program) Running (state_with Running (f ∷ k) (a ∷ rest) s))
-  running_step (Calls number b actuals) sound =
-      let ready = sound.ready.1 in
-      let caller = known_in program a.procedure sound.suspensions in
+  running_step : (f : Frame Value) → (sound : Sound program (state_with Running (f ∷ k) (a ∷ rest) s)) → Ordinary program (state_with Running (f ∷ k) (a ∷ rest) s) → FineIn program (state_with Running (f ∷ k) (a ∷ rest) s) (mode_next named program.types.items (body_forms program) Running (state_with Running (f ∷ k) (a ∷ rest) s))
+  running_step (Calls number b actuals) sound o =
+      let ready = o.ready.1 in
+      let caller = known_in program a.procedure o.suspensions in
       let w : Working caller s.heap a.places s.masters (CallsOn caller number b actuals k) = at_work ready ready.rest.0 in
-      let stands = restand Running (Calls number b actuals) sound.suspensions sound.stands in
-      calls_fine program number b actuals k a rest sound.suspensions s w ready.rest.1 (inside.heap_typed (seen_in a.procedure (program_form program)) (state_with Running (Calls number b actuals ∷ k) (a ∷ rest) s) sound.typed.inside).1 stands (runs_called program number b actuals k a sound.suspensions s sound.well sound.obeys w stands.body ready.rest.1 rest stands)
-  running_step (Returns actuals references) sound = left_fine program a actuals references k s Running rest sound.suspensions (restand Running (Returns actuals references) sound.suspensions sound.stands) (placed_in (seen_in a.procedure (program_form program)) a rest (state_with Running (Returns actuals references ∷ k) (a ∷ rest) s) refl sound.typed.inside) sound.ready.1
-  running_step f sound = crossing_none f refl sound
+      let stands = restand Running (Calls number b actuals) o.suspensions o.stands in
+      inl (
+        calls_fine program number b actuals k a rest o.suspensions s w ready.rest.1 (inside.heap_typed (seen_in a.procedure (program_form program)) (state_with Running (Calls number b actuals ∷ k) (a ∷ rest) s) sound.typed.inside).1 stands (runs_called program number b actuals k a o.suspensions s sound.well sound.obeys w stands.body ready.rest.1 rest stands),
+        (typed_calm (seen_in a.procedure (program_form program)) (state_with Running (Calls number b actuals ∷ k) (a ∷ rest) s) sound.typed.inside refl o.calm).1,
+      )
+  running_step (Returns actuals references) sound o = leaving_step Running actuals references sound o o.ready.1
+  running_step (Treats v treatment tasks) sound o = treating_step v treatment tasks sound o
+  running_step f sound o = crossing_none f refl refl sound o
 
   -- While a jump is on its way.
-  raising_step : (e : Exception) (f : Frame Value) → Sound program (state_with (Raising e) (f ∷ k) (a ∷ rest) s) → FineIn program (state_with (Raising e) (f ∷ k) (a ∷ rest) s) (jump_next named (Raising e) (f ∷ k) (state_with (Raising e) (f ∷ k) (a ∷ rest) s))
-  raising_step e (Returns actuals references) sound = left_fine program a actuals references k s (Raising e) rest sound.suspensions (restand (Raising e) (Returns actuals references) sound.suspensions sound.stands) (placed_in (seen_in a.procedure (program_form program)) a rest (state_with (Raising e) (Returns actuals references ∷ k) (a ∷ rest) s) refl sound.typed.inside) sound.ready.1
-  raising_step e f sound = passing_none (Raising e) f refl _ refl refl sound
+  raising_step : (e : Exception) (f : Frame Value) → (sound : Sound program (state_with (Raising e) (f ∷ k) (a ∷ rest) s)) → Ordinary program (state_with (Raising e) (f ∷ k) (a ∷ rest) s) → FineIn program (state_with (Raising e) (f ∷ k) (a ∷ rest) s) (jump_next named (Raising e) (f ∷ k) (state_with (Raising e) (f ∷ k) (a ∷ rest) s))
+  raising_step e (Returns actuals references) sound o = leaving_step (Raising e) actuals references sound o o.ready.1
+  raising_step e f sound o = passing_none (Raising e) f refl refl _ refl refl sound o
 
-  exiting_step : (f : Frame Value) → Sound program (state_with Exiting (f ∷ k) (a ∷ rest) s) → FineIn program (state_with Exiting (f ∷ k) (a ∷ rest) s) (jump_next named Exiting (f ∷ k) (state_with Exiting (f ∷ k) (a ∷ rest) s))
-  exiting_step (Returns actuals references) sound = left_fine program a actuals references k s Exiting rest sound.suspensions (restand Exiting (Returns actuals references) sound.suspensions sound.stands) (placed_in (seen_in a.procedure (program_form program)) a rest (state_with Exiting (Returns actuals references ∷ k) (a ∷ rest) s) refl sound.typed.inside) sound.ready.1
-  exiting_step f sound = passing_none Exiting f refl _ refl refl sound
+  exiting_step : (f : Frame Value) → (sound : Sound program (state_with Exiting (f ∷ k) (a ∷ rest) s)) → Ordinary program (state_with Exiting (f ∷ k) (a ∷ rest) s) → FineIn program (state_with Exiting (f ∷ k) (a ∷ rest) s) (jump_next named Exiting (f ∷ k) (state_with Exiting (f ∷ k) (a ∷ rest) s))
+  exiting_step (Returns actuals references) sound o = leaving_step Exiting actuals references sound o o.ready.1
+  exiting_step f sound o = passing_none Exiting f refl refl _ refl refl sound o
 
-  returning_step : (f : Frame Value) → Sound program (state_with Returning (f ∷ k) (a ∷ rest) s) → FineIn program (state_with Returning (f ∷ k) (a ∷ rest) s) (jump_next named Returning (f ∷ k) (state_with Returning (f ∷ k) (a ∷ rest) s))
-  returning_step (Returns actuals references) sound = left_fine program a actuals references k s Returning rest sound.suspensions (restand Returning (Returns actuals references) sound.suspensions sound.stands) (placed_in (seen_in a.procedure (program_form program)) a rest (state_with Returning (Returns actuals references ∷ k) (a ∷ rest) s) refl sound.typed.inside) sound.ready.1
-  returning_step f sound = passing_none Returning f refl _ refl refl sound
+  returning_step : (f : Frame Value) → (sound : Sound program (state_with Returning (f ∷ k) (a ∷ rest) s)) → Ordinary program (state_with Returning (f ∷ k) (a ∷ rest) s) → FineIn program (state_with Returning (f ∷ k) (a ∷ rest) s) (jump_next named Returning (f ∷ k) (state_with Returning (f ∷ k) (a ∷ rest) s))
+  returning_step (Returns actuals references) sound o = leaving_step Returning actuals references sound o o.ready.1
+  returning_step f sound o = passing_none Returning f refl refl _ refl refl sound o
 
--- Any step.
-step_by : (program : Program) (mode : Mode) (k : Control) (all : List (Activation Value)) (s : State) → Sound program (state_with mode k all s) → FineIn program (state_with mode k all s) (mode_next named program.types.items (body_forms program) mode (state_with mode k all s))
-step_by program mode k [] s sound = absurd (sound.ready.0)
-step_by program Running [] (a ∷ rest) s sound = sound.ready.1
-step_by program (Raising e) [] (a ∷ rest) s sound = sound.ready.1
-step_by program Exiting [] (a ∷ rest) s sound = tt
-step_by program Returning [] (a ∷ rest) s sound = sound.ready.1
-step_by program Running (f ∷ k) (a ∷ rest) s sound = running_step program a rest k s f sound
-step_by program (Raising e) (f ∷ k) (a ∷ rest) s sound = raising_step program a rest k s e f sound
-step_by program Exiting (f ∷ k) (a ∷ rest) s sound = exiting_step program a rest k s f sound
-step_by program Returning (f ∷ k) (a ∷ rest) s sound = returning_step program a rest k s f sound
+-- Any step where no operation runs.
+step_by : (program : Program) (mode : Mode) (k : Control) (all : List (Activation Value)) (s : State) → (sound : Sound program (state_with mode k all s)) → Ordinary program (state_with mode k all s) → FineIn program (state_with mode k all s) (mode_next named program.types.items (body_forms program) mode (state_with mode k all s))
+step_by program mode k [] s sound o = absurd (o.ready.0)
+step_by program Running [] (a ∷ rest) s sound o = o.ready.1
+step_by program (Raising e) [] (a ∷ rest) s sound o = o.ready.1
+step_by program Exiting [] (a ∷ rest) s sound o = tt
+step_by program Returning [] (a ∷ rest) s sound o = o.ready.1
+step_by program Running (f ∷ k) (a ∷ rest) s sound o = running_step program a rest k s f sound o
+step_by program (Raising e) (f ∷ k) (a ∷ rest) s sound o = raising_step program a rest k s e f sound o
+step_by program Exiting (f ∷ k) (a ∷ rest) s sound o = exiting_step program a rest k s f sound o
+step_by program Returning (f ∷ k) (a ∷ rest) s sound o = returning_step program a rest k s f sound o
+
+-- A step of the body of a quiet operation.
+module _ (program : Program) (s : State) (o : Operates program s) where
+  abbrev sight : Sight
+  sight = record { program = seen_in (Some o.procedure) (program_form program); object = o.object; access = o.access }
+
+  -- The words of the object that is treated are out.
+  object_out : o.body.x.out ≡ true
+  object_out =
+      let behind = behind_operation (o.caller ∷ o.rest) o.behind o.lower s in
+      let c = operation_ends program s o in
+      let stored = ready_stored (known_in program o.caller.procedure c.suspensions) behind c.stepped.ready in
+      by o.body.x.out refl o.body.x.stage o.body.live (stored.1.sane o.object o.body.x o.body.found).back_gone
+    where
+      by : (out : Bool) → o.body.x.out ≡ out → (stage : Stage) → StaysLive stage → (o.body.x.out ≡ false → o.body.x.stage ≡ Gone) → o.body.x.out ≡ true
+      by true is stage live gone = is
+      by false is stage live gone = absurd (let g = gone is in let never : StaysLive Gone = rw g at o.body.live in never)
+
+  after_alters : (e : Event) (heap : List Object) → Wrote sight o.procedure (o.caller ∷ o.rest) o.lower o.behind s.heap heap → Alters s.heap e heap
+  after_alters e heap (inl same) = rw same (alters_same s.heap e)
+  after_alters e heap (inr (x, c, v, found, is, wrote)) = rw wrote (alters_set s.heap e o.object x (filled c v x) found (refl, refl, refl) (λ h. h) (λ h. inl h))
+
+  mild_says : (p : ProgramForm) (e : Event) (after : State) → IsMild sight o.procedure (o.caller ∷ o.rest) o.lower o.behind e → Says p e s.heap after
+  mild_says p (Born object part turn type number by) after mild = tt
+  mild_says p (Finalized object part turn type number cause) after mild = tt
+  mild_says p (Back object access number pool subpool cause) after mild = absurd mild
+  mild_says p (Followed v) after mild = record { id = o.object; object = o.body.x; is = mild; found = o.body.found; out = object_out }
+  mild_says p (Left master) after mild = tt
+  mild_says p (Line line) after mild = tt
+  mild_says p Quiet after mild = tt
+
+  mild_covered : (e : Event) → IsMild sight o.procedure (o.caller ∷ o.rest) o.lower o.behind e → (number : ℕ) → IsCovered program number e
+  mild_covered (Born object part turn type number by) mild n = tt
+  mild_covered (Finalized object part turn type number cause) mild n = tt
+  mild_covered (Back object access number pool subpool cause) mild n = absurd mild
+  mild_covered (Followed v) mild n = tt
+  mild_covered (Left master) mild n = tt
+  mild_covered (Line line) mild n = tt
+  mild_covered Quiet mild n = tt
+
+  led_on : (n : Next) → StepsOn sight o.procedure o.caller o.rest o.lower o.behind program.types.items (body_forms program) s o.places o.operands n → FineIn program s n
+  led_on (halts halt) is = rw is tt
+  led_on (moves e after) (inl a) = inr (record {
+    operates = operates_on program s after e o a;
+    alters = after_alters e after.heap a.wrote;
+    says = λ p. mild_says p e after a.mild;
+    covered = mild_covered e a.mild;
+  })
+  led_on (moves e after) (inr (quiet, is)) = rw (quiet, is) (inl (operation_ends program s o, o.suspended.calm))
+  led_on (tells request e after) is = absurd is
+  led_on (asks request answered) is = absurd is
+  led_on (picks n taken) is = absurd is
+
+  -- The state, by its parts.
+  state_is : record s { activations = acting sight o.procedure (o.caller ∷ o.rest) o.lower o.behind o.places o.operands ∷ o.caller ∷ o.rest; masters = o.upper ++ o.lower } ≡ s
+  state_is =
+      subst (λ (all : List (Activation Value)). record s { activations = all; masters = o.upper ++ o.lower } ≡ s) o.active
+      (subst (λ (ms : List Master). record s { masters = ms } ≡ s) o.masters refl)
+
+  pub operating_step : FineIn program s (next program.types.items (body_forms program) s)
+  unfolding next
+  operating_step =
+      led_on (next program.types.items (body_forms program) s)
+      (subst (λ (t : State). StepsOn sight o.procedure o.caller o.rest o.lower o.behind program.types.items (body_forms program) s o.places o.operands (mode_next named program.types.items (body_forms program) s.mode t)) state_is
+      (steps_on sight o.procedure o.caller o.rest o.lower o.behind program.types.items (body_forms program) s o.places o.operands s.mode o.upper s.control o.body))
 
 -- So what comes next keeps the invariant, and each state that a sound one steps to is sound.
 step_fine : (program : Program) (s : State) → Sound program s → FineIn program s (next program.types.items (body_forms program) s)
 unfolding next
-step_fine program s sound = step_by program s.mode s.control s.activations s sound
+step_fine program s sound = by sound.goes
+  where
+    by : Ordinary program s ⊎ Operates program s → FineIn program s (next program.types.items (body_forms program) s)
+    by (inl o) = step_by program s.mode s.control s.activations s sound o
+    by (inr o) = operating_step program s o
 
 -- Where a choice leads, the invariant holds.
-leads_fine : (program : Program) (s : State) (n : Next) (choice : Choice) (e : Event) (after : State) → FineIn program s n → Leads n choice e after → Crosses program s.heap e after
+leads_fine : (program : Program) (s : State) (n : Next) (choice : Choice) (e : Event) (after : State) → FineIn program s n → Leads n choice e after → Led program s.heap e after
 leads_fine program s (halts halt) choice e after f l = absurd l
 leads_fine program s (moves d t) settled e after f l = rw (l.0, l.1) f
 leads_fine program s (moves d t) (grants granted) e after f l = absurd l
@@ -363,38 +537,60 @@ leads_fine program s (picks n taken) settled e after f l = absurd l
 leads_fine program s (picks n taken) (grants granted) e after f l = absurd l
 leads_fine program s (picks n taken) (takes i) e after f l = rw (l.1, l.2) (f i l.0)
 
-pub crossed : (program : Program) (s : State) (choice : Choice) (e : Event) (after : State) → Sound program s → Step program s choice e after → Crosses program s.heap e after
-crossed program s choice e after r step = leads_fine program s (next program.types.items (body_forms program) s) choice e after (step_fine program s r) step
+pub led : (program : Program) (s : State) (choice : Choice) (e : Event) (after : State) → Sound program s → Step program s choice e after → Led program s.heap e after
+led program s choice e after r step = leads_fine program s (next program.types.items (body_forms program) s) choice e after (step_fine program s r) step
+
+does_so : (program : Program) (before : List Object) (e : Event) (after : State) → Led program before e after → Does before e after
+does_so program before e after (inl (c, calm)) = record { body = (known_in program (running_procedure after) c.suspensions).program; alters = c.stepped.alters; says = c.stepped.says }
+does_so program before e after (inr c) = record { body = program_form program; alters = c.alters; says = c.says (program_form program) }
 
 pub stepped : (program : Program) (s : State) (choice : Choice) (e : Event) (after : State) → Sound program s → Step program s choice e after → Does s.heap e after
-stepped program s choice e after r step = let st = (crossed program s choice e after r step).stepped in record { body = (known_in program (running_procedure after) (crossed program s choice e after r step).suspensions).program; alters = st.alters; says = st.says }
+stepped program s choice e after r step = does_so program s.heap e after (led program s choice e after r step)
+
+goes_so : (program : Program) (before : List Object) (e : Event) (after : State) → Led program before e after → Ordinary program after ⊎ Operates program after
+goes_so program before e after (inl (c, calm)) = inl (record { suspensions = c.suspensions; ready = c.stepped.ready; stands = c.stands; calm = calm })
+goes_so program before e after (inr c) = inr c.operates
 
 reached_then : (program : Program) (s : State) (choice : Choice) (e : Event) (after : State) → IsReached program s → Step program s choice e after → IsReached program after
 reached_then program s choice e after (input, events, run) step = (input, events ++ e ∷ [], run_more e choice after run step)
 
 pub sound_step : (program : Program) (s : State) (choice : Choice) (e : Event) (after : State) → Sound program s → Step program s choice e after → Sound program after
-sound_step program s choice e after r step =
-    let c = crossed program s choice e after r step in
-    record {
-      reached = reached_then program s choice e after r.reached step;
-      well = r.well;
-      inherits = r.inherits;
-      frees_own = r.frees_own;
-      obeys = r.obeys;
-      suspensions = c.suspensions;
-      ready = c.stepped.ready;
-      stands = c.stands;
-      typed = step_typed program r.well r.inherits s after choice e r.typed step;
-      nested = step_nested program s after choice e r.nested step;
-    }
+sound_step program s choice e after r step = record {
+  reached = reached_then program s choice e after r.reached step;
+  well = r.well;
+  quiet = r.quiet;
+  frees_own = r.frees_own;
+  obeys = r.obeys;
+  goes = goes_so program s.heap e after (led program s choice e after r step);
+  typed = step_typed program r.well s after choice e r.typed step;
+  nested = step_nested program s after choice e r.nested step;
+}
 
 pub sound_run : {program : Program} {s last : State} {events : List Event} → Run program s events last → Sound program s → Sound program last
 sound_run here r = r
 sound_run {program} {s = s} (there {event = e} choice mid step run) r = sound_run run (sound_step program s choice e mid r step)
 
--- No erroneous action is next.
+-- As long as the words of an object are out, its home is an item of a master that is entered.
+below_has : (n access : ℕ) (pool : Option ℕ) (upper lower : List Master) → HasItem n access pool (items_of lower) → HasItem n access pool (items_of (upper ++ lower))
+below_has n access pool [] lower has = has
+below_has n access pool (m ∷ upper) lower has = has_after n access pool m.items (items_of (upper ++ lower)) (below_has n access pool upper lower has)
+
+pub housed : (program : Program) (s : State) → Sound program s → (o : Id) (x : Object) → object_at s.heap o ≡ Some x → x.out ≡ true → HasItem x.cell.home.item x.cell.access x.cell.home.pool (items_of s.masters)
+housed program s sound o x found out = by sound.goes
+  where
+    by : Ordinary program s ⊎ Operates program s → HasItem x.cell.home.item x.cell.access x.cell.home.pool (items_of s.masters)
+    by (inl n) = ((stored_in program s n).1.sane o x found).housed out
+    by (inr n) =
+        let c = operation_ends program s n in
+        let stored = ready_stored (known_in program n.caller.procedure c.suspensions) (behind_operation (n.caller ∷ n.rest) n.behind n.lower s) c.stepped.ready in
+        rw n.masters (below_has x.cell.home.item x.cell.access x.cell.home.pool n.upper n.lower ((stored.1.sane o x found).housed out))
+
+-- No erroneous action is next, and no exception leaves an operation.
 pub none_is_next : (program : Program) (s : State) (why : Why) → Sound program s → Halts program s (Erroneous why) → ⊥
 none_is_next program s why r e = rw e at (step_fine program s r)
+
+pub nothing_escapes : (program : Program) (s : State) (x : Exception) → Sound program s → Halts program s (Escaped x) → ⊥
+nothing_escapes program s x r e = rw e at (step_fine program s r)
 
 -- Where a run has come to its end, no master is left, and so all words are back.
 no_master : (ms : List Master) → NoMaster ms → ms ≡ []

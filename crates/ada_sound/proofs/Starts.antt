@@ -1,11 +1,11 @@
 -- The first state of a program that is well formed, whose collections nest, that frees by the instances for what it frees, and that obeys the rules keeps
 -- the invariant.
 
-use Rattle.std.proofs.Common.{◌≡◌, ℕ, zero, suc, true, false, List, [], ◌∷◌, refl, sym, subst}
+use Rattle.std.proofs.Common.{◌≡◌, ℕ, zero, suc, true, false, List, [], ◌∷◌, refl, sym, subst, ◌⊎◌, inl}
 use Rattle.std.specs.Prelude.{ℤ, Option, None}
 use Rattle.ada_program.specs.declared.program.Program.{Program}
 use Rattle.ada_program.specs.ProgramForm.{TypeForm, VariableForm, program_form, main_body, seen_in}
-use Rattle.ada_program.specs.WellFormed.{IsWellFormed, overrides_none}
+use Rattle.ada_program.specs.WellFormed.{IsWellFormed}
 use Rattle.ada_program.specs.Nested.{CollectionsNest}
 use Rattle.ada_program.specs.Freed.{FreesItsOwn}
 use Rattle.ada_effects.specs.Effects.{effects_of}
@@ -14,11 +14,12 @@ use Rattle.ada_flow.specs.Flow.{hold_at, keeping_of, body_flow, first_holds, gon
 use Rattle.ada_meaning.specs.Step.{blanks}
 use Rattle.ada_meaning.specs.Named.{State, named}
 use Rattle.ada_meaning.specs.Run.{Event, Run, here, first_state}
+use Rattle.ada_typed.proofs.Kept.{behind_call}
 use Rattle.ada_sound.specs.Agreement.{running_procedure}
+use Rattle.ada_quiet.specs.Quiet.{operations_are_quiet}
 use Rattle.ada_typed.proofs.Bodies.{seen_fits}
 use Rattle.ada_typed.proofs.Control as typed
 use Rattle.ada_typed.proofs.Runs.{first_typed}
-use Rattle.ada_scopes.proofs.Operations.{none_nests}
 use Rattle.ada_scopes.proofs.Runs.{Scoped, first_nested}
 use Rattle.ada_sound.proofs.Fits.{first_fit}
 use Rattle.ada_sound.proofs.Bodies.{IsBody, IsFine, obeys_in}
@@ -26,23 +27,29 @@ use Rattle.ada_sound.proofs.BodyRuns.{body_runs, none_suspended}
 use Rattle.ada_sound.proofs.Exits.{no_exits, no_exit_handlers}
 use Rattle.ada_sound.proofs.Invariant.{Ready}
 use Rattle.ada_sound.proofs.Callers.{Suspension, known_in, Stands}
+use Rattle.ada_sound.proofs.Operating.{IsCalm, Operates}
+use Rattle.ada_sound.proofs.QuietOperations.{operations_nest}
 use Rattle.ada_sound.proofs.Returns.{same_types}
 
 -- A run of the program comes to this state.
 abbrev pub IsReached : Program → State → Type 0
 IsReached program s = (input : List ℤ) × (events : List Event) × Run program (first_state program input) events s
 
--- What every state of a run keeps: the invariant, for the body that runs and those that have called it, that values are of their kinds, and that
--- collections nest.
-pub record Sound (program : Program) (s : State) : Type 0 where
-  pub reached : IsReached program s
-  pub well : IsWellFormed (program_form program)
-  pub inherits : overrides_none (program_form program) ≡ true
-  pub frees_own : FreesItsOwn (program_form program)
-  pub obeys : ObeysRules program
+-- No operation runs, or its body has just come to its end: the invariant holds, for the body that runs and those that have called it.
+pub record Ordinary (program : Program) (s : State) : Type 0 where
   pub suspensions : List Suspension
   pub ready : Ready (known_in program (running_procedure s) suspensions) s
   pub stands : Stands program suspensions s
+  pub calm : IsCalm (behind_call s.control)
+
+-- What every state of a run keeps: that invariant, or the body of a quiet operation runs; values are of their kinds, and collections nest.
+pub record Sound (program : Program) (s : State) : Type 0 where
+  pub reached : IsReached program s
+  pub well : IsWellFormed (program_form program)
+  pub quiet : operations_are_quiet (program_form program) ≡ true
+  pub frees_own : FreesItsOwn (program_form program)
+  pub obeys : ObeysRules program
+  pub goes : Ordinary program s ⊎ Operates program s
   pub typed : typed.Typed (program_form program) s
   pub nested : Scoped (program_form program) s
 
@@ -83,16 +90,19 @@ ready_first program input well obeys =
       },
     )
 
-pub sound_first : (program : Program) (input : List ℤ) → IsWellFormed (program_form program) → overrides_none (program_form program) ≡ true → CollectionsNest (program_form program) → FreesItsOwn (program_form program) → ObeysRules program → Sound program (first_state program input)
-sound_first program input well inherits nest own obeys = record {
+pub sound_first : (program : Program) (input : List ℤ) → IsWellFormed (program_form program) → operations_are_quiet (program_form program) ≡ true → CollectionsNest (program_form program) → FreesItsOwn (program_form program) → ObeysRules program → Sound program (first_state program input)
+sound_first program input well quiet nest own obeys = record {
   reached = (input, [], here);
   well = well;
-  inherits = inherits;
+  quiet = quiet;
   frees_own = own;
   obeys = obeys;
-  suspensions = [];
-  ready = ready_first program input well obeys;
-  stands = record { body = tt; behind = refl; bodies = tt; standing = record { suspended = tt; waiting = tt; low = tt } };
+  goes = inl (record {
+    suspensions = [];
+    ready = ready_first program input well obeys;
+    stands = record { body = tt; behind = refl; bodies = tt; standing = record { suspended = tt; waiting = tt; low = tt } };
+    calm = tt;
+  });
   typed = first_typed program input well;
-  nested = first_nested program well nest (none_nests (program_form program) inherits) input;
+  nested = first_nested program well nest (operations_nest (program_form program) well quiet) input;
 }

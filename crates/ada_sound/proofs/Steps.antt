@@ -1,9 +1,7 @@
 -- One step keeps the invariant.
 
-use Rattle.std.proofs.Common.{◌≡◌, ℕ, zero, suc, Bool, false, List, [], ◌∷◌, refl, sym, ◌∙◌, inl, true}
+use Rattle.std.proofs.Common.{◌≡◌, ℕ, zero, suc, Bool, false, List, [], ◌∷◌, refl, sym, ◌∙◌, inl}
 use Rattle.ada_program.specs.declared.program.TypeDefinition.{TypeDefinition}
-use Rattle.ada_program.specs.Controlled.{OverridesNothing}
-use Rattle.ada_parts.specs.Task.{next as task_next}
 use Rattle.ada_program.specs.declared.program.VariableKind.TheVariants as variable
 use Rattle.ada_program.specs.Form.{ItemForm, LinksForm, RightForm}
 use Rattle.ada_program.specs.ProgramForm.{TypeForm, VariableForm, BodyForm, ProgramForm}
@@ -27,15 +25,16 @@ use Rattle.ada_typed.proofs.Values.{OperandKind, of_kind, AreComputed, AreHeld, 
 use Rattle.ada_sound.proofs.Fits.{IsPlain, ArePlain}
 use Rattle.ada_sound.proofs.Passed.{refers_fine, referred_fine, opens_fine, opened_fine}
 use Rattle.std.specs.List.{AllPairs, slice_get}
-use Rattle.std.specs.Prelude.{Some}
+use Rattle.std.specs.Prelude.{Some, ◌||◌}
 use Rattle.ada_program.specs.declared.program.ComponentKind.{ComponentKind}
 use Rattle.ada_program.specs.declared.program.ComponentKind.TheVariants as component
-use Rattle.ada_program.specs.WellFormed.{held_kind, overrides_none}
+use Rattle.ada_program.specs.WellFormed.{held_kind}
 use Rattle.ada_program.specs.Typed.{width_of}
 use Rattle.ada_typed.proofs.Evaluations.{cell_at}
 use Rattle.ada_typed.proofs.Values as typing
 use Rattle.ada_typed.proofs.Control as typed
-use Rattle.ada_typed.proofs.Kept.{crosses as crosses_by}
+use Rattle.ada_typed.proofs.Kept.{crosses as crosses_by, is_treatment}
+use Rattle.ada_sound.proofs.Calm.{ends_operation, operation_ends_there}
 use Rattle.ada_sound.proofs.Homes.{Pooled, HaveHomes}
 use Rattle.ada_sound.proofs.Standing.{AllStand, FinalizesBy, FinalizesIn}
 use Rattle.ada_sound.proofs.Invariant.{Known, outers, Control, ReadyBy, ReadyIn, IsActive, Ready, Fine}
@@ -54,7 +53,7 @@ use Rattle.ada_sound.proofs.Releases.{free_in_fine}
 use Rattle.ada_sound.proofs.Targets.{target_fine, store_fine, receive_fine, clear_fine}
 use Rattle.ada_sound.proofs.Leavings.{HeldIn, NamedBelow}
 use Rattle.ada_sound.proofs.Endings.{ends_fine, backs_fine, leave_fine}
-use Rattle.ada_sound.proofs.Treatments.{awaits_fine, confines_fine, treats_fine}
+use Rattle.ada_sound.proofs.Treatments.{awaits_fine, confines_fine}
 use Rattle.ada_sound.proofs.Jumps.{closes_fine, raising_fine, exiting_fine, returning_fine}
 
 -- Where a kind is waited for, an operand is there.
@@ -75,14 +74,14 @@ active_held : (types : List TypeForm) (cells : Cells) (variables : List Variable
 active_held types cells variables kinds [] active = absurd active
 active_held types cells variables kinds (a ∷ rest) active = active.0
 
-runs_typed : (known : Known) (s : State) → overrides_none known.program ≡ true → typed.TypedIn known.program s → s.mode ≡ Running → RunsTyped known s.heap s.control (places_of s.activations) (operands_of s.activations)
-runs_typed known s plain (typed.running kinds ready fits) runs = (kinds, fits, active_computed known.program.types (cells_of s.heap) known.program.variables kinds s.activations ready.active, active_held known.program.types (cells_of s.heap) known.program.variables kinds s.activations ready.active)
-runs_typed known s plain (typed.operated kinds ready ended) runs = absurd (typed.none_operates known.program (cells_of s.heap) kinds s.control plain ended)
-runs_typed known s plain (typed.out_of_operation e kinds jumps ended) runs = absurd (typed.none_operates known.program (cells_of s.heap) kinds s.control plain ended)
-runs_typed known s plain (typed.on_jump mode jumps goes) runs =
+runs_typed : (known : Known) (s : State) → typed.TypedIn known.program s → s.mode ≡ Running → ends_operation s.control ≡ false → RunsTyped known s.heap s.control (places_of s.activations) (operands_of s.activations)
+runs_typed known s (typed.running kinds ready fits) runs none = (kinds, fits, active_computed known.program.types (cells_of s.heap) known.program.variables kinds s.activations ready.active, active_held known.program.types (cells_of s.heap) known.program.variables kinds s.activations ready.active)
+runs_typed known s (typed.operated kinds ready ended) runs none = let there = operation_ends_there known.program (cells_of s.heap) kinds s.control ended in absurd (cc (there, none))
+runs_typed known s (typed.out_of_operation e kinds jumps ended) runs none = let there = operation_ends_there known.program (cells_of s.heap) kinds s.control ended in absurd (cc (there, none))
+runs_typed known s (typed.on_jump mode jumps goes) runs none =
     let same : mode ≡ Running = sym jumps.jumps ∙ runs in
-    let none : typed.Goes known.program (cells_of s.heap) Running s.control = rw same at goes in
-    absurd none
+    let nowhere : typed.Goes known.program (cells_of s.heap) Running s.control = rw same at goes in
+    absurd nowhere
 
 -- Objects of access types are from pools, as typing has it, and no component refers to a record.
 abbrev pub HeapTyped : ProgramForm → List Object → Type 0
@@ -126,16 +125,16 @@ pub record StateTyped (p : ProgramForm) (heap : List Object) (masters : List Mas
 homes_in : {p : ProgramForm} {heap : List Object} {masters : List Master} → StateTyped p heap masters → AllStand heap → HaveHomes p.types heap masters
 homes_in kept stand = record { pooled = kept.pooled; lone = kept.lone; stand = stand }
 
--- Does the next step begin the body of a call, or does it come to the end of one?
+-- Does the next step begin the body of a call, or does it come to the end of one; or is it one of a treatment, which may call an operation?
 abbrev pub crosses : Mode → Control → Bool
 crosses mode [] = false
-crosses Running (f ∷ k) = crosses_by f
+crosses Running (f ∷ k) = crosses_by f || is_treatment f
 crosses (Raising e) (f ∷ k) = is_return f
 crosses Exiting (f ∷ k) = is_return f
 crosses Returning (f ∷ k) = is_return f
 
 module _ (known : Known) where
-  module _ (types : List TypeDefinition) (inherits : OverridesNothing types) (reaches : Reaches known types) (bodies : List BodyForm) (calling : MayCall known bodies) (k : Control) (a : Activation Value) (rest : List (Activation Value)) (s : State) where
+  module _ (types : List TypeDefinition) (reaches : Reaches known types) (bodies : List BodyForm) (calling : MayCall known bodies) (k : Control) (a : Activation Value) (rest : List (Activation Value)) (s : State) where
     -- Frames that take an operand, which is there.
     path_fine : (plain : ArePlain s.heap) (cs : List ℕ) (operands : List Value) → RunsTyped known s.heap (Follows cs ∷ k) a.places operands → ReadyBy known (Follows cs) k s.heap a.places operands s.masters → Fine known s.heap s.masters (frame_next named types bodies (Follows cs) (running k (record a { operands = operands }) rest s))
     path_fine plain cs [] t r = let fits = t.1 in absurd (no_operand known.program.types (cells_of s.heap) t.0 (of_kind fits.1) fits.0 fits.3 t.2)
@@ -200,9 +199,9 @@ module _ (known : Known) where
     frame_fine (FreesIn access c) inner t kept well held low r = free_in_fine known a rest s types access c k (older a.operands) (homes_in kept well) (first_or Null a.operands) r
     frame_fine (Declares x) inner t kept well held low r = declares_fine known k a rest s kept.plain x (first_or Null a.operands) (older a.operands) r
     frame_fine (DeclaresRecord x u) inner t kept well held low r = recorded_fine known k a rest s types reaches x u t.0 t.1 t.2 t.3 r
-    frame_fine (Treats v treatment tasks) inner t kept well held low r = treats_fine known a rest s types inherits bodies v k (task_next tasks) treatment tasks well r
-    frame_fine (frame.Awaits v by done of part tasks) inner t kept well held low r = awaits_fine known a rest s types inherits bodies v k by done of part tasks r.0 r.1
-    frame_fine frame.Confines inner t kept well held low r = confines_fine known a rest s k r
+    frame_fine (Treats v treatment tasks) inner t kept well held low r = absurd (cc inner)
+    frame_fine (frame.Awaits v by done of part tasks) inner t kept well held low r = absurd (t.1)
+    frame_fine frame.Confines inner t kept well held low r = absurd (t.1)
     frame_fine (frame.Resumes mode) inner t kept well held low r = absurd r
     frame_fine Writes inner t kept well held low r = writes_fine known k a rest s kept.plain (named.reads_integer (first_or Null a.operands)) (older a.operands) r
     frame_fine (Ends v) inner t kept well held low r = ends_fine known a rest s v k r
@@ -210,23 +209,25 @@ module _ (known : Known) where
     frame_fine (Clears x) inner t kept well held low r = stores_fine known k a rest s kept.plain x Null a.operands (inl r)
     frame_fine (ClearsIn o c) inner t kept well held low r = clear_fine known k a rest s o c r
 
-  mode_fine : (types : List TypeDefinition) → OverridesNothing types → Reaches known types → (bodies : List BodyForm) → MayCall known bodies → (mode : Mode) (k : Control) (a : Activation Value) (rest : List (Activation Value)) (s : State) → crosses mode k ≡ false → (mode ≡ Running → RunsTyped known s.heap k a.places a.operands) → StateTyped known.program s.heap s.masters → FinalizesIn types bodies mode k (record s { activations = a ∷ rest }) → HeldIn s.heap s.masters → ((left : Mode) (behind : Control) → mode ≡ Running → k ≡ Leaves left ∷ behind → NamedBelow (outers known) s.heap s.masters) → ReadyIn known mode k s.heap a.places a.operands s.masters → Fine known s.heap s.masters (mode_next named types bodies mode (record s { mode = mode; control = k; activations = a ∷ rest }))
-  mode_fine types inherits reaches bodies calling Running [] a rest s inner t kept well held low r = r
-  mode_fine types inherits reaches bodies calling Running (f ∷ k) a rest s inner t kept well held low r = frame_fine types inherits reaches bodies calling k a rest s f inner (t refl) kept well held (λ left behind is. low left behind refl is) r
-  mode_fine types inherits reaches bodies calling (Raising e) [] a rest s inner t kept well held low r = r
-  mode_fine types inherits reaches bodies calling (Raising e) (f ∷ k) a rest s inner t kept well held low r = raising_fine known k a rest s e f inner r
-  mode_fine types inherits reaches bodies calling Exiting [] a rest s inner t kept well held low r = tt
-  mode_fine types inherits reaches bodies calling Exiting (f ∷ k) a rest s inner t kept well held low r = exiting_fine known k a rest s f inner r
-  mode_fine types inherits reaches bodies calling Returning [] a rest s inner t kept well held low r = r
-  mode_fine types inherits reaches bodies calling Returning (f ∷ k) a rest s inner t kept well held low r = returning_fine known k a rest s f inner r
+  mode_fine : (types : List TypeDefinition) → Reaches known types → (bodies : List BodyForm) → MayCall known bodies → (mode : Mode) (k : Control) (a : Activation Value) (rest : List (Activation Value)) (s : State) → crosses mode k ≡ false → (mode ≡ Running → ends_operation k ≡ false → RunsTyped known s.heap k a.places a.operands) → StateTyped known.program s.heap s.masters → FinalizesIn types bodies mode k (record s { activations = a ∷ rest }) → HeldIn s.heap s.masters → ((left : Mode) (behind : Control) → mode ≡ Running → k ≡ Leaves left ∷ behind → NamedBelow (outers known) s.heap s.masters) → ReadyIn known mode k s.heap a.places a.operands s.masters → Fine known s.heap s.masters (mode_next named types bodies mode (record s { mode = mode; control = k; activations = a ∷ rest }))
+  mode_fine types reaches bodies calling Running [] a rest s inner t kept well held low r = r
+  mode_fine types reaches bodies calling Running (frame.Awaits v by done of part tasks ∷ k) a rest s inner t kept well held low r = awaits_fine known a rest s types bodies k v by done of part tasks r.0 r.1
+  mode_fine types reaches bodies calling Running (frame.Confines ∷ k) a rest s inner t kept well held low r = confines_fine known a rest s k r
+  mode_fine types reaches bodies calling Running (f ∷ k) a rest s inner t kept well held low r = frame_fine types reaches bodies calling k a rest s f inner (t refl refl) kept well held (λ left behind is. low left behind refl is) r
+  mode_fine types reaches bodies calling (Raising e) [] a rest s inner t kept well held low r = r
+  mode_fine types reaches bodies calling (Raising e) (f ∷ k) a rest s inner t kept well held low r = raising_fine known k a rest s e f inner r
+  mode_fine types reaches bodies calling Exiting [] a rest s inner t kept well held low r = tt
+  mode_fine types reaches bodies calling Exiting (f ∷ k) a rest s inner t kept well held low r = exiting_fine known k a rest s f inner r
+  mode_fine types reaches bodies calling Returning [] a rest s inner t kept well held low r = r
+  mode_fine types reaches bodies calling Returning (f ∷ k) a rest s inner t kept well held low r = returning_fine known k a rest s f inner r
 
-  active_fine : (types : List TypeDefinition) → OverridesNothing types → Reaches known types → (bodies : List BodyForm) → MayCall known bodies → (all : List (Activation Value)) (s : State) → IsActive all → crosses s.mode s.control ≡ false → (s.mode ≡ Running → RunsTyped known s.heap s.control (places_of all) (operands_of all)) → StateTyped known.program s.heap s.masters → FinalizesIn types bodies s.mode s.control (record s { activations = all }) → HeldIn s.heap s.masters → ((left : Mode) (behind : Control) → s.mode ≡ Running → s.control ≡ Leaves left ∷ behind → NamedBelow (outers known) s.heap s.masters) → Ready known (record s { activations = all }) → Fine known s.heap s.masters (mode_next named types bodies s.mode (record s { activations = all }))
-  active_fine types inherits reaches bodies calling [] s i inner t kept well held low r = absurd i
-  active_fine types inherits reaches bodies calling (a ∷ rest) s i inner t kept well held low r = mode_fine types inherits reaches bodies calling s.mode s.control a rest s inner t kept well held low r.1
+  active_fine : (types : List TypeDefinition) → Reaches known types → (bodies : List BodyForm) → MayCall known bodies → (all : List (Activation Value)) (s : State) → IsActive all → crosses s.mode s.control ≡ false → (s.mode ≡ Running → ends_operation s.control ≡ false → RunsTyped known s.heap s.control (places_of all) (operands_of all)) → StateTyped known.program s.heap s.masters → FinalizesIn types bodies s.mode s.control (record s { activations = all }) → HeldIn s.heap s.masters → ((left : Mode) (behind : Control) → s.mode ≡ Running → s.control ≡ Leaves left ∷ behind → NamedBelow (outers known) s.heap s.masters) → Ready known (record s { activations = all }) → Fine known s.heap s.masters (mode_next named types bodies s.mode (record s { activations = all }))
+  active_fine types reaches bodies calling [] s i inner t kept well held low r = absurd i
+  active_fine types reaches bodies calling (a ∷ rest) s i inner t kept well held low r = mode_fine types reaches bodies calling s.mode s.control a rest s inner t kept well held low r.1
 
   -- One step keeps the invariant, where no body begins and none ends.
-  pub fine : overrides_none known.program ≡ true → (types : List TypeDefinition) → OverridesNothing types → Reaches known types → (bodies : List BodyForm) → MayCall known bodies → (s : State) → crosses s.mode s.control ≡ false → typed.TypedIn known.program s → OwnBody known.program → AllPairs CollectTwoTypes (items_of s.masters) → FinalizesIn types bodies s.mode s.control s → InnermostHeldInside s → ((left : Mode) (behind : Control) → s.mode ≡ Running → s.control ≡ Leaves left ∷ behind → NamedBelow (outers known) s.heap s.masters) → Ready known s → Fine known s.heap s.masters (next types bodies s)
+  pub fine : (types : List TypeDefinition) → Reaches known types → (bodies : List BodyForm) → MayCall known bodies → (s : State) → crosses s.mode s.control ≡ false → typed.TypedIn known.program s → OwnBody known.program → AllPairs CollectTwoTypes (items_of s.masters) → FinalizesIn types bodies s.mode s.control s → InnermostHeldInside s → ((left : Mode) (behind : Control) → s.mode ≡ Running → s.control ≡ Leaves left ∷ behind → NamedBelow (outers known) s.heap s.masters) → Ready known s → Fine known s.heap s.masters (next types bodies s)
   unfolding next
-  fine plain types inherits reaches bodies calling s inner typing own lone well held low r =
+  fine types reaches bodies calling s inner typing own lone well held low r =
       let heap = heap_typed known.program s typing in
-      active_fine types inherits reaches bodies calling s.activations s r.0 inner (runs_typed known s plain typing) (record { pooled = heap.0; lone = lone; plain = heap.1; own = own }) well held low r
+      active_fine types reaches bodies calling s.activations s r.0 inner (runs_typed known s typing) (record { pooled = heap.0; lone = lone; plain = heap.1; own = own }) well held low r

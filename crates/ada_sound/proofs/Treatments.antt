@@ -1,6 +1,6 @@
 -- The controlled parts of an object are initialized or finalized (7.6, 7.6.1): what is relied on stays as it is, and so does what is behind.
 
-use Rattle.std.proofs.Common.{◌≡◌, ◌≢◌, ℕ, zero, suc, Bool, true, false, List, [], ◌∷◌, refl, sym, ap, subst, ◌∙◌, ◌⊎◌, inl, inr}
+use Rattle.std.proofs.Common.{◌≡◌, ◌≢◌, ℕ, zero, suc, ◌≤◌, Bool, true, false, List, [], ◌∷◌, refl, sym, ap, subst, ◌∙◌, ◌⊎◌, inl, inr}
 use Rattle.std.specs.Prelude.{◌==◌, if◌then◌else◌, Option, Some, None}
 use Rattle.std.specs.List.{slice_get, slice_set}
 use Rattle.ada_parts.specs.declared.tasks.Next.{Next as Follows}
@@ -8,24 +8,29 @@ use Rattle.ada_parts.specs.declared.tasks.Next.TheVariants.{Done, Pick, Perform}
 use Rattle.ada_parts.specs.Part as parts
 use Rattle.ada_parts.specs.Task.{Task, performed}
 use Rattle.ada_program.specs.declared.program.TypeDefinition.{TypeDefinition}
-use Rattle.ada_program.specs.Controlled.{OverridesNothing, shapes_of}
+use Rattle.ada_program.specs.Controlled.{operations_of, procedure_number, shapes_of}
 use Rattle.ada_program.specs.ProgramForm.{BodyForm}
 use Rattle.ada_flow.specs.Flow.{Holds}
 use Rattle.ada_meaning.specs.declared.event.Birth.{Birth}
+use Rattle.ada_meaning.specs.declared.event.Birth.TheVariants.{Creation, Copy, Adjustment}
 use Rattle.ada_meaning.specs.declared.event.Cause.{Cause}
 use Rattle.ada_meaning.specs.declared.state.Id.{Id}
+use Rattle.ada_meaning.specs.declared.state.Place.{Place}
+use Rattle.ada_meaning.specs.declared.state.Stage.{Stage}
+use Rattle.ada_meaning.specs.declared.state.Stage.TheVariants.{Building, Existing, Gone}
 use Rattle.ada_meaning.specs.declared.state.Value.{Value}
 use Rattle.ada_meaning.specs.declared.state.Value.TheVariants.{Null, Names, Scalar, Part}
 use Rattle.ada_meaning.specs.declared.event.Halt.TheVariants.{Erroneous, Stuck}
 use Rattle.ada_meaning.specs.declared.event.Why.TheVariants.{FinalizesTwice}
-use Rattle.ada_meaning.specs.Event.{Finalized, Quiet}
+use Rattle.ada_meaning.specs.Event.{Born, Finalized, Back, Followed, Left, Line, Quiet}
 use Rattle.ada_meaning.specs.Frame.{Copies, Stores, StoresIn, StoresRecord, Declares, Ends, GivesBack, Treatment, begins, ends}
+use Rattle.ada_meaning.specs.Frame as frame
 use Rattle.ada_meaning.specs.Heap.{PartState, Cell, Found, on_null, on_gone, on_other, finds}
 use Rattle.ada_meaning.specs.State.{Activation, Master, counted}
-use Rattle.ada_meaning.specs.Step.{picked_task, at, treating, first_or, halts, moves, picks, direction_of, treated_on, born_next, begun_next, awaited_next, finalized_next, performed_next, treats_next}
-use Rattle.ada_meaning.specs.Named.{Object, State, Next, object_at, look, named, changed, on_object, store, filled, treated, born_part, finalized_part}
+use Rattle.ada_meaning.specs.Step.{picked_task, treating, first_or, halts, moves, tells, asks, picks, direction_of, treated_on, beginning, operating, operation_next, part_reference, born_next, begun_next, awaited_next, ended_next, finalized_next, performed_next, treats_next}
+use Rattle.ada_meaning.specs.Named.{Object, State, Next, object_at, existing, seen, look, named, changed, on_object, store, filled, treated, born_part, finalized_part}
 use Rattle.ada_meaning.specs.Run.{Event}
-use Rattle.ada_typed.proofs.Overriding.{begins_alone, ends_alone}
+use Rattle.ada_typed.proofs.Kept.{behind_call, behind_treating}
 use Rattle.ada_owners.specs.Keeping.{IsThere}
 use Rattle.ada_owners.proofs.Kernel.{same_id}
 use Rattle.ada_owners.proofs.Objects.{at_other}
@@ -34,9 +39,11 @@ use Rattle.ada_sound.proofs.Objects.{set_here}
 use Rattle.ada_sound.proofs.Stored.{stored_treated}
 use Rattle.ada_sound.proofs.Fits.{treated_fit}
 use Rattle.ada_sound.proofs.Alters.{Alters, alters_same, alters_set}
-use Rattle.ada_sound.proofs.Invariant.{Known, Control, Rooms, RunsOn, Working, IsHolder, IsPlainIn, IsLive, NamesTo, BegunTo, EndsTo, StoresBehind, CopiesBehind, TreatsBy, ThenBack, Ending, ConfinesBy, Stepped, Fine}
+use Rattle.ada_sound.proofs.Invariant.{Known, Control, Rooms, RunsOn, Working, IsHolder, IsPlainIn, IsLive, NamesTo, BegunTo, EndsTo, StoresBehind, CopiesBehind, TreatsBy, ThenBack, Ending, ConfinesBy, EndsWell, Stepped, Fine}
 use Rattle.ada_sound.proofs.Ready.{running, at_work, stays, treats_ready}
 use Rattle.ada_sound.proofs.Endings.{swapped, behind_set}
+use Rattle.ada_sound.proofs.Operating.{StaysLive, WaitsFor}
+use Rattle.ada_sound.proofs.QuietOperations.{Overrides}
 
 -- What is written twice in one place is what was written last.
 set_twice : {X : Type 0} (xs : List X) (i : ℕ) (x y : X) → slice_set (slice_set xs i x) i y ≡ slice_set xs i y
@@ -202,84 +209,230 @@ module _ (change : PartState → PartState) (part : ℕ) where
       changed_or_same (λ objects. TreatsBy known v treatment k objects places operands ms) heap v r
       (λ o x is found. treats_set known ms heap o x found v treatment places operands k is r)
 
--- A value is finalized that exists, or not.
-abbrev ends_next : (alive : Bool) → Event → State → Next
-ends_next alive event after = if alive then moves event after else halts (Erroneous FinalizesTwice)
+-- The object that a value names is there.
+record IsFound (heap : List Object) (v : Value) (cell : Cell Value) : Type 0 where
+  o : Id
+  x : Object
+  names : v ≡ Names o
+  found : object_at heap o ≡ Some x
+  live : StaysLive x.stage
 
--- The next step of a treatment: one of some components is picked, or a part comes to have a value, or its value is finalized; or nothing is left. No type
--- overrides an operation.
-module _ (known : Known) (a : Activation Value) (rest : List (Activation Value)) (s : State) (types : List TypeDefinition) (inherits : OverridesNothing types) (bodies : List BodyForm) (v : Value) (k : Control) where
-  -- What is left goes on.
-  goes_on : (treatment : Treatment) (tasks : List Task) → TreatsBy known v treatment k s.heap a.places a.operands s.masters → Stepped known s.heap Quiet (treated_on named v treatment tasks (running k a rest s))
-  goes_on treatment tasks r =
-      stays known Quiet (treated_on named v treatment tasks (running k a rest s))
-      (tt, treats_ready known v treatment tasks k s.heap a.places a.operands s.masters r) tt
+object_found : (heap : List Object) (v : Value) (cell : Cell Value) → look heap v ≡ finds cell → IsFound heap v cell
+object_found heap Null cell is = absurd (cc is)
+object_found heap (Scalar n) cell is = absurd (cc is)
+object_found heap (Part o place) cell is = absurd (cc is)
+object_found heap (Names o) cell is = go (object_at heap o) refl is
+  where
+    staged : (x : Object) (stage : Stage) → existing x stage ≡ finds cell → StaysLive stage
+    staged x Building e = tt
+    staged x Existing e = tt
+    staged x Gone e = absurd (cc e)
 
-  born_fine : (by : Birth) (done : List parts.Part) (of part : ℕ) (tasks : List Task) (state : Option PartState) → TreatsBy known v (begins by done) k s.heap a.places a.operands s.masters → Fine known s.heap s.masters (begun_next named bodies v by done of part tasks None state (running k a rest s))
-  born_fine by done of part tasks None r = tt
-  born_fine by done of part tasks (Some p) r =
-      let change = born_part (counted s.born) in
-      let treatment = begins by (record { of = of; number = part } ∷ done) in
-      record {
-        ready = (
-          tt,
-          treats_ready known v treatment tasks k (on_object (treated change part) s.heap v) a.places a.operands s.masters
-              (treats_changed change part known s.masters s.heap v treatment a.places a.operands k r),
-        );
-        alters = alters_treated change part s.heap _ v;
-        says = tt;
-      }
+    go : (t : Option Object) → object_at heap o ≡ t → seen t ≡ finds cell → IsFound heap (Names o) cell
+    go None at e = absurd (cc e)
+    go (Some x) at e = record { o = o; x = x; names = refl; found = at; live = staged x x.stage e }
 
-  -- A value that is finalized exists.
-  finalized_fine : (cause : Cause) (of part : ℕ) (tasks : List Task) (state : Option PartState) → (finalized_next named bodies v cause of part tasks None state (running k a rest s) ≡ halts (Erroneous FinalizesTwice) → ⊥) → TreatsBy known v (ends cause) k s.heap a.places a.operands s.masters → Fine known s.heap s.masters (finalized_next named bodies v cause of part tasks None state (running k a rest s))
-  finalized_fine cause of part tasks None once r = tt
-  finalized_fine cause of part tasks (Some p) once r = by p.alive once
-    where
-      after : State
-      after = at (treating v (ends cause) tasks k) (record (running k a rest s) { heap = on_object (treated finalized_part part) s.heap v })
+changed_at : (change : Object → Object) (heap : List Object) (o : Id) (x : Object) → object_at heap o ≡ Some x → object_at (on_object change heap (Names o)) o ≡ Some (change x)
+changed_at change heap o x found = rw found (set_here heap o.0 x (change x) found)
 
-      ended : Stepped known s.heap (Finalized v part p.turn of p.number cause) after
-      ended = record {
-        ready = (
-          tt,
-          treats_ready known v (ends cause) tasks k (on_object (treated finalized_part part) s.heap v) a.places a.operands s.masters
-              (treats_changed finalized_part part known s.masters s.heap v (ends cause) a.places a.operands k r),
-        );
+-- An event that tells of no storage.
+abbrev pub TellsNothing : Event → Type 0
+TellsNothing (Born v part turn type number by) = Unit {0}
+TellsNothing (Finalized v part turn type number cause) = Unit {0}
+TellsNothing (Back v access number pool subpool cause) = ⊥
+TellsNothing (Followed v) = ⊥
+TellsNothing (Left master) = Unit {0}
+TellsNothing (Line line) = Unit {0}
+TellsNothing Quiet = Unit {0}
+
+-- The body begins of a procedure that overrides an operation: for a part of an object that is there, and that is ready for what waits behind it (7.6, 7.6.1).
+pub record Begins (known : Known) (a : Activation Value) (rest : List (Activation Value)) (s : State) (types : List TypeDefinition) (bodies : List BodyForm) (k : Control) (e : Event) (after : State) : Type 0 where
+  pub of : ℕ
+  pub number : ℕ
+  pub overrides : Overrides (operations_of types of) number
+  pub b : BodyForm
+  pub there : slice_get bodies number ≡ Some b
+  pub heap : List Object
+  pub o : Id
+  pub x : Object
+  pub found : object_at heap o ≡ Some x
+  pub live : StaysLive x.stage
+  pub place : Place
+  pub treatment : Treatment
+  pub behind : Control
+  pub waits : WaitsFor o treatment k behind
+  pub treats : TreatsBy known (Names o) treatment k heap a.places a.operands s.masters
+  pub alters : Alters s.heap e heap
+  pub tells : TellsNothing e
+  pub is : after ≡ operating named number b (Part o place) behind (record (running k a rest s) { heap = heap })
+
+-- The next step of a treatment: one of some components is picked, or a part comes to have a value, or its value is finalized; or nothing is left; or the body
+-- of an operation begins.
+module _ (known : Known) (a : Activation Value) (rest : List (Activation Value)) (s : State) (types : List TypeDefinition) (bodies : List BodyForm) (k : Control) where
+  -- It goes on in the body that runs.
+  abbrev pub StaysHere : State → Type 0
+  StaysHere after = (after.activations ≡ a ∷ rest) × (behind_call after.control ≡ behind_call k)
+
+  abbrev pub Goes : Event → State → Type 0
+  Goes e after = (Stepped known s.heap e after × StaysHere after) ⊎ Begins known a rest s types bodies k e after
+
+  -- What comes next is known.
+  abbrev pub Treated : Next → Type 0
+  Treated (halts halt) = EndsWell halt s.heap s.masters
+  Treated (moves e after) = Goes e after
+  Treated (tells request e after) = ⊥
+  Treated (asks request answered) = ⊥
+  Treated (picks n taken) = (i : ℕ) → suc i ≤ n → Stepped known s.heap Quiet (taken i) × StaysHere (taken i)
+
+  module _ (v : Value) where
+    -- What is left goes on.
+    goes_on : (treatment : Treatment) (tasks : List Task) → TreatsBy known v treatment k s.heap a.places a.operands s.masters → Stepped known s.heap Quiet (treated_on named v treatment tasks (running k a rest s))
+    goes_on treatment tasks r =
+        stays known Quiet (treated_on named v treatment tasks (running k a rest s))
+        (tt, treats_ready known v treatment tasks k s.heap a.places a.operands s.masters r) tt
+
+    -- A part comes to have a value.
+    born_fine : (by : Birth) (done : List parts.Part) (of part : ℕ) (tasks : List Task) (p : PartState) → TreatsBy known v (begins by done) k s.heap a.places a.operands s.masters
+        → Fine known s.heap s.masters (born_next named v by done of part tasks (Some p) (running k a rest s))
+    born_fine by done of part tasks p r =
+        let change = born_part (counted s.born) in
+        let treatment = begins by (record { of = of; number = part } ∷ done) in
+        record {
+          ready = (
+            tt,
+            treats_ready known v treatment tasks k (on_object (treated change part) s.heap v) a.places a.operands s.masters
+                (treats_changed change part known s.masters s.heap v treatment a.places a.operands k r),
+          );
+          alters = alters_treated change part s.heap _ v;
+          says = tt;
+        }
+
+    -- Behind the body of the operation that begins it.
+    pub awaits_fine : (by : Birth) (done : List parts.Part) (of part : ℕ) (tasks : List Task) → IsLive s.heap v → TreatsBy known v (begins by done) k s.heap a.places a.operands s.masters → Fine known s.heap s.masters (awaited_next named v by done of part tasks (look s.heap v) (running k a rest s))
+    awaits_fine by done of part tasks (cell, live) r = rw live (begins_part (slice_get cell.parts part))
+      where
+        begins_part : (state : Option PartState) → Fine known s.heap s.masters (born_next named v by done of part tasks state (running k a rest s))
+        begins_part None = tt
+        begins_part (Some p) = born_fine by done of part tasks p r
+
+    -- The operation that begins it is called.
+    module _ (cell : Cell Value) (is : look s.heap v ≡ finds cell) where
+      there : IsFound s.heap v cell
+      there = object_found s.heap v cell is
+
+      calls_first : (by : Birth) (done : List parts.Part) (of part : ℕ) (tasks : List Task) (p : PartState) (number : ℕ) → Overrides (operations_of types of) number → TreatsBy known v (begins by done) k s.heap a.places a.operands s.masters
+          → (found : Option BodyForm) → slice_get bodies number ≡ found → Treated (operation_next named number found (part_reference named v part p) (frame.Awaits v by done of part tasks ∷ k) Quiet (running k a rest s))
+      calls_first by done of part tasks p number overrides r None at = tt
+      calls_first by done of part tasks p number overrides r (Some b) at = inr (record {
+        of = of;
+        number = number;
+        overrides = overrides;
+        b = b;
+        there = at;
+        heap = s.heap;
+        o = there.o;
+        x = there.x;
+        found = there.found;
+        live = there.live;
+        place = record { component = p.first; part = part };
+        treatment = begins by done;
+        behind = frame.Awaits v by done of part tasks ∷ k;
+        waits = (of, part, tasks, ap (λ (u : Value). frame.Awaits u by done of part tasks ∷ k) (there.names));
+        treats = r;
+        alters = alters_same s.heap Quiet;
+        tells = tt;
+        is = ap (λ (u : Value). operating named number b (part_reference named u part p) (frame.Awaits v by done of part tasks ∷ k) (running k a rest s)) (there.names);
+      })
+
+      begun_fine : (by : Birth) (done : List parts.Part) (of part : ℕ) (tasks : List Task) (operation : Option ℕ) → ((number : ℕ) → operation ≡ Some number → Overrides (operations_of types of) number) → (state : Option PartState) → TreatsBy known v (begins by done) k s.heap a.places a.operands s.masters
+          → Treated (begun_next named bodies v by done of part tasks operation state (running k a rest s))
+      begun_fine by done of part tasks operation overrides None r = tt
+      begun_fine by done of part tasks None overrides (Some p) r =
+          inl (born_fine by done of part tasks p r, (refl, behind_treating v (begins by (record { of = of; number = part } ∷ done)) tasks k))
+      begun_fine by done of part tasks (Some number) overrides (Some p) r =
+          calls_first by done of part tasks p number (overrides number refl) r (slice_get bodies number) refl
+
+      -- A value that is finalized exists; Finalize is called for it.
+      treats_after : (cause : Cause) (part : ℕ) → TreatsBy known v (ends cause) k s.heap a.places a.operands s.masters → TreatsBy known v (ends cause) k (on_object (treated finalized_part part) s.heap v) a.places a.operands s.masters
+      treats_after cause part r = treats_changed finalized_part part known s.masters s.heap v (ends cause) a.places a.operands k r
+
+      changed_there : (part : ℕ) → object_at (on_object (treated finalized_part part) s.heap v) there.o ≡ Some (treated finalized_part part there.x)
+      changed_there part =
+          subst (λ (u : Value). object_at (on_object (treated finalized_part part) s.heap u) there.o ≡ Some (treated finalized_part part there.x)) (sym (there.names))
+          (changed_at (treated finalized_part part) s.heap there.o there.x there.found)
+
+      calls_last : (cause : Cause) (of part : ℕ) (tasks : List Task) (p : PartState) (number : ℕ) → Overrides (operations_of types of) number → TreatsBy known v (ends cause) k s.heap a.places a.operands s.masters
+          → (found : Option BodyForm) → slice_get bodies number ≡ found
+          → Treated (operation_next named number found (part_reference named v part p) (frame.Confines ∷ treating v (ends cause) tasks k) (Finalized v part p.turn of p.number cause) (record (running k a rest s) { heap = on_object (treated finalized_part part) s.heap v }))
+      calls_last cause of part tasks p number overrides r None at = tt
+      calls_last cause of part tasks p number overrides r (Some b) at = inr (record {
+        of = of;
+        number = number;
+        overrides = overrides;
+        b = b;
+        there = at;
+        heap = on_object (treated finalized_part part) s.heap v;
+        o = there.o;
+        x = treated finalized_part part there.x;
+        found = changed_there part;
+        live = there.live;
+        place = record { component = p.first; part = part };
+        treatment = ends cause;
+        behind = frame.Confines ∷ treating v (ends cause) tasks k;
+        waits = (tasks, ap (λ (u : Value). frame.Confines ∷ treating u (ends cause) tasks k) (there.names));
+        treats = subst (λ (u : Value). TreatsBy known u (ends cause) k (on_object (treated finalized_part part) s.heap v) a.places a.operands s.masters) (there.names) (treats_after cause part r);
         alters = alters_treated finalized_part part s.heap _ v;
-        says = tt;
-      }
+        tells = tt;
+        is = ap (λ (u : Value). operating named number b (part_reference named u part p) (frame.Confines ∷ treating v (ends cause) tasks k) (record (running k a rest s) { heap = on_object (treated finalized_part part) s.heap v })) (there.names);
+      })
 
-      by : (alive : Bool) → (ends_next alive (Finalized v part p.turn of p.number cause) after ≡ halts (Erroneous FinalizesTwice) → ⊥) → Fine known s.heap s.masters (ends_next alive (Finalized v part p.turn of p.number cause) after)
-      by true once = ended
-      by false once = absurd (once refl)
+      ended_fine : (cause : Cause) (of part : ℕ) (tasks : List Task) (p : PartState) (operation : Option ℕ) → ((number : ℕ) → operation ≡ Some number → Overrides (operations_of types of) number) → TreatsBy known v (ends cause) k s.heap a.places a.operands s.masters
+          → Treated (ended_next named bodies v part p (treating v (ends cause) tasks k) operation (Finalized v part p.turn of p.number cause) (record (running k a rest s) { heap = on_object (treated finalized_part part) s.heap v }))
+      ended_fine cause of part tasks p None overrides r = inl (
+        record {
+          ready = (tt, treats_ready known v (ends cause) tasks k (on_object (treated finalized_part part) s.heap v) a.places a.operands s.masters (treats_after cause part r));
+          alters = alters_treated finalized_part part s.heap _ v;
+          says = tt;
+        },
+        (refl, behind_treating v (ends cause) tasks k),
+      )
+      ended_fine cause of part tasks p (Some number) overrides r = calls_last cause of part tasks p number (overrides number refl) r (slice_get bodies number) refl
 
-  performed_fine : (treatment : Treatment) (of part : ℕ) (tasks : List Task) (found : Found (Cell Value)) → (performed_next named types bodies v treatment of part tasks found (running k a rest s) ≡ halts (Erroneous FinalizesTwice) → ⊥) → TreatsBy known v treatment k s.heap a.places a.operands s.masters → Fine known s.heap s.masters (performed_next named types bodies v treatment of part tasks found (running k a rest s))
-  performed_fine treatment of part tasks on_null once r = tt
-  performed_fine treatment of part tasks on_gone once r = absurd (once refl)
-  performed_fine treatment of part tasks on_other once r = tt
-  performed_fine (begins by done) of part tasks (finds cell) once r =
-      subst (λ (operation : Option ℕ). Fine known s.heap s.masters (begun_next named bodies v by done of part tasks operation (slice_get cell.parts part) (running k a rest s))) (sym (begins_alone types inherits by of))
-      (born_fine by done of part tasks (slice_get cell.parts part) r)
-  performed_fine (ends cause) of part tasks (finds cell) once r =
-      subst (λ (operation : Option ℕ). (finalized_next named bodies v cause of part tasks operation (slice_get cell.parts part) (running k a rest s) ≡ halts (Erroneous FinalizesTwice) → ⊥) → Fine known s.heap s.masters (finalized_next named bodies v cause of part tasks operation (slice_get cell.parts part) (running k a rest s))) (sym (ends_alone types inherits of))
-      (λ goes_well. finalized_fine cause of part tasks (slice_get cell.parts part) goes_well r) once
+      finalized_fine : (cause : Cause) (of part : ℕ) (tasks : List Task) (operation : Option ℕ) → ((number : ℕ) → operation ≡ Some number → Overrides (operations_of types of) number) → (state : Option PartState)
+          → (finalized_next named bodies v cause of part tasks operation state (running k a rest s) ≡ halts (Erroneous FinalizesTwice) → ⊥) → TreatsBy known v (ends cause) k s.heap a.places a.operands s.masters
+          → Treated (finalized_next named bodies v cause of part tasks operation state (running k a rest s))
+      finalized_fine cause of part tasks operation overrides None once r = tt
+      finalized_fine cause of part tasks operation overrides (Some p) once r =
+          by p.alive (ended_next named bodies v part p (treating v (ends cause) tasks k) operation (Finalized v part p.turn of p.number cause) (record (running k a rest s) { heap = on_object (treated finalized_part part) s.heap v })) once
+          (ended_fine cause of part tasks p operation overrides r)
+        where
+          by : (alive : Bool) (n : Next) → ((if alive then n else halts (Erroneous FinalizesTwice)) ≡ halts (Erroneous FinalizesTwice) → ⊥) → Treated n → Treated (if alive then n else halts (Erroneous FinalizesTwice))
+          by true n once' fine = fine
+          by false n once' fine = absurd (once' refl)
 
-  -- Behind the body of the operation that begins a part.
-  pub awaits_fine : (by : Birth) (done : List parts.Part) (of part : ℕ) (tasks : List Task) → IsLive s.heap v → TreatsBy known v (begins by done) k s.heap a.places a.operands s.masters → Fine known s.heap s.masters (awaited_next named v by done of part tasks (look s.heap v) (running k a rest s))
-  awaits_fine by done of part tasks (cell, live) r = rw live (begins_part (slice_get cell.parts part))
-    where
-      begins_part : (state : Option PartState) → Fine known s.heap s.masters (born_next named v by done of part tasks state (running k a rest s))
-      begins_part None = tt
-      begins_part (Some p) = born_fine by done of part tasks (Some p) r
+    begins_by : (by : Birth) (of number : ℕ) → beginning by (operations_of types of) ≡ Some number → Overrides (operations_of types of) number
+    begins_by Creation of number is = inl is
+    begins_by Copy of number is = inr (inl is)
+    begins_by (Adjustment n) of number is = inr (inl is)
 
-  pub treats_fine : (n : Follows) (treatment : Treatment) (tasks : List Task) → (treats_next named types bodies v treatment tasks n (running k a rest s) ≡ halts (Erroneous FinalizesTwice) → ⊥) → TreatsBy known v treatment k s.heap a.places a.operands s.masters → Fine known s.heap s.masters (treats_next named types bodies v treatment tasks n (running k a rest s))
-  treats_fine Done treatment tasks once r = goes_on treatment [] r
-  treats_fine (Perform of part) treatment tasks once r = performed_fine treatment of part (performed tasks) (look s.heap v) once r
-  treats_fine (Pick count) treatment tasks once r = by (count == 0)
-    where
-      by : (b : Bool) → Fine known s.heap s.masters (if b then halts Stuck else picks count (λ i. treated_on named v treatment (picked_task (shapes_of types) (direction_of treatment) tasks i) (running k a rest s)))
-      by true = tt
-      by false = λ i lt. goes_on treatment (picked_task (shapes_of types) (direction_of treatment) tasks i) r
+    performed_fine : (treatment : Treatment) (of part : ℕ) (tasks : List Task) (found : Found (Cell Value)) → look s.heap v ≡ found → (performed_next named types bodies v treatment of part tasks found (running k a rest s) ≡ halts (Erroneous FinalizesTwice) → ⊥) → TreatsBy known v treatment k s.heap a.places a.operands s.masters → Treated (performed_next named types bodies v treatment of part tasks found (running k a rest s))
+    performed_fine treatment of part tasks on_null at once r = tt
+    performed_fine treatment of part tasks on_gone at once r = absurd (once refl)
+    performed_fine treatment of part tasks on_other at once r = tt
+    performed_fine (begins by done) of part tasks (finds cell) at once r =
+        begun_fine cell at by done of part tasks (beginning by (operations_of types of)) (begins_by by of) (slice_get cell.parts part) r
+    performed_fine (ends cause) of part tasks (finds cell) at once r =
+        finalized_fine cell at cause of part tasks (procedure_number (operations_of types of).finalize) (λ number is. inr (inr is)) (slice_get cell.parts part) once r
+
+    pub treats_fine : (n : Follows) (treatment : Treatment) (tasks : List Task) → (treats_next named types bodies v treatment tasks n (running k a rest s) ≡ halts (Erroneous FinalizesTwice) → ⊥) → TreatsBy known v treatment k s.heap a.places a.operands s.masters → Treated (treats_next named types bodies v treatment tasks n (running k a rest s))
+    treats_fine Done treatment tasks once r = inl (goes_on treatment [] r, (refl, refl))
+    treats_fine (Perform of part) treatment tasks once r = performed_fine treatment of part (performed tasks) (look s.heap v) refl once r
+    treats_fine (Pick count) treatment tasks once r = by (count == 0)
+      where
+        by : (b : Bool) → Treated (if b then halts Stuck else picks count (λ i. treated_on named v treatment (picked_task (shapes_of types) (direction_of treatment) tasks i) (running k a rest s)))
+        by true = tt
+        by false = λ i lt.
+            (goes_on treatment (picked_task (shapes_of types) (direction_of treatment) tasks i) r, (refl, behind_treating v treatment (picked_task (shapes_of types) (direction_of treatment) tasks i) k))
 
 -- Behind the body of a Finalize.
 pub confines_fine : (known : Known) (a : Activation Value) (rest : List (Activation Value)) (s : State) (k : Control) → ConfinesBy known k s.heap a.places a.operands s.masters → Stepped known s.heap Quiet (running k a rest s)

@@ -7,7 +7,7 @@ use Rattle.ada_text.specs.declared.spot.Spot.{Spot}
 use Rattle.ada_flow.specs.declared.rule.Rule.{Rule}
 use Rattle.ada_program.specs.Form.{declaration_forms, stmt_forms, handler_forms}
 use Rattle.ada_program.specs.ProgramForm.{main_body, program_form, seen_in}
-use Rattle.ada_program.specs.WellFormed.{IsWellFormed, overrides_none}
+use Rattle.ada_program.specs.WellFormed.{IsWellFormed}
 use Rattle.ada_program.specs.Nested.{CollectionsNest}
 use Rattle.ada_program.specs.Freed.{FreesItsOwn}
 use Rattle.ada_effects.specs.Effects.{effects_of}
@@ -21,7 +21,9 @@ use Rattle.ada_meaning.specs.Beginning.{BeginsStatement}
 use Rattle.ada_meaning.specs.Named.{Object, State, object_at}
 use Rattle.ada_meaning.specs.Run.{Event, Run, Halts, first_state}
 use Rattle.ada_meaning.specs.Law.{IsBackHome, items_of, Falls, MastersFall, GivesBackOf, Happened, IsHoused, HasPool, OwnTwoPools, IsDeclaredPool, IsBack, HasEnded}
+use Rattle.ada_finalized.specs.Law.{NoOperationRuns}
 use Rattle.ada_sound.specs.Agreement.{Agrees, Place, Turning, IsFlowAt, IsBehind, running_procedure}
+use Rattle.ada_quiet.specs.Quiet.{operations_are_quiet}
 
 -- Of the events of each run, and the state that it comes to.
 abbrev pub InEveryRun : Program → (List Event → State → Type 0) → Type 0
@@ -31,8 +33,8 @@ InEveryRun program P = (input : List ℤ) (events : List Event) (last : State) �
 pub record IsChecked (program : Program) : Type 0 where
   -- each number is that of something there, and each form has the types that it wants
   pub well_formed : IsWellFormed (program_form program)
-  -- no type overrides an operation of a controlled type: no rule of flow speaks of their calls so far (7.6)
-  pub inherits : overrides_none (program_form program) ≡ true
+  -- whatever overrides an operation of a controlled type is quiet: it touches Integers and Booleans alone, calls nothing, and raises no exception (7.6)
+  pub quiet : operations_are_quiet (program_form program) ≡ true
   -- no object lies in a collection that lasts longer than one in which its components' objects lie (3.10.2, 7.6.1)
   pub nests : CollectionsNest (program_form program)
   -- what is freed is freed by the instance for its own access type (13.11.2)
@@ -52,13 +54,16 @@ NeverHalts halt program = InEveryRun program (λ events last. Halts program last
 abbrev pub NeverErroneous : Why → Program → Type 0
 NeverErroneous why program = NeverHalts (Erroneous why) program
 
--- Wherever a statement begins, in the main body or in that of a procedure, flow through the body comes to what is left to do there, each variable of the
--- body holds what flow says, and components own what they name.
+-- Flow through the body that runs comes to what is left to do there, each variable of the body holds what flow says, and components own what they name.
+abbrev pub AgreesThere : Program → State → Type 0
+AgreesThere program s =
+    (rest : Place) × (way : List Turning) × (holds : Holds) × IsBehind (running_procedure s) rest
+    × IsFlowAt program (running_procedure s) rest way s.control holds
+    × Agrees (program_form program).types (seen_in (running_procedure s) (program_form program)).variables s holds
+
+-- So it is wherever a statement begins while no operation runs, in the main body or in that of a procedure.
 abbrev pub AgreesWithFlow : Program → Type 0
-AgreesWithFlow program = InEveryRun program
-    (λ events last. BeginsStatement last → (rest : Place) × (way : List Turning) × (holds : Holds) × IsBehind (running_procedure last) rest
-    × IsFlowAt program (running_procedure last) rest way last.control holds
-    × Agrees (program_form program).types (seen_in (running_procedure last) (program_form program)).variables last holds)
+AgreesWithFlow program = InEveryRun program (λ events last. BeginsStatement last → NoOperationRuns last.control → AgreesThere program last)
 
 -- Any two events, the first before the second.
 abbrev pub InPairs : (Event → Event → Type 0) → List Event → State → Type 0
@@ -124,7 +129,7 @@ FinishesAfter seen program = HaltsAfter seen Finished program
 -- The program is well formed, its collections nest, and it frees by the instances for what it frees, but flow refuses it, first by this rule.
 pub record Breaks (rule : Rule) (program : Program) : Type 0 where
   pub well_formed : IsWellFormed (program_form program)
-  pub inherits : overrides_none (program_form program) ≡ true
+  pub quiet : operations_are_quiet (program_form program) ≡ true
   pub nests : CollectionsNest (program_form program)
   pub frees_own : FreesItsOwn (program_form program)
   pub spot : Spot
@@ -133,7 +138,7 @@ pub record Breaks (rule : Rule) (program : Program) : Type 0 where
 -- The program obeys the rules, its collections nest, and it frees by the instances for what it frees, but it is not well formed.
 pub record IsIllFormed (program : Program) : Type 0 where
   pub ill_formed : IsWellFormed (program_form program) → ⊥
-  pub inherits : overrides_none (program_form program) ≡ true
+  pub quiet : operations_are_quiet (program_form program) ≡ true
   pub nests : CollectionsNest (program_form program)
   pub frees_own : FreesItsOwn (program_form program)
   pub obeys : ObeysRules program
@@ -141,7 +146,7 @@ pub record IsIllFormed (program : Program) : Type 0 where
 -- The program is well formed, obeys the rules, and frees by the instances for what it frees, but its collections do not nest.
 pub record IsIllNested (program : Program) : Type 0 where
   pub well_formed : IsWellFormed (program_form program)
-  pub inherits : overrides_none (program_form program) ≡ true
+  pub quiet : operations_are_quiet (program_form program) ≡ true
   pub ill_nested : CollectionsNest (program_form program) → ⊥
   pub frees_own : FreesItsOwn (program_form program)
   pub obeys : ObeysRules program
@@ -149,9 +154,18 @@ pub record IsIllNested (program : Program) : Type 0 where
 -- The program is well formed, its collections nest, and it obeys the rules, but it frees by an instance for another access type.
 pub record FreesOthers (program : Program) : Type 0 where
   pub well_formed : IsWellFormed (program_form program)
-  pub inherits : overrides_none (program_form program) ≡ true
+  pub quiet : operations_are_quiet (program_form program) ≡ true
   pub nests : CollectionsNest (program_form program)
   pub frees_others : FreesItsOwn (program_form program) → ⊥
+  pub obeys : ObeysRules program
+
+-- The program is well formed, its collections nest, it frees by the instances for what it frees, and it obeys the rules, but something that overrides an
+-- operation of a controlled type is not quiet.
+pub record NotQuiet (program : Program) : Type 0 where
+  pub well_formed : IsWellFormed (program_form program)
+  pub not_quiet : operations_are_quiet (program_form program) ≡ false
+  pub nests : CollectionsNest (program_form program)
+  pub frees_own : FreesItsOwn (program_form program)
   pub obeys : ObeysRules program
 
 -- Where the statements of the main procedure stand.

@@ -18,9 +18,9 @@ pub mod RecordExamples
 pub mod CallExamples
 -- the same where pools are declared
 pub mod PoolExamples
+-- the same where operations of controlled types are overridden
+pub mod OperationExamples
 -- what the rules let through
 pub mod Owners
 -- what they say of calls
 pub mod Callees
--- operations of controlled types that touch no storage
-pub mod Quiet

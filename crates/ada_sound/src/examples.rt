@@ -2,14 +2,14 @@
 
 ghost use Rattle.std.specs.Prelude.{◌≡◌, [], ◌∷◌};
 ghost use Rattle.ada_program.specs.declared.program.Program.{Program};
-ghost use Rattle.ada_program.specs.Controlled.{shapes_of};
+ghost use Rattle.ada_program.specs.Controlled.{operations_of, shapes_of};
 ghost use Rattle.ada_program.specs.Form.{declaration_forms, stmt_forms, handler_forms};
 ghost use Rattle.ada_program.specs.ProgramForm.{body_forms};
 ghost use Rattle.ada_flow.specs.declared.rule.Hold.TheVariants.{Null};
 ghost use Rattle.ada_flow.specs.declared.rule.Rule.TheVariants.{LostValue, AliasMoved, TakePair, LoopState, UnsafePath, FormalNotOwned, RecordCopied};
 ghost use Rattle.ada_program.specs.declared.program.Exception.TheVariants.{ConstraintError};
 ghost use Rattle.ada_meaning.specs.declared.event.Halt.TheVariants.{Unhandled, Erroneous};
-ghost use Rattle.ada_meaning.specs.declared.event.Why.TheVariants.{FollowsGone, EndsTwice, GivesElsewhere};
+ghost use Rattle.ada_meaning.specs.declared.event.Why.TheVariants.{FollowsGone, EndsTwice, GivesElsewhere, FinalizesTwice};
 ghost use Rattle.ada_finalized.specs.Example as controlled_example;
 ghost use Rattle.ada_sound.specs.Always as always;
 ghost use Rattle.ada_sound.specs.Always.{IsChecked, ReachesStatement, FinishesAfter, HaltsSomewhere};
@@ -20,6 +20,7 @@ ghost use Rattle.ada_sound.specs.OwnerExamples as owner_examples;
 ghost use Rattle.ada_sound.specs.RecordExamples as record_examples;
 ghost use Rattle.ada_sound.specs.CallExamples as call_examples;
 ghost use Rattle.ada_sound.specs.PoolExamples as pool_examples;
+ghost use Rattle.ada_sound.specs.OperationExamples as operation_examples;
 
 /// The laws are not empty: a program is accepted and comes to a statement; it finishes after it has followed an access
 /// value, written a line, freed an object, and left its main procedure, with which another object went. And one is
@@ -140,6 +141,34 @@ pub fn premises_are_met()
         × IsChecked program × FinishesAfter controlled_example.controlled_events program }
 {}
 
+/// The laws are not empty where operations run: a program is accepted whose controlled type overrides Initialize, Adjust
+/// and Finalize. Initialize assigns to the Integer component of its object and writes a text, Adjust adds 1 to it and
+/// handles the exception that `+` may raise, and Finalize writes it. A record object and an allocated one are initialized,
+/// to 1, and a copy of the first in a block is adjusted, to 2; the copy is assigned to the first, which is finalized with
+/// its 1 and adjusted, to 3; an exception leaves the block, with which the copy is finalized with its 2; the handler frees
+/// the allocated object, which is finalized with its 1; and the first one is finalized with its 3 where the main procedure
+/// is left. Each body that runs is a master of its own.
+pub fn operations_are_accepted()
+    ensures operates { (program : Program)
+        × (operations_of program.types.items 0 ≡ operation_examples.count_operations)
+        × (body_forms program ≡ operation_examples.count_bodies)
+        × (declaration_forms program ≡ operation_examples.operating_declarations)
+        × (stmt_forms program ≡ operation_examples.operating_stmts)
+        × (handler_forms program ≡ operation_examples.operating_handlers)
+        × IsChecked program × FinishesAfter operation_examples.operating_events program }
+{}
+
+/// That no operation runs is needed where flow is agreed with, in the main procedure or in one that is called: of a
+/// program that is accepted, three nodes go with their collection, whose Finalize does nothing. The last one is gone, which
+/// the second one names; where the statement in the first one's Finalize begins, the second one is in its collection still.
+pub fn operations_run_apart()
+    ensures disagrees { (program : Program)
+        × (operations_of program.types.items 0 ≡ operation_examples.node_operations)
+        × (body_forms program ≡ operation_examples.silent_finalize ∷ [])
+        × (stmt_forms program ≡ operation_examples.three_nodes)
+        × IsChecked program × always.InSomeRun program (λ events last. operation_examples.DisagreesInside program last) }
+{}
+
 /// The rules are needed. Of programs that are well formed, whose collections nest, and where each Free is by the
 /// instance for the access type of what it frees, one that breaks the rules follows an access value whose object is
 /// gone, and one ends an object twice. So is the rule of loops: of a program that breaks it at the end of a loop's
@@ -174,7 +203,9 @@ pub fn premises_are_met()
 /// formed, one of another type names what goes with a block. And components name what lasts as long as their objects: of
 /// a program whose collections do not nest, an object outlasts what its component names. And a Free is by the instance for
 /// the access type of what it frees (13.11.2): of a program with two declared pools where it is by that for another access
-/// type, the words of an object are to go back to the pool of the other one.
+/// type, the words of an object are to go back to the pool of the other one. And operations are quiet: the objects of a
+/// collection are finalized in any order (7.6.1), so a Finalize that frees what a component of its object names may find
+/// it gone, and finalizes it twice; and one that only follows the component comes to an object that is gone.
 pub fn rules_are_needed()
     ensures follows { (program : Program) × always.Breaks LostValue program × HaltsSomewhere (Erroneous FollowsGone) program }
     ensures ends { (program : Program) × always.Breaks LostValue program × HaltsSomewhere (Erroneous EndsTwice) program }
@@ -259,4 +290,13 @@ pub fn rules_are_needed()
     ensures misplaces { (program : Program) × pool_examples.HasTwoPools program
         × (stmt_forms program ≡ pool_examples.misplacing_stmts)
         × always.FreesOthers program × always.HaltsAfter [] (Erroneous GivesElsewhere) program }
+    ensures frees_gone { (program : Program)
+        × (operations_of program.types.items 0 ≡ operation_examples.node_operations)
+        × (body_forms program ≡ operation_examples.freeing_finalize ∷ []) × (stmt_forms program ≡ operation_examples.two_nodes)
+        × always.NotQuiet program × always.HaltsAfter operation_examples.node_events (Erroneous FinalizesTwice) program }
+    ensures follows_gone { (program : Program)
+        × (operations_of program.types.items 0 ≡ operation_examples.node_operations)
+        × (body_forms program ≡ operation_examples.following_finalize ∷ []) × (stmt_forms program ≡ operation_examples.two_nodes)
+        × always.NotQuiet program
+        × always.HaltsAfter operation_examples.following_events (Erroneous FollowsGone) program }
 {}

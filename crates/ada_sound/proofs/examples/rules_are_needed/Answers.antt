@@ -1,4 +1,4 @@
--- By twenty-seven programs and their runs.
+-- By twenty-nine programs and their runs.
 use Rattle.ada_sound.proofs.Example as example
 use Rattle.ada_sound.proofs.ExampleBlocks as blocks
 use Rattle.ada_sound.proofs.ExampleTargets as targets
@@ -8,6 +8,7 @@ use Rattle.ada_sound.proofs.ExampleFrees as frees
 use Rattle.ada_sound.proofs.ExampleRecords as records
 use Rattle.ada_sound.proofs.ExampleCalls as calls
 use Rattle.ada_sound.proofs.ExamplePools as pools
+use Rattle.ada_sound.proofs.ExampleOperations as operations
 use Rattle.ada_sound.proofs.examples.rules_are_needed.Goals as goal
 
 pub returns-clause-follows : goal.returns-clause-follows
@@ -118,3 +119,23 @@ returns-clause-strips c = (
 
 pub returns-clause-misplaces : goal.returns-clause-misplaces
 returns-clause-misplaces c = (pools.misplacing, pools.misplacing_pools, pools.misplacing_form, pools.misplacing_frees, pools.misplaces)
+
+pub returns-clause-frees_gone : goal.returns-clause-frees_gone
+returns-clause-frees_gone c = (
+  operations.freeing,
+  operations.freeing_operations,
+  operations.freeing_bodies,
+  operations.freeing_form,
+  operations.freeing_not_quiet,
+  operations.frees_gone,
+)
+
+pub returns-clause-follows_gone : goal.returns-clause-follows_gone
+returns-clause-follows_gone c = (
+  operations.following,
+  operations.following_operations,
+  operations.following_bodies,
+  operations.following_form,
+  operations.following_not_quiet,
+  operations.follows_gone,
+)

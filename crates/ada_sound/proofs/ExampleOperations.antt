@@ -1,0 +1,239 @@
+-- Programs whose types override operations: in one they are quiet, and it meets the premises of the laws; in the others a Finalize is not. With runs of them.
+
+use Rattle.std.proofs.Common.{◌≡◌, ◌≤◌, ℕ, true, false, List, [], ◌∷◌, ◌++◌, length, refl, arith}
+use Rattle.std.specs.Prelude.{Some, None, pos}
+use Rattle.ada_values.specs.declared.operator.BinaryOperator.TheVariants as binary
+use Rattle.ada_values.specs.Outcome.{outcome_of}
+use Rattle.ada_program.specs.declared.program.Choice.{Choice as HandlerChoice}
+use Rattle.ada_program.specs.declared.program.Choice.TheVariants as choice
+use Rattle.ada_program.specs.declared.program.Exception.TheVariants.{ConstraintError}
+use Rattle.ada_program.specs.declared.program.FormalMode.TheVariants.{InOut}
+use Rattle.ada_program.specs.declared.program.Expression.{Integer, Path as Reads, NullTest}
+use Rattle.ada_program.specs.declared.program.Item.TheVariants as item
+use Rattle.ada_program.specs.declared.program.Right.TheVariants as right
+use Rattle.ada_program.specs.declared.program.ComponentKind.{ComponentKind}
+use Rattle.ada_program.specs.declared.program.Operations.{Operations}
+use Rattle.ada_program.specs.declared.program.Part.{Part}
+use Rattle.ada_program.specs.declared.program.PartKind.{PartKind}
+use Rattle.ada_program.specs.declared.program.PartKind.TheVariants as part
+use Rattle.ada_program.specs.declared.program.Path.{Path}
+use Rattle.ada_program.specs.declared.program.Declaration.{Declaration}
+use Rattle.ada_program.specs.declared.program.Declaration.TheVariants as declaration
+use Rattle.ada_program.specs.declared.program.Handler.{Handler}
+use Rattle.ada_program.specs.declared.program.Procedure.{Procedure}
+use Rattle.ada_program.specs.declared.program.Stmt.{Stmt}
+use Rattle.ada_program.specs.declared.program.Stmt as stmt
+use Rattle.ada_program.specs.declared.program.TypeDefinition.{TypeDefinition}
+use Rattle.ada_program.specs.declared.program.TypeDefinition.TheVariants as definition
+use Rattle.ada_program.specs.declared.program.Program.{Program}
+use Rattle.ada_program.specs.Controlled.{operations_of}
+use Rattle.ada_program.specs.Form.{declaration_forms, stmt_forms, handler_forms, no_handlers, statement_rules, expression_rules}
+use Rattle.ada_program.specs.ProgramForm.{body_forms}
+use Rattle.ada_flow.specs.Flow.{uses_in}
+use Rattle.ada_meaning.specs.declared.event.Halt.TheVariants.{Finished, Erroneous}
+use Rattle.ada_meaning.specs.declared.event.Why.TheVariants.{FollowsGone, FinalizesTwice}
+use Rattle.ada_meaning.specs.Named.{next}
+use Rattle.ada_meaning.specs.Run.{Choice, grants, takes}
+use Rattle.ada_sound.specs.Always.{IsChecked, FinishesAfter, NotQuiet, HaltsAfter}
+use Rattle.ada_sound.specs.OperationExamples.{count_operations, count_bodies, operating_declarations, operating_stmts, operating_handlers, operating_events, node_operations, two_nodes, freeing_finalize, node_events, following_finalize, following_events}
+use Rattle.ada_sound.proofs.Choices.{accepted_in, not_quiet_in, halts_after_in}
+use Rattle.ada_sound.proofs.Example.{steps, vec, no_name, spot, link, with_number}
+use Rattle.ada_sound.proofs.ExampleOwners.{access_to, an_integer, an_access, path, whole, part as component}
+use Rattle.ada_sound.proofs.ExampleRecords.{object, of_object, record_at, of_object_type}
+
+-- A component of a controlled type, the parent part among them.
+abbrev of_kind : PartKind → (first number : ℕ) → Part
+of_kind kind first number = record { name = no_name; kind = kind; first = record { 0 = first }; part = record { 0 = number } }
+
+-- A controlled type without controlled components, which overrides these operations.
+abbrev controlled_type : (parts : List Part) → length parts ≤ 8 → (components : List ComponentKind) → length components ≤ 8 → Operations → TypeDefinition
+controlled_type parts few components le operations =
+    definition.Record no_name (vec parts few) (vec components le)
+    (Some (record { number = record { 0 = 0 }; parts = 1; limited = false; operations = operations }))
+
+-- An operation, whose formal parameter is known by the type of this number.
+abbrev pub operation : (formal : ℕ) → (statements : List Stmt) → length statements ≤ 8 → (handlers : List Handler) → length handlers ≤ 8 → Procedure
+operation formal statements le handlers few = record {
+  formals = vec (InOut ∷ []) (omega arith);
+  variables = vec (of_object_type formal ∷ []) (omega arith);
+  declarations = vec [] (omega arith);
+  statements = vec statements le;
+  handlers = vec handlers few;
+  start = spot;
+  end = spot;
+}
+
+-- type Count is new Controlled with record N : Integer; end record; type Link is access Count; and what X, Y and the formal parameters are known by.
+abbrev count_types : List TypeDefinition
+count_types =
+    controlled_type (of_kind part.Parent 0 0 ∷ of_kind (part.Elementary an_integer) 0 1 ∷ []) (omega arith) (an_integer ∷ []) (omega arith) count_operations
+    ∷ access_to 0
+    ∷ definition.Object (record { 0 = 0 })
+    ∷ definition.Object (record { 0 = 0 })
+    ∷ definition.Object (record { 0 = 0 })
+    ∷ definition.Object (record { 0 = 0 })
+    ∷ definition.Object (record { 0 = 0 })
+    ∷ []
+
+-- C.N
+abbrev count : Path
+count = of_object 0 0
+
+-- when .. => ..;
+abbrev handles : HandlerChoice → Stmt → Handler
+handles c s = record { choices = vec (c ∷ []) (omega arith); statements = vec (s ∷ []) (omega arith) }
+
+-- C.N := 1; Put_Line (".."); and C.N := C.N + 1; exception when others => null; and Put_Line (Integer'Image (C.N));
+abbrev count_procedures : List Procedure
+count_procedures =
+    operation 4 (stmt.Assign count (right.Value (Integer (pos 1))) ∷ stmt.PutText (record { 0 = 0 }) ∷ []) (omega arith) [] (omega arith)
+    ∷ operation 5 (stmt.Assign count (right.Value (with_number binary.Add 1 (Reads count))) ∷ []) (omega arith)
+    (handles choice.Others stmt.Null ∷ []) (omega arith)
+    ∷ operation 6 (stmt.PutImage (Reads count) ∷ []) (omega arith) [] (omega arith)
+    ∷ []
+
+-- declare Y : Count := X; begin X := Y; raise Constraint_Error; end;
+abbrev count_block : Stmt
+count_block =
+    stmt.Block
+    (vec (declaration.Record (record { 0 = 2 }) (record { 0 = 3 }) (Some (vec (item.Record (record_at (object 0)) ∷ []) (omega arith))) ∷ []) (omega arith))
+    (vec
+    (stmt.AssignRecord (record_at (object 0)) (vec (item.Record (record_at (object 2)) ∷ []) (omega arith)) ∷ stmt.Raise ConstraintError ∷ []) (omega arith))
+    (vec [] (omega arith))
+
+-- X : Count; P : Link;
+abbrev count_declarations : List Declaration
+count_declarations =
+    declaration.Collection (record { 0 = 1 })
+    ∷ declaration.Record (record { 0 = 0 }) (record { 0 = 2 }) None
+    ∷ declaration.Variable (record { 0 = 1 }) None
+    ∷ []
+
+-- P := new Count; declare .. end; exception when Constraint_Error => Free (P);
+abbrev pub operating : Program
+operating = record {
+  types = vec count_types (omega arith);
+  pools = vec [] (omega arith);
+  procedures = vec count_procedures (omega arith);
+  variables = vec (of_object_type 2 ∷ link ∷ of_object_type 3 ∷ []) (omega arith);
+  texts = vec (no_name ∷ []) (omega arith);
+  exceptions = vec [] (omega arith);
+  declarations = vec count_declarations (omega arith);
+  statements = vec (stmt.Assign (whole 1) (right.Default (record { 0 = 1 })) ∷ count_block ∷ []) (omega arith);
+  handlers = vec (handles (choice.Exception ConstraintError) (stmt.Free (record { 0 = 1 }) (whole 1)) ∷ []) (omega arith);
+}
+
+pub operating_operations : operations_of operating.types.items 0 ≡ count_operations
+operating_operations = refl
+
+pub operating_bodies : body_forms operating ≡ count_bodies
+operating_bodies = simp (statement_rules, expression_rules)
+
+pub operating_declares : declaration_forms operating ≡ operating_declarations
+operating_declares = refl
+
+pub operating_form : stmt_forms operating ≡ operating_stmts
+operating_form = simp statement_rules
+
+pub operating_handles : handler_forms operating ≡ operating_handlers
+operating_handles = simp statement_rules
+
+pub operating_accepted : IsChecked operating
+unfolding uses_in
+operating_accepted =
+    accepted_in operating count_bodies operating_stmts operating_handlers operating_bodies operating_form operating_handles _ _ refl refl refl
+
+-- The new object is granted; Y is picked at the leaving of the block, and X at that of the main procedure.
+abbrev operating_choices : List Choice
+operating_choices = steps 22 ++ grants true ∷ steps 81 ++ takes 0 ∷ steps 35 ++ takes 0 ∷ steps 16
+
+pub operates : FinishesAfter operating_events operating
+unfolding next outcome_of
+operates =
+    halts_after_in operating count_bodies operating_stmts operating_handlers operating_bodies operating_form operating_handles [] operating_choices
+    operating_events Finished refl refl refl
+
+-- type Node is new Controlled with record Value : Integer; Next : Link; end record; type Link is access Node; and what the formal parameter is known by.
+abbrev pub node_types : List TypeDefinition
+node_types =
+    controlled_type (of_kind part.Parent 0 0 ∷ of_kind (part.Elementary an_integer) 0 1 ∷ of_kind (part.Elementary (an_access 1)) 1 1 ∷ []) (omega arith)
+    (an_integer ∷ an_access 1 ∷ []) (omega arith) node_operations
+    ∷ access_to 0
+    ∷ definition.Object (record { 0 = 0 })
+    ∷ []
+
+-- Head := new Node; Head.Next := new Node; where Finalize does this statement
+abbrev node_program : Stmt → Program
+node_program statement = record {
+  types = vec node_types (omega arith);
+  pools = vec [] (omega arith);
+  procedures = vec (operation 2 (statement ∷ []) (omega arith) [] (omega arith) ∷ []) (omega arith);
+  variables = vec (link ∷ []) (omega arith);
+  texts = vec [] (omega arith);
+  exceptions = vec [] (omega arith);
+  declarations = vec (declaration.Collection (record { 0 = 1 }) ∷ declaration.Variable (record { 0 = 0 }) None ∷ []) (omega arith);
+  statements = vec
+      (stmt.Assign (whole 0) (right.Default (record { 0 = 1 })) ∷ stmt.Assign (component 0 1) (right.Default (record { 0 = 1 })) ∷ []) (omega arith);
+  handlers = vec [] (omega arith);
+}
+
+-- Both nodes are granted, and the second one is picked first at the leaving; this comes behind its Finalize.
+abbrev to_second : List Choice
+to_second = steps 7 ++ grants true ∷ steps 5 ++ grants true ∷ steps 6 ++ takes 0 ∷ []
+
+-- Free (N.Next);
+abbrev pub freeing : Program
+freeing = node_program (stmt.Free (record { 0 = 1 }) (of_object 0 1))
+
+pub freeing_operations : operations_of freeing.types.items 0 ≡ node_operations
+freeing_operations = refl
+
+pub freeing_bodies : body_forms freeing ≡ freeing_finalize ∷ []
+freeing_bodies = simp statement_rules
+
+pub freeing_form : stmt_forms freeing ≡ two_nodes
+freeing_form = simp statement_rules
+
+pub freeing_not_quiet : NotQuiet freeing
+unfolding uses_in
+freeing_not_quiet = not_quiet_in freeing (freeing_finalize ∷ []) two_nodes no_handlers freeing_bodies freeing_form refl _ _ refl refl refl refl
+
+-- Finalize of the first node frees the second one, which is gone.
+pub frees_gone : HaltsAfter node_events (Erroneous FinalizesTwice) freeing
+unfolding next
+frees_gone =
+    halts_after_in freeing (freeing_finalize ∷ []) two_nodes no_handlers freeing_bodies freeing_form refl [] (to_second ++ steps 12 ++ takes 0 ∷ steps 3)
+    node_events (Erroneous FinalizesTwice) refl refl refl
+
+-- N.Next.Value
+abbrev value_behind : Path
+value_behind = record (path 0 (record { 0 = 1 } ∷ record { 0 = 0 } ∷ []) (omega arith)) { of_record = true }
+
+-- if N.Next /= null then Put_Line (Integer'Image (N.Next.Value)); end if;
+abbrev pub following : Program
+following =
+    node_program
+    (stmt.If
+    (vec
+    (record { condition = NullTest (of_object 0 1) false; statements = vec (stmt.PutImage (Reads value_behind) ∷ []) (omega arith) } ∷ []) (omega arith))
+    (vec [] (omega arith)))
+
+pub following_operations : operations_of following.types.items 0 ≡ node_operations
+following_operations = refl
+
+pub following_bodies : body_forms following ≡ following_finalize ∷ []
+following_bodies = simp (statement_rules, expression_rules)
+
+pub following_form : stmt_forms following ≡ two_nodes
+following_form = simp statement_rules
+
+pub following_not_quiet : NotQuiet following
+unfolding uses_in
+following_not_quiet = not_quiet_in following (following_finalize ∷ []) two_nodes no_handlers following_bodies following_form refl _ _ refl refl refl refl
+
+-- Finalize of the first node follows its component to the second one, which is gone.
+pub follows_gone : HaltsAfter following_events (Erroneous FollowsGone) following
+unfolding next
+follows_gone =
+    halts_after_in following (following_finalize ∷ []) two_nodes no_handlers following_bodies following_form refl []
+    (to_second ++ steps 15 ++ takes 0 ∷ steps 8) following_events (Erroneous FollowsGone) refl refl refl

@@ -1,0 +1,222 @@
+-- What overrides an operation is quiet (7.6): so it creates no collection and no record object, calls nothing, and lets no exception out.
+
+use Rattle.std.proofs.Common.{◌≡◌, ℕ, zero, suc, ◌+◌, Bool, true, false, ◌&&◌, if◌then◌else◌, List, [], ◌∷◌, ◌++◌, length, map, refl, sym, ap, ◌∙◌, arith, length-append, ◌⊎◌, inl, inr}
+use Rattle.std.specs.Prelude.{Option, Some, None, not, find}
+use Rattle.std.specs.List.{list_all, slice_get}
+use Rattle.std.specs.Option.{option_map}
+use Rattle.std.proofs.lemmas.Option.{slice_get-map}
+use Rattle.ada_program.specs.declared.program.Finalization.{Finalization}
+use Rattle.ada_program.specs.declared.program.Operations.{Operations}
+use Rattle.ada_program.specs.declared.program.ProcedureNo.{ProcedureNo}
+use Rattle.ada_program.specs.declared.program.Program.{Program}
+use Rattle.ada_program.specs.declared.program.TypeDefinition.{TypeDefinition}
+use Rattle.ada_program.specs.declared.program.TypeDefinition.TheVariants as definition
+use Rattle.ada_program.specs.Controlled.{is_number, number_by, operations_by, operations_in, operations_of, procedure_number}
+use Rattle.ada_program.specs.Form.{StmtForm, skips, assigns, assigns_record, frees, gets, writes, writes_text, chooses, repeats, counts, exits, calls, returns, raises, encloses, StmtsForm, no_stmts, a_stmt, BranchesForm, otherwise, a_branch, HandlersForm, no_handlers, a_handler, DeclarationForm, creates_pool, collects, declares, declares_record}
+use Rattle.ada_program.specs.Nested.{Callees, collected, record_objects, part_nests, statement_nests, statements_nest, branches_nest, handlers_nest, body_nests, call_nests, callees_from, callees_of}
+use Rattle.ada_program.specs.ProgramForm.{TypeForm, VariableForm, BodyForm, ProgramForm, type_form, program_form, body_forms, seen_in}
+use Rattle.ada_program.specs.WellFormed.{IsWellFormed, profile_of, callable_in, finalization_in, is_operation, overrides_rightly, has_operations, have_operations}
+use Rattle.ada_effects.specs.Effects.{body_raises}
+use Rattle.ada_flow.specs.Flow.{have_exit, handlers_have_exit}
+use Rattle.ada_typed.proofs.Bodies.{seen_as, seen_fits}
+use Rattle.ada_scopes.specs.Scopes.{NestsAnywhere, AllNestAnywhere, OperationsNest}
+use Rattle.ada_quiet.specs.Quiet.{is_quiet_stmt, are_quiet, are_quiet_branches, are_quiet_handlers, are_quiet_declarations, is_quiet_body, is_quiet_procedure, is_quiet_operation, has_quiet_operations, adjusts_access, operations_are_quiet}
+use Rattle.ada_sound.proofs.Exits.{no_exits, no_exit_handlers}
+use Rattle.ada_sound.proofs.OperationStarts.{apart}
+use Rattle.ada_sound.proofs.Operating.{QuietBody}
+
+-- Quiet statements create nothing but Integers and Booleans.
+module _ (types : List TypeForm) (variables : List VariableForm) where
+  none_collected : (ds : List DeclarationForm) → are_quiet_declarations types variables ds ≡ true → (collected ds ≡ []) × (record_objects ds ≡ [])
+  none_collected [] quiet = (refl, refl)
+  none_collected (creates_pool p ∷ ds) quiet = absurd (cc quiet)
+  none_collected (collects access ∷ ds) quiet = absurd (cc quiet)
+  none_collected (declares x right ∷ ds) quiet = none_collected ds (apart _ _ quiet).1
+  none_collected (declares_record x t initial ∷ ds) quiet = absurd (cc quiet)
+
+  part_is : (around : List ℕ) (ds : List DeclarationForm) → are_quiet_declarations types variables ds ≡ true → part_nests types around ds ≡ true
+  part_is around ds quiet = let none = none_collected ds quiet in rw (none.0, none.1) refl
+
+  module _ (callees : Callees) where
+    mutual
+      stmt_is : (around : List ℕ) (f : StmtForm) → is_quiet_stmt types variables f ≡ true → statement_nests types callees around f ≡ true
+      stmt_is around skips quiet = refl
+      stmt_is around (assigns target right) quiet = refl
+      stmt_is around (assigns_record target items) quiet = refl
+      stmt_is around (frees access path) quiet = refl
+      stmt_is around (gets target) quiet = refl
+      stmt_is around (writes e) quiet = refl
+      stmt_is around (writes_text text) quiet = refl
+      stmt_is around (chooses branches) quiet = branches_are around branches quiet
+      stmt_is around (repeats condition fs spot) quiet = stmts_are around fs (apart _ _ quiet).1
+      stmt_is around (counts x low high fs spot) quiet = stmts_are around fs (apart _ _ quiet).1
+      stmt_is around (exits condition spot) quiet = refl
+      stmt_is around (calls procedure actuals) quiet = absurd (cc quiet)
+      stmt_is around (returns spot) quiet = refl
+      stmt_is around (raises e) quiet = refl
+      stmt_is around (encloses ds fs hs) quiet =
+          let two = apart _ _ quiet in
+          let three = apart _ _ two.0 in
+          rw (part_is around ds three.0, stmts_are (collected ds ++ around) fs three.1, handlers_are (collected ds ++ around) hs two.1) refl
+
+      stmts_are : (around : List ℕ) (fs : StmtsForm) → are_quiet types variables fs ≡ true → statements_nest types callees around fs ≡ true
+      stmts_are around no_stmts quiet = refl
+      stmts_are around (a_stmt f fs) quiet = let both = apart _ _ quiet in rw (stmt_is around f both.0, stmts_are around fs both.1) refl
+
+      branches_are : (around : List ℕ) (branches : BranchesForm) → are_quiet_branches types variables branches ≡ true → branches_nest types callees around branches ≡ true
+      branches_are around (otherwise fs) quiet = stmts_are around fs quiet
+      branches_are around (a_branch e fs branches) quiet =
+          let two = apart _ _ quiet in
+          let three = apart _ _ two.0 in
+          rw (stmts_are around fs three.1, branches_are around branches two.1) refl
+
+      handlers_are : (around : List ℕ) (hs : HandlersForm) → are_quiet_handlers types variables hs ≡ true → handlers_nest types callees around hs ≡ true
+      handlers_are around no_handlers quiet = refl
+      handlers_are around (a_handler choices fs hs) quiet = let both = apart _ _ quiet in rw (stmts_are around fs both.0, handlers_are around hs both.1) refl
+
+-- What is known of a quiet body.
+no_no : (b : Bool) → not b ≡ true → b ≡ false
+no_no true e = absurd (cc e)
+no_no false e = refl
+
+quiet_is : (types : List TypeForm) (b : BodyForm) → is_quiet_body types b ≡ true → have_exit b.statements ≡ false → handlers_have_exit b.handlers ≡ false → QuietBody types b
+quiet_is types b quiet out on =
+    let five = apart _ _ quiet in
+    let four = apart _ _ five.0 in
+    let three = apart _ _ four.0 in
+    let two = apart _ _ three.0 in
+    record {
+      elementary = two.0;
+      declarations = two.1;
+      statements = three.1;
+      handlers = four.1;
+      raises_nothing = no_no (body_raises [] b (λ e. true)) five.1;
+      none_out = out;
+      none_on = on;
+    }
+
+body_is : (types : List TypeForm) (callees : Callees) (b : BodyForm) (around : List ℕ) → is_quiet_body types b ≡ true → body_nests types callees b around ≡ true
+body_is types callees b around quiet =
+    let five = apart _ _ quiet in
+    let four = apart _ _ five.0 in
+    let three = apart _ _ four.0 in
+    let two = apart _ _ three.0 in
+    rw (
+      part_is types b.variables around b.declarations two.1,
+      stmts_are types b.variables callees (collected b.declarations ++ around) b.statements three.1,
+      handlers_are types b.variables callees (collected b.declarations ++ around) b.handlers four.1,
+    ) refl
+
+-- A procedure overrides one of these operations.
+abbrev pub Overrides : Operations → ℕ → Type 0
+Overrides o number =
+    (procedure_number o.initialize ≡ Some number) ⊎ ((procedure_number o.adjust ≡ Some number) ⊎ (procedure_number o.finalize ≡ Some number))
+
+module _ (p : ProgramForm) where
+  abbrev IsQuiet : ℕ → Type 0
+  IsQuiet number = is_quiet_procedure p.types (slice_get p.bodies number) ≡ true
+
+  quiet_one : (o : Option ProcedureNo) (number : ℕ) → is_quiet_operation p o ≡ true → procedure_number o ≡ Some number → IsQuiet number
+  quiet_one None number quiet is = absurd (cc is)
+  quiet_one (Some procedure) number quiet is = let same : procedure.0 ≡ number = cc is in rw same at quiet
+
+  quiet_three : (f : Option Finalization) (number : ℕ) → has_quiet_operations p f ≡ true → Overrides (operations_in f) number → IsQuiet number
+  quiet_three None number quiet (inl is) = absurd (cc is)
+  quiet_three None number quiet (inr (inl is)) = absurd (cc is)
+  quiet_three None number quiet (inr (inr is)) = absurd (cc is)
+  quiet_three (Some f) number quiet (inl is) = quiet_one f.operations.initialize number (apart _ _ (apart _ _ quiet).0).0 is
+  quiet_three (Some f) number quiet (inr (inl is)) = quiet_one f.operations.adjust number (apart _ _ (apart _ _ quiet).0).1 is
+  quiet_three (Some f) number quiet (inr (inr is)) = quiet_one f.operations.finalize number (apart _ _ quiet).1 is
+
+  quiet_by : (t : TypeDefinition) (number : ℕ) → has_quiet_operations p (finalization_in (Some (type_form t))) ≡ true → Overrides (operations_by (Some t)) number → IsQuiet number
+  quiet_by (definition.Record name parts components finalization) number quiet is = quiet_three finalization number quiet is
+  quiet_by (definition.Access name designated pool) number quiet is = quiet_three None number quiet is
+  quiet_by (definition.Object record_type) number quiet is = quiet_three None number quiet is
+
+  quiet_found : (test : TypeDefinition → Bool) (types : List TypeDefinition) (number : ℕ) → list_all (λ t. has_quiet_operations p (finalization_in (Some t)) && not (adjusts_access p t)) (map type_form types) ≡ true → Overrides (operations_by (find test types)) number → IsQuiet number
+  quiet_found test [] number quiet is = quiet_three None number refl is
+  quiet_found test (t ∷ types) number quiet is = by (test t) is (quiet_found test types number (apart _ _ quiet).1)
+    where
+      by : (here : Bool) → Overrides (operations_by (if here then Some t else find test types)) number → (Overrides (operations_by (find test types)) number → IsQuiet number) → IsQuiet number
+      by true is' later = quiet_by t number (apart _ _ (apart _ _ quiet).0).0 is'
+      by false is' later = later is'
+
+  -- What overrides is there.
+  there_by : (t number : ℕ) (found : Option BodyForm) → slice_get p.bodies number ≡ found → is_operation p.types t (option_map profile_of found) ≡ true → (b : BodyForm) × (slice_get p.bodies number ≡ Some b)
+  there_by t number None at is = absurd (cc is)
+  there_by t number (Some b) at is = (b, at)
+
+  there_one : (t : ℕ) (o : Option ProcedureNo) (number : ℕ) → overrides_rightly p.types (callable_in p) t o ≡ true → procedure_number o ≡ Some number → (b : BodyForm) × (slice_get p.bodies number ≡ Some b)
+  there_one t None number is said = absurd (cc said)
+  there_one t (Some procedure) number is said =
+      let same : procedure.0 ≡ number = cc said in
+      rw same at (there_by t procedure.0 (slice_get p.bodies procedure.0) refl (ap (is_operation p.types t) (sym (slice_get-map profile_of p.bodies procedure.0)) ∙ is))
+
+  -- Wherever it is called, what it creates nests.
+  stays_there : (before : Callees) (bs : List BodyForm) (i : ℕ) (nests : List ℕ → Bool) → slice_get before i ≡ Some nests → slice_get (callees_from p.types before bs) i ≡ Some nests
+  stays_there before [] i nests is = is
+  stays_there before (b ∷ bs) i nests is = stays_there (before ++ body_nests p.types before b ∷ []) bs i nests (before_more before (body_nests p.types before b) i nests is)
+    where
+      before_more : (xs : Callees) (y : List ℕ → Bool) (j : ℕ) (x : List ℕ → Bool) → slice_get xs j ≡ Some x → slice_get (xs ++ y ∷ []) j ≡ Some x
+      before_more [] y j x at = absurd (cc at)
+      before_more (z ∷ zs) y zero x at = at
+      before_more (z ∷ zs) y (suc j) x at = before_more zs y j x at
+
+  at_last : (xs : Callees) (y : List ℕ → Bool) → slice_get (xs ++ y ∷ []) (length xs) ≡ Some y
+  at_last [] y = refl
+  at_last (x ∷ xs) y = at_last xs y
+
+  callee_is : (before : Callees) (bs : List BodyForm) (i : ℕ) (b : BodyForm) → slice_get bs i ≡ Some b → (some : Callees) × (slice_get (callees_from p.types before bs) (length before + i) ≡ Some (body_nests p.types some b))
+  callee_is before [] i b is = absurd (cc is)
+  callee_is before (c ∷ bs) zero b is =
+      let same : c ≡ b = cc is in
+      let at : length before + zero ≡ length before = omega arith in
+      (before, rw (at, ← same) (stays_there (before ++ body_nests p.types before c ∷ []) bs (length before) (body_nests p.types before c) (at_last before (body_nests p.types before c))))
+  callee_is before (c ∷ bs) (suc i) b is =
+      let more = before ++ body_nests p.types before c ∷ [] in
+      let later = callee_is more bs i b is in
+      let at : length more + i ≡ length before + suc i = omega (arith, length-append before (body_nests p.types before c ∷ [])) in
+      (later.0, rw at at later.1)
+
+  nests_there : (number : ℕ) (b : BodyForm) → slice_get p.bodies number ≡ Some b → IsQuiet number → (around : List ℕ) → call_nests (slice_get (callees_of p) number) around ≡ true
+  nests_there number b there quiet around =
+      let c = callee_is [] p.bodies number b there in
+      let at : zero + number ≡ number = omega arith in
+      let found : slice_get (callees_of p) number ≡ Some (body_nests p.types c.0 b) = rw at at c.1 in
+      rw found (body_is p.types c.0 b around (rw there at quiet))
+
+  nests_one : (t : ℕ) (o : Option ProcedureNo) → overrides_rightly p.types (callable_in p) t o ≡ true → is_quiet_operation p o ≡ true → NestsAnywhere (callees_of p) o
+  nests_one t None right quiet = tt
+  nests_one t (Some procedure) right quiet =
+      let b = there_one t (Some procedure) procedure.0 right refl in
+      nests_there procedure.0 b.0 b.1 quiet
+
+  nests_three : (t : ℕ) (f : Option Finalization) → has_operations p.types (callable_in p) t f ≡ true → has_quiet_operations p f ≡ true → AllNestAnywhere (callees_of p) (operations_in f)
+  nests_three t None right quiet = (tt, tt, tt)
+  nests_three t (Some f) right quiet =
+      let two = apart _ _ right in
+      let three = apart _ _ two.0 in
+      let quiet_two = apart _ _ quiet in
+      let quiet_three = apart _ _ quiet_two.0 in
+      (nests_one t f.operations.initialize three.0 quiet_three.0, nests_one t f.operations.adjust three.1 quiet_three.1, nests_one t f.operations.finalize two.1 quiet_two.1)
+
+  nests_at : (ts : List TypeForm) (n i : ℕ) → have_operations p.types (callable_in p) n ts ≡ true → list_all (λ t. has_quiet_operations p (finalization_in (Some t)) && not (adjusts_access p t)) ts ≡ true → AllNestAnywhere (callees_of p) (operations_in (finalization_in (slice_get ts i)))
+  nests_at [] n i right quiet = (tt, tt, tt)
+  nests_at (t ∷ ts) n zero right quiet = nests_three n (finalization_in (Some t)) (apart _ _ right).0 (apart _ _ (apart _ _ quiet).0).0
+  nests_at (t ∷ ts) n (suc i) right quiet = nests_at ts (1 + n) i (apart _ _ right).1 (apart _ _ quiet).1
+
+  pub operations_nest : IsWellFormed p → operations_are_quiet p ≡ true → OperationsNest p
+  operations_nest well quiet t = nests_at p.types 0 t well.operations_fit quiet
+
+-- What overrides an operation, by the number of the type among the controlled ones, has a quiet body.
+module _ (program : Program) (well : IsWellFormed (program_form program)) (quiet : operations_are_quiet (program_form program) ≡ true) where
+  pub quiet_body : (of number : ℕ) (b : BodyForm) → Overrides (operations_of program.types.items of) number → slice_get (body_forms program) number ≡ Some b → QuietBody (program_form program).types b
+  quiet_body of number b overrides there =
+      let p = program_form program in
+      let quietly : is_quiet_procedure p.types (slice_get p.bodies number) ≡ true = quiet_found p (λ t. is_number of (number_by (Some t))) program.types.items number quiet overrides in
+      let own = seen_in (Some number) p in
+      let fits = seen_fits p well (Some number) in
+      let seen = seen_as p number b there in
+      quiet_is p.types b (rw there at quietly)
+      (rw seen at (no_exits own.types own.variables own.texts own.exceptions _ own.statements fits.statements_fit))
+      (rw seen at (no_exit_handlers own.types own.variables own.texts own.exceptions _ own.handlers fits.handlers_fit))

@@ -1,0 +1,215 @@
+-- The operations, the statements and the events of the programs by which the laws show what operations of controlled types do, and that these must be quiet.
+
+use Rattle.std.specs.Prelude.{ℕ, List, [], ◌∷◌, ◌++◌, Some, None, false, pos}
+use Rattle.std.proofs.Math.ListN.{replicate}
+use Rattle.ada_values.specs.declared.operator.BinaryOperator.TheVariants as binary
+use Rattle.ada_program.specs.declared.program.Choice.TheVariants as choice
+use Rattle.ada_program.specs.declared.program.Exception.TheVariants.{ConstraintError}
+use Rattle.ada_program.specs.declared.program.FormalMode.TheVariants.{InOut}
+use Rattle.ada_program.specs.declared.program.Operations.{Operations}
+use Rattle.ada_program.specs.declared.program.Program.{Program}
+use Rattle.ada_program.specs.declared.program.VariableKind.TheVariants as variable
+use Rattle.ada_program.specs.Form.{PathForm, integer, reads, is_null, item_of_record, nothing, allocates_default, computes, DeclarationForm, collects, declares, declares_record, StmtForm, skips, assigns, assigns_record, frees, writes, writes_text, chooses, raises, encloses, StmtsForm, no_stmts, a_stmt, otherwise, a_branch, HandlersForm, no_handlers, a_handler}
+use Rattle.ada_program.specs.ProgramForm.{BodyForm}
+use Rattle.ada_meaning.specs.declared.state.Value.{Value}
+use Rattle.ada_meaning.specs.declared.state.Value.TheVariants.{Names}
+use Rattle.ada_meaning.specs.declared.event.Birth.TheVariants.{Creation, Copy, Adjustment}
+use Rattle.ada_meaning.specs.declared.event.Cause.TheVariants.{Leaving, Freeing, Assigning}
+use Rattle.ada_meaning.specs.declared.event.Line.TheVariants.{Image, Literal}
+use Rattle.ada_meaning.specs.Event.{Born, Finalized, Back, Followed, Left, Line}
+use Rattle.ada_meaning.specs.Beginning.{BeginsStatement}
+use Rattle.ada_meaning.specs.Named.{State}
+use Rattle.ada_meaning.specs.Run.{Event}
+use Rattle.ada_finalized.specs.Law.{NoOperationRuns}
+use Rattle.ada_sound.specs.Always.{AgreesThere}
+use Rattle.ada_sound.specs.Examples.{example_spot, example_path, with_number}
+use Rattle.ada_sound.specs.RecordExamples.{object_path, object_record}
+use Rattle.ada_sound.specs.CallExamples.{unnamed}
+
+-- An operation, whose formal parameter is known by the type of this number, and stands for a record of a controlled type (7.6).
+abbrev pub operation_body : ℕ → StmtsForm → HandlersForm → BodyForm
+operation_body formal fs hs = record {
+  formals = InOut ∷ [];
+  variables = unnamed (variable.Record (record { 0 = formal })) ∷ [];
+  declarations = [];
+  statements = fs;
+  handlers = hs;
+  start_spot = example_spot;
+  end_spot = example_spot;
+}
+
+-- type Count is new Controlled with record N : Integer; end record; which has number 0; type Link is access Count; which has number 1. X : Count and P : Link
+-- have numbers 0 and 1 in the main procedure, and Y : Count, in a block, has number 2.
+
+-- Count overrides each operation, by these procedures.
+abbrev pub count_operations : Operations
+count_operations = record { initialize = Some (record { 0 = 0 }); adjust = Some (record { 0 = 1 }); finalize = Some (record { 0 = 2 }) }
+
+-- The component N of the formal parameter, C.
+abbrev pub count_now : PathForm
+count_now = object_path 0 (0 ∷ [])
+
+-- procedure Initialize (C : in out Count) is begin C.N := 1; Put_Line (".."); end Initialize;
+abbrev pub initialize_count : BodyForm
+initialize_count = operation_body 4 (a_stmt (assigns count_now (computes (integer (pos 1)))) (a_stmt (writes_text 0) no_stmts)) no_handlers
+
+-- procedure Adjust (C : in out Count) is begin C.N := C.N + 1; exception when others => null; end Adjust;
+abbrev pub adjust_count : BodyForm
+adjust_count =
+    operation_body 5 (a_stmt (assigns count_now (computes (with_number binary.Add 1 (reads count_now)))) no_stmts)
+    (a_handler (choice.Others ∷ []) (a_stmt skips no_stmts) no_handlers)
+
+-- procedure Finalize (C : in out Count) is begin Put_Line (Integer'Image (C.N)); end Finalize;
+abbrev pub finalize_count : BodyForm
+finalize_count = operation_body 6 (a_stmt (writes (reads count_now)) no_stmts) no_handlers
+
+-- All three, in order.
+abbrev pub count_bodies : List BodyForm
+count_bodies = initialize_count ∷ adjust_count ∷ finalize_count ∷ []
+
+-- X : Count; P : Link;
+abbrev pub operating_declarations : List DeclarationForm
+operating_declarations = collects 1 ∷ declares_record 0 2 None ∷ declares 1 nothing ∷ []
+
+-- declare Y : Count := X; begin X := Y; raise Constraint_Error; end;
+abbrev pub operating_block : StmtForm
+operating_block =
+    encloses (declares_record 2 3 (Some (item_of_record (object_record 0) ∷ [])) ∷ [])
+    (a_stmt (assigns_record (object_record 0) (item_of_record (object_record 2) ∷ []))
+    (a_stmt (raises ConstraintError) no_stmts))
+    no_handlers
+
+-- P := new Count; declare .. end;
+abbrev pub operating_stmts : StmtsForm
+operating_stmts = a_stmt (assigns (example_path 1 []) (allocates_default 1)) (a_stmt operating_block no_stmts)
+
+-- when Constraint_Error => Free (P);
+abbrev pub operating_handlers : HandlersForm
+operating_handlers = a_handler (choice.Exception ConstraintError ∷ []) (a_stmt (frees 1 (example_path 1 [])) no_stmts) no_handlers
+
+-- The object X.
+abbrev pub object_x : Value
+object_x = Names (record { 0 = 0 })
+
+-- The object of the allocator.
+abbrev pub object_new : Value
+object_new = Names (record { 0 = 1 })
+
+-- The object Y.
+abbrev pub object_y : Value
+object_y = Names (record { 0 = 2 })
+
+-- Initialize of an object is called, as a master of its own: it assigns to the component and writes the text.
+abbrev pub initializes : Value → (master : ℕ) → List Event
+initializes o master = replicate 2 (Followed o) ++ Line (Literal (record { 0 = 0 })) ∷ Left master ∷ []
+
+-- Adjust is called: it reads the component, and assigns to it.
+abbrev pub adjusts : Value → (master : ℕ) → List Event
+adjusts o master = replicate 3 (Followed o) ++ Left master ∷ []
+
+-- Finalize is called, and writes this number, which the component holds.
+abbrev pub finalizes : Value → (number master : ℕ) → List Event
+finalizes o number master = Followed o ∷ Line (Image (pos number)) ∷ Left master ∷ []
+
+-- X and the new object are initialized, to 1 each, and Y, a copy of X, is adjusted, to 2. By the assignment X is finalized, which holds 1, gets what Y holds,
+-- and is adjusted, to 3. The exception leaves the block: Y is finalized, which holds 2, and goes. The handler frees the new object: it is finalized, which
+-- holds 1, and goes. At the end X is finalized, which holds 3, and goes.
+abbrev pub operating_events : List Event
+operating_events =
+    initializes object_x 1
+    ++ Born object_x 0 0 0 1 Creation
+    ∷ initializes object_new 2
+    ++ Born object_new 0 0 0 2 Creation
+    ∷ Followed object_x
+    ∷ adjusts object_y 4
+    ++ Born object_y 0 0 0 3 Copy
+    ∷ Followed object_x
+    ∷ Followed object_y
+    ∷ Finalized object_x 0 0 0 1 (Assigning 5)
+    ∷ finalizes object_x 1 6
+    ++ Followed object_y
+    ∷ Followed object_x
+    ∷ adjusts object_x 7
+    ++ Born object_x 0 1 0 4 (Adjustment 5)
+    ∷ Finalized object_y 0 0 0 3 (Leaving 3 3)
+    ∷ finalizes object_y 2 8
+    ++ Back object_y 3 0 None None (Leaving 3 3)
+    ∷ Left 3
+    ∷ Finalized object_new 0 0 0 2 (Freeing 9)
+    ∷ finalizes object_new 1 10
+    ++ Back object_new 1 1 (Some 0) None (Freeing 9)
+    ∷ Finalized object_x 0 1 0 4 (Leaving 0 1)
+    ∷ finalizes object_x 3 11
+    ++ Back object_x 2 0 None None (Leaving 0 1)
+    ∷ Left 0
+    ∷ []
+
+-- type Node is new Controlled with record Value : Integer; Next : Link; end record; which has number 0; type Link is access Node; which has number 1.
+-- Head : Link has number 0 in the main procedure.
+
+-- Node overrides Finalize, by this procedure.
+abbrev pub node_operations : Operations
+node_operations = record { initialize = None; adjust = None; finalize = Some (record { 0 = 0 }) }
+
+-- Head := new Node; Head.Next := new Node;
+abbrev pub two_nodes : StmtsForm
+two_nodes =
+    a_stmt (assigns (example_path 0 []) (allocates_default 1))
+    (a_stmt (assigns (example_path 0 (1 ∷ [])) (allocates_default 1)) no_stmts)
+
+-- The component Next of the formal parameter, N.
+abbrev pub next_now : PathForm
+next_now = object_path 0 (1 ∷ [])
+
+-- procedure Finalize (N : in out Node) is begin Free (N.Next); end Finalize;
+abbrev pub freeing_finalize : BodyForm
+freeing_finalize = operation_body 2 (a_stmt (frees 1 next_now) no_stmts) no_handlers
+
+-- procedure Finalize (N : in out Node) is begin if N.Next /= null then Put_Line (Integer'Image (N.Next.Value)); end if; end Finalize;
+abbrev pub following_finalize : BodyForm
+following_finalize =
+    operation_body 2
+    (a_stmt (chooses (a_branch (is_null false next_now) (a_stmt (writes (reads (object_path 0 (1 ∷ 0 ∷ [])))) no_stmts) (otherwise no_stmts))) no_stmts)
+    no_handlers
+
+-- The first node, which Head names, and the second one, which the first one names.
+abbrev pub first_node : Value
+first_node = Names (record { 0 = 0 })
+
+-- The second one.
+abbrev pub second_node : Value
+second_node = Names (record { 0 = 1 })
+
+-- Both nodes go with their collection. The second one is taken first: its Finalize finds null in its component, and it goes. Then the first one is
+-- finalized, of which the component names the node that is gone.
+abbrev pub node_events : List Event
+node_events =
+    Born first_node 0 0 0 1 Creation
+    ∷ Followed first_node
+    ∷ Born second_node 0 0 0 2 Creation
+    ∷ Followed first_node
+    ∷ Finalized second_node 0 0 0 2 (Leaving 0 0)
+    ∷ Followed second_node
+    ∷ Left 1
+    ∷ Back second_node 1 2 (Some 0) None (Leaving 0 0)
+    ∷ Finalized first_node 0 0 0 1 (Leaving 0 0)
+    ∷ []
+
+-- The Finalize that follows the component finds that it is not null, and comes to the node.
+abbrev pub following_events : List Event
+following_events = node_events ++ replicate 2 (Followed first_node)
+
+-- Head := new Node; Head.Next := new Node; Head.Next.Next := new Node;
+abbrev pub three_nodes : StmtsForm
+three_nodes =
+    a_stmt (assigns (example_path 0 []) (allocates_default 1))
+    (a_stmt (assigns (example_path 0 (1 ∷ [])) (allocates_default 1))
+    (a_stmt (assigns (example_path 0 (1 ∷ 1 ∷ [])) (allocates_default 1)) no_stmts))
+
+-- procedure Finalize (N : in out Node) is begin null; end Finalize;
+abbrev pub silent_finalize : BodyForm
+silent_finalize = operation_body 2 (a_stmt skips no_stmts) no_handlers
+
+-- Of a state where a statement begins in the body of an operation, while the third node is gone, which the second one names: flow is not agreed with there.
+abbrev pub DisagreesInside : Program → State → Type 0
+DisagreesInside program s = BeginsStatement s × (NoOperationRuns s.control → ⊥) × (AgreesThere program s → ⊥)
