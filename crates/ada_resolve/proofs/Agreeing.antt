@@ -11,15 +11,19 @@ use Rattle.ada_program.specs.ProgramForm.{PoolForm, TypeForm, VariableForm, Body
 use Rattle.ada_program.specs.declared.program.VariableKind.{VariableKind}
 use Rattle.ada_resolve.specs.declared.fault.NameRule.TheVariants.{DeclaredTwice}
 use Rattle.ada_resolve.specs.declared.library.Withs.{Withs}
+use Rattle.ada_resolve.specs.declared.primitives.Operation.{Operation}
+use Rattle.ada_resolve.specs.declared.primitives.Operation.TheVariants.{Initialize, Adjust, Finalize}
+use Rattle.ada_resolve.specs.Instances.{is_among}
+use Rattle.ada_resolve.specs.Primitives.{formal_specified, overrider, specified_for}
 use Rattle.ada_resolve.specs.declared.scope.Entity.{Entity}
 use Rattle.ada_resolve.specs.declared.scope.Entity.TheVariants as entity
 use Rattle.ada_resolve.specs.Clauses.{pool_of}
-use Rattle.ada_resolve.specs.Known.{Known, Named, Part, named, entered, first_named, from_part, named_in, inner_first, outermost, unit_named, visible, parts, with_part, next_variable}
+use Rattle.ada_resolve.specs.Known.{Known, Named, Part, Specifications, no_specifications, named, entered, first_named, from_part, named_in, inner_first, outermost, unit_named, visible, parts, with_part, next_variable}
 use Rattle.ada_resolve.specs.Library.{predefined, is_library_root, is_taken}
 use Rattle.ada_resolve.specs.Remark.{wrong_if}
 use Rattle.ada_resolve.specs.Resolution.{with_parameter}
 use Rattle.ada_resolve.specs.Naming.{Context, Place, Binding, Meaning, an_incomplete_type, a_type, a_number, an_exception, a_pool, an_instance, a_variable, a_parameter, a_procedure, a_procedure_around, an_outer_object, meaning_among, meaning_at, is_one_of, IsBound, truth_name, IsPredefined, the_integers, the_booleans, a_truth_value, the_constraint_error, the_program_error, the_storage_error, under_ada, under_system, the_pools, the_input}
-use Rattle.ada_resolve.specs.Reading.{inside, behind, with_new_constant}
+use Rattle.ada_resolve.specs.Reading.{inside, behind, with_new_constant, formal_among, procedure_among}
 use Rattle.ada_resolve.proofs.WellFormed.Forms.{forms}
 use Rattle.ada_resolve.proofs.WellFormed.Names.{PartsFit, first_of_two, named_entered, text_same, unit_only}
 use Rattle.ada_resolve.proofs.WellFormed.Remarks.{Quiet, quiet_if}
@@ -58,6 +62,9 @@ pub record Agrees (k : Known) (place : Place) : Type 0 where
   pub exceptions : place.exceptions ≡ length k.exceptions
   pub texts : place.texts ≡ length k.texts
   pub controlled : place.controlled ≡ k.controlled
+  pub limited : (t : ℕ) → is_one_of t place.limited ≡ is_among t k.limited
+  pub specified : (o : Operation) (t : ℕ) → formal_among o t place.specified ≡ formal_specified t (specified_for o k.here.specified)
+  pub overridden : (o : Operation) (t : ℕ) → overrider o k.types t ≡ procedure_among o t place.overridden
 
 -- the tables of what is known are beginnings of those of the program, but that types may get pools
 pub record Ahead (k : Known) (p : Context) : Type 0 where
@@ -253,8 +260,8 @@ outer_same k m place around outer w text =
     (subst (λ (ps : List Part). Stands (from_part k.here.around (named_in text ps)) (meaning_among text place.outer)) (sym outer) (w.outer text))
 
 -- what a part elaborates is no name
-pub agrees_same : (k m : Known) (place : Place) → m.here.names ≡ k.here.names → m.here.first_type ≡ k.here.first_type → m.here.around ≡ k.here.around → m.outer ≡ k.outer → length m.types ≡ length k.types → length m.bodies ≡ length k.bodies → length m.variables ≡ length k.variables → length m.exceptions ≡ length k.exceptions → length m.texts ≡ length k.texts → length m.pools ≡ length k.pools → ((t : ℕ) → pool_of m.types t ≡ pool_of k.types t) → m.controlled ≡ k.controlled → Agrees k place → Agrees m place
-agrees_same k m place names first around outer types bodies variables exceptions texts pools placed controlled w = record {
+pub agrees_same : (k m : Known) (place : Place) → m.here.names ≡ k.here.names → m.here.first_type ≡ k.here.first_type → m.here.around ≡ k.here.around → m.outer ≡ k.outer → length m.types ≡ length k.types → length m.bodies ≡ length k.bodies → length m.variables ≡ length k.variables → length m.exceptions ≡ length k.exceptions → length m.texts ≡ length k.texts → length m.pools ≡ length k.pools → ((t : ℕ) → pool_of m.types t ≡ pool_of k.types t) → m.controlled ≡ k.controlled → m.limited ≡ k.limited → m.here.specified ≡ k.here.specified → ((o : Operation) (t : ℕ) → overrider o m.types t ≡ overrider o k.types t) → Agrees k place → Agrees m place
+agrees_same k m place names first around outer types bodies variables exceptions texts pools placed controlled limited specified overridden w = record {
   here = λ text. subst (λ (ns : List Named). Stands (named text ns) (meaning_among text place.here)) (sym names) (w.here text);
   outer = λ text. outer_same k m place around outer w text;
   bodies = w.bodies ∙ sym bodies;
@@ -266,7 +273,16 @@ agrees_same k m place names first around outer types bodies variables exceptions
   exceptions = w.exceptions ∙ sym exceptions;
   texts = w.texts ∙ sym texts;
   controlled = w.controlled ∙ sym controlled;
+  limited = λ t. w.limited t ∙ ap (λ (ts : List ℕ). is_among t ts) (sym limited);
+  specified = λ o t. w.specified o t ∙ ap (λ (ss : Specifications). formal_specified t (specified_for o ss)) (sym specified);
+  overridden = λ o t. overridden o t ∙ w.overridden o t;
 }
+
+-- nothing is specified at first
+pub none_specified : (o : Operation) (t : ℕ) → None ≡ formal_specified t (specified_for o no_specifications)
+none_specified Initialize t = refl
+none_specified Adjust t = refl
+none_specified Finalize t = refl
 
 -- an inner part begins
 pub agrees_inside : (k : Known) (place : Place) → Agrees k place → Agrees (with_part k) (inside place)
@@ -282,6 +298,9 @@ agrees_inside k place w = record {
   exceptions = w.exceptions;
   texts = w.texts;
   controlled = w.controlled;
+  limited = w.limited;
+  specified = none_specified;
+  overridden = w.overridden;
 }
 
 -- the part of a loop parameter
@@ -298,11 +317,14 @@ agrees_parameter k place name w = record {
   exceptions = w.exceptions;
   texts = w.texts;
   controlled = w.controlled;
+  limited = w.limited;
+  specified = none_specified;
+  overridden = w.overridden;
 }
 
 -- an inner part ends
-pub agrees_behind : (k m z : Known) (place end : Place) → z.here.names ≡ k.here.names → z.here.first_type ≡ k.here.first_type → z.here.around ≡ k.here.around → z.outer ≡ k.outer → length z.types ≡ length m.types → length z.bodies ≡ length m.bodies → length z.variables ≡ length m.variables → length z.exceptions ≡ length m.exceptions → length z.texts ≡ length m.texts → length z.pools ≡ length m.pools → ((t : ℕ) → pool_of z.types t ≡ pool_of m.types t) → z.controlled ≡ m.controlled → Agrees k place → Agrees m end → Agrees z (behind place end)
-agrees_behind k m z place end names first around outer types bodies variables exceptions texts pools placed controlled w v = record {
+pub agrees_behind : (k m z : Known) (place end : Place) → z.here.names ≡ k.here.names → z.here.first_type ≡ k.here.first_type → z.here.around ≡ k.here.around → z.outer ≡ k.outer → length z.types ≡ length m.types → length z.bodies ≡ length m.bodies → length z.variables ≡ length m.variables → length z.exceptions ≡ length m.exceptions → length z.texts ≡ length m.texts → length z.pools ≡ length m.pools → ((t : ℕ) → pool_of z.types t ≡ pool_of m.types t) → z.controlled ≡ m.controlled → z.limited ≡ m.limited → z.here.specified ≡ k.here.specified → ((o : Operation) (t : ℕ) → overrider o z.types t ≡ overrider o m.types t) → Agrees k place → Agrees m end → Agrees z (behind place end)
+agrees_behind k m z place end names first around outer types bodies variables exceptions texts pools placed controlled limited specified overridden w v = record {
   here = λ text. subst (λ (ns : List Named). Stands (named text ns) (meaning_among text place.here)) (sym names) (w.here text);
   outer = λ text. outer_same k z place around outer w text;
   bodies = v.bodies ∙ sym bodies;
@@ -314,4 +336,7 @@ agrees_behind k m z place end names first around outer types bodies variables ex
   exceptions = v.exceptions ∙ sym exceptions;
   texts = v.texts ∙ sym texts;
   controlled = v.controlled ∙ sym controlled;
+  limited = λ t. v.limited t ∙ ap (λ (ts : List ℕ). is_among t ts) (sym limited);
+  specified = λ o t. w.specified o t ∙ ap (λ (ss : Specifications). formal_specified t (specified_for o ss)) (sym specified);
+  overridden = λ o t. overridden o t ∙ v.overridden o t;
 }

@@ -16,10 +16,11 @@ use Rattle.ada_program.specs.ProgramForm.{PartForm}
 use Rattle.ada_tree.specs.Records.{ComponentTree, component_of}
 use Rattle.ada_tree.specs.declared.records.ComponentDefinition.{ComponentDefinition}
 use Rattle.ada_resolve.specs.declared.notes.Notes.{Notes}
-use Rattle.ada_resolve.specs.Kept.{composition_in, entry_form, forms_of, kept_from, kept_with, with_component}
+use Rattle.ada_resolve.specs.Kept.{composition_in, entry_form, forms_of, kept_from, kept_with, kind_of_known, with_component}
 use Rattle.ada_program.specs.WellFormed.{parts_within}
 use Rattle.ada_resolve.specs.Controlled.{limited_within}
 use Rattle.ada_resolve.specs.Derived.{with_parent}
+use Rattle.ada_resolve.specs.Instances.{kind_of_part}
 use Rattle.ada_resolve.specs.Known.{Known}
 use Rattle.ada_resolve.specs.Paths.{component_at, component_named, known_component}
 use Rattle.ada_resolve.specs.Records.{Composition, component_meant, component_remark, components_remark, composed, composed_with, composition_of, further_component_remark, is_component, kind_of_component, kinds_within, no_components, size_of_component}
@@ -199,3 +200,8 @@ listed_once k cs notes e = kept_once k no_components cs notes e
 -- the same behind a parent part
 pub derived_once : (k : Known) (limited : Bool) (cs : List ComponentTree) (notes : Notes) → (noted (components_remark k (with_parent limited) cs) notes).fault ≡ None → kept_from k (with_parent limited) cs ≡ composed k (with_parent limited) cs
 derived_once k limited cs notes e = kept_once k (with_parent limited) cs notes e
+
+-- what the components are
+pub kinds_as_kept : (entries : List (Bor (List ℕ) × KnownComponent)) → map kind_of_part (map entry_form entries) ≡ map kind_of_known (map (λ e. e.1) entries)
+kinds_as_kept [] = refl
+kinds_as_kept (e ∷ es) = ap (λ (kinds : List PartKind). e.1.kind ∷ kinds) (kinds_as_kept es)

@@ -1,6 +1,6 @@
 -- A declarative part is read as it is written: its types, its names and its objects.
 
-use Rattle.std.proofs.Common.{◌≡◌, ◌∙◌, ℕ, ◌+◌, ◌≤◌, Bool, true, false, cond, ◌||◌, ◌&&◌, List, [], ◌∷◌, ◌++◌, length, length-append, append_assoc, refl, sym, ap, subst, arith, eqb, eq-eqb}
+use Rattle.std.proofs.Common.{◌≡◌, ◌∙◌, ℕ, ◌+◌, ◌<◌, ◌≤◌, Bool, true, false, cond, ◌||◌, ◌&&◌, List, [], ◌∷◌, ◌++◌, length, length-append, append_assoc, refl, sym, ap, subst, arith, eqb, eq-eqb}
 use Rattle.std.specs.Prelude.{Option, Some, None, bytes_eq, codes, is_some, nat_le, nat_lt, ◌==◌, pos, negsuc}
 use Rattle.std.specs.List.{slice_get, slice_set, list_all}
 use Rattle.std.proofs.lemmas.List.{append-nil, length-set}
@@ -10,9 +10,9 @@ use Rattle.ada_tree.specs.Names.{Ident, NameTree}
 use Rattle.ada_tree.specs.Records.{ComponentTree, RecordTree}
 use Rattle.ada_tree.specs.Declarations.{AspectTree, HeadTree, SizeTree, number_size, named_size}
 use Rattle.ada_resolve.specs.Procedures.{body_head_remark}
-use Rattle.ada_resolve.specs.Spots.{end_of, first_or, head_spot}
+use Rattle.ada_resolve.specs.Spots.{end_of, head_spot}
 use Rattle.ada_tree.specs.Expressions.{RightTree}
-use Rattle.ada_tree.specs.Statements.{DeclarationTree, exception_declaration, constant_declaration, pool_declaration, attribute_clause, incomplete_type, access_type, record_type, derived_type, instance, body_declaration, SequenceTree, object_declaration, borrower_declaration, DeclarationsTree, no_declarations, a_declaration}
+use Rattle.ada_tree.specs.Statements.{DeclarationTree, exception_declaration, constant_declaration, pool_declaration, attribute_clause, incomplete_type, access_type, record_type, derived_type, specification, instance, body_declaration, SequenceTree, object_declaration, borrower_declaration, DeclarationsTree, no_declarations, a_declaration}
 use Rattle.ada_program.specs.declared.program.Exception.TheVariants as exception
 use Rattle.ada_program.specs.declared.program.PoolNo.{PoolNo}
 use Rattle.ada_program.specs.declared.program.TypeNo.{TypeNo}
@@ -37,31 +37,36 @@ use Rattle.ada_resolve.specs.Clauses.{pool_by, pool_of, placed_if, clause_pool, 
 use Rattle.ada_resolve.specs.Library.{library_name, is_library_root, no_component_rule}
 use Rattle.ada_resolve.specs.Pools.{aspect_found, aspect_remark, first_fit_wanted, is_size, is_storage_pool, label_remark, most_words, next_pool, no_pool_type, pool_found, pool_in, pool_known, pool_name_remark, pool_type_remark, pool_wanted, size_in, size_remark, size_value, size_wanted}
 use Rattle.ada_resolve.specs.Remark.{wrong, ◌also◌}
-use Rattle.ada_resolve.specs.Known.{Known, Named, named, visible, missing, is_with, if_with, library_wrong, library_remark, declared, new_name_remark, type_begins, no_variable_yet, no_body_yet, types_go_on, next_variable, with_elaborated}
+use Rattle.ada_resolve.specs.Known.{Known, Named, Specifications, named, visible, missing, is_with, if_with, library_wrong, library_remark, declared, new_name_remark, type_begins, no_variable_yet, no_body_yet, types_go_on, next_variable, with_elaborated}
 use Rattle.ada_resolve.specs.Types.{completed_type, defined, number_of, record_found, access_defined, new_unless}
 use Rattle.ada_resolve.specs.Exceptions.{next_exception}
 use Rattle.ada_resolve.specs.Statics.{static_value}
-use Rattle.ada_resolve.specs.Derived.{derived_type_known, derived_type_remark, limited_parent, parent_part, with_parent}
+use Rattle.ada_program.specs.Controlled.{no_operations, operations_in}
+use Rattle.ada_resolve.specs.declared.primitives.Operation.{Operation}
+use Rattle.ada_resolve.specs.Derived.{derived_type_known, derived_type_remark, is_limited_parent, limited_parent, limited_with, parent_part, parent_remark, with_parent}
+use Rattle.ada_resolve.specs.Primitives.{formal_name, overrider}
 use Rattle.ada_resolve.specs.Records.{Composition, components_written, composed, counted, finalization_made, no_components, record_made as type_made, record_type_remark, record_type_known, with_record}
-use Rattle.ada_resolve.specs.Instances.{access_type_in, freed_found, frozen_by, generic_remark, is_collected, instance_of, with_frozen}
+use Rattle.ada_resolve.specs.Instances.{access_type_in, freed_found, frozen_by, generic_remark, is_among, is_collected, instance_of, with_frozen}
 use Rattle.ada_resolve.specs.Objects.{missing_collections, ends_types, after_types, next_record, object_remark, variable_created, record_created, created_of, object_known, held_of, object_type_found, initial_found, initial_items_in, initial_source, initial_value_in}
 use Rattle.ada_resolve.specs.Resolution.{gives, At, known_at, declaration_remark, declaration_known, single_told, declaration_told, declarations_told}
-use Rattle.ada_resolve.specs.Naming.{Context, Place, Meaning, an_incomplete_type, a_type, a_number, an_exception, a_pool, an_instance, a_variable, meaning_among, is_one_of, IsTypeRead, IsInstanceRead, IsNumberNamed, IsPoolNamed, IsSizeRead, IsLabelRead, IsPoolRead, IsAspectRead, IsClauseRead, AreComponentsRead, AreNamedApart, AreLaidOut, IsFinalized}
-use Rattle.ada_resolve.specs.Reading.{read_at, IsNew, with_binding, with_incomplete_type, with_new_type, with_new_exception, with_new_variable, with_new_record, with_new_pool, with_placed, with_aspect, with_complete, AreObjectsRead, AreCompleted, IsTypeDeclared, by_completion, by_new_type, DoTypesEnd, IsPartRead}
-use Rattle.ada_resolve.proofs.WellFormed.Inherits.{type_stands}
-use Rattle.ada_resolve.proofs.WellFormed.Forms.{forms, get_form, access_there, object_stays, record_there}
+use Rattle.ada_resolve.specs.Naming.{Context, Place, Meaning, an_incomplete_type, a_type, a_number, an_exception, a_pool, an_instance, a_variable, meaning_among, is_one_of, IsTypeRead, IsInstanceRead, IsNumberNamed, IsPoolNamed, IsSizeRead, IsLabelRead, IsPoolRead, IsAspectRead, IsClauseRead, IsParentRead, AreComponentsRead, AreNamedApart, AreLaidOut, IsFinalized}
+use Rattle.ada_resolve.specs.Reading.{read_at, IsNew, with_binding, with_incomplete_type, with_new_type, with_new_exception, with_new_variable, with_new_record, with_new_pool, with_placed, with_limited_if, with_aspect, with_complete, with_specified, HaveBodies, AreObjectsRead, AreCompleted, IsTypeDeclared, by_completion, by_new_type, DoTypesEnd, IsPartRead}
+use Rattle.ada_resolve.proofs.WellFormed.Forms.{bare, bare_final, forms, get_form, access_there, object_stays, record_there, same_final}
 use Rattle.ada_resolve.proofs.WellFormed.Placed.{none_defined, none_more, placed_forms, placed_length, placed_pool, placed_there, pool_placed, some_defined}
 use Rattle.ada_resolve.proofs.WellFormed.Remarks.{Quiet, quiet_if, quiet_unless}
 use Rattle.ada_resolve.proofs.WellFormed.Borrowers.{lent_of, borrower_is}
 use Rattle.ada_resolve.proofs.WellFormed.Names.{EntityFits, named_entered, same_text, text_same, visible_fits}
 use Rattle.ada_resolve.proofs.WellFormed.Tables.{get_last, second_part}
-use Rattle.ada_resolve.proofs.Standing.{Sound, Complete, Grows, Keeps, no_pool, storage_quiet, complete_grows, record_settled, longer, ended_sound, declarations_done, single_done, ProcedureDone, procedure_done, told_sound, told_keeps, head_new, body_stays, around_body, around_sound, body_ended_names, body_ended_some, declarations_keep, IsSlot, new_slot, slot_of, old_name, defined_there}
+use Rattle.ada_resolve.proofs.Standing.{Sound, Complete, Grows, Keeps, no_pool, storage_quiet, complete_grows, record_settled, visible_settled, longer, ended_sound, declarations_done, single_done, ProcedureDone, procedure_done, told_sound, told_keeps, head_is_new, body_stays, around_body, around_sound, body_ended_names, body_ended_some, declarations_keep, IsSlot, new_slot, slot_of, old_name, defined_there}
 use Rattle.ada_resolve.proofs.Agreeing.{bound_to, Stands, Agrees, Ahead, EntityRead, Readable, stands_entered, agrees_same, visible_read, not_predefined}
 use Rattle.ada_resolve.proofs.Keeping.{Lasts, lasts_ahead, lasts_on}
 use Rattle.ada_resolve.proofs.WellFormed.Types.{by_none, by_parent}
-use Rattle.ada_resolve.proofs.Written.{Legible, static_read, further_parts, composed_parts, components_read, all_laid, all_apart, all_finalized, parent_apart, parent_read, FoundRecord, record_read, designated_read, FoundAccess, access_read, generic_read, ObjectRead, RecordRead, TypeRead, object_read, IsObjectType, object_type_is}
+use Rattle.ada_resolve.proofs.Written.{Legible, record_lasts, static_read, further_parts, composed_parts, components_read, all_laid, all_apart, all_finalized, finalized_alike, parent_apart, parent_read, FoundRecord, record_read, designated_read, FoundAccess, access_read, generic_read, ObjectRead, RecordRead, TypeRead, object_read, IsObjectType, object_type_is}
 use Rattle.ada_resolve.proofs.Lent.{borrower_read}
 use Rattle.ada_resolve.proofs.Others.{others_of}
+use Rattle.ada_resolve.proofs.Operating.{Inherits, limited_now, overrider_defined, overrider_more, overrider_placed}
+use Rattle.ada_resolve.proofs.Bodied.{Early, Waits, early_on, have_bodies, specified_early}
+use Rattle.ada_resolve.proofs.Operands.{RecordsStay, operand_below, operation_read, specification_begins, specification_done, specified_agrees}
 
 -- tables that are ahead of longer ones
 pub ahead_on : (k m : Known) (p : Context) → Grows k m → Ahead m p → Ahead k p
@@ -101,7 +106,7 @@ unfolding after_types
 after_agrees k place w = by_end (types_go_on k)
   where
     by_end : (b : Bool) → Agrees (ends_types b k) place
-    by_end true = agrees_same k (ends_types true k) place refl refl refl refl refl refl refl refl refl refl (λ t. refl) refl w
+    by_end true = agrees_same k (ends_types true k) place refl refl refl refl refl refl refl refl refl refl (λ t. refl) refl refl refl (λ o t. refl) w
     by_end false = w
 
 pub after_full : (k : Known) → types_go_on k ≡ false → after_types k ≡ k
@@ -129,8 +134,8 @@ after_variables k = by_end (types_go_on k)
     by_end false = refl
 
 -- a name is declared, and tables grow
-agrees_declared : (k : Known) (place : Place) (name : Ident) (e : Entity) (meaning : Meaning) (types : List TypeForm) (variables : List VariableForm) (exceptions : List (List ℕ)) (frozen : List ℕ) (elaborated : List DeclarationForm) (nt nv ne : ℕ) (ps : List ℕ) → bound_to e ≡ Some meaning → nt ≡ length types → nv ≡ length variables → ne ≡ length exceptions → ((u : ℕ) → is_one_of u ps ≡ is_some (pool_of types u)) → Agrees k place → Agrees (declared (record k { types = types; variables = variables; exceptions = exceptions; frozen = frozen; here = record k.here { elaborated = elaborated } }) name.text e) (record (with_binding name meaning place) { types = nt; variables = nv; exceptions = ne; placed = ps })
-agrees_declared k place name e meaning types variables exceptions frozen elaborated nt nv ne ps own t v x h w = record {
+agrees_declared : (k : Known) (place : Place) (name : Ident) (e : Entity) (meaning : Meaning) (types : List TypeForm) (variables : List VariableForm) (exceptions : List (List ℕ)) (frozen : List ℕ) (elaborated : List DeclarationForm) (nt nv ne : ℕ) (ps : List ℕ) → bound_to e ≡ Some meaning → nt ≡ length types → nv ≡ length variables → ne ≡ length exceptions → ((u : ℕ) → is_one_of u ps ≡ is_some (pool_of types u)) → ((o : Operation) (u : ℕ) → overrider o types u ≡ overrider o k.types u) → Agrees k place → Agrees (declared (record k { types = types; variables = variables; exceptions = exceptions; frozen = frozen; here = record k.here { elaborated = elaborated } }) name.text e) (record (with_binding name meaning place) { types = nt; variables = nv; exceptions = ne; placed = ps })
+agrees_declared k place name e meaning types variables exceptions frozen elaborated nt nv ne ps own t v x h more w = record {
   here = stands_entered k.here.names place.here name e meaning own w.here;
   outer = w.outer;
   first_type = w.first_type;
@@ -142,6 +147,9 @@ agrees_declared k place name e meaning types variables exceptions frozen elabora
   exceptions = x;
   texts = w.texts;
   controlled = w.controlled;
+  limited = w.limited;
+  specified = w.specified;
+  overridden = λ o u. more o u ∙ w.overridden o u;
 }
 
 one_longer : {X : Type 0} (xs : List X) (x : X) (n : ℕ) → n ≡ length xs → n + 1 ≡ length (xs ++ x ∷ [])
@@ -264,7 +272,7 @@ variable_agrees : (k m : Known) (at : Place) (name : Ident) (v : VariableForm) (
 variable_agrees k m at name v form is w =
     subst (λ u. Agrees u (with_new_variable name at)) (sym is)
     (agrees_declared k at name (entity.Variable (next_variable k) v.kind) (a_variable at.variables) k.types (k.variables ++ v ∷ []) k.exceptions k.frozen (k.here.elaborated ++ form ∷ [])
-    at.types (at.variables + 1) at.exceptions at.placed (ap (λ (n : ℕ). Some (a_variable n)) (sym w.variables)) w.types (one_longer k.variables v at.variables w.variables) w.exceptions w.placed w)
+    at.types (at.variables + 1) at.exceptions at.placed (ap (λ (n : ℕ). Some (a_variable n)) (sym w.variables)) w.types (one_longer k.variables v at.variables w.variables) w.exceptions w.placed (λ o u. refl) w)
 
 -- `X : T := ..;`
 value_made : (name : Ident) (type_name : NameTree) (initial : Option RightTree) (kind : Held) (of : VariableKind) (k m : Known) → Quiet (new_name_remark k name name.spot) → ((p : Context) → Readable k p → ObjectRead k p type_name initial kind of) → m ≡ variable_created k name false of (initial_source (initial_value_in (initial_found k (Some kind) initial))) → Made (object_declaration name type_name initial) name k m
@@ -304,7 +312,7 @@ record_made name type_name initial t k m new said is =
       agrees = λ at w. subst (λ u. Agrees u (with_new_record name at)) (sym is)
           (agrees_declared k at name (entity.Variable (next_variable k) (next_record k)) (a_variable at.variables) types (k.variables ++ v ∷ []) k.exceptions k.frozen (k.here.elaborated ++ form ∷ [])
           (at.types + 1) (at.variables + 1) at.exceptions at.placed (ap (λ (n : ℕ). Some (a_variable n)) (sym w.variables)) (one_longer k.types (object_of t.0) at.types w.types)
-          (one_longer k.variables v at.variables w.variables) w.exceptions (λ u. w.placed u ∙ sym (none_more k.types (object_of t.0) u refl)) w);
+          (one_longer k.variables v at.variables w.variables) w.exceptions (λ u. w.placed u ∙ sym (none_more k.types (object_of t.0) u refl)) (overrider_more k.types (object_of t.0) refl) w);
       read = λ p ds forms end w ahead new rest.
           let r = said p w in
           let known_by : slice_get m.types (length k.types) ≡ Some (object_of t.0) = ap (λ (u : Known). slice_get u.types (length k.types)) is ∙ get_last k.types (object_of t.0) in (
@@ -416,7 +424,7 @@ pub body_back : (head : HeadTree) (ds : DeclarationsTree) (body : SequenceTree) 
 body_back head ds body end_name at next d s c text t is =
     let stays = body_stays head ds body end_name at next d s in
     let k = after_types at.0 in
-    let none = new_slot k head.name (first_or head.overriding head.spot) (head_new k head d.quiet) in
+    let none = head_is_new k head d.quiet in
     let there : named text k.here.names ≡ Some (entity.Incomplete t) = ap (λ (ns : List Named). named text ns) (after_names at.0) ∙ is in
     c text t (ap (λ (v : Known). named text v.here.names) d.known ∙ body_ended_names k d.done.1.0 head d.done.0.0 d.done.0.1 (head_spot head) (end_of body) none stays.done_in text (entity.Incomplete t) there)
 
@@ -460,12 +468,19 @@ complete_back (a_declaration (body_declaration head inner body end_name) ds) at 
     let done = declarations_done d ds at after e in
     body_back head inner body end_name at done.next (procedure_done head inner body end_name at done.next done.one) s
     (complete_back ds done.next after (told_sound d at done.next s done.one) (late_on at.0 done.next.0 s (told_keeps d at done.next s done.one) full) done.told c)
-complete_back (a_declaration d ds) at after s full e c = absurd (next_of d ds at after tt s e).quiet
+complete_back (a_declaration (specification head) ds) at after s full e c =
+    absurd (no_types at.0 (head_spot head) full (specification_begins at.0 head (next_of (specification head) ds at after tt s e).quiet))
+
+-- where a part is over, no type is incomplete and no operation waits for its body
+pub record Over (k : Known) : Type 0 where
+  pub complete : Complete k
+  pub awaited : k.here.specified.awaited ≡ 0
 
 -- objects behind an object
 record ObjectsRead (p : Context) (ds : DeclarationsTree) (k z : Known) : Type 0 where
   forms : List DeclarationForm
   end : Place
+  specified : z.here.specified ≡ k.here.specified
   elaborated : z.here.elaborated ≡ k.here.elaborated ++ forms
   full : no_variable_yet z ≡ false
   read : AreObjectsRead p ds forms end
@@ -479,6 +494,7 @@ variable_first : (k : Known) (p : Context) (d : DeclarationTree) (name : Ident) 
 variable_first k p d name ds m z w r ahead on = record {
   forms = r.form ∷ on.forms;
   end = on.end;
+  specified = on.specified ∙ ap (λ (u : Known). u.here.specified) r.is;
   elaborated = behind_one k.here.elaborated z.here.elaborated on.forms r.form (on.elaborated ∙ ap (λ (u : Known). u.here.elaborated ++ on.forms) r.is);
   full = on.full;
   read = r.read p ds on.forms on.end w ahead (new_there k p.place name name.spot w.agrees r.new) on.read;
@@ -516,13 +532,14 @@ no_body : (k : Known) (head : HeadTree) (spot : Spot) → no_variable_yet k ≡ 
 unfolding body_head_remark
 no_body k head spot off q =
     let same : no_variable_yet (after_types k) ≡ no_variable_yet k = after_variables k in
-    both_ways (no_variable_yet k) off (sym same ∙ quiet_unless (no_variable_yet (after_types k)) (first_or head.overriding head.spot) Layout q.1.0)
+    both_ways (no_variable_yet k) off (sym same ∙ quiet_unless (no_variable_yet (after_types k)) (head_spot head) Layout q.1.0)
 
 objects_read : (p : Context) (ds : DeclarationsTree) (at after : At) → Sound at.0 → Agrees at.0 p.place → no_variable_yet at.0 ≡ false → Complete after.0 → Ahead after.0 p → declarations_told ds at ≡ gives after → ObjectsRead p ds at.0 after.0
 objects_read p no_declarations at after s w full c ahead e =
     subst (λ (v : At). ObjectsRead p no_declarations at.0 v.0) (gives_same at after e) (record {
       forms = [];
       end = p.place;
+      specified = refl;
       elaborated = sym (append-nil at.0.here.elaborated);
       full = full;
       read = refl;
@@ -555,8 +572,9 @@ objects_read p (a_declaration (pool_declaration name type_name label size) ds) a
 objects_read p (a_declaration (attribute_clause spot name attribute value) ds) at after s w full c ahead e = absurd (no_types at.0 spot (some_variable at.0 full) (next_of (attribute_clause spot name attribute value) ds at after tt s e).quiet.0)
 objects_read p (a_declaration (body_declaration head inner body end_name) ds) at after s w full c ahead e =
     let done = declarations_done (body_declaration head inner body end_name) ds at after e in
-    absurd (no_body at.0 head (first_or head.overriding head.spot) full (procedure_done head inner body end_name at done.next done.one).quiet)
-objects_read p (a_declaration d ds) at after s w full c ahead e = absurd (next_of d ds at after tt s e).quiet
+    absurd (no_body at.0 head (head_spot head) full (procedure_done head inner body end_name at done.next done.one).quiet)
+objects_read p (a_declaration (specification head) ds) at after s w full c ahead e =
+    absurd (no_types at.0 (head_spot head) (some_variable at.0 full) (specification_begins at.0 head (next_of (specification head) ds at after tt s e).quiet))
 
 -- a declarative part, up to its end
 pub record PartRead (p : Context) (ds : DeclarationsTree) (k z : Known) : Type 0 where
@@ -580,41 +598,57 @@ ends_read k p rest w c ahead made collected =
     let o = others_of k p made w.first_type w.types ahead.types collected in
     (o.others, ap (λ (forms : List DeclarationForm). forms ++ rest) o.these, completed_place k p.place w c, o.so)
 
-pub nothing_left : (k : Known) (p : Context) → Agrees k p.place → types_go_on k ≡ true → Complete k → Ahead k p → PartRead p no_declarations k k
-nothing_left k p w none c ahead = record {
+pub nothing_left : (k : Known) (p : Context) → Agrees k p.place → Waits k p.place → types_go_on k ≡ true → Over k → Ahead k p → PartRead p no_declarations k k
+nothing_left k p w waits none c ahead = record {
   forms = missing_collections k ++ [];
   end = p.place;
   elaborated = ap (λ (v : Known). v.here.elaborated) (after_none k none) ∙ ap (λ forms. k.here.elaborated ++ forms) (sym (append-nil (missing_collections k)));
-  read = λ made collected. ([], ends_read k p [] w c ahead made collected, refl);
+  read = λ made collected. ([], ends_read k p [] w c.complete ahead made collected, have_bodies k p.place waits c.awaited, refl);
   agrees = w;
 }
 
 -- how a part is read whose types end before objects
 abbrev EndsBefore : Context → DeclarationsTree → Place → Type 0
-EndsBefore p ds end = (made : Option (List ℕ)) (forms rest : List DeclarationForm) → DoTypesEnd p made forms rest → AreObjectsRead p ds rest end → IsPartRead p made ds forms end
+EndsBefore p ds end =
+    (made : Option (List ℕ)) (forms rest : List DeclarationForm) → DoTypesEnd p made forms rest → HaveBodies p.place → AreObjectsRead p ds rest end →
+    IsPartRead p made ds forms end
 
 object_ends : (p : Context) (name : Ident) (type_name : NameTree) (initial : Option RightTree) (ds : DeclarationsTree) (end : Place) → EndsBefore p (a_declaration (object_declaration name type_name initial) ds) end
-object_ends p name type_name initial ds end (Some made) forms rest a b = (rest, a, b)
-object_ends p name type_name initial ds end None forms rest a b = (rest, a, b)
+object_ends p name type_name initial ds end (Some made) forms rest a n b = (rest, a, n, b)
+object_ends p name type_name initial ds end None forms rest a n b = (rest, a, n, b)
 
 borrower_ends : (p : Context) (name designated : Ident) (initial : Option RightTree) (ds : DeclarationsTree) (end : Place) → EndsBefore p (a_declaration (borrower_declaration name designated initial) ds) end
-borrower_ends p name designated initial ds end (Some made) forms rest a b = (rest, a, b)
-borrower_ends p name designated initial ds end None forms rest a b = (rest, a, b)
+borrower_ends p name designated initial ds end (Some made) forms rest a n b = (rest, a, n, b)
+borrower_ends p name designated initial ds end None forms rest a n b = (rest, a, n, b)
 
-objects_left : (k z : Known) (p : Context) (ds : DeclarationsTree) → ((end : Place) → EndsBefore p ds end) → Agrees k p.place → types_go_on k ≡ true → Complete k → Ahead k p → ObjectsRead p ds (after_types k) z → PartRead p ds k z
-objects_left k z p ds ends w none c ahead on = record {
+-- the types end, and the specifications stay
+pub after_specified : (k : Known) → (after_types k).here.specified ≡ k.here.specified
+unfolding after_types
+after_specified k = by_end (types_go_on k)
+  where
+    by_end : (b : Bool) → (ends_types b k).here.specified ≡ k.here.specified
+    by_end true = refl
+    by_end false = refl
+
+-- none waits for its body where objects begin
+none_waits : (k z : Known) (p : Context) (ds : DeclarationsTree) → Waits k p.place → Over z → ObjectsRead p ds (after_types k) z → HaveBodies p.place
+none_waits k z p ds waits c on =
+    have_bodies k p.place waits (sym (ap (λ (ss : Specifications). ss.awaited) (on.specified ∙ after_specified k)) ∙ c.awaited)
+
+objects_left : (k z : Known) (p : Context) (ds : DeclarationsTree) → ((end : Place) → EndsBefore p ds end) → Agrees k p.place → Waits k p.place → types_go_on k ≡ true → Complete k → Over z → Ahead k p → ObjectsRead p ds (after_types k) z → PartRead p ds k z
+objects_left k z p ds ends w waits none c over ahead on = record {
   forms = missing_collections k ++ on.forms;
   end = on.end;
   elaborated = ap (λ (v : Known). v.here.elaborated) (after_full z (some_variable z on.full)) ∙
       (on.elaborated ∙ (ap (λ (v : Known). v.here.elaborated ++ on.forms) (after_none k none) ∙ append_assoc k.here.elaborated (missing_collections k) on.forms));
-  read = λ made collected. ends on.end (Some made) (missing_collections k ++ on.forms) on.forms (ends_read k p on.forms w c ahead made collected) on.read;
+  read = λ made collected. ends on.end (Some made) (missing_collections k ++ on.forms) on.forms (ends_read k p on.forms w c ahead made collected) (none_waits k z p ds waits over on) on.read;
   agrees = on.agrees;
 }
 
-variables_left : (p : Context) (d : DeclarationTree) (ds : DeclarationsTree) (at after : At) → ((end : Place) → EndsBefore p (a_declaration d ds) end) → Sound at.0 → Agrees at.0 p.place → types_go_on at.0 ≡ true → Ahead after.0 p → declarations_told (a_declaration d ds) at ≡ gives after → VariableRead p d ds at.0 after.0 → PartRead p (a_declaration d ds) at.0 after.0
-variables_left p d ds at after ends s w none ahead e on =
+variables_left : (p : Context) (d : DeclarationTree) (ds : DeclarationsTree) (at after : At) → ((end : Place) → EndsBefore p (a_declaration d ds) end) → Sound at.0 → Agrees at.0 p.place → Waits at.0 p.place → types_go_on at.0 ≡ true → Over after.0 → Ahead after.0 p → declarations_told (a_declaration d ds) at ≡ gives after → VariableRead p d ds at.0 after.0 → PartRead p (a_declaration d ds) at.0 after.0
+variables_left p d ds at after ends s w waits none c ahead e on =
     let grows = complete_grows at.0 after.0 on.open_so (declarations_keep (a_declaration d ds) at after s e) in
-    objects_left at.0 after.0 p (a_declaration d ds) ends w none on.open_so (ahead_on at.0 after.0 p grows ahead) on.objects
+    objects_left at.0 after.0 p (a_declaration d ds) ends w waits none on.open_so c (ahead_on at.0 after.0 p grows ahead) on.objects
 
 -- a declaration that elaborates nothing
 plain_first : (k m z : Known) (p q : Context) (d : DeclarationTree) (ds : DeclarationsTree) → m.here.elaborated ≡ k.here.elaborated → (on : PartRead q ds m z) → ((made : List ℕ) → IsPartRead q (Some made) ds on.forms on.end → IsPartRead p (Some made) (a_declaration d ds) on.forms on.end) → PartRead p (a_declaration d ds) k z
@@ -631,12 +665,12 @@ abbrev type_place : Option TypeNo → Ident → DeclarationTree → Option Final
 type_place (Some t) name d final place = with_binding name (a_type t.0) (with_complete final (with_aspect d t.0 place))
 type_place None name d final place = with_new_type name (with_complete final (with_aspect d place.types place))
 
-abbrev defining : Known → Ident → Option TypeNo → TypeForm → Entity → ℕ → Known
-defining k name c form e n = declared (record k { types = defined c form k.types; controlled = n }) name.text e
+abbrev defining : Known → Ident → Option TypeNo → TypeForm → Entity → ℕ → List ℕ → Known
+defining k name c form e n ls = declared (record k { types = defined c form k.types; controlled = n; limited = ls }) name.text e
 
 -- one more type is complete
-agrees_complete : (k : Known) (final : Option Finalized) (place : Place) → Agrees k place → Agrees (record k { controlled = counted final k.controlled }) (with_complete final place)
-agrees_complete k final place w = record {
+agrees_complete : (k : Known) (final : Option Finalized) (ls ts : List ℕ) (place : Place) → ((u : ℕ) → is_one_of u ts ≡ is_among u ls) → Agrees k place → Agrees (record k { controlled = counted final k.controlled; limited = ls }) (with_complete final (record place { limited = ts }))
+agrees_complete k final ls ts place limits w = record {
   here = w.here;
   outer = w.outer;
   first_type = w.first_type;
@@ -648,6 +682,9 @@ agrees_complete k final place w = record {
   exceptions = w.exceptions;
   texts = w.texts;
   controlled = ap (λ (n : ℕ). counted final n) w.controlled;
+  limited = limits;
+  specified = w.specified;
+  overridden = w.overridden;
 }
 
 -- an aspect names the pool of its type
@@ -659,17 +696,26 @@ abbrev names_pool : DeclarationTree → ℕ → List ℕ → List ℕ
 names_pool (access_type spot name designated aspect) t ps = aspect_placed aspect t ps
 names_pool d t ps = ps
 
+-- a parent makes its type limited
+abbrev limited_by : DeclarationTree → ℕ → List ℕ → List ℕ
+limited_by (derived_type spot name parent definition) t ts = cond (is_limited_parent (Some (library_name parent.first.text parent.rest))) (t ∷ ts) ts
+limited_by d t ts = ts
+
 abbrev IsFullType : DeclarationTree → Type 0
 IsFullType (access_type spot name designated aspect) = Unit {0}
 IsFullType (record_type spot name definition) = Unit {0}
 IsFullType (derived_type spot name parent definition) = Unit {0}
 IsFullType d = ⊥
 
-aspect_place : (d : DeclarationTree) (t : ℕ) (place : Place) → IsFullType d → with_aspect d t place ≡ record place { placed = names_pool d t place.placed }
+limited_place : (b : Bool) (t : ℕ) (place : Place) → with_limited_if b t place ≡ record place { limited = cond b (t ∷ place.limited) place.limited }
+limited_place true t place = refl
+limited_place false t place = refl
+
+aspect_place : (d : DeclarationTree) (t : ℕ) (place : Place) → IsFullType d → with_aspect d t place ≡ record place { placed = names_pool d t place.placed; limited = limited_by d t place.limited }
 aspect_place (access_type spot name designated None) t place full = refl
 aspect_place (access_type spot name designated (Some aspect)) t place full = refl
 aspect_place (record_type spot name definition) t place full = refl
-aspect_place (derived_type spot name parent definition) t place full = refl
+aspect_place (derived_type spot name parent definition) t place full = limited_place (is_limited_parent (Some (library_name parent.first.text parent.rest))) t place
 aspect_place d t place full = absurd full
 
 -- what a declaration completes had no pool
@@ -679,18 +725,38 @@ had_none k text (Some t) s slot u is =
     let same : t ≡ u = cc is in
     (record_of text [] [] None, subst (λ (v : TypeNo). slice_get k.types v.0 ≡ Some (record_of text [] [] None)) same (s.names.0 text (entity.Incomplete t) slot), refl)
 
-agrees_type : (k : Known) (place : Place) (name : Ident) (c : Option TypeNo) (d : DeclarationTree) (form : TypeForm) (e : Entity) (final : Option Finalized) → IsFullType d → bound_to e ≡ Some (a_type (number_of c k.types).0) → ((u : ℕ) → is_one_of u (names_pool d (number_of c k.types).0 place.placed) ≡ is_some (pool_of (defined c form k.types) u)) → Agrees k place → Agrees (defining k name c form e (counted final k.controlled)) (type_place c name d final place)
-agrees_type k place name (Some t) d form e final full own h w =
-    let counts = agrees_complete k final place w in
-    subst (λ (q : Place). Agrees (defining k name (Some t) form e (counted final k.controlled)) (with_binding name (a_type t.0) (with_complete final q))) (sym (aspect_place d t.0 place full))
-    (agrees_declared (record k { controlled = counted final k.controlled }) (with_complete final place) name e (a_type t.0) (slice_set k.types t.0 form) k.variables k.exceptions k.frozen k.here.elaborated place.types place.variables place.exceptions
-    (names_pool d t.0 place.placed) own (w.types ∙ sym (length-set k.types t.0 form)) w.variables w.exceptions h counts)
-agrees_type k place name None d form e final full own h w =
-    let counts = agrees_complete k final place w in
-    subst (λ (q : Place). Agrees (defining k name None form e (counted final k.controlled)) (with_new_type name (with_complete final q))) (sym (aspect_place d place.types place full))
-    (agrees_declared (record k { controlled = counted final k.controlled }) (with_complete final place) name e (a_type place.types) (k.types ++ form ∷ []) k.variables k.exceptions k.frozen k.here.elaborated (place.types + 1) place.variables place.exceptions
+-- and overrode nothing
+inherited_none : (k : Known) (text : List ℕ) (c : Option TypeNo) → Sound k → IsSlot k text c → (u : TypeNo) → c ≡ Some u → (x : TypeForm) × (slice_get k.types u.0 ≡ Some x) × Inherits x
+inherited_none k text None s slot u is = absurd (cc is)
+inherited_none k text (Some t) s slot u is =
+    let same : t ≡ u = cc is in
+    (record_of text [] [] None, subst (λ (v : TypeNo). slice_get k.types v.0 ≡ Some (record_of text [] [] None)) same (s.names.0 text (entity.Incomplete t) slot), refl)
+
+agrees_type : (k : Known) (place : Place) (name : Ident) (c : Option TypeNo) (d : DeclarationTree) (form : TypeForm) (e : Entity) (final : Option Finalized) (ls : List ℕ) → IsFullType d → bound_to e ≡ Some (a_type (number_of c k.types).0) → ((u : ℕ) → is_one_of u (names_pool d (number_of c k.types).0 place.placed) ≡ is_some (pool_of (defined c form k.types) u)) → ((u : ℕ) → is_one_of u (limited_by d (number_of c k.types).0 place.limited) ≡ is_among u ls) → ((o : Operation) (u : ℕ) → overrider o (defined c form k.types) u ≡ overrider o k.types u) → Agrees k place → Agrees (defining k name c form e (counted final k.controlled) ls) (type_place c name d final place)
+agrees_type k place name (Some t) d form e final ls full own h limits more w =
+    let ts = limited_by d t.0 place.limited in
+    let counts = agrees_complete k final ls ts place limits w in
+    subst (λ (q : Place). Agrees (defining k name (Some t) form e (counted final k.controlled) ls) (with_binding name (a_type t.0) (with_complete final q))) (sym (aspect_place d t.0 place full))
+    (agrees_declared (record k { controlled = counted final k.controlled; limited = ls }) (with_complete final (record place { limited = ts })) name e (a_type t.0) (slice_set k.types t.0 form) k.variables k.exceptions k.frozen k.here.elaborated place.types place.variables place.exceptions
+    (names_pool d t.0 place.placed) own (w.types ∙ sym (length-set k.types t.0 form)) w.variables w.exceptions h more counts)
+agrees_type k place name None d form e final ls full own h limits more w =
+    let ts = limited_by d place.types place.limited in
+    let counts = agrees_complete k final ls ts place (λ u. ap (λ (n : ℕ). is_one_of u (limited_by d n place.limited)) w.types ∙ limits u) w in
+    subst (λ (q : Place). Agrees (defining k name None form e (counted final k.controlled) ls) (with_new_type name (with_complete final q))) (sym (aspect_place d place.types place full))
+    (agrees_declared (record k { controlled = counted final k.controlled; limited = ls }) (with_complete final (record place { limited = ts })) name e (a_type place.types) (k.types ++ form ∷ []) k.variables k.exceptions k.frozen k.here.elaborated (place.types + 1) place.variables place.exceptions
     (names_pool d place.types place.placed) (own ∙ ap (λ (n : ℕ). Some (a_type n)) (sym w.types)) (one_longer k.types form place.types w.types) w.variables w.exceptions
-    (λ u. ap (λ (n : ℕ). is_one_of u (names_pool d n place.placed)) w.types ∙ h u) counts)
+    (λ u. ap (λ (n : ℕ). is_one_of u (names_pool d n place.placed)) w.types ∙ h u) more counts)
+
+-- what is specified stays behind a type
+type_early : (k m : Known) (place : Place) (name : Ident) (c : Option TypeNo) (d : DeclarationTree) (final : Option Finalized) → IsFullType d → m.here.specified ≡ k.here.specified → Early k place → Early m (type_place c name d final place)
+type_early k m place name (Some t) d final full known early =
+    let next = record place { placed = names_pool d t.0 place.placed; limited = limited_by d t.0 place.limited } in
+    subst (λ (q : Place). Early m (with_binding name (a_type t.0) (with_complete final q))) (sym (aspect_place d t.0 place full))
+    (early_on k m place (with_binding name (a_type t.0) (with_complete final next)) refl refl refl (omega arith) known early)
+type_early k m place name None d final full known early =
+    let next = record place { placed = names_pool d place.types place.placed; limited = limited_by d place.types place.limited } in
+    subst (λ (q : Place). Early m (with_new_type name (with_complete final q))) (sym (aspect_place d place.types place full))
+    (early_on k m place (with_new_type name (with_complete final next)) refl refl refl (omega arith) known early)
 
 -- a full type declaration completes a type, or declares the next
 type_first : (k : Known) (p : Context) (name : Ident) (c : Option TypeNo) (d : DeclarationTree) (spot : Spot) (final : Option Finalized) → Agrees k p.place → IsSlot k name.text c → Quiet (new_unless c (new_name_remark k name spot)) → IsTypeRead p d (number_of c k.types).0 → well.finalization_of p.types (number_of c k.types).0 ≡ final → IsTypeDeclared p d name (type_place c name d final p.place)
@@ -752,7 +818,7 @@ aspect_agrees k p name (Some aspect) c r s slot w q u =
 -- what an access type leaves
 record AccessDone (k m : Known) (p : Context) (name designated : Ident) (aspect : Option AspectTree) : Type 0 where
   r : TypeNo
-  is : m ≡ defining k name (completed_type k name) (access_to name.text r.0 (pool_number (aspect_found k aspect))) (entity.Access (number_of (completed_type k name) k.types)) k.controlled
+  is : m ≡ defining k name (completed_type k name) (access_to name.text r.0 (pool_number (aspect_found k aspect))) (entity.Access (number_of (completed_type k name) k.types)) k.controlled k.limited
   found : FoundRecord k p designated (Some r)
 
 access_done : (k m : Known) (p : Context) (name designated : Ident) (aspect : Option AspectTree) (o : Option TypeNo) → FoundRecord k p designated o → m ≡ access_defined k name (completed_type k name) o (aspect_found k aspect) → AccessDone k m p name designated aspect
@@ -770,7 +836,7 @@ aspect_read k m p (Some aspect) t name d pool w q lasts there last =
     let own : pool ≡ Some done.read.pool.0 = sym (ap (λ (o : Option TypeForm). pool_by o) last) ∙ has in
     (done.read.pool.0, own, text_same aspect.name.text (codes "STORAGE_POOL") done.on, done.read.named_so)
 
-access_type_read : (k m : Known) (p : Context) (spot : Spot) (name designated : Ident) (aspect : Option AspectTree) → Legible k p → Lasts m p → IsSlot k name.text (completed_type k name) → list_all (type_stands p.types) p.types ≡ true → Quiet (aspect_remark k aspect) → AccessDone k m p name designated aspect → IsTypeRead p (access_type spot name designated aspect) (number_of (completed_type k name) k.types).0
+access_type_read : (k m : Known) (p : Context) (spot : Spot) (name designated : Ident) (aspect : Option AspectTree) → Legible k p → Lasts m p → IsSlot k name.text (completed_type k name) → list_all (well.type_fits p.types) p.types ≡ true → Quiet (aspect_remark k aspect) → AccessDone k m p name designated aspect → IsTypeRead p (access_type spot name designated aspect) (number_of (completed_type k name) k.types).0
 access_type_read k m p spot name designated aspect w lasts slot fit q r =
     let c = completed_type k name in
     let t = (number_of c k.types).0 in
@@ -784,9 +850,13 @@ access_type_read k m p spot name designated aspect w lasts slot fit q r =
       aspect_read k m p aspect t name.text r.r.0 last.0 w.agrees q lasts there last.1,
     )
 
+-- a record type that is made of this is there, whatever it overrides
+abbrev MadeThere : Context → ℕ → Ident → Composition → Option Finalized → Type 0
+MadeThere p t name made final = (z : Option Finalized) × (slice_get p.types t ≡ Some (record_of name.text made.parts made.kinds z)) × (bare_final z ≡ bare_final final)
+
 -- a record type that is made of these components, with a parent part or without one
-made_there : (k m : Known) (p : Context) (name : Ident) (before : Composition) (cs : List ComponentTree) → Legible k p → Sound m → Lasts m p → IsSlot k name.text (completed_type k name) → m ≡ with_record k name (composed k before cs) → slice_get p.types (number_of (completed_type k name) k.types).0 ≡ Some (type_made k.controlled name (composed k before cs))
-made_there k m p name before cs w sound lasts slot is =
+made_there : (k m : Known) (p : Context) (name : Ident) (before : Composition) (cs : List ComponentTree) (ls : List ℕ) → Legible k p → Sound m → Lasts m p → IsSlot k name.text (completed_type k name) → m ≡ record (with_record k name (composed k before cs)) { limited = ls } → MadeThere p (number_of (completed_type k name) k.types).0 name (composed k before cs) (finalization_made k.controlled (composed k before cs))
+made_there k m p name before cs ls w sound lasts slot is =
     let c = completed_type k name in
     let made = composed k before cs in
     let n = number_of c k.types in
@@ -796,22 +866,23 @@ made_there k m p name before cs w sound lasts slot is =
     let on : bytes_eq name.text name.text ≡ true = same_text name.text name.text refl in
     let mine : named name.text m.here.names ≡ Some e =
     ap (λ (v : Known). named name.text v.here.names) is ∙ (named_entered k.here.names name.text name.text e ∙ ap (λ (b : Bool). cond b (Some e) (named name.text k.here.names)) on) in
-    record_there p.types n.0 name.text made.parts made.kinds (finalization_made k.controlled made) (lasts.settled n.0 form (get_form m.types n.0 form there) (record_settled m name.text n made.size sound mine))
+    record_there p.types n.0 name.text made.parts made.kinds (bare_final (finalization_made k.controlled made)) (lasts.settled n.0 (bare form) (get_form m.types n.0 form there) (record_settled m name.text n made.size sound mine))
 
 -- `type T is record .. end record;`
 record_type_read : (k m : Known) (p : Context) (spot : Spot) (name : Ident) (definition : RecordTree) → Legible k p → Sound m → Lasts m p → IsSlot k name.text (completed_type k name) → m ≡ record_type_known k name definition → Quiet (record_type_remark k spot name definition) → IsTypeRead p (record_type spot name definition) (number_of (completed_type k name) k.types).0
 record_type_read k m p spot name definition w sound lasts slot is q =
     let cs = components_written definition in
     let made = composed k no_components cs in
+    let there = made_there k m p name no_components cs k.limited w sound lasts slot is in
     let whole = composed_parts k no_components cs in (
       made.parts,
       made.kinds,
-      finalization_made k.controlled made,
-      made_there k m p name no_components cs w sound lasts slot is,
+      there.0,
+      there.1,
       subst (λ (ps : List PartForm). AreComponentsRead p cs ps) whole (components_read k p no_components cs w q.1.1),
       subst (λ (ps : List PartForm). AreNamedApart ps) whole (all_apart k no_components cs q.1.1),
       all_laid k p no_components cs by_none w,
-      all_finalized k p false no_components cs by_none refl w,
+      finalized_alike p.types p.place.controlled false made.parts there.0 (finalization_made k.controlled made) there.2 (all_finalized k p false no_components cs by_none refl w),
     )
 
 -- `type T is new Ada.Finalization.Controlled with record .. end record;`
@@ -831,12 +902,14 @@ derived_type_read k m p spot name parent definition w sound lasts slot is q =
     let made = composed k before cs in
     let parts = further_parts k before cs in
     let t = (number_of (completed_type k name) k.types).0 in
-    let final = finalization_made k.controlled made in
+    let there = made_there k m p name before cs (limited_with limited (number_of (completed_type k name) k.types) k.limited) w sound lasts slot is in
+    let final = there.0 in
     let of : IsMadeOf p t name.text limited (parent_part ∷ parts) made.kinds final =
     subst (λ (ps : List PartForm). IsMadeOf p t name.text limited ps made.kinds final) (sym (composed_parts k before cs)) (
-      made_there k m p name before cs w sound lasts slot is,
+      there.1,
       all_laid k p before cs (by_parent limited) w,
-      all_finalized k p limited before cs (by_parent limited) (parent_limits limited) w,
+      finalized_alike p.types p.place.controlled limited made.parts final (finalization_made k.controlled made) there.2
+          (all_finalized k p limited before cs (by_parent limited) (parent_limits limited) w),
     ) in (
       limited,
       parts,
@@ -881,7 +954,7 @@ instance_first k m z p spot name generic object access ds r new own on = record 
   agrees = on.agrees;
 }
 
-instance_read : (k : Known) (p : Context) (generic : NameTree) (object access : Ident) (t : TypeNo) → Legible k p → list_all (type_stands p.types) p.types ≡ true → Quiet (generic_remark k generic) → FoundAccess k p access object (Some t) → IsInstanceRead p generic object access t.0
+instance_read : (k : Known) (p : Context) (generic : NameTree) (object access : Ident) (t : TypeNo) → Legible k p → list_all (well.type_fits p.types) p.types ≡ true → Quiet (generic_remark k generic) → FoundAccess k p access object (Some t) → IsInstanceRead p generic object access t.0
 instance_read k p generic object access t w fit q (named_so, d, pool, there, form, typed) =
     let last = access_there p.types t.0 access.text d (w.lasts.accesses t.0 access.text d (get_form k.types t.0 (access_to access.text d pool) there)) in
     (generic_read k generic q, (named_so, d, last.0, last.1, designated_read p access.text object.text t.0 d last.0 fit last.1 (w.lasts.type_names d object.text form) typed))
@@ -943,6 +1016,9 @@ pool_agrees k place name size w = record {
   exceptions = w.exceptions;
   texts = w.texts;
   controlled = w.controlled;
+  limited = w.limited;
+  specified = w.specified;
+  overridden = w.overridden;
 }
 
 collected_pool : (es : List DeclarationForm) (n u : ℕ) → is_collected u (es ++ creates_pool n ∷ []) ≡ is_collected u es
@@ -974,6 +1050,7 @@ record ClauseDone (k m : Known) (p : Context) (name attribute : Ident) (value : 
   t : ℕ
   agrees : Agrees m (with_placed t p.place)
   elaborated : m.here.elaborated ≡ k.here.elaborated
+  specified : m.here.specified ≡ k.here.specified
   going : types_go_on m ≡ types_go_on k
   read : Lasts m p → IsClauseRead p name attribute value t
 
@@ -990,6 +1067,9 @@ placed_agrees k place t pool is none w = record {
   exceptions = w.exceptions;
   texts = w.texts;
   controlled = w.controlled;
+  limited = w.limited;
+  specified = w.specified;
+  overridden = λ o u. overrider_placed pool.0 k.types t.0 o u ∙ w.overridden o u;
 }
 
 clause_named : (k m : Known) (p : Context) (spot : Spot) (name attribute pool_name : Ident) (t : TypeNo) → Sound k → Agrees k p.place → is_storage_pool attribute ≡ true → EntityFits k.types k.variables name.text (entity.Access t) → EntityRead p name.text (entity.Access t) → Quiet (clause_place_remark k (Some t) spot) → PoolRead k p pool_name → m ≡ placed_if (Some t) (pool_found k pool_name) k → ClauseDone k m p name attribute (named_size pool_name)
@@ -1003,6 +1083,7 @@ clause_named k m p spot name attribute pool_name t s w on f r q pool is =
       t = t.0;
       agrees = subst (λ (v : Known). Agrees v (with_placed t.0 p.place)) (sym so) (placed_agrees k p.place t n there none w);
       elaborated = ap (λ (v : Known). v.here.elaborated) so;
+      specified = ap (λ (v : Known). v.here.specified) so;
       going = ap (λ (v : Known). types_go_on v) so;
       read = λ lasts.
           let form : slice_get (forms m.types) t.0 ≡ Some (access_to name.text f.0 None) =
@@ -1034,37 +1115,71 @@ clause_done k m p spot name attribute value s w q is =
 -- how the declarations behind one are read
 abbrev pub ReadsRest : DeclarationsTree → At → Type 0
 ReadsRest ds after =
-    (q : Context) (next : At) → Sound next.0 → Agrees next.0 q.place → types_go_on next.0 ≡ true → Ahead after.0 q → list_all (type_stands q.types) q.types ≡ true →
+    (q : Context) (next : At) → Sound next.0 → Agrees next.0 q.place → Early next.0 q.place → types_go_on next.0 ≡ true → Ahead after.0 q → list_all (well.type_fits q.types) q.types ≡ true →
     declarations_told ds next ≡ gives after → PartRead q ds next.0 after.0
 
+counted_bare : (n : ℕ) (o : Option Finalized) → counted (bare_final o) n ≡ counted o n
+counted_bare n None = refl
+counted_bare n (Some f) = refl
+
+-- a record type that is made overrides nothing yet
+made_inherits : (n : ℕ) (name : Ident) (made : Composition) → Inherits (type_made n name made)
+made_inherits n name made = by_count (eqb made.controlled 0)
+  where
+    by_count : (b : Bool) → operations_in (cond b None (Some (record { number = record { 0 = n }; parts = made.controlled; limited = made.limited; operations = no_operations }))) ≡ no_operations
+    by_count true = refl
+    by_count false = refl
+
+-- the parent that is written makes a type limited
+limited_as_read : (parent : NameTree) (b : Bool) → IsParentRead parent b → is_limited_parent (Some (library_name parent.first.text parent.rest)) ≡ b
+limited_as_read parent true e = ap (λ (n : LibraryName). is_limited_parent (Some n)) e
+limited_as_read parent false e = ap (λ (n : LibraryName). is_limited_parent (Some n)) e
+
+limits_now : (b : Bool) (t : TypeNo) (ts ls : List ℕ) → ((u : ℕ) → is_one_of u ts ≡ is_among u ls) → (u : ℕ) → is_one_of u (cond b (t.0 ∷ ts) ts) ≡ is_among u (limited_with b t ls)
+limits_now true t ts ls w u = ap (λ (b : Bool). eqb t.0 u || b) (w u) ∙ sym (limited_now ls t.0 u)
+limits_now false t ts ls w u = w u
+
+parent_limits_now : (k : Known) (p : Context) (spot : Spot) (name : Ident) (parent : NameTree) (definition : RecordTree) (t : TypeNo) → Agrees k p.place → Quiet (parent_remark k parent) → (u : ℕ) → is_one_of u (limited_by (derived_type spot name parent definition) t.0 p.place.limited) ≡ is_among u (limited_with (limited_parent k parent) t k.limited)
+parent_limits_now k p spot name parent definition t w q u =
+    ap (λ (b : Bool). is_one_of u (cond b (t.0 ∷ p.place.limited) p.place.limited)) (limited_as_read parent (limited_parent k parent) (parent_read k parent q)) ∙
+    limits_now (limited_parent k parent) t p.place.limited k.limited w.limited u
+
 -- a record type, and what follows it
-record_first : (p : Context) (d : DeclarationTree) (ds : DeclarationsTree) (at after : At) (name : Ident) (spot : Spot) (made : Composition) → IsFullType d → ((t : ℕ) (ps : List ℕ) → names_pool d t ps ≡ ps) → Sound at.0 → Agrees at.0 p.place → types_go_on at.0 ≡ true → Ahead after.0 p → list_all (type_stands p.types) p.types ≡ true → (next : Next d ds at after) → next.then.0 ≡ with_record at.0 name made → Quiet (new_unless (completed_type at.0 name) (new_name_remark at.0 name spot)) → IsSlot at.0 name.text (completed_type at.0 name) → IsTypeRead p d (number_of (completed_type at.0 name) at.0.types).0 → slice_get p.types (number_of (completed_type at.0 name) at.0.types).0 ≡ Some (type_made at.0.controlled name made) → ((collected : List ℕ) (place : Place) → IsTypeDeclared p d name place → (forms : List DeclarationForm) (end : Place) → IsPartRead (read_at place p) (Some collected) ds forms end → IsPartRead p (Some collected) (a_declaration d ds) forms end) → ReadsRest ds after → PartRead p (a_declaration d ds) at.0 after.0
-record_first p d ds at after name spot made full unplaced s w none ahead fit next is q slot own there more rest =
+record_first : (p : Context) (d : DeclarationTree) (ds : DeclarationsTree) (at after : At) (name : Ident) (spot : Spot) (made : Composition) (ls : List ℕ) → IsFullType d → ((t : ℕ) (ps : List ℕ) → names_pool d t ps ≡ ps) → ((u : ℕ) → is_one_of u (limited_by d (number_of (completed_type at.0 name) at.0.types).0 p.place.limited) ≡ is_among u ls) → Sound at.0 → Agrees at.0 p.place → Early at.0 p.place → types_go_on at.0 ≡ true → Ahead after.0 p → list_all (well.type_fits p.types) p.types ≡ true → (next : Next d ds at after) → next.then.0 ≡ record (with_record at.0 name made) { limited = ls } → Quiet (new_unless (completed_type at.0 name) (new_name_remark at.0 name spot)) → IsSlot at.0 name.text (completed_type at.0 name) → IsTypeRead p d (number_of (completed_type at.0 name) at.0.types).0 → MadeThere p (number_of (completed_type at.0 name) at.0.types).0 name made (finalization_made at.0.controlled made) → ((collected : List ℕ) (place : Place) → IsTypeDeclared p d name place → (forms : List DeclarationForm) (end : Place) → IsPartRead (read_at place p) (Some collected) ds forms end → IsPartRead p (Some collected) (a_declaration d ds) forms end) → ReadsRest ds after → PartRead p (a_declaration d ds) at.0 after.0
+record_first p d ds at after name spot made ls full unplaced limits s w early none ahead fit next is q slot own there more rest =
     let k = at.0 in
     let completes = completed_type k name in
-    let final = finalization_made k.controlled made in
+    let final = there.0 in
     let place = type_place completes name d final p.place in
     let form = type_made k.controlled name made in
-    let agrees : Agrees next.then.0 place = subst (λ u. Agrees u place) (sym is)
-    (agrees_type k p.place name completes d form (entity.Record (number_of completes k.types) made.size) final full refl
-    (λ u. ap (λ (ps : List ℕ). is_one_of u ps) (unplaced (number_of completes k.types).0 p.place.placed) ∙ (w.placed u ∙ sym (none_defined k.types completes form u (had_none k name.text completes s slot) refl))) w) in
-    let on = rest (read_at place p) next.then next.sound agrees (ap (λ (v : Known). types_go_on v) is ∙ none) (ahead_at after.0 p place ahead) fit next.rest in
+    let counts : counted final k.controlled ≡ counted (finalization_made k.controlled made) k.controlled =
+    same_final (λ o. counted o k.controlled) (counted_bare k.controlled) final (finalization_made k.controlled made) there.2 in
+    let agrees : Agrees next.then.0 place = subst (λ u. Agrees u place) (sym (is ∙ ap (λ (n : ℕ). defining k name completes form (entity.Record (number_of completes k.types) made.size) n ls) (sym counts)))
+    (agrees_type k p.place name completes d form (entity.Record (number_of completes k.types) made.size) final ls full refl
+    (λ u. ap (λ (ps : List ℕ). is_one_of u ps) (unplaced (number_of completes k.types).0 p.place.placed) ∙ (w.placed u ∙ sym (none_defined k.types completes form u (had_none k name.text completes s slot) refl)))
+    limits (overrider_defined k.types completes form (inherited_none k name.text completes s slot) (made_inherits k.controlled name made)) w) in
+    let on = rest (read_at place p) next.then next.sound agrees (type_early k next.then.0 p.place name completes d final full (ap (λ (v : Known). v.here.specified) is) early) (ap (λ (v : Known). types_go_on v) is ∙ none) (ahead_at after.0 p place ahead) fit next.rest in
     plain_first k next.then.0 after.0 p (read_at place p) d ds (ap (λ (v : Known). v.here.elaborated) is) on
-    (λ collected m. more collected place (type_first k p name completes d spot final w slot q own (ap (λ (o : Option TypeForm). well.finalization_in o) there)) on.forms on.end m)
+    (λ collected m. more collected place (type_first k p name completes d spot final w slot q own (ap (λ (o : Option TypeForm). well.finalization_in o) there.1)) on.forms on.end m)
+
+-- a record type that a name stands for lasts
+records_last : (k : Known) (p : Context) → Legible k p → RecordsStay k p
+records_last k p w text t size is ps cs final there =
+    let last = record_lasts k p w.lasts t.0 text ps cs final there (visible_settled k text t size w.sound is) in (last.0, last.1)
 
 -- a declaration with no others in it, where the types go on
-pub part_first : (p : Context) (d : DeclarationTree) (ds : DeclarationsTree) (at after : At) → IsSingle d → Sound at.0 → Agrees at.0 p.place → types_go_on at.0 ≡ true → Complete after.0 → Ahead after.0 p → list_all (type_stands p.types) p.types ≡ true → declarations_told (a_declaration d ds) at ≡ gives after → ReadsRest ds after → PartRead p (a_declaration d ds) at.0 after.0
-part_first p (body_declaration head inner body end_name) ds at after single s w none c ahead fit e rest = absurd single
-part_first p (incomplete_type spot name) ds at after single s w none c ahead fit e rest =
+pub part_first : (p : Context) (d : DeclarationTree) (ds : DeclarationsTree) (at after : At) → IsSingle d → Sound at.0 → Agrees at.0 p.place → Early at.0 p.place → types_go_on at.0 ≡ true → Over after.0 → Ahead after.0 p → list_all (well.type_fits p.types) p.types ≡ true → declarations_told (a_declaration d ds) at ≡ gives after → ReadsRest ds after → PartRead p (a_declaration d ds) at.0 after.0
+part_first p (body_declaration head inner body end_name) ds at after single s w early none c ahead fit e rest = absurd single
+part_first p (incomplete_type spot name) ds at after single s w early none c ahead fit e rest =
     let next = next_of (incomplete_type spot name) ds at after tt s e in
     let place = with_incomplete_type name p.place in
     let form = record_of name.text [] [] None in
     let agrees : Agrees next.then.0 place = subst (λ u. Agrees u place) (sym next.is)
     (agrees_declared at.0 p.place name (entity.Incomplete (record { 0 = length at.0.types })) (an_incomplete_type p.place.types) (at.0.types ++ form ∷ []) at.0.variables at.0.exceptions at.0.frozen at.0.here.elaborated
-    (p.place.types + 1) p.place.variables p.place.exceptions p.place.placed (ap (λ (n : ℕ). Some (an_incomplete_type n)) (sym w.types)) (one_longer at.0.types form p.place.types w.types) w.variables w.exceptions (λ u. w.placed u ∙ sym (none_more at.0.types form u refl)) w) in
-    let on = rest (read_at place p) next.then next.sound agrees (ap (λ (v : Known). types_go_on v) next.is ∙ none) (ahead_at after.0 p place ahead) fit next.rest in
+    (p.place.types + 1) p.place.variables p.place.exceptions p.place.placed (ap (λ (n : ℕ). Some (an_incomplete_type n)) (sym w.types)) (one_longer at.0.types form p.place.types w.types) w.variables w.exceptions (λ u. w.placed u ∙ sym (none_more at.0.types form u refl)) (overrider_more at.0.types form refl) w) in
+    let on = rest (read_at place p) next.then next.sound agrees (early_on at.0 next.then.0 p.place place refl refl refl (omega arith) (ap (λ (v : Known). v.here.specified) next.is) early) (ap (λ (v : Known). types_go_on v) next.is ∙ none) (ahead_at after.0 p place ahead) fit next.rest in
     plain_first at.0 next.then.0 after.0 p (read_at place p) (incomplete_type spot name) ds (ap (λ (v : Known). v.here.elaborated) next.is) on (λ made r. (new_there at.0 p.place name spot w next.quiet.1, r))
-part_first p (access_type spot name designated aspect) ds at after single s w none c ahead fit e rest =
+part_first p (access_type spot name designated aspect) ds at after single s w early none c ahead fit e rest =
     let d = access_type spot name designated aspect in
     let next = next_of d ds at after tt s e in
     let k = at.0 in
@@ -1074,80 +1189,82 @@ part_first p (access_type spot name designated aspect) ds at after single s w no
     let slot = slot_of k name spot q.1.1.0 in
     let place = type_place completes name d None p.place in
     let agrees : Agrees next.then.0 place = subst (λ u. Agrees u place) (sym r.is)
-    (agrees_type k p.place name completes d (access_to name.text r.r.0 (pool_number (aspect_found k aspect))) (entity.Access (number_of completes k.types)) None tt refl
-    (aspect_agrees k p name aspect completes r.r s slot w q.1.1.1.1) w) in
-    let on = rest (read_at place p) next.then next.sound agrees (ap (λ (v : Known). types_go_on v) r.is ∙ none) (ahead_at after.0 p place ahead) fit next.rest in
+    (agrees_type k p.place name completes d (access_to name.text r.r.0 (pool_number (aspect_found k aspect))) (entity.Access (number_of completes k.types)) None k.limited tt refl
+    (aspect_agrees k p name aspect completes r.r s slot w q.1.1.1.1) w.limited
+    (overrider_defined k.types completes (access_to name.text r.r.0 (pool_number (aspect_found k aspect))) (inherited_none k name.text completes s slot) refl) w) in
+    let on = rest (read_at place p) next.then next.sound agrees (type_early k next.then.0 p.place name completes d None tt (ap (λ (v : Known). v.here.specified) r.is) early) (ap (λ (v : Known). types_go_on v) r.is ∙ none) (ahead_at after.0 p place ahead) fit next.rest in
     let legible = legible_at k after.0 p s w (declarations_keep (a_declaration d ds) at after s e) ahead in
     let lasts = lasts_on next.then.0 after.0 p next.sound next.to_end (lasts_ahead after.0 p ahead) in
     let own = access_type_read k next.then.0 p spot name designated aspect legible lasts slot fit q.1.1.1.1 r in
     plain_first k next.then.0 after.0 p (read_at place p) d ds (ap (λ (v : Known). v.here.elaborated) r.is) on
     (λ made m. (place, type_first k p name completes d spot None w slot q.1.1.0 own (ap (λ (o : Option TypeForm). well.finalization_in o) own.2), m))
-part_first p (record_type spot name definition) ds at after single s w none c ahead fit e rest =
+part_first p (record_type spot name definition) ds at after single s w early none c ahead fit e rest =
     let d = record_type spot name definition in
     let next = next_of d ds at after tt s e in
     let k = at.0 in
     let slot = slot_of k name spot next.quiet.1.0 in
     let legible = legible_at k after.0 p s w (declarations_keep (a_declaration d ds) at after s e) ahead in
     let lasts = lasts_on next.then.0 after.0 p next.sound next.to_end (lasts_ahead after.0 p ahead) in
-    record_first p d ds at after name spot (composed k no_components (components_written definition)) tt (λ t ps. refl) s w none ahead fit next next.is next.quiet.1.0 slot
+    record_first p d ds at after name spot (composed k no_components (components_written definition)) k.limited tt (λ t ps. refl) w.limited s w early none ahead fit next next.is next.quiet.1.0 slot
     (record_type_read k next.then.0 p spot name definition legible next.sound lasts slot next.is next.quiet)
-    (made_there k next.then.0 p name no_components (components_written definition) legible next.sound lasts slot next.is) (λ made place more forms end m. (place, more, m)) rest
-part_first p (derived_type spot name parent definition) ds at after single s w none c ahead fit e rest =
+    (made_there k next.then.0 p name no_components (components_written definition) k.limited legible next.sound lasts slot next.is) (λ made place more forms end m. (place, more, m)) rest
+part_first p (derived_type spot name parent definition) ds at after single s w early none c ahead fit e rest =
     let d = derived_type spot name parent definition in
     let next = next_of d ds at after tt s e in
     let k = at.0 in
     let slot = slot_of k name spot next.quiet.1.0 in
     let legible = legible_at k after.0 p s w (declarations_keep (a_declaration d ds) at after s e) ahead in
     let lasts = lasts_on next.then.0 after.0 p next.sound next.to_end (lasts_ahead after.0 p ahead) in
-    record_first p d ds at after name spot (composed k (with_parent (limited_parent k parent)) (components_written definition)) tt (λ t ps. refl) s w none ahead fit next next.is next.quiet.1.0 slot
+    record_first p d ds at after name spot (composed k (with_parent (limited_parent k parent)) (components_written definition)) (limited_with (limited_parent k parent) (number_of (completed_type k name) k.types) k.limited) tt (λ t ps. refl)
+    (parent_limits_now k p spot name parent definition (number_of (completed_type k name) k.types) w next.quiet.1.1.0) s w early none ahead fit next next.is next.quiet.1.0 slot
     (derived_type_read k next.then.0 p spot name parent definition legible next.sound lasts slot next.is next.quiet)
-    (made_there k next.then.0 p name (with_parent (limited_parent k parent)) (components_written definition) legible next.sound lasts slot next.is) (λ made place more forms end m. (place, more, m)) rest
-part_first p (constant_declaration name value) ds at after single s w none c ahead fit e rest =
+    (made_there k next.then.0 p name (with_parent (limited_parent k parent)) (components_written definition) (limited_with (limited_parent k parent) (number_of (completed_type k name) k.types) k.limited) legible next.sound lasts slot next.is) (λ made place more forms end m. (place, more, m)) rest
+part_first p (constant_declaration name value) ds at after single s w early none c ahead fit e rest =
     let next = next_of (constant_declaration name value) ds at after tt s e in
     let n = static_value at.0 value in
     let place = with_binding name (a_number n) p.place in
     let agrees : Agrees next.then.0 place = subst (λ u. Agrees u place) (sym next.is)
-    (agrees_declared at.0 p.place name (entity.Number n) (a_number n) at.0.types at.0.variables at.0.exceptions at.0.frozen at.0.here.elaborated p.place.types p.place.variables p.place.exceptions p.place.placed refl w.types w.variables w.exceptions w.placed w) in
-    let on = rest (read_at place p) next.then next.sound agrees (ap (λ (v : Known). types_go_on v) next.is ∙ none) (ahead_at after.0 p place ahead) fit next.rest in
+    (agrees_declared at.0 p.place name (entity.Number n) (a_number n) at.0.types at.0.variables at.0.exceptions at.0.frozen at.0.here.elaborated p.place.types p.place.variables p.place.exceptions p.place.placed refl w.types w.variables w.exceptions w.placed (λ o u. refl) w) in
+    let on = rest (read_at place p) next.then next.sound agrees (early_on at.0 next.then.0 p.place place refl refl refl (omega arith) (ap (λ (v : Known). v.here.specified) next.is) early) (ap (λ (v : Known). types_go_on v) next.is ∙ none) (ahead_at after.0 p place ahead) fit next.rest in
     let own = static_read at.0 p value w next.quiet.1.1 in
     plain_first at.0 next.then.0 after.0 p (read_at place p) (constant_declaration name value) ds (ap (λ (v : Known). v.here.elaborated) next.is) on (λ made r. (n, new_there at.0 p.place name name.spot w next.quiet.1.0, own, r))
-part_first p (exception_declaration name) ds at after single s w none c ahead fit e rest =
+part_first p (exception_declaration name) ds at after single s w early none c ahead fit e rest =
     let next = next_of (exception_declaration name) ds at after tt s e in
     let k = at.0 in
     let place = with_new_exception name p.place in
     let agrees : Agrees next.then.0 place = subst (λ u. Agrees u place) (sym next.is)
     (agrees_declared k p.place name (entity.Exception (exception.Declared (next_exception k))) (an_exception p.place.exceptions) k.types k.variables (k.exceptions ++ name.text ∷ []) k.frozen k.here.elaborated
-    p.place.types p.place.variables (p.place.exceptions + 1) p.place.placed (ap (λ (n : ℕ). Some (an_exception n)) (sym w.exceptions)) w.types w.variables (one_longer k.exceptions name.text p.place.exceptions w.exceptions) w.placed w) in
-    let on = rest (read_at place p) next.then next.sound agrees (ap (λ (v : Known). types_go_on v) next.is ∙ none) (ahead_at after.0 p place ahead) fit next.rest in
+    p.place.types p.place.variables (p.place.exceptions + 1) p.place.placed (ap (λ (n : ℕ). Some (an_exception n)) (sym w.exceptions)) w.types w.variables (one_longer k.exceptions name.text p.place.exceptions w.exceptions) w.placed (λ o u. refl) w) in
+    let on = rest (read_at place p) next.then next.sound agrees (early_on at.0 next.then.0 p.place place refl refl refl (omega arith) (ap (λ (v : Known). v.here.specified) next.is) early) (ap (λ (v : Known). types_go_on v) next.is ∙ none) (ahead_at after.0 p place ahead) fit next.rest in
     let there : slice_get next.then.0.exceptions (length k.exceptions) ≡ Some name.text =
     ap (λ (v : Known). slice_get v.exceptions (length k.exceptions)) next.is ∙ get_last k.exceptions name.text in
     let last = ahead.exceptions (length k.exceptions) name.text (next.to_end.exceptions (length k.exceptions) name.text there) in
     let own : slice_get p.exceptions p.place.exceptions ≡ Some name.text = ap (λ (n : ℕ). slice_get p.exceptions n) w.exceptions ∙ last in
     plain_first k next.then.0 after.0 p (read_at place p) (exception_declaration name) ds (ap (λ (v : Known). v.here.elaborated) next.is) on (λ made r. (new_there k p.place name name.spot w next.quiet.1, own, r))
-part_first p (pool_declaration name type_name label size) ds at after single s w none c ahead fit e rest =
+part_first p (pool_declaration name type_name label size) ds at after single s w early none c ahead fit e rest =
     let d = pool_declaration name type_name label size in
     let next = next_of d ds at after tt s e in
     let k = at.0 in
     let q = next.quiet in
     let place = with_new_pool name p.place in
     let agrees : Agrees next.then.0 place = subst (λ u. Agrees u place) (sym next.is) (pool_agrees k p.place name size w) in
-    let on = rest (read_at place p) next.then next.sound agrees (ap (λ (v : Known). types_go_on v) next.is ∙ none) (ahead_at after.0 p place ahead) fit next.rest in
+    let on = rest (read_at place p) next.then next.sound agrees (early_on at.0 next.then.0 p.place place refl refl refl (omega arith) (ap (λ (v : Known). v.here.specified) next.is) early) (ap (λ (v : Known). types_go_on v) next.is ∙ none) (ahead_at after.0 p place ahead) fit next.rest in
     let pool : PoolForm = record { name = name.text; words = size_value k size } in
     let there : slice_get next.then.0.pools (length k.pools) ≡ Some pool = ap (λ (v : Known). slice_get v.pools (length k.pools)) next.is ∙ get_last k.pools pool in
     let last = ahead.pools (length k.pools) pool (next.to_end.pools (length k.pools) pool there) in
     let sized = size_read k p size w q.1.1.1.1 in
     pool_first k next.then.0 after.0 p name type_name label size ds w next.is (new_there k p.place name name.spot w q.1.0)
     (size_value k size, ap (λ (n : ℕ). slice_get p.pools n) w.pools ∙ last, pool_type_read k type_name q.1.1.0, label_read label q.1.1.1.0, sized.0, sized.1) on
-part_first p (attribute_clause spot name attribute value) ds at after single s w none c ahead fit e rest =
+part_first p (attribute_clause spot name attribute value) ds at after single s w early none c ahead fit e rest =
     let d = attribute_clause spot name attribute value in
     let next = next_of d ds at after tt s e in
     let k = at.0 in
     let r = clause_done k next.then.0 p spot name attribute value s w next.quiet next.is in
     let place = with_placed r.t p.place in
-    let on = rest (read_at place p) next.then next.sound r.agrees (r.going ∙ none) (ahead_at after.0 p place ahead) fit next.rest in
+    let on = rest (read_at place p) next.then next.sound r.agrees (early_on k next.then.0 p.place place refl refl refl (omega arith) r.specified early) (r.going ∙ none) (ahead_at after.0 p place ahead) fit next.rest in
     let lasts = lasts_on next.then.0 after.0 p next.sound next.to_end (lasts_ahead after.0 p ahead) in
     plain_first k next.then.0 after.0 p (read_at place p) d ds r.elaborated on (λ made m. (r.t, r.read lasts, m))
-part_first p (instance spot name generic object access) ds at after single s w none c ahead fit e rest =
+part_first p (instance spot name generic object access) ds at after single s w early none c ahead fit e rest =
     let d = instance spot name generic object access in
     let next = next_of d ds at after tt s e in
     let k = at.0 in
@@ -1156,74 +1273,91 @@ part_first p (instance spot name generic object access) ds at after single s w n
     let r = freed_at k next.then.0 p name object access (freed_found k access (record_found k object)) found next.is in
     let place = with_binding name (an_instance r.t.0) p.place in
     let agrees : Agrees next.then.0 place = subst (λ u. Agrees u place) (sym r.is)
-    (agrees_declared k p.place name (entity.Instance r.t) (an_instance r.t.0) k.types k.variables k.exceptions (frozen_by k.types r.t.0 k.frozen) (k.here.elaborated ++ collects r.t.0 ∷ []) p.place.types p.place.variables p.place.exceptions p.place.placed refl w.types w.variables w.exceptions w.placed w) in
-    let on = rest (read_at place p) next.then next.sound agrees (ap (λ (v : Known). types_go_on v) r.is ∙ none) (ahead_at after.0 p place ahead) fit next.rest in
+    (agrees_declared k p.place name (entity.Instance r.t) (an_instance r.t.0) k.types k.variables k.exceptions (frozen_by k.types k.controlled r.t.0 k.frozen) (k.here.elaborated ++ collects r.t.0 ∷ []) p.place.types p.place.variables p.place.exceptions p.place.placed refl w.types w.variables w.exceptions w.placed (λ o u. refl) w) in
+    let on = rest (read_at place p) next.then next.sound agrees (early_on k next.then.0 p.place place refl refl refl (omega arith) (ap (λ (v : Known). v.here.specified) r.is) early) (ap (λ (v : Known). types_go_on v) r.is ∙ none) (ahead_at after.0 p place ahead) fit next.rest in
     let legible = legible_at k after.0 p s w (declarations_keep (a_declaration d ds) at after s e) ahead in
     instance_first k next.then.0 after.0 p spot name generic object access ds r (new_there k p.place name spot w q.1.0) (instance_read k p generic object access r.t legible fit q.1.1.0 r.found) on
-part_first p (object_declaration name type_name initial) ds at after single s w none c ahead fit e rest =
+part_first p (object_declaration name type_name initial) ds at after single s w early none c ahead fit e rest =
     let d = object_declaration name type_name initial in
     let next = next_of d ds at after tt s e in
     let made = object_made name type_name initial (after_types at.0) next.then.0 next.quiet next.is in
     let place = made.place p.place in
-    let on = variable_read p d name ds at after s w c ahead e next made
-    (λ agrees filled. objects_read (read_at place p) ds next.then after next.sound agrees filled c (ahead_at after.0 p place ahead) next.rest) in
-    variables_left p d ds at after (object_ends p name type_name initial ds) s w none ahead e on
-part_first p (borrower_declaration name designated initial) ds at after single s w none c ahead fit e rest =
+    let on = variable_read p d name ds at after s w c.complete ahead e next made
+    (λ agrees filled. objects_read (read_at place p) ds next.then after next.sound agrees filled c.complete (ahead_at after.0 p place ahead) next.rest) in
+    variables_left p d ds at after (object_ends p name type_name initial ds) s w early.waits none c ahead e on
+part_first p (borrower_declaration name designated initial) ds at after single s w early none c ahead fit e rest =
     let d = borrower_declaration name designated initial in
     let next = next_of d ds at after tt s e in
     let made = borrower_made name designated initial (after_types at.0) next.then.0 (ended_sound at.0 s) next.quiet next.is in
     let place = made.place p.place in
-    let on = variable_read p d name ds at after s w c ahead e next made
-    (λ agrees filled. objects_read (read_at place p) ds next.then after next.sound agrees filled c (ahead_at after.0 p place ahead) next.rest) in
-    variables_left p d ds at after (borrower_ends p name designated initial ds) s w none ahead e on
-part_first p d ds at after single s w none c ahead fit e rest = absurd (next_of d ds at after single s e).quiet
+    let on = variable_read p d name ds at after s w c.complete ahead e next made
+    (λ agrees filled. objects_read (read_at place p) ds next.then after next.sound agrees filled c.complete (ahead_at after.0 p place ahead) next.rest) in
+    variables_left p d ds at after (borrower_ends p name designated initial ds) s w early.waits none c ahead e on
+part_first p (specification head) ds at after single s w early none c ahead fit e rest =
+    let d = specification head in
+    let next = next_of d ds at after tt s e in
+    let k = at.0 in
+    let r = specification_done k next.then.0 head next.quiet next.is in
+    let formal = formal_name head.formals in
+    let place = with_specified r.operation r.t formal p.place in
+    let agrees : Agrees next.then.0 place = subst (λ u. Agrees u place) (sym r.is) (specified_agrees k p.place r.operation r.t formal w) in
+    let legible = legible_at k after.0 p s w (declarations_keep (a_declaration d ds) at after s e) ahead in
+    let own = operation_read k p r.operation head r.t s.names w (records_last k p legible) r.named r.operand in
+    let less : r.t < p.place.types = subst (λ (n : ℕ). r.t < n) (sym w.types) (operand_below k r.operation head r.t r.operand) in
+    let new = w.specified r.operation r.t ∙ r.new in
+    let begun : Early next.then.0 place = subst (λ u. Early u place) (sym r.is) (specified_early k p.place r.operation r.t formal new own.own less early) in
+    let on = rest (read_at place p) next.then next.sound agrees begun (ap (λ (v : Known). types_go_on v) r.is ∙ none) (ahead_at after.0 p place ahead) fit next.rest in
+    plain_first k next.then.0 after.0 p (read_at place p) d ds (ap (λ (v : Known). v.here.elaborated) r.is) on
+    (λ made m. (r.operation, r.t, formal, own, new, m))
 
 -- where the types have ended, nothing is created but objects
-late_full : (k z : Known) (p : Context) (ds : DeclarationsTree) → ((end : Place) → EndsBefore p ds end) → types_go_on k ≡ false → ObjectsRead p ds (after_types k) z → LateRead p ds k z
-late_full k z p ds ends late on = record {
+late_full : (k z : Known) (p : Context) (ds : DeclarationsTree) → ((end : Place) → EndsBefore p ds end) → Waits k p.place → types_go_on k ≡ false → Over z → ObjectsRead p ds (after_types k) z → LateRead p ds k z
+late_full k z p ds ends waits late c on = record {
   forms = on.forms;
   end = on.end;
   elaborated = ap (λ (v : Known). v.here.elaborated) (after_full z (some_variable z on.full)) ∙ (on.elaborated ∙ ap (λ (v : Known). v.here.elaborated ++ on.forms) (after_full k late));
-  read = ends on.end None on.forms on.forms refl on.read;
+  read = ends on.end None on.forms on.forms refl (none_waits k z p ds waits c on) on.read;
   agrees = on.agrees;
 }
 
-pub late_none : (p : Context) (at after : At) → Agrees at.0 p.place → types_go_on at.0 ≡ false → declarations_told no_declarations at ≡ gives after → LateRead p no_declarations at.0 after.0
-late_none p at after w late e =
+pub late_none : (p : Context) (at after : At) → Agrees at.0 p.place → Waits at.0 p.place → types_go_on at.0 ≡ false → Over after.0 → declarations_told no_declarations at ≡ gives after → LateRead p no_declarations at.0 after.0
+late_none p at after w waits late c e =
+    let same : at.0 ≡ after.0 = ap (λ (v : At). v.0) (gives_same at after e) in
     subst (λ (v : At). LateRead p no_declarations at.0 v.0) (gives_same at after e) (record {
       forms = [];
       end = p.place;
       elaborated = ap (λ (v : Known). v.here.elaborated) (after_full at.0 late) ∙ sym (append-nil at.0.here.elaborated);
-      read = ([], refl, refl);
+      read = ([], refl, have_bodies at.0 p.place waits (ap (λ (v : Known). v.here.specified.awaited) same ∙ c.awaited), refl);
       agrees = w;
     })
 
 -- a declaration with no others in it, behind the types
-pub late_first : (p : Context) (d : DeclarationTree) (ds : DeclarationsTree) (at after : At) → IsSingle d → Sound at.0 → Agrees at.0 p.place → types_go_on at.0 ≡ false → Complete after.0 → Ahead after.0 p → declarations_told (a_declaration d ds) at ≡ gives after → LateRead p (a_declaration d ds) at.0 after.0
-late_first p (body_declaration head inner body end_name) ds at after single s w late c ahead e = absurd single
-late_first p (object_declaration name type_name initial) ds at after single s w late c ahead e =
+pub late_first : (p : Context) (d : DeclarationTree) (ds : DeclarationsTree) (at after : At) → IsSingle d → Sound at.0 → Agrees at.0 p.place → Waits at.0 p.place → types_go_on at.0 ≡ false → Over after.0 → Ahead after.0 p → declarations_told (a_declaration d ds) at ≡ gives after → LateRead p (a_declaration d ds) at.0 after.0
+late_first p (body_declaration head inner body end_name) ds at after single s w waits late c ahead e = absurd single
+late_first p (object_declaration name type_name initial) ds at after single s w waits late c ahead e =
     let d = object_declaration name type_name initial in
     let next = next_of d ds at after tt s e in
     let made = object_made name type_name initial (after_types at.0) next.then.0 next.quiet next.is in
     let place = made.place p.place in
-    let on = variable_read p d name ds at after s w c ahead e next made
-    (λ agrees filled. objects_read (read_at place p) ds next.then after next.sound agrees filled c (ahead_at after.0 p place ahead) next.rest) in
-    late_full at.0 after.0 p (a_declaration d ds) (object_ends p name type_name initial ds) late on.objects
-late_first p (borrower_declaration name designated initial) ds at after single s w late c ahead e =
+    let on = variable_read p d name ds at after s w c.complete ahead e next made
+    (λ agrees filled. objects_read (read_at place p) ds next.then after next.sound agrees filled c.complete (ahead_at after.0 p place ahead) next.rest) in
+    late_full at.0 after.0 p (a_declaration d ds) (object_ends p name type_name initial ds) waits late c on.objects
+late_first p (borrower_declaration name designated initial) ds at after single s w waits late c ahead e =
     let d = borrower_declaration name designated initial in
     let next = next_of d ds at after tt s e in
     let made = borrower_made name designated initial (after_types at.0) next.then.0 (ended_sound at.0 s) next.quiet next.is in
     let place = made.place p.place in
-    let on = variable_read p d name ds at after s w c ahead e next made
-    (λ agrees filled. objects_read (read_at place p) ds next.then after next.sound agrees filled c (ahead_at after.0 p place ahead) next.rest) in
-    late_full at.0 after.0 p (a_declaration d ds) (borrower_ends p name designated initial ds) late on.objects
-late_first p (incomplete_type spot name) ds at after single s w late c ahead e = absurd (no_types at.0 spot late (next_of (incomplete_type spot name) ds at after tt s e).quiet.0)
-late_first p (access_type spot name designated aspect) ds at after single s w late c ahead e = absurd (no_types at.0 spot late (next_of (access_type spot name designated aspect) ds at after tt s e).quiet.0)
-late_first p (record_type spot name definition) ds at after single s w late c ahead e = absurd (no_types at.0 spot late (next_of (record_type spot name definition) ds at after tt s e).quiet.0)
-late_first p (derived_type spot name parent definition) ds at after single s w late c ahead e = absurd (no_types at.0 spot late (next_of (derived_type spot name parent definition) ds at after tt s e).quiet.0)
-late_first p (instance spot name generic object access) ds at after single s w late c ahead e = absurd (no_types at.0 spot late (next_of (instance spot name generic object access) ds at after tt s e).quiet.0)
-late_first p (constant_declaration name value) ds at after single s w late c ahead e = absurd (no_types at.0 name.spot late (next_of (constant_declaration name value) ds at after tt s e).quiet.0)
-late_first p (exception_declaration name) ds at after single s w late c ahead e = absurd (no_types at.0 name.spot late (next_of (exception_declaration name) ds at after tt s e).quiet.0)
-late_first p (pool_declaration name type_name label size) ds at after single s w late c ahead e = absurd (no_types at.0 name.spot late (next_of (pool_declaration name type_name label size) ds at after tt s e).quiet.0)
-late_first p (attribute_clause spot name attribute value) ds at after single s w late c ahead e = absurd (no_types at.0 spot late (next_of (attribute_clause spot name attribute value) ds at after tt s e).quiet.0)
-late_first p d ds at after single s w late c ahead e = absurd (next_of d ds at after single s e).quiet
+    let on = variable_read p d name ds at after s w c.complete ahead e next made
+    (λ agrees filled. objects_read (read_at place p) ds next.then after next.sound agrees filled c.complete (ahead_at after.0 p place ahead) next.rest) in
+    late_full at.0 after.0 p (a_declaration d ds) (borrower_ends p name designated initial ds) waits late c on.objects
+late_first p (incomplete_type spot name) ds at after single s w waits late c ahead e = absurd (no_types at.0 spot late (next_of (incomplete_type spot name) ds at after tt s e).quiet.0)
+late_first p (access_type spot name designated aspect) ds at after single s w waits late c ahead e = absurd (no_types at.0 spot late (next_of (access_type spot name designated aspect) ds at after tt s e).quiet.0)
+late_first p (record_type spot name definition) ds at after single s w waits late c ahead e = absurd (no_types at.0 spot late (next_of (record_type spot name definition) ds at after tt s e).quiet.0)
+late_first p (derived_type spot name parent definition) ds at after single s w waits late c ahead e = absurd (no_types at.0 spot late (next_of (derived_type spot name parent definition) ds at after tt s e).quiet.0)
+late_first p (instance spot name generic object access) ds at after single s w waits late c ahead e = absurd (no_types at.0 spot late (next_of (instance spot name generic object access) ds at after tt s e).quiet.0)
+late_first p (constant_declaration name value) ds at after single s w waits late c ahead e = absurd (no_types at.0 name.spot late (next_of (constant_declaration name value) ds at after tt s e).quiet.0)
+late_first p (exception_declaration name) ds at after single s w waits late c ahead e = absurd (no_types at.0 name.spot late (next_of (exception_declaration name) ds at after tt s e).quiet.0)
+late_first p (pool_declaration name type_name label size) ds at after single s w waits late c ahead e = absurd (no_types at.0 name.spot late (next_of (pool_declaration name type_name label size) ds at after tt s e).quiet.0)
+late_first p (attribute_clause spot name attribute value) ds at after single s w waits late c ahead e = absurd (no_types at.0 spot late (next_of (attribute_clause spot name attribute value) ds at after tt s e).quiet.0)
+late_first p (specification head) ds at after single s w waits late c ahead e =
+    absurd (no_types at.0 (head_spot head) late (specification_begins at.0 head (next_of (specification head) ds at after tt s e).quiet))

@@ -15,24 +15,33 @@ use Rattle.ada_program.specs.declared.program.VariableKind.{VariableKind}
 use Rattle.ada_program.specs.declared.program.VariableKind.TheVariants as variable
 use Rattle.ada_program.specs.declared.program.VariableNo.{VariableNo}
 use Rattle.ada_program.specs.Form.{StmtsForm, HandlersForm}
-use Rattle.ada_program.specs.ProgramForm.{TypeForm, object_of, VariableForm, BodyForm}
+use Rattle.ada_program.specs.declared.program.ComponentKind.{ComponentKind}
+use Rattle.ada_program.specs.declared.program.Finalization.{Finalization as Finalized}
+use Rattle.ada_program.specs.declared.program.ProcedureNo.{ProcedureNo}
+use Rattle.ada_program.specs.ProgramForm.{PartForm, TypeForm, record_of, object_of, VariableForm, BodyForm}
 use Rattle.ada_resolve.specs.declared.fault.NameRule.TheVariants.{DeclaredTwice}
 use Rattle.ada_resolve.specs.declared.scope.Entity.{Entity}
 use Rattle.ada_resolve.specs.declared.scope.Entity.TheVariants as entity
-use Rattle.ada_resolve.specs.Known.{Known, Named, declared, entered, first_named, from_within, named, named_in, next_procedure, parts, visible}
-use Rattle.ada_resolve.specs.Procedures.{Formals, no_formals, formal_type, formal_types, formal_kind, known_by, formal_mode, formal_entity, formal_type_wanted, formal_remark, formals_remark, mode_remark, with_formal, with_formals, overriding_remark, body_head_remark, with_body, behind_head, body_of, body_ended}
-use Rattle.ada_resolve.specs.Spots.{first_or}
-use Rattle.ada_resolve.specs.Naming.{Context, Place, Binding, Meaning, a_parameter, a_variable, a_procedure, a_procedure_around, a_type, meaning_among, is_one_of, IsBound, IsAccessNamed, IsFullRecordNamed}
-use Rattle.ada_resolve.specs.Reading.{read_at, with_binding, with_named_formal, with_own_type, with_new_formal, from_body, bound_outside, body_place, behind_body, in_body, in_profile, IsHeadRead, IsModeRead, IsFormalNamed, AreFormalsRead}
+use Rattle.ada_resolve.specs.declared.primitives.Operation.{Operation}
+use Rattle.ada_resolve.specs.declared.primitives.Operation.TheVariants.{Initialize, Adjust, Finalize}
+use Rattle.ada_resolve.specs.Primitives.{answered, declared_unless, formal_specified, operand_of, operation_named, overridden, overridden_if, overrider, specified_for}
+use Rattle.ada_resolve.specs.Known.{Known, Named, Specified, Specifications, declared, entered, first_named, from_within, named, named_in, next_procedure, parts, visible}
+use Rattle.ada_resolve.specs.Procedures.{Formals, no_formals, formal_type, formal_types, formal_kind, known_by, formal_mode, formal_entity, formal_type_wanted, formal_remark, formals_remark, mode_remark, with_formal, with_formals, overriding_remark, overriding_unless, body_head_remark, closed, head_name_remark, head_operand, operand_wanted, with_body, behind_head, body_of, body_ended}
+use Rattle.ada_resolve.specs.Spots.{head_spot}
+use Rattle.ada_resolve.specs.Naming.{Context, Place, Specification, Overriding, Binding, Meaning, a_parameter, a_variable, a_procedure, a_procedure_around, a_type, meaning_among, is_one_of, IsBound, IsAccessNamed, IsFullRecordNamed}
+use Rattle.ada_resolve.specs.Reading.{read_at, with_binding, with_named_formal, with_own_type, with_new_formal, from_body, bound_outside, body_place, names_around, behind_body, in_body, in_profile, formal_among, procedure_among, is_this_operation, IsHeadRead, IsModeRead, IsFormalNamed, AreFormalsRead}
 use Rattle.ada_resolve.specs.Clauses.{pool_of}
-use Rattle.ada_resolve.proofs.WellFormed.Forms.{AreIn, forms, forms_in, access_stays, object_stays, record_stays}
+use Rattle.ada_resolve.proofs.WellFormed.Forms.{AreIn, forms, forms_in, forms_length, access_stays, object_stays, record_stays}
 use Rattle.ada_resolve.proofs.WellFormed.Placed.{none_more}
 use Rattle.ada_resolve.proofs.WellFormed.Names.{named_entered, visible_fits}
 use Rattle.ada_resolve.proofs.WellFormed.Remarks.{Quiet, quiet_if}
 use Rattle.ada_resolve.proofs.WellFormed.Tables.{get_more, get_last}
 use Rattle.ada_resolve.proofs.Standing.{Sound, around_body, InBody, left_body, ended_is}
 use Rattle.ada_resolve.proofs.Standing.Procedures.{get_front, IsFormal, FormalsSound, formal_sound, no_formal}
-use Rattle.ada_resolve.proofs.Agreeing.{bound_behind, bound_to, Stands, Agrees, Ahead, EntityRead, stands_among, stands_entered, stands_more, visible_read, not_predefined}
+use Rattle.ada_resolve.proofs.Agreeing.{bound_behind, bound_to, Stands, Agrees, Ahead, EntityRead, stands_among, stands_entered, stands_more, visible_read, none_specified, not_predefined}
+use Rattle.ada_resolve.proofs.Operating.{not_named, overrider_more, overrider_now}
+use Rattle.ada_resolve.proofs.WellFormed.Overridden.{if_forms, if_pool}
+use Rattle.ada_resolve.proofs.Operands.{RecordsStay, operation_body}
 use Rattle.ada_resolve.proofs.Elaborated.{new_there}
 
 -- what a name is bound to, seen from a body
@@ -69,10 +78,25 @@ stands_within : (variables : List VariableForm) (o : Option Entity) (m : Option 
 stands_within variables None m s = ap (λ (o : Option Meaning). option_map from_body o) s
 stands_within variables (Some e) m s = within_bound variables e s.0 m s.1 s.2
 
+-- what a body overrides has its name
+abbrev pub IsOf : Option Operation → Option (Operation × ℕ) → Type 0
+IsOf None None = Unit {0}
+IsOf (Some o) (Some which) = o ≡ which.0
+IsOf None (Some which) = ⊥
+IsOf (Some o) None = ⊥
+
 -- where the name of a procedure is declared
-around_agrees : (k : Known) (place : Place) (head : HeadTree) → Agrees k place → Agrees (around_body k head) (with_binding head.name a_procedure_around place)
-around_agrees k place head w = record {
-  here = stands_entered k.here.names place.here head.name entity.Procedure a_procedure_around refl w.here;
+abbrev around_place : Option (Operation × ℕ) → Ident → Place → Place
+around_place None name place = with_binding name a_procedure_around place
+around_place (Some which) name place = place
+
+around_names : (overrides : Option (Operation × ℕ)) (name : Ident) (place : Place) → (around_place overrides name place).here ++ (around_place overrides name place).outer ≡ names_around overrides name place
+around_names None name place = refl
+around_names (Some which) name place = refl
+
+named_agrees : (k : Known) (place : Place) (name : Ident) (e : Entity) (meaning : Meaning) → bound_to e ≡ Some meaning → Agrees k place → Agrees (declared k name.text e) (with_binding name meaning place)
+named_agrees k place name e meaning own w = record {
+  here = stands_entered k.here.names place.here name e meaning own w.here;
   outer = w.outer;
   first_type = w.first_type;
   types = w.types;
@@ -83,27 +107,45 @@ around_agrees k place head w = record {
   exceptions = w.exceptions;
   texts = w.texts;
   controlled = w.controlled;
+  limited = w.limited;
+  specified = w.specified;
+  overridden = w.overridden;
 }
 
+around_agrees : (k : Known) (place : Place) (name : Ident) (o : Option Operation) (overrides : Option (Operation × ℕ)) → IsOf o overrides → Agrees k place → Agrees (declared_unless o k name.text entity.Procedure) (around_place overrides name place)
+around_agrees k place name None None is w = named_agrees k place name entity.Procedure a_procedure_around refl w
+around_agrees k place name (Some o) (Some which) is w = w
+around_agrees k place name None (Some which) is w = absurd is
+around_agrees k place name (Some o) None is w = absurd is
+
 -- where its body begins, before its formals
-body_agrees : (k : Known) (place : Place) (head : HeadTree) → Agrees k place → Agrees (with_body no_formals (around_body k head)) (body_place head.name place)
-body_agrees k place head w = let none = ap (λ (ts : List TypeForm). length ts) (sym (append-nil k.types)) in record {
-  here = λ text. refl;
-  outer = λ text.
-      subst (λ (m : Option Meaning). Stands (from_within k.variables (named_in text (parts (around_body k head)))) m)
-      (sym (among_outside text (record { text = head.name.text; meaning = a_procedure_around } ∷ place.here ++ place.outer)))
-      (stands_within k.variables (named_in text (parts (around_body k head))) (meaning_among text (record { text = head.name.text; meaning = a_procedure_around } ∷ place.here ++ place.outer))
-      (stands_among (around_body k head) (with_binding head.name a_procedure_around place) (around_agrees k place head w) text));
-  first_type = w.types ∙ none;
-  types = w.types ∙ none;
-  pools = w.pools;
-  placed = λ t. w.placed t ∙ ap (λ (ts : List TypeForm). is_some (pool_of ts t)) (sym (append-nil k.types));
-  bodies = w.bodies;
-  variables = refl;
-  exceptions = w.exceptions;
-  texts = w.texts;
-  controlled = w.controlled;
-}
+body_agrees : (k : Known) (place : Place) (head : HeadTree) (overrides : Option (Operation × ℕ)) → IsOf (operation_named head.name.text) overrides → Agrees k place → Agrees (with_body no_formals (around_body k head)) (body_place overrides head.name place)
+body_agrees k place head overrides is w =
+    let none = ap (λ (ts : List TypeForm). length ts) (sym (append-nil k.types)) in
+    let around = around_body k head in
+    let all = names_around overrides head.name place in
+    let before = around_agrees k place head.name (operation_named head.name.text) overrides is w in
+    let seen : (text : List ℕ) → Stands (named_in text (parts around)) (meaning_among text all) = λ text.
+    subst (λ (bs : List Binding). Stands (named_in text (parts around)) (meaning_among text bs)) (around_names overrides head.name place)
+    (stands_among around (around_place overrides head.name place) before text) in
+    record {
+      here = λ text. refl;
+      outer = λ text.
+          subst (λ (m : Option Meaning). Stands (from_within k.variables (named_in text (parts around))) m) (sym (among_outside text all))
+          (stands_within k.variables (named_in text (parts around)) (meaning_among text all) (seen text));
+      first_type = w.types ∙ none;
+      types = w.types ∙ none;
+      pools = w.pools;
+      placed = λ t. w.placed t ∙ ap (λ (ts : List TypeForm). is_some (pool_of ts t)) (sym (append-nil k.types));
+      bodies = w.bodies;
+      variables = refl;
+      exceptions = w.exceptions;
+      texts = w.texts;
+      controlled = w.controlled;
+      limited = w.limited;
+      specified = none_specified;
+      overridden = λ o t. ap (λ (ts : List TypeForm). overrider o ts t) (append-nil k.types) ∙ w.overridden o t;
+    }
 
 -- what a formal of a mode is bound to
 abbrev meaning_of : FormalMode → ℕ → Meaning
@@ -141,6 +183,12 @@ own_types_pools (Some (entity.Record u size)) types t = none_more types (object_
 own_types_pools (Some e) types t = ap (λ (ts : List TypeForm). is_some (pool_of ts t)) (append-nil types)
 own_types_pools None types t = ap (λ (ts : List TypeForm). is_some (pool_of ts t)) (append-nil types)
 
+-- nor overrides anything
+own_types_override : (o : Option Entity) (types : List TypeForm) (a : Operation) (t : ℕ) → overrider a (types ++ formal_types o) t ≡ overrider a types t
+own_types_override (Some (entity.Record u size)) types a t = overrider_more types (object_of u.0) refl a t
+own_types_override (Some e) types a t = ap (λ (ts : List TypeForm). overrider a ts t) (append-nil types)
+own_types_override None types a t = ap (λ (ts : List TypeForm). overrider a ts t) (append-nil types)
+
 own_first_type : (kind : VariableKind) (place : Place) → place.first_type ≡ place.types → (with_own_type kind place).first_type ≡ (with_own_type kind place).types
 own_first_type variable.Integer place same = same
 own_first_type variable.Boolean place same = same
@@ -157,12 +205,15 @@ record SamePlace (p q : Place) : Type 0 where
   exceptions : p.exceptions ≡ q.exceptions
   texts : p.texts ≡ q.texts
   controlled : p.controlled ≡ q.controlled
+  limited : p.limited ≡ q.limited
+  specified : p.specified ≡ q.specified
+  overridden : p.overridden ≡ q.overridden
 
 own_same : (kind : VariableKind) (place : Place) → SamePlace (with_own_type kind place) place
-own_same variable.Integer place = record { here = refl; outer = refl; pools = refl; placed = refl; bodies = refl; exceptions = refl; texts = refl; controlled = refl }
-own_same variable.Boolean place = record { here = refl; outer = refl; pools = refl; placed = refl; bodies = refl; exceptions = refl; texts = refl; controlled = refl }
-own_same (variable.Access t) place = record { here = refl; outer = refl; pools = refl; placed = refl; bodies = refl; exceptions = refl; texts = refl; controlled = refl }
-own_same (variable.Record object) place = record { here = refl; outer = refl; pools = refl; placed = refl; bodies = refl; exceptions = refl; texts = refl; controlled = refl }
+own_same variable.Integer place = record { here = refl; outer = refl; pools = refl; placed = refl; bodies = refl; exceptions = refl; texts = refl; controlled = refl; limited = refl; specified = refl; overridden = refl }
+own_same variable.Boolean place = record { here = refl; outer = refl; pools = refl; placed = refl; bodies = refl; exceptions = refl; texts = refl; controlled = refl; limited = refl; specified = refl; overridden = refl }
+own_same (variable.Access t) place = record { here = refl; outer = refl; pools = refl; placed = refl; bodies = refl; exceptions = refl; texts = refl; controlled = refl; limited = refl; specified = refl; overridden = refl }
+own_same (variable.Record object) place = record { here = refl; outer = refl; pools = refl; placed = refl; bodies = refl; exceptions = refl; texts = refl; controlled = refl; limited = refl; specified = refl; overridden = refl }
 
 -- a formal is the next variable, and, where it is a record, is known by the next type
 formal_agrees : (k m : Known) (place : Place) (f : FormalTree) (before : Formals) → Agrees (with_body before m) place → Agrees (with_body (with_formal k f before) m) (with_new_formal (formal_mode f.input f.output) (formal_kind (known_by k before) (formal_type k before f.type_name)) f.name place)
@@ -193,6 +244,11 @@ formal_agrees k m place f before w =
       exceptions = same.exceptions ∙ w.exceptions;
       texts = same.texts ∙ w.texts;
       controlled = same.controlled ∙ w.controlled;
+      limited = λ t. ap (λ (ts : List ℕ). is_one_of t ts) same.limited ∙ w.limited t;
+      specified = λ a t. ap (λ (ss : List Specification). formal_among a t ss) same.specified ∙ w.specified a t;
+      overridden = λ a t.
+          ap (λ (ts : List TypeForm). overrider a ts t) (sym (append_assoc m.types before.types (formal_types o))) ∙ (own_types_override o (m.types ++ before.types) a t ∙
+          (w.overridden a t ∙ ap (λ (os : List Overriding). procedure_among a t os) (sym same.overridden)));
     })
 
 formal_modes : (k : Known) (f : FormalTree) (before : Formals) → (with_formal k f before).modes ≡ before.modes ++ formal_mode f.input f.output ∷ []
@@ -272,7 +328,8 @@ record_read : (k : Known) (p : Context) (around : Place) (before : Formals) (nam
 record_read k p around before name t size s f v here types is =
     let there = around_named k p around before name (entity.Record t size) (a_type t.0) tt refl f v here (λ r. r) is in
     let found = visible_fits k s.names name.text (entity.Record t size) there.0 in
-    (there.1, found.0, found.1, found.2, record_stays k.types p.types types t.0 name.text found.0 found.1 found.2 found.3)
+    let last = record_stays k.types p.types types t.0 name.text found.0 found.1 found.2 found.3 in
+    (there.1, found.0, found.1, last.0, last.1)
 
 -- no formal has the name of a type
 type_read : (k : Known) (p : Context) (own : Option Entity) (m : Option Meaning) (name : Ident) (e : Entity) → bound_to e ≡ None → Agrees k p.place → Stands own m → first_named own (visible k name.text) ≡ Some e → EntityRead p name.text e
@@ -355,23 +412,66 @@ formals_read k m p around (f ∷ fs) before s g v alike w types q ahead =
         by_name None off s = s
         by_name (Some e) off s = absurd (cc off)
 
+-- what a body overrides, by its head
+pub record HeadNamed (k : Known) (head : HeadTree) : Type 0 where
+  pub overrides : Option (Operation × ℕ)
+  pub is_of : IsOf (operation_named head.name.text) overrides
+  pub operand : (which : Operation × ℕ) → overrides ≡ Some which → (operation_named head.name.text ≡ Some which.0) × (head_operand (Some which.0) k head ≡ Some which.1)
+
+pub head_named : (k : Known) (head : HeadTree) → Quiet (body_head_remark k head) → HeadNamed k head
+unfolding body_head_remark
+head_named k head q = by_name (operation_named head.name.text) refl q.1.1.1.1
+  where
+    same_pair : (one other : Operation × ℕ) → Some one ≡ Some other → (one.0 ≡ other.0) × (one.1 ≡ other.1)
+    same_pair one other e = let same : one ≡ other = cc e in (ap (λ (x : Operation × ℕ). x.0) same, ap (λ (x : Operation × ℕ). x.1) same)
+
+    by_operand : (o : Operation) → operation_named head.name.text ≡ Some o → (found : Option ℕ) → head_operand (Some o) k head ≡ found → Quiet (operand_wanted found k o head) → HeadNamed k head
+    by_operand o is None found q = absurd q
+    by_operand o is (Some t) found q = record {
+      overrides = Some (o, t);
+      is_of = subst (λ (x : Option Operation). IsOf x (Some (o, t))) (sym is) refl;
+      operand = λ which e.
+          let same = same_pair (o, t) which e in
+          (is ∙ ap (λ (x : Operation). Some x) same.0, subst (λ (x : Operation). head_operand (Some x) k head ≡ Some which.1) same.0 (found ∙ ap (λ (n : ℕ). Some n) same.1));
+    }
+
+    by_name : (o : Option Operation) → operation_named head.name.text ≡ o → Quiet (head_name_remark o (head_operand o k head) k head) → HeadNamed k head
+    by_name None is q = record { overrides = None; is_of = subst (λ (x : Option Operation). IsOf x None) (sym is) tt; operand = λ which e. absurd (cc e) }
+    by_name (Some o) is q = by_operand o is (head_operand (Some o) k head) refl q
+
 -- the head of a body
-pub record HeadRead (p : Context) (head : HeadTree) (b : BodyForm) (m : Known) : Type 0 where
+pub record HeadRead (p : Context) (head : HeadTree) (overrides : Option (Operation × ℕ)) (b : BodyForm) (m : Known) : Type 0 where
   pub end : Place
-  pub head_so : IsHeadRead p head
-  pub read : AreFormalsRead (in_body head.name b p) p.place head.formals m.here.modes end
+  pub head_so : IsHeadRead p head overrides
+  pub read : AreFormalsRead (in_body overrides head.name b p) p.place head.formals m.here.modes end
   pub agrees : Agrees m end
 
-pub head_read : (k : Known) (p : Context) (head : HeadTree) (b : BodyForm) → Sound k → Agrees k p.place → Quiet (body_head_remark k head) → Ahead (behind_head k head) (in_body head.name b p) → HeadRead p head b (behind_head k head)
+-- what is written before it
+head_said : (k : Known) (p : Context) (head : HeadTree) (h : HeadNamed k head) → Sound k → Agrees k p.place → RecordsStay k p → Quiet (overriding_unless (operation_named head.name.text) head.overriding) → Quiet (head_name_remark (operation_named head.name.text) (head_operand (operation_named head.name.text) k head) k head) → IsHeadRead p head h.overrides
+head_said k p head h s w stays r q = by_name (operation_named head.name.text) h.overrides refl refl h.is_of r q
+  where
+    by_name : (o : Option Operation) (overrides : Option (Operation × ℕ)) → operation_named head.name.text ≡ o → h.overrides ≡ overrides → IsOf o overrides → Quiet (overriding_unless o head.overriding) → Quiet (head_name_remark o (head_operand o k head) k head) → IsHeadRead p head overrides
+    by_name None None name_is is same r q = (new_there k p.place head.name (head_spot head) w q, no_override head.overriding r, not_named head.name.text name_is)
+    by_name (Some o) (Some which) name_is is same r q =
+        let found = h.operand which is in
+        let own : head_operand (Some o) k head ≡ Some which.1 = subst (λ (x : Operation). head_operand (Some x) k head ≡ Some which.1) (sym same) found.1 in
+        operation_body k p which.0 head which.1 s.names w stays found.0 found.1
+        (subst (λ (x : Operation). Quiet (operand_wanted (Some which.1) k x head)) same (subst (λ (t : Option ℕ). Quiet (operand_wanted t k o head)) own q))
+    by_name None (Some which) name_is is same r q = absurd same
+    by_name (Some o) None name_is is same r q = absurd same
+
+pub head_read : (k : Known) (p : Context) (head : HeadTree) (b : BodyForm) (h : HeadNamed k head) → Sound k → Agrees k p.place → Quiet (body_head_remark k head) → Ahead (behind_head k head) (in_body h.overrides head.name b p) → HeadRead p head h.overrides b (behind_head k head)
 unfolding body_head_remark behind_head
-head_read k p head b s w q ahead =
-    let first = first_or head.overriding head.spot in
-    let r = formals_read k (around_body k head) (in_body head.name b p) p.place head.formals no_formals s no_formal w refl
-    (body_agrees k p.place head w) ahead.types q.1.1.1.0 ahead.variables in
+head_read k p head b h s w q ahead =
+    let around = around_body k head in
+    let more = (with_formals k head.formals no_formals).types in
+    let r = formals_read k around (in_body h.overrides head.name b p) p.place head.formals no_formals s no_formal w refl
+    (body_agrees k p.place head h.overrides h.is_of w) ahead.types q.1.1.1.0 ahead.variables in
+    let old : AreIn (forms k.types) (forms p.types) = λ n form is. ahead.types n form (forms_in k.types (k.types ++ more) (λ i x there. get_front k.types more i x there) n form is) in
     record {
       end = r.end;
-      head_so = (new_there k p.place head.name first w q.1.1.1.1, no_override head.overriding q.1.1.0);
-      read = subst (λ (ms : List FormalMode). AreFormalsRead (in_body head.name b p) p.place head.formals ms r.end) (sym r.in_all) r.read;
+      head_so = head_said k p head h s w (λ text t size is ps cs final there. let last = record_stays k.types p.types old t.0 text ps cs final there in (last.0, last.1)) q.1.1.0 q.1.1.1.1;
+      read = subst (λ (ms : List FormalMode). AreFormalsRead (in_body h.overrides head.name b p) p.place head.formals ms r.end) (sym r.in_all) r.read;
       agrees = r.agrees;
     }
 
@@ -387,32 +487,88 @@ stands_again ns bs name a e meaning own old text =
     (ap (λ (o : Option Entity). cond (bytes_eq text name.text) (Some e) o) (named_entered ns name.text text a) ∙ twice_is (bytes_eq text name.text) e a (named text ns))))
     (stands_more (bytes_eq text name.text) e meaning (named text ns) (meaning_among text bs) own (old text))
 
-pub ended_agrees : (k z : Known) (head : HeadTree) (fs : StmtsForm) (hs : HandlersForm) (start last : Spot) (place done : Place) → InBody (around_body k head) z → Agrees k place → Agrees z done → Agrees (body_ended head.name fs hs start last z) (behind_body head.name place done)
-ended_agrees k z head fs hs start last place done f w v =
-    subst (λ (u : Known). Agrees u (behind_body head.name place done)) (sym (ended_is (around_body k head) z head.name fs hs start last f)) (record {
-      here = stands_again k.here.names place.here head.name entity.Procedure (entity.Callable (next_procedure z)) (a_procedure done.bodies)
-          (ap (λ (n : ℕ). Some (a_procedure n)) (sym v.bodies)) w.here;
+-- behind a body
+abbrev pub IsFinalizedRecord : List TypeForm → ℕ → Type 0
+IsFinalizedRecord types t =
+    (name : List ℕ) × (ps : List PartForm) × (cs : List ComponentKind) × (f : Finalized) × (slice_get types t ≡ Some (record_of name ps cs (Some f)))
+
+-- what it overrides is there
+abbrev pub IsThere : Option (Operation × ℕ) → List TypeForm → Option ℕ → Type 0
+IsThere None types t = Unit {0}
+IsThere (Some which) types t = (t ≡ Some which.1) × IsFinalizedRecord types which.1
+
+answered_alike : (o : Option Operation) (ss : Specifications) (a : Operation) → specified_for a (answered o ss) ≡ specified_for a ss
+answered_alike None ss a = refl
+answered_alike (Some o) ss Initialize = refl
+answered_alike (Some o) ss Adjust = refl
+answered_alike (Some o) ss Finalize = refl
+
+same_length : (types more : List TypeForm) → forms more ≡ forms types → length more ≡ length types
+same_length types more same = sym (forms_length more) ∙ (ap (λ (ts : List TypeForm). length ts) same ∙ forms_length types)
+
+closed_agrees : (k z : Known) (name : Ident) (b : BodyForm) (o : Option Operation) (overrides : Option (Operation × ℕ)) (t : Option ℕ) (place done : Place) → IsOf o overrides → IsThere overrides z.types t → Agrees k place → Agrees z done → Agrees (closed o name.text (next_procedure z) t (left_body (declared_unless o k name.text entity.Procedure) z b)) (behind_body overrides name place done)
+closed_agrees k z name b None None t place done is there w v = record {
+  here = stands_again k.here.names place.here name entity.Procedure (entity.Callable (next_procedure z)) (a_procedure done.bodies)
+      (ap (λ (n : ℕ). Some (a_procedure n)) (sym v.bodies)) w.here;
+  outer = w.outer;
+  first_type = w.first_type;
+  types = v.types;
+  pools = v.pools;
+  placed = v.placed;
+  bodies = ap (λ (n : ℕ). n + 1) v.bodies ∙ sym (length-append z.bodies (b ∷ []));
+  variables = w.variables;
+  exceptions = v.exceptions;
+  texts = v.texts;
+  controlled = v.controlled;
+  limited = v.limited;
+  specified = w.specified;
+  overridden = v.overridden;
+}
+closed_agrees k z name b (Some o) (Some which) t place done same there w v =
+    let n : ProcedureNo = record { 0 = length z.bodies } in
+    let m : ProcedureNo = record { 0 = done.bodies } in
+    let f = there.1 in
+    let now : overridden_if (Some o) n t z.types ≡ overridden which.0 n z.types which.1 =
+    ap (λ (x : Option ℕ). overridden_if (Some o) n x z.types) there.0 ∙ ap (λ (x : Operation). overridden x n z.types which.1) same in
+    record {
+      here = w.here;
       outer = w.outer;
       first_type = w.first_type;
-      types = v.types;
+      types = v.types ∙ sym (same_length z.types (overridden_if (Some o) n t z.types) (if_forms (Some o) n t z.types));
       pools = v.pools;
-      placed = v.placed;
-      bodies = ap (λ (n : ℕ). n + 1) v.bodies ∙ sym (length-append z.bodies (body_of z fs hs start last ∷ []));
+      placed = λ u. v.placed u ∙ ap (λ (p : Option ℕ). is_some p) (sym (if_pool (Some o) n t z.types u));
+      bodies = ap (λ (n : ℕ). n + 1) v.bodies ∙ sym (length-append z.bodies (b ∷ []));
       variables = w.variables;
       exceptions = v.exceptions;
       texts = v.texts;
       controlled = v.controlled;
-    })
+      limited = v.limited;
+      specified = λ a u. w.specified a u ∙ ap (λ (ss : List Specified). formal_specified u ss) (sym (answered_alike (Some o) k.here.specified a));
+      overridden = λ a u.
+          ap (λ (ts : List TypeForm). overrider a ts u) now ∙ (overrider_now which.0 n z.types which.1 f.0 f.1 f.2 f.3 f.4 a u ∙
+          (ap (λ (i : ℕ). cond (is_this_operation a which.0 u which.1) (Some (record { 0 = i })) (overrider a z.types u)) (sym v.bodies) ∙
+          ap (λ (x : Option ProcedureNo). cond (is_this_operation a which.0 u which.1) (Some m) x) (v.overridden a u)));
+    }
+closed_agrees k z name b None (Some which) t place done is there w v = absurd is
+closed_agrees k z name b (Some o) None t place done is there w v = absurd is
+
+pub ended_agrees : (k z : Known) (head : HeadTree) (overrides : Option (Operation × ℕ)) (fs : StmtsForm) (hs : HandlersForm) (start last : Spot) (place done : Place) → InBody (around_body k head) z → IsOf (operation_named head.name.text) overrides → IsThere overrides z.types (operand_of z.types z.here.modes z.variables) → Agrees k place → Agrees z done → Agrees (body_ended head.name fs hs start last z) (behind_body overrides head.name place done)
+ended_agrees k z head overrides fs hs start last place done f is there w v =
+    subst (λ (u : Known). Agrees u (behind_body overrides head.name place done)) (sym (ended_is (around_body k head) z head.name fs hs start last f))
+    (closed_agrees k z head.name (body_of z fs hs start last) (operation_named head.name.text) overrides (operand_of z.types z.here.modes z.variables) place done is there w v)
 
 -- the tables within a body
-pub ahead_within : (k z : Known) (head : HeadTree) (fs : StmtsForm) (hs : HandlersForm) (start last : Spot) (p : Context) → InBody (around_body k head) z → Ahead (body_ended head.name fs hs start last z) p → Ahead z (in_body head.name (body_of z fs hs start last) p)
-ahead_within k z head fs hs start last p f w =
+pub ahead_within : (k z : Known) (head : HeadTree) (overrides : Option (Operation × ℕ)) (fs : StmtsForm) (hs : HandlersForm) (start last : Spot) (p : Context) → InBody (around_body k head) z → Ahead (body_ended head.name fs hs start last z) p → Ahead z (in_body overrides head.name (body_of z fs hs start last) p)
+ahead_within k z head overrides fs hs start last p f w =
     let b = body_of z fs hs start last in
-    let v : Ahead (declared (left_body (around_body k head) z b) head.name.text (entity.Callable (next_procedure z))) p =
+    let o = operation_named head.name.text in
+    let n = next_procedure z in
+    let t = operand_of z.types z.here.modes z.variables in
+    let v : Ahead (closed o head.name.text n t (left_body (around_body k head) z b)) p =
     subst (λ (u : Known). Ahead u p) (ended_is (around_body k head) z head.name fs hs start last f) w in
     record {
-      types = v.types;
-      placed = v.placed;
+      types = λ u form is. v.types u form (ap (λ (ts : List TypeForm). slice_get ts u) (if_forms o n t z.types) ∙ is);
+      placed = λ u pool is. v.placed u pool (if_pool o n t z.types u ∙ is);
       pools = v.pools;
       variables = λ x u is. is;
       exceptions = v.exceptions;
@@ -424,6 +580,6 @@ ahead_within k z head fs hs start last p f w =
 pub body_there : (k z : Known) (head : HeadTree) (fs : StmtsForm) (hs : HandlersForm) (start last : Spot) (p : Context) (done : Place) → InBody (around_body k head) z → Ahead (body_ended head.name fs hs start last z) p → Agrees z done → slice_get p.bodies done.bodies ≡ Some (body_of z fs hs start last)
 body_there k z head fs hs start last p done f w v =
     let b = body_of z fs hs start last in
-    let last : Ahead (declared (left_body (around_body k head) z b) head.name.text (entity.Callable (next_procedure z))) p =
+    let last : Ahead (closed (operation_named head.name.text) head.name.text (next_procedure z) (operand_of z.types z.here.modes z.variables) (left_body (around_body k head) z b)) p =
     subst (λ (u : Known). Ahead u p) (ended_is (around_body k head) z head.name fs hs start last f) w in
     ap (λ (n : ℕ). slice_get p.bodies n) v.bodies ∙ last.bodies (length z.bodies) b (get_last z.bodies b)

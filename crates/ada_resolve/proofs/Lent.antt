@@ -27,7 +27,8 @@ use Rattle.ada_resolve.proofs.Written.{FoundRecord, record_read}
 
 -- a record type that a name stands for is there in the program, where the types have ended
 record_there : (k : Known) (p : Context) (name : Ident) (t : TypeNo) → Readable k p → FoundRecord k p name (Some t) → types.IsRecordNamed k.types name.text (Some t) → IsRecordNamed p name.text t.0
-record_there k p name t w found there = (found.1, there.0, there.1, there.2, record_stays k.types p.types w.ahead.types t.0 name.text there.0 there.1 there.2 there.3)
+record_there k p name t w found there =
+    let last = record_stays k.types p.types w.ahead.types t.0 name.text there.0 there.1 there.2 there.3 in (found.1, there.0, there.1, last.0, last.1)
 
 -- `B : access T := P;`
 pub borrower_read : (k : Known) (p : Context) (name designated : Ident) (initial : Option RightTree) (x : ℕ) → Readable k p → Quiet (record_remark k designated) → (r : Lent k designated initial) → slice_get p.variables x ≡ Some (record { name = name.text; spot = name.spot; kind = variable.Access r.access; borrows = true }) → IsBorrowerRead p name designated initial x (value_of r.path)

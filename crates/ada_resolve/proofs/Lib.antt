@@ -1,4 +1,6 @@
 pub mod Names
+-- specifications of operations, as the code keeps them
+pub mod Specified
 -- the profiles of procedures, and bodies that end
 pub mod Profiles
 -- declarations with no others in them
@@ -23,6 +25,10 @@ pub mod Nesting
 mod Agreeing
 -- as many items as components
 mod ItemCounts
+-- operations of controlled types, and how they are written
+mod Operating
+mod Operands
+mod Bodied
 mod Reading
 mod Keeping
 mod Written

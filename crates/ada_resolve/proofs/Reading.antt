@@ -152,7 +152,8 @@ within_read k p spot t c w q = complete_or (is_incomplete_type k t) q
     found_or (Some found) is q =
         let at = component_found 0 c.text (components_of k.types t) found is in
         let there = has_record k.types t at.0 (the_part c.text found.1) at.2 in
-        ((there.0, there.1, there.2, there.3, at.0, record_stays k.types p.types w.types t there.0 there.1 there.2 there.3 there.4, there.5), is_selectable found.1.kind c q)
+        let last = record_stays k.types p.types w.types t there.0 there.1 there.2 there.3 there.4 in
+        ((there.0, there.1, there.2, last.0, at.0, last.1, there.5), is_selectable found.1.kind c q)
 
     complete_or : (b : Bool) → Quiet (cond b (wrong spot WrongType) (component_wanted (component_named 0 c.text (components_of k.types t)) c)) → IsNamed p t c.text (cond b None (component_named 0 c.text (components_of k.types t)))
     complete_or true q = absurd q
@@ -529,15 +530,16 @@ aggregate_one k p name items spot (Some (entity.Record t size)) w v b q i c r =
     let all = items_there k cs (names_component items) (first_filling (Some cs)) items spot w.fits refl i c in
     let count = items_all k cs items i all in
     let whole : cs ≡ f.0 = components_are k.types t.0 name.text f.0 f.1 f.2 f.3 in
+    let last = record_stays k.types p.types w.ahead.types t.0 name.text f.0 f.1 f.2 f.3 in
     record {
       type_name = name;
       items = items;
       parts = f.0;
       components = f.1;
-      finalization = f.2;
+      finalization = last.0;
       written = (refl, refl);
       bound = b (entity.Record t size) refl;
-      there = record_stays k.types p.types w.ahead.types t.0 name.text f.0 f.1 f.2 f.3;
+      there = last.1;
       count = count.0 ∙ ap (λ (ps : List PartForm). length ps) whole;
       given = subst (λ (ps : List PartForm). AreGiven p items 0 ps (flattened after.slots)) whole (whole_read p cs items after.slots all count.1 r);
     }
@@ -622,10 +624,10 @@ allocation_one k p (entity.Record t size) access spot end_spot name items w f r 
   t = t.0;
   parts = f.0;
   components = f.1;
-  finalization = f.2;
+  finalization = (record_stays k.types p.types w.ahead.types t.0 name.text f.0 f.1 f.2 f.3).0;
   designates = type_designated k p access.0 t.0 w.ahead (access_designates k.types access.0 t.0 (quiet_unless (designates k.types access.0 t.0) spot WrongType q));
   bound = r;
-  named = record_stays k.types p.types w.ahead.types t.0 name.text f.0 f.1 f.2 f.3;
+  named = (record_stays k.types p.types w.ahead.types t.0 name.text f.0 f.1 f.2 f.3).1;
   filled = subst (λ (cs : List PartForm). AreItemsRead p cs items (flattened (filling_of k (Some (components_of k.types t.0)) items).slots))
       (components_are k.types t.0 name.text f.0 f.1 f.2 f.3) (aggregate_items_read k p (components_of k.types t.0) items end_spot w i);
 }
@@ -649,7 +651,7 @@ default_one : (k : Known) (p : Context) (e : Entity) (access : TypeNo) (at spot 
 default_one k p (entity.Record t size) access at spot name w f r q = (
   t.0,
   type_designated k p access.0 t.0 w.ahead (access_designates k.types access.0 t.0 (quiet_unless (designates k.types access.0 t.0) spot WrongType q)),
-  (r, f.0, f.1, f.2, record_stays k.types p.types w.ahead.types t.0 name.text f.0 f.1 f.2 f.3),
+  (let last = record_stays k.types p.types w.ahead.types t.0 name.text f.0 f.1 f.2 f.3 in (r, f.0, f.1, last.0, last.1)),
 )
 default_one k p e access at spot name w f r q = absurd q
 

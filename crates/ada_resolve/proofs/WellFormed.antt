@@ -4,18 +4,22 @@
 pub mod Remarks
 -- types but for their pools
 pub mod Forms
--- types that override no operation
-pub mod Inherits
 -- what stays of lists and types as more of them are declared
 pub mod Tables
+-- what overrides operations of controlled types
+pub mod Operations
 -- the components of record types lie one behind the other
 pub mod Laid
 -- record types that have controlled parts are numbered, and say how many
 pub mod Numbered
+-- records with controlled parts are found in others
+pub mod Walked
 -- what names stand for is there
 pub mod Names
 -- types that get pools
 pub mod Placed
+-- types that get operations
+pub mod Overridden
 -- exceptions, and what names stand for them
 pub mod Exceptions
 -- what the names of types stand for
@@ -69,7 +73,7 @@ use Rattle.std.proofs.lemmas.List.{append-nil}
 use Rattle.ada_tree.specs.Statements.{UnitTree}
 use Rattle.ada_program.specs.Freed.{FreesItsOwn}
 use Rattle.ada_program.specs.ProgramForm.{TypeForm, VariableForm, ProgramForm}
-use Rattle.ada_program.specs.WellFormed.{IsWellFormed, callable_in, overrides_none, has_known_pool, creates_known_pool, creations, created_in_all, Creation, creates_from, has_collections, collections_first, collection_fits, initial_fits}
+use Rattle.ada_program.specs.WellFormed.{IsWellFormed, has_known_pool, creates_known_pool, creations, created_in_all, Creation, creates_from, has_collections, collections_first, collection_fits, initial_fits}
 use Rattle.ada_resolve.specs.declared.library.Withs.{Withs}
 use Rattle.ada_resolve.specs.Known.{Known, parts}
 use Rattle.ada_resolve.specs.Resolution.{SequenceForm, known_first, program_of, Resolves}
@@ -77,7 +81,7 @@ use Rattle.ada_resolve.proofs.Standing.{Sound, Complete, Keeps, first_sound, dec
 use Rattle.ada_resolve.proofs.WellFormed.Forms.{forms}
 use Rattle.ada_resolve.proofs.WellFormed.Names.{laid_in}
 use Rattle.ada_resolve.proofs.WellFormed.ComponentsLie.{components_lie}
-use Rattle.ada_resolve.proofs.WellFormed.Inherits.{stand_fit, stand_bare, none_have}
+use Rattle.ada_resolve.proofs.WellFormed.Operations.{all_have, callables}
 use Rattle.ada_resolve.proofs.WellFormed.Tables.{all_more, both_parts, first_part, second_part}
 use Rattle.ada_resolve.proofs.WellFormed.Created.{accesses, bodies_collect, collected_both, Creates, has_each}
 use Rattle.ada_resolve.proofs.WellFormed.Elaborated.{InOrder, first_order}
@@ -106,7 +110,7 @@ each_collected k z cs none empty c =
 
 -- no body has ended at first
 pub first_ended : (withs : Withs) (procedure : List ℕ) → Ended (known_first withs procedure)
-first_ended withs procedure = record { fit = λ ts w. refl; below = λ a past. refl; frees = λ ts w. refl; pools = refl }
+first_ended withs procedure = record { fit = λ ts laid w. refl; below = λ a past. refl; frees = λ ts w. refl; pools = refl }
 
 -- a program whose parts fit
 program_fits : (k m z : Known) (body : SequenceForm) → k.types ≡ [] → k.variables ≡ [] → k.bodies ≡ [] → m.here.first_type ≡ length k.types → m.here.first_variable ≡ length k.variables → m.here.first_body ≡ length k.bodies → Sound z → Complete z → Ended z → SequenceFits m z false body → IsWellFormed (program_of z body.0 body.1)
@@ -120,9 +124,9 @@ program_fits k m z body no_types no_variables no_bodies first_type first_variabl
     let creates : Creates k z (creations p) =
     f.creates k (λ i x is. absurd (not_there (forms k.types) i x (ap (λ ts. forms ts) no_types) is)) (λ i x is. absurd (not_there k.bodies i x no_bodies is)) first_type first_variable first_body in
     record {
-      types_fit = stand_fit z.types z.types w.types_fit;
+      types_fit = w.types_fit;
       components_lie = components_lie z.types (laid_in z.types z.variables (parts z) w.names);
-      operations_fit = none_have z.types (callable_in p) 0 z.types (stand_bare z.types z.types w.types_fit);
+      operations_fit = all_have z.types (callables z.bodies) w.operations;
       pools_fit = both_parts (list_all (has_known_pool (length z.pools)) z.types) (list_all known (created_in_all z.bodies ++ creations p)) w.housed
           (all_more known (created_in_all z.bodies) (creations p) e.pools creates.pools);
       variables_fit = w.variables_fit;
@@ -133,7 +137,7 @@ program_fits k m z body no_types no_variables no_bodies first_type first_variabl
       initials_fit = second_part front initials f.declares;
       statements_fit = f.own;
       handlers_fit = f.handled;
-      bodies_fit = ended_all z c e;
+      bodies_fit = ended_all z w e;
     }
   where
     not_there : {X : Type 0} (xs : List X) (i : ℕ) (x : X) → xs ≡ [] → slice_get xs i ≡ Some x → ⊥
@@ -180,10 +184,3 @@ frees_own tree program e =
     let p = program_of b.done.1.0 b.done.0.0 b.done.0.1 in
     let free : FreesItsOwn p = record { statements = a.fits.own_frees; handlers = a.fits.handled_frees; bodies = ended_free b.done.1.0 a.ended } in
     subst FreesItsOwn (sym b.form) free
-
--- and its types override no operation
-pub overrides_nothing : (tree : UnitTree) (program : ProgramForm) → Resolves tree program → overrides_none program ≡ true
-overrides_nothing tree program e =
-    let b = body_done tree program e in
-    let z = b.done.1.0 in
-    subst (λ (p : ProgramForm). overrides_none p ≡ true) (sym b.form) (stand_bare z.types z.types (at_end tree program b).sound.types_fit)

@@ -1,6 +1,6 @@
 -- The program that a tree means is read back as the tree: its statements, with the declarations in them, and the whole unit.
 
-use Rattle.std.proofs.Common.{drop, append_assoc, ◌≡◌, ◌∙◌, ℕ, Bool, true, false, List, [], ◌∷◌, ◌++◌, ◌+◌, length, length-append, refl, sym, ap, subst, eq-eqb}
+use Rattle.std.proofs.Common.{drop, append_assoc, ◌≡◌, ◌∙◌, ℕ, Bool, true, false, List, [], ◌∷◌, ◌++◌, ◌+◌, ◌<◌, length, length-append, refl, sym, ap, subst, arith, eqb-true, eq-eqb}
 use Rattle.std.specs.Prelude.{Option, Some, None, ◌==◌, is_some}
 use Rattle.std.specs.List.{slice_get, list_all}
 use Rattle.std.proofs.lemmas.List.{append-nil}
@@ -14,9 +14,14 @@ use Rattle.ada_program.specs.declared.program.VariableKind.TheVariants as variab
 use Rattle.ada_tree.specs.Declarations.{HeadTree}
 use Rattle.ada_program.specs.Form.{calls, DeclarationForm, ExpressionForm, StmtForm, skips, assigns, assigns_record, frees, gets, writes, writes_text, exits, returns, raises, chooses, repeats, counts, encloses, StmtsForm, no_stmts, a_stmt, BranchesForm, otherwise, HandlersForm}
 use Rattle.ada_program.specs.Form as form
-use Rattle.ada_program.specs.ProgramForm.{TypeForm, VariableForm, BodyForm, ProgramForm}
+use Rattle.ada_program.specs.WellFormed.{type_fits}
+use Rattle.ada_program.specs.declared.program.Finalization.{Finalization as Finalized}
+use Rattle.ada_program.specs.ProgramForm.{TypeForm, record_of, VariableForm, BodyForm, ProgramForm}
+use Rattle.ada_resolve.specs.declared.fault.NameRule.TheVariants.{BodyMissing}
+use Rattle.ada_resolve.specs.declared.primitives.Operation.{Operation}
+use Rattle.ada_resolve.specs.Primitives.{answered, operand_of, operation_named, overrider}
 use Rattle.ada_resolve.specs.Clauses.{pool_of}
-use Rattle.ada_resolve.specs.Known.{Known, Part, with_part, left_to, without_part, no_variable_yet, no_body_yet, types_go_on}
+use Rattle.ada_resolve.specs.Known.{Known, Part, Specifications, with_part, left_to, without_part, no_variable_yet, no_body_yet, types_go_on}
 use Rattle.ada_resolve.specs.Instances.{is_collected}
 use Rattle.ada_resolve.specs.Objects.{after_types, ends_types, missing_collections, collections_of}
 use Rattle.ada_resolve.specs.Procedures.{no_formals, with_formals, behind_head, body_of, body_ended}
@@ -26,20 +31,23 @@ use Rattle.ada_resolve.specs.Spots.{end_of, head_spot}
 use Rattle.ada_resolve.specs.declared.library.Withs.{Withs}
 use Rattle.ada_resolve.specs.Naming.{Context, Place, is_one_of}
 use Rattle.ada_resolve.specs.Reading.{read_at, inside, behind, with_new_constant, IsPartRead, IsExpressionRead, IsCallRead, IsSimpleRead, behind_simple, AreChoicesRead, IsStatementRead, AreStatementsRead, AreBranchesRead, AreHandlersRead, IsSequenceRead, IsHeadRead, AreFormalsRead, IsNextBody, IsEndName, in_body, behind_body, first_place, first_context, IsReadAs}
-use Rattle.ada_resolve.proofs.WellFormed.Inherits.{type_stands}
 use Rattle.ada_resolve.proofs.WellFormed.Tables.{get_last, both_parts}
 use Rattle.ada_resolve.proofs.Standing.{Grows, Keeps, complete_grows, gives_same, SequenceStays, sequence_stays, BodyStays, body_stays, ProcedureDone, procedure_done, declarations_done, told_sound, told_keeps, declarations_keep, ended_keeps, head_formals, around_body, ended_is, behind_sound, Sound, Complete, Stays, OthersStay, made_from, first_sound, if_done, loop_done, LoopDone, HeadIs, block_done, declare_done, SequenceDone, sequence_done, statements_done, branch_done, handler_done, simple_done, ended_sound, declarations_sound, begin_complete, part_sound, parameter_sound, parameter_complete, texts_stay, statement_stays, statements_stay, branches_stay, handlers_stay, body_done, BodyDone}
-use Rattle.ada_resolve.proofs.Agreeing.{Agrees, Ahead, Readable, agrees_same, agrees_inside, agrees_parameter, agrees_behind, not_predefined}
+use Rattle.ada_resolve.proofs.Agreeing.{Agrees, Ahead, Readable, agrees_same, agrees_inside, agrees_parameter, agrees_behind, none_specified, not_predefined}
 use Rattle.ada_resolve.proofs.Reading.{simple_read, condition_read, bound_read, choices_read}
-use Rattle.ada_resolve.proofs.Elaborated.{ahead_on, ahead_at, ahead_before, after_agrees, after_none, after_full, PartRead, LateRead, ends_read, nothing_left, part_first, late_none, late_first, complete_back, body_back, body_late}
-use Rattle.ada_resolve.proofs.Heads.{HeadRead, head_read, ended_agrees, ahead_within, body_there}
+use Rattle.ada_resolve.proofs.Elaborated.{Over, after_specified, ahead_on, ahead_at, ahead_before, after_agrees, after_none, after_full, PartRead, LateRead, ends_read, nothing_left, part_first, late_none, late_first, complete_back, body_back, body_late}
+use Rattle.ada_resolve.proofs.Bodied.{Early, Waits, body_waits, early_first}
+use Rattle.ada_resolve.proofs.Heads.{HeadNamed, HeadRead, IsFinalizedRecord, IsOf, IsThere, head_named, head_read, ended_agrees, ahead_within, body_there}
+use Rattle.ada_resolve.proofs.Operating.{is_finalized, no_overrider, operand_is}
+use Rattle.ada_resolve.proofs.WellFormed.Forms.{AreIn, bare_final, forms, longer_types, record_stays}
+use Rattle.ada_resolve.proofs.WellFormed.Remarks.{quiet_unless}
 
 -- where a statement is read: all is in order there, and so are the types of the program
 record Here (k : Known) (p : Context) : Type 0 where
   sound : Sound k
   complete : Complete k
   agrees : Agrees k p.place
-  fit : list_all (type_stands p.types) p.types ≡ true
+  fit : list_all (type_fits p.types) p.types ≡ true
 
 -- what is read at a place, and what is known behind it
 record StatementRead (p : Context) (s : StatementTree) (f : StmtForm) (k : Known) : Type 0 where
@@ -71,7 +79,7 @@ here_as k m p same w = subst (λ v. Here v p) (sym same) w
 ahead_as : (k m : Known) (p : Context) → k ≡ m → Ahead k p → Ahead m p
 ahead_as k m p same w = subst (λ v. Ahead v p) same w
 
-here_behind : (k m : Known) (p : Context) (end : Place) → Stays k m → list_all (type_stands p.types) p.types ≡ true → Agrees m end → Here m (read_at end p)
+here_behind : (k m : Known) (p : Context) (end : Place) → Stays k m → list_all (type_fits p.types) p.types ≡ true → Agrees m end → Here m (read_at end p)
 here_behind k m p end f fit agrees = record { sound = f.sound; complete = f.complete; agrees = agrees; fit = fit }
 
 -- an inner part ends: tables stay
@@ -88,20 +96,22 @@ record SameCounts (k m : Known) : Type 0 where
   texts : length k.texts ≡ length m.texts
   bodies : length k.bodies ≡ length m.bodies
   controlled : k.controlled ≡ m.controlled
+  limited : k.limited ≡ m.limited
+  overridden : (o : Operation) (t : ℕ) → overrider o k.types t ≡ overrider o m.types t
 
 left_counts : (m : Known) (outer : List Part) → SameCounts (left_to outer m) m
-left_counts m [] = record { types = refl; pools = refl; placed = λ t. refl; variables = refl; exceptions = refl; texts = refl; bodies = refl; controlled = refl }
-left_counts m (part ∷ outer) = record { types = refl; pools = refl; placed = λ t. refl; variables = refl; exceptions = refl; texts = refl; bodies = refl; controlled = refl }
+left_counts m [] = record { types = refl; pools = refl; placed = λ t. refl; variables = refl; exceptions = refl; texts = refl; bodies = refl; controlled = refl; limited = refl; overridden = λ o t. refl }
+left_counts m (part ∷ outer) = record { types = refl; pools = refl; placed = λ t. refl; variables = refl; exceptions = refl; texts = refl; bodies = refl; controlled = refl; limited = refl; overridden = λ o t. refl }
 
 agrees_left : (k m z : Known) (place end : Place) → Stays k z → z ≡ without_part m → Agrees k place → Agrees m end → Agrees z (behind place end)
 agrees_left k m z place end f is w v =
     let c : SameCounts z m = subst (λ u. SameCounts u m) (sym is) (left_counts m m.outer) in
-    agrees_behind k m z place end (ap (λ (x : Part). x.names) f.here) (ap (λ (x : Part). x.first_type) f.here) (ap (λ (x : Part). x.around) f.here) f.outer c.types c.bodies c.variables c.exceptions c.texts c.pools c.placed c.controlled w v
+    agrees_behind k m z place end (ap (λ (x : Part). x.names) f.here) (ap (λ (x : Part). x.first_type) f.here) (ap (λ (x : Part). x.around) f.here) f.outer c.types c.bodies c.variables c.exceptions c.texts c.pools c.placed c.controlled c.limited (ap (λ (x : Part). x.specified) f.here) c.overridden w v
 
 -- behind a statement with no others in it, where the texts that it writes are counted
 no_texts : (k : Known) (place : Place) → Agrees k place → Agrees (with_texts [] k) place
 no_texts k place w =
-    agrees_same k (with_texts [] k) place refl refl refl refl refl refl refl refl (ap (λ (ts : List (List ℕ)). length ts) (append-nil k.texts)) refl (λ t. refl) refl w
+    agrees_same k (with_texts [] k) place refl refl refl refl refl refl refl refl (ap (λ (ts : List (List ℕ)). length ts) (append-nil k.texts)) refl (λ t. refl) refl refl refl (λ o t. refl) w
 
 one_text : (k : Known) (place : Place) (text : List ℕ) → Agrees k place → Agrees (with_texts (text ∷ []) k) (record place { texts = place.texts + 1 })
 one_text k place text w = record {
@@ -115,6 +125,9 @@ one_text k place text w = record {
   variables = w.variables;
   exceptions = w.exceptions;
   controlled = w.controlled;
+  limited = w.limited;
+  specified = w.specified;
+  overridden = w.overridden;
   texts = ap (λ (n : ℕ). n + 1) w.texts ∙ sym (length-append k.texts (text ∷ []));
 }
 
@@ -185,12 +198,12 @@ record SequenceRead (p : Context) (body : SequenceTree) (fs : SequenceForm) (k :
 record Begun (k : Known) (p : Context) : Type 0 where
   sound : Sound k
   agrees : Agrees k p.place
-  fit : list_all (type_stands p.types) p.types ≡ true
+  fit : list_all (type_fits p.types) p.types ≡ true
 
 -- how the parts of a body are read, wherever it stands
 abbrev ReadsPart : DeclarationsTree → Type 0
 ReadsPart ds =
-    (q : Context) (at after : At) → Begun at.0 q → types_go_on at.0 ≡ true → Complete after.0 → Ahead after.0 q → declarations_told ds at ≡ gives after → PartRead q ds at.0 after.0
+    (q : Context) (at after : At) → Begun at.0 q → Early at.0 q.place → types_go_on at.0 ≡ true → Over after.0 → Ahead after.0 q → declarations_told ds at ≡ gives after → PartRead q ds at.0 after.0
 
 abbrev ReadsSequence : Bool → SequenceTree → Type 0
 ReadsSequence inside_loop body =
@@ -231,10 +244,20 @@ sequence_one p inside_loop start ss hs last at done w ahead d reads handles =
     handlers : HandlersRead (read_at statements.end p) hs d.handled.0 d.handled.1.0
     handlers = handles statements.end d.own.1 d.handled (here_behind d.ready.0 d.own.1.0 p statements.end first w.fit statements.agrees) (ahead_at d.handled.1.0 p statements.end last_ahead) d.handlers_so
 
+-- no operation waits for its body there
+part_over : (inside_loop : Bool) (body : SequenceTree) (at : At) (done : SequenceForm × At) → Complete at.0 → sequence_told inside_loop body at ≡ gives done → Over at.0
+part_over inside_loop (a_sequence start ss hs last) at done c e =
+    let d = sequence_done inside_loop start ss hs last at done e in
+    let n = at.0.here.specified.awaited in
+    record { complete = c; awaited = eqb-true n 0 (quiet_unless (n == 0) start BodyMissing d.quiet.1) }
+
 -- an inner part begins
 inner_begun : (k m : Known) (p : Context) → m ≡ with_part k → Here k p → Begun m (read_at (inside p.place) p)
 inner_begun k m p is w =
     subst (λ v. Begun v (read_at (inside p.place) p)) (sym is) (record { sound = part_sound k w.sound w.complete; agrees = agrees_inside k p.place w.agrees; fit = w.fit })
+
+block_early : (k : Known) (place : Place) → Agrees k place → Early (with_part k) (inside place)
+block_early k place w = early_first (with_part k) (inside place) (agrees_inside k place w) refl refl (λ o t. refl)
 
 part_goes_on : (k : Known) → types_go_on (with_part k) ≡ true
 part_goes_on k = both_parts (no_variable_yet (with_part k)) (no_body_yet (with_part k)) (eq-eqb (length k.variables) (length k.variables) refl) (eq-eqb (length k.bodies) (length k.bodies) refl)
@@ -266,24 +289,37 @@ block_ahead : (p : Context) (m z : Known) → z ≡ without_part m → Ahead z p
 block_ahead p m z is ahead = ahead_at m p (inside p.place) (left_ahead m m.outer p (ahead_as z (without_part m) p is ahead))
 
 -- the body of a procedure, with its head, and what is known behind it
-record ProcedureRead (p : Context) (head : HeadTree) (inner : DeclarationsTree) (body : SequenceTree) (end_name : Option Ident) (m : Known) : Type 0 where
+record ProcedureRead (p : Context) (head : HeadTree) (inner : DeclarationsTree) (body : SequenceTree) (end_name : Option Ident) (k m : Known) : Type 0 where
   b : BodyForm
+  overrides : Option (Operation × ℕ)
   formals : Place
   declared : Place
   done : Place
-  head_so : IsHeadRead p head
-  formals_so : AreFormalsRead (in_body head.name b p) p.place head.formals b.formals formals
-  part_so : IsPartRead (read_at formals (in_body head.name b p)) (Some []) inner b.declarations declared
-  body_so : IsSequenceRead (read_at declared (in_body head.name b p)) body b.statements b.handlers done
+  head_so : IsHeadRead p head overrides
+  formals_so : AreFormalsRead (in_body overrides head.name b p) p.place head.formals b.formals formals
+  part_so : IsPartRead (read_at formals (in_body overrides head.name b p)) (Some []) inner b.declarations declared
+  body_so : IsSequenceRead (read_at declared (in_body overrides head.name b p)) body b.statements b.handlers done
   next_so : IsNextBody p b head body formals done
   end_so : IsEndName head.name.text end_name
-  agrees : Agrees m (behind_body head.name p.place done)
+  agrees : Agrees m (behind_body overrides head.name p.place done)
+  waits : Waits k p.place → Waits m (behind_body overrides head.name p.place done)
 
 inner_goes_on : (k : Known) (head : HeadTree) → types_go_on (behind_head k head) ≡ true
 unfolding behind_head
 inner_goes_on k head =
     let f = with_formals k head.formals no_formals in
     both_parts (length f.variables == length f.variables) (length k.bodies == length k.bodies) (eq-eqb (length f.variables) (length f.variables) refl) (eq-eqb (length k.bodies) (length k.bodies) refl)
+
+-- nothing is specified in it yet
+inner_early : (k : Known) (head : HeadTree) (place : Place) → Agrees (behind_head k head) place → Early (behind_head k head) place
+unfolding behind_head
+inner_early k head place w = early_first (behind_head k head) place w refl refl (λ o t. w.specified o t ∙ sym (none_specified o t))
+
+named_alike : (o : Option Operation) (overrides : Option (Operation × ℕ)) → IsOf o overrides → is_some o ≡ is_some overrides
+named_alike None None is = refl
+named_alike (Some o) (Some which) is = refl
+named_alike None (Some which) is = absurd is
+named_alike (Some o) None is = absurd is
 
 inner_elaborated : (k : Known) (head : HeadTree) → (behind_head k head).here.elaborated ≡ []
 unfolding behind_head
@@ -293,9 +329,21 @@ inner_modes : (k : Known) (head : HeadTree) → length (behind_head k head).here
 unfolding behind_head
 inner_modes k head = (head_formals k head.formals).modes
 
-procedure_read : (p : Context) (head : HeadTree) (inner : DeclarationsTree) (body : SequenceTree) (end_name : Option Ident) (at next : At) → Begun at.0 p → Ahead next.0 p → ProcedureDone head inner body end_name at next → ReadsPart inner → ReadsSequence false body → ProcedureRead p head inner body end_name next.0
+-- a record type with controlled parts stays one
+finalized_stays : (types more : List TypeForm) → AreIn (forms types) (forms more) → (t : ℕ) → IsFinalizedRecord types t → IsFinalizedRecord more t
+finalized_stays types more g t (name, ps, cs, f, is) =
+    let last = record_stays types more g t name ps cs (Some f) is in
+    let some = some_final last.0 f last.2 in
+    (name, ps, cs, some.0, last.1 ∙ ap (λ (z : Option Finalized). Some (record_of name ps cs z)) some.1)
+  where
+    some_final : (z : Option Finalized) (f : Finalized) → bare_final z ≡ bare_final (Some f) → (g : Finalized) × (z ≡ Some g)
+    some_final (Some g) f e = (g, refl)
+    some_final None f e = absurd (cc e)
+
+procedure_read : (p : Context) (head : HeadTree) (inner : DeclarationsTree) (body : SequenceTree) (end_name : Option Ident) (at next : At) → Begun at.0 p → Ahead next.0 p → ProcedureDone head inner body end_name at next → ReadsPart inner → ReadsSequence false body → ProcedureRead p head inner body end_name at.0 next.0
 procedure_read p head inner body end_name at next w ahead d part_so sequence_so = record {
   b = b;
+  overrides = h.overrides;
   formals = first.end;
   declared = part.end;
   done = sequence.end;
@@ -305,8 +353,18 @@ procedure_read p head inner body end_name at next w ahead d part_so sequence_so 
   body_so = sequence.read;
   next_so = (body_there k z head d.done.0.0 d.done.0.1 (head_spot head) (end_of body) p sequence.end stays.done_in next_ahead sequence.agrees, formals_count, sym sequence.agrees.variables, refl, refl);
   end_so = d.end_so;
-  agrees = subst (λ v. Agrees v (behind_body head.name p.place sequence.end)) (sym d.known)
-      (ended_agrees k z head d.done.0.0 d.done.0.1 (head_spot head) (end_of body) p.place sequence.end stays.done_in agrees sequence.agrees);
+  agrees = subst (λ v. Agrees v (behind_body h.overrides head.name p.place sequence.end)) (sym d.known)
+      (ended_agrees k z head h.overrides d.done.0.0 d.done.0.1 (head_spot head) (end_of body) p.place sequence.end stays.done_in h.is_of there agrees sequence.agrees);
+  waits = λ w.
+      let types = agrees.types in
+      let behind = sequence.agrees.types in
+      let longer = longer_types k.types z.types stays.done_in.types in
+      body_waits at.0 next.0 p head h.overrides (operation_named head.name.text) head.name sequence.end first.head_so
+      (named_alike (operation_named head.name.text) h.overrides h.is_of)
+      (λ o t is. sym (sequence.agrees.overridden o t) ∙ (stays.done_in.overriders o t (subst (λ (n : ℕ). t < n) agrees.types (w.below o t is)) ∙ agrees.overridden o t))
+      (omega (arith, types, behind, longer))
+      (ap (λ (v : Known). v.here.specified) (d.known ∙ ended_is (around_body k head) z head.name d.done.0.0 d.done.0.1 (head_spot head) (end_of body) stays.done_in) ∙
+      ap (λ (ss : Specifications). answered (operation_named head.name.text) ss) (after_specified at.0)) w;
 }
   where
     k : Known
@@ -318,8 +376,11 @@ procedure_read p head inner body end_name at next w ahead d part_so sequence_so 
     b : BodyForm
     b = body_of z d.done.0.0 d.done.0.1 (head_spot head) (end_of body)
 
+    h : HeadNamed k head
+    h = head_named k head d.quiet
+
     q : Context
-    q = in_body head.name b p
+    q = in_body h.overrides head.name b p
 
     stays : BodyStays at d.inner d.behind next head d.done
     stays = body_stays head inner body end_name at next d w.sound
@@ -331,7 +392,7 @@ procedure_read p head inner body end_name at next w ahead d part_so sequence_so 
     next_ahead = ahead_as next.0 (body_ended head.name d.done.0.0 d.done.0.1 (head_spot head) (end_of body) z) p d.known ahead
 
     z_ahead : Ahead z q
-    z_ahead = ahead_within k z head d.done.0.0 d.done.0.1 (head_spot head) (end_of body) p stays.done_in next_ahead
+    z_ahead = ahead_within k z head h.overrides d.done.0.0 d.done.0.1 (head_spot head) (end_of body) p stays.done_in next_ahead
 
     behind_ahead : Ahead d.behind.0 q
     behind_ahead = ahead_before d.behind.0 q (ahead_on (after_types d.behind.0) z q stays.sequence.stays.grows z_ahead)
@@ -345,13 +406,26 @@ procedure_read p head inner body end_name at next w ahead d part_so sequence_so 
     inner_ahead : Ahead (behind_head k head) q
     inner_ahead = ahead_as d.inner.0 (behind_head k head) q d.inner_known (ahead_on d.inner.0 d.behind.0 q inner_grows behind_ahead)
 
-    first : HeadRead p head b (behind_head k head)
-    first = head_read k p head b stays.before agrees d.quiet inner_ahead
+    first : HeadRead p head h.overrides b (behind_head k head)
+    first = head_read k p head b h stays.before agrees d.quiet inner_ahead
+
+    -- what it overrides is there at its end
+    there : IsThere h.overrides z.types (operand_of z.types z.here.modes z.variables)
+    there = by_overrides h.overrides refl
+      where
+        by_overrides : (overrides : Option (Operation × ℕ)) → h.overrides ≡ overrides → IsThere overrides z.types (operand_of z.types z.here.modes z.variables)
+        by_overrides None is = tt
+        by_overrides (Some which) is =
+            let found = h.operand which is in
+            let own = operand_is k which.0 head which.1 found.1 in
+            let had = is_finalized k.types which.1 stays.before.types_fit own.controlled in
+            (stays.operand which.0 which.1 found.0 found.1, finalized_stays k.types z.types stays.done_in.types which.1 had)
 
     part : PartRead (read_at first.end q) inner d.inner.0 d.behind.0
     part = part_so (read_at first.end q) d.inner d.behind
         (record { sound = stays.inner_sound; agrees = subst (λ v. Agrees v first.end) (sym d.inner_known) first.agrees; fit = w.fit })
-        (ap (λ (v : Known). types_go_on v) d.inner_known ∙ inner_goes_on k head) stays.sequence.complete (ahead_at d.behind.0 q first.end behind_ahead) d.declared
+        (subst (λ v. Early v first.end) (sym d.inner_known) (inner_early k head first.end first.agrees))
+        (ap (λ (v : Known). types_go_on v) d.inner_known ∙ inner_goes_on k head) (part_over false body d.behind d.done stays.sequence.complete d.told) (ahead_at d.behind.0 q first.end behind_ahead) d.declared
 
     sequence : SequenceRead (read_at part.end q) body d.done.0 z
     sequence = sequence_so (read_at part.end q) d.behind d.done (record { sound = stays.behind_in.sound; agrees = part.agrees; fit = w.fit }) (ahead_at z q part.end z_ahead) d.told
@@ -376,22 +450,22 @@ procedure_read p head inner body end_name at next w ahead d part_so sequence_so 
     formals_count = ap (λ (ms : List FormalMode). length ms) same_modes ∙ (inner_modes k head ∙ sym first.agrees.variables)
 
 -- a body among types, and one behind another
-body_first : (p : Context) (head : HeadTree) (inner : DeclarationsTree) (body : SequenceTree) (end_name : Option Ident) (ds : DeclarationsTree) (at next after : At) → Agrees at.0 p.place → types_go_on at.0 ≡ true → Complete at.0 → Ahead at.0 p → next.0.here.elaborated ≡ (after_types at.0).here.elaborated → (r : ProcedureRead p head inner body end_name next.0) → LateRead (read_at (behind_body head.name p.place r.done) p) ds next.0 after.0 → PartRead p (a_declaration (body_declaration head inner body end_name) ds) at.0 after.0
+body_first : (p : Context) (head : HeadTree) (inner : DeclarationsTree) (body : SequenceTree) (end_name : Option Ident) (ds : DeclarationsTree) (at next after : At) → Agrees at.0 p.place → types_go_on at.0 ≡ true → Complete at.0 → Ahead at.0 p → next.0.here.elaborated ≡ (after_types at.0).here.elaborated → (r : ProcedureRead p head inner body end_name at.0 next.0) → LateRead (read_at (behind_body r.overrides head.name p.place r.done) p) ds next.0 after.0 → PartRead p (a_declaration (body_declaration head inner body end_name) ds) at.0 after.0
 body_first p head inner body end_name ds at next after w go c ahead same r on = record {
   forms = missing_collections at.0 ++ on.forms;
   end = on.end;
   elaborated = on.elaborated ∙ (ap (λ (es : List DeclarationForm). es ++ on.forms) (same ∙ ap (λ (v : Known). v.here.elaborated) (after_none at.0 go)) ∙
       append_assoc at.0.here.elaborated (missing_collections at.0) on.forms);
-  read = λ made collected. (r.b, on.forms, r.formals, r.declared, r.done, ends_read at.0 p on.forms w c ahead made collected, r.head_so, r.formals_so, r.part_so, r.body_so, r.next_so, r.end_so, on.read);
+  read = λ made collected. (r.b, on.forms, r.overrides, r.formals, r.declared, r.done, ends_read at.0 p on.forms w c ahead made collected, r.head_so, r.formals_so, r.part_so, r.body_so, r.next_so, r.end_so, on.read);
   agrees = on.agrees;
 }
 
-body_later : (p : Context) (head : HeadTree) (inner : DeclarationsTree) (body : SequenceTree) (end_name : Option Ident) (ds : DeclarationsTree) (at next after : At) → types_go_on at.0 ≡ false → next.0.here.elaborated ≡ (after_types at.0).here.elaborated → (r : ProcedureRead p head inner body end_name next.0) → LateRead (read_at (behind_body head.name p.place r.done) p) ds next.0 after.0 → LateRead p (a_declaration (body_declaration head inner body end_name) ds) at.0 after.0
+body_later : (p : Context) (head : HeadTree) (inner : DeclarationsTree) (body : SequenceTree) (end_name : Option Ident) (ds : DeclarationsTree) (at next after : At) → types_go_on at.0 ≡ false → next.0.here.elaborated ≡ (after_types at.0).here.elaborated → (r : ProcedureRead p head inner body end_name at.0 next.0) → LateRead (read_at (behind_body r.overrides head.name p.place r.done) p) ds next.0 after.0 → LateRead p (a_declaration (body_declaration head inner body end_name) ds) at.0 after.0
 body_later p head inner body end_name ds at next after late same r on = record {
   forms = on.forms;
   end = on.end;
   elaborated = on.elaborated ∙ ap (λ (es : List DeclarationForm). es ++ on.forms) (same ∙ ap (λ (v : Known). v.here.elaborated) (after_full at.0 late));
-  read = (r.b, on.forms, r.formals, r.declared, r.done, refl, r.head_so, r.formals_so, r.part_so, r.body_so, r.next_so, r.end_so, on.read);
+  read = (r.b, on.forms, r.overrides, r.formals, r.declared, r.done, refl, r.head_so, r.formals_so, r.part_so, r.body_so, r.next_so, r.end_so, on.read);
   agrees = on.agrees;
 }
 
@@ -511,7 +585,7 @@ mutual
       let own = sequence_stays inside_loop body d.behind d.body_done behind_sound d.told in
       let last = block_ahead p m done.1.0 d.known ahead in
       let behind_ahead = ahead_before d.behind.0 q (ahead_on (after_types d.behind.0) m q own.stays.grows last) in
-      let part = part_read q ds d.inner d.behind begun (types_inside at.0 d.inner.0 d.inner_known) own.complete behind_ahead d.declared in
+      let part = part_read q ds d.inner d.behind begun (subst (λ v. Early v (inside p.place)) (sym d.inner_known) (block_early at.0 p.place w.agrees)) (types_inside at.0 d.inner.0 d.inner_known) (part_over inside_loop body d.behind d.body_done own.complete d.told) behind_ahead d.declared in
       let r = sequence_read (read_at part.end q) inside_loop body d.behind d.body_done (record { sound = behind_sound; agrees = part.agrees; fit = w.fit }) (ahead_at m q part.end last) d.told in
       let nothing : d.inner.0.here.elaborated ≡ [] = ap (λ (v : Known). v.here.elaborated) d.inner_known in
       let elaborated : m.here.elaborated ≡ part.forms = ap (λ (x : Part). x.elaborated) own.stays.here ∙
@@ -534,49 +608,49 @@ mutual
       (λ place before out here there told. handlers_read (read_at place p) inside_loop hs before out here there told)
 
   -- the declarations, from one on where the types go on
-  part_read : (p : Context) (ds : DeclarationsTree) (at after : At) → Begun at.0 p → types_go_on at.0 ≡ true → Complete after.0 → Ahead after.0 p → declarations_told ds at ≡ gives after → PartRead p ds at.0 after.0
-  part_read p no_declarations at after w go c ahead e =
+  part_read : (p : Context) (ds : DeclarationsTree) (at after : At) → Begun at.0 p → Early at.0 p.place → types_go_on at.0 ≡ true → Over after.0 → Ahead after.0 p → declarations_told ds at ≡ gives after → PartRead p ds at.0 after.0
+  part_read p no_declarations at after w early go c ahead e =
       let same = gives_same e in
       subst (λ (v : At). PartRead p no_declarations at.0 v.0) same
-      (nothing_left at.0 p w.agrees go (subst (λ (v : At). Complete v.0) (sym same) c) (subst (λ (v : At). Ahead v.0 p) (sym same) ahead))
-  part_read p (a_declaration (body_declaration head inner body end_name) ds) at after w go c ahead e =
+      (nothing_left at.0 p w.agrees early.waits go (subst (λ (v : At). Over v.0) (sym same) c) (subst (λ (v : At). Ahead v.0 p) (sym same) ahead))
+  part_read p (a_declaration (body_declaration head inner body end_name) ds) at after w early go c ahead e =
       let d = body_declaration head inner body end_name in
       let done = declarations_done d ds at after e in
       let own = procedure_done head inner body end_name at done.next done.one in
       let sound = told_sound d at done.next w.sound done.one in
       let late = body_late head inner body end_name at done.next own w.sound in
-      let next_complete = complete_back ds done.next after sound late done.told c in
+      let next_complete = complete_back ds done.next after sound late done.told c.complete in
       let complete = body_back head inner body end_name at done.next own w.sound next_complete in
       let next_ahead = ahead_on done.next.0 after.0 p (complete_grows done.next.0 after.0 next_complete (declarations_keep ds done.next after sound done.told)) ahead in
       let at_ahead = ahead_on at.0 done.next.0 p (complete_grows at.0 done.next.0 complete (told_keeps d at done.next w.sound done.one)) next_ahead in
       let r = procedure_read p head inner body end_name at done.next w next_ahead own
-      (λ q before out begun going full there told. part_read q inner before out begun going full there told)
+      (λ q before out begun early going full there told. part_read q inner before out begun early going full there told)
       (λ q before out begun there told. sequence_read q false body before out begun there told) in
-      let place = behind_body head.name p.place r.done in
-      let on = late_read (read_at place p) ds done.next after (record { sound = sound; agrees = r.agrees; fit = w.fit }) late c (ahead_at after.0 p place ahead) done.told in
+      let place = behind_body r.overrides head.name p.place r.done in
+      let on = late_read (read_at place p) ds done.next after (record { sound = sound; agrees = r.agrees; fit = w.fit }) (r.waits early.waits) late c (ahead_at after.0 p place ahead) done.told in
       body_first p head inner body end_name ds at done.next after w.agrees go complete at_ahead (body_elaborates head inner body end_name at done.next own w.sound) r on
-  part_read p (a_declaration d ds) at after w go c ahead e =
-      part_first p d ds at after tt w.sound w.agrees go c ahead w.fit e
-      (λ q next sound agrees going there fit told. part_read q ds next after (record { sound = sound; agrees = agrees; fit = fit }) going c there told)
+  part_read p (a_declaration d ds) at after w early go c ahead e =
+      part_first p d ds at after tt w.sound w.agrees early go c ahead w.fit e
+      (λ q next sound agrees begun going there fit told. part_read q ds next after (record { sound = sound; agrees = agrees; fit = fit }) begun going c there told)
 
   -- from one on where they have ended
-  late_read : (p : Context) (ds : DeclarationsTree) (at after : At) → Begun at.0 p → types_go_on at.0 ≡ false → Complete after.0 → Ahead after.0 p → declarations_told ds at ≡ gives after → LateRead p ds at.0 after.0
-  late_read p no_declarations at after w late c ahead e = late_none p at after w.agrees late e
-  late_read p (a_declaration (body_declaration head inner body end_name) ds) at after w late c ahead e =
+  late_read : (p : Context) (ds : DeclarationsTree) (at after : At) → Begun at.0 p → Waits at.0 p.place → types_go_on at.0 ≡ false → Over after.0 → Ahead after.0 p → declarations_told ds at ≡ gives after → LateRead p ds at.0 after.0
+  late_read p no_declarations at after w waits late c ahead e = late_none p at after w.agrees waits late c e
+  late_read p (a_declaration (body_declaration head inner body end_name) ds) at after w waits late c ahead e =
       let d = body_declaration head inner body end_name in
       let done = declarations_done d ds at after e in
       let own = procedure_done head inner body end_name at done.next done.one in
       let sound = told_sound d at done.next w.sound done.one in
       let next_late = body_late head inner body end_name at done.next own w.sound in
-      let next_complete = complete_back ds done.next after sound next_late done.told c in
+      let next_complete = complete_back ds done.next after sound next_late done.told c.complete in
       let next_ahead = ahead_on done.next.0 after.0 p (complete_grows done.next.0 after.0 next_complete (declarations_keep ds done.next after sound done.told)) ahead in
       let r = procedure_read p head inner body end_name at done.next w next_ahead own
-      (λ q before out begun going full there told. part_read q inner before out begun going full there told)
+      (λ q before out begun early going full there told. part_read q inner before out begun early going full there told)
       (λ q before out begun there told. sequence_read q false body before out begun there told) in
-      let place = behind_body head.name p.place r.done in
-      let on = late_read (read_at place p) ds done.next after (record { sound = sound; agrees = r.agrees; fit = w.fit }) next_late c (ahead_at after.0 p place ahead) done.told in
+      let place = behind_body r.overrides head.name p.place r.done in
+      let on = late_read (read_at place p) ds done.next after (record { sound = sound; agrees = r.agrees; fit = w.fit }) (r.waits waits) next_late c (ahead_at after.0 p place ahead) done.told in
       body_later p head inner body end_name ds at done.next after late (body_elaborates head inner body end_name at done.next own w.sound) r on
-  late_read p (a_declaration d ds) at after w late c ahead e = late_first p d ds at after tt w.sound w.agrees late c ahead e
+  late_read p (a_declaration d ds) at after w waits late c ahead e = late_first p d ds at after tt w.sound w.agrees waits late c ahead e
 
   statements_read : (p : Context) (inside_loop : Bool) (ss : StatementsTree) (at : At) (done : StmtsForm × At) → Here at.0 p → Ahead done.1.0 p → statements_told inside_loop ss at ≡ gives done → StatementsRead p ss done.0 done.1.0
   statements_read p inside_loop no_statements at done w ahead e =
@@ -643,7 +717,10 @@ mutual
 -- nothing is bound before the first declaration
 first_agrees : (withs : Withs) (procedure : List ℕ) → Agrees (known_first withs procedure) first_place
 unfolding pool_of
-first_agrees withs procedure = record { here = λ text. refl; outer = λ text. refl; first_type = refl; types = refl; pools = refl; placed = λ t. refl; bodies = refl; variables = refl; exceptions = refl; texts = refl; controlled = refl }
+first_agrees withs procedure = record { here = λ text. refl; outer = λ text. refl; first_type = refl; types = refl; pools = refl; placed = λ t. refl; bodies = refl; variables = refl; exceptions = refl; texts = refl; controlled = refl; limited = λ t. refl; specified = none_specified; overridden = none_overridden }
+  where
+    none_overridden : (o : Operation) (t : ℕ) → overrider o [] t ≡ None
+    none_overridden o t = no_overrider o t
 
 -- a whole unit
 unit_read : (tree : UnitTree) (p : ProgramForm) (b : BodyDone tree p) → IsReadAs tree p
@@ -663,6 +740,7 @@ unit_read tree p b = subst (λ v. IsReadAs tree v) (sym b.form) (record {
     texts = sym sequence.agrees.texts;
   };
   placed = λ t n has. sequence.agrees.placed t ∙ ap (λ (o : Option ℕ). is_some o) has;
+  overridden = sequence.agrees.overridden;
 })
   where
     z : Known
@@ -690,7 +768,7 @@ unit_read tree p b = subst (λ v. IsReadAs tree v) (sym b.form) (record {
     behind_ahead = ahead_before b.behind.0 c (ahead_on (after_types b.behind.0) z c own.stays.grows ahead)
 
     part : PartRead c tree.declarations b.first.0 b.behind.0
-    part = part_read c tree.declarations b.first b.behind begun (ap (λ (v : Known). types_go_on v) b.first_known) own.complete behind_ahead b.declared
+    part = part_read c tree.declarations b.first b.behind begun (early_first b.first.0 first_place begun.agrees (ap (λ (v : Known). v.here.first_type) b.first_known ∙ ap (λ (v : Known). length v.types) (sym b.first_known)) (ap (λ (v : Known). v.here.specified.awaited) b.first_known) (λ o t. refl)) (ap (λ (v : Known). types_go_on v) b.first_known) (part_over false tree.body b.behind b.done own.complete b.told) behind_ahead b.declared
 
     sequence : SequenceRead (read_at part.end c) tree.body b.done.0 z
     sequence = sequence_read (read_at part.end c) false tree.body b.behind b.done (record { sound = behind; agrees = part.agrees; fit = own.stays.sound.types_fit }) (ahead_at z c part.end ahead) b.told

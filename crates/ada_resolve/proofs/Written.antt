@@ -1,6 +1,6 @@
 -- What each declaration writes is what is known after it.
 
-use Rattle.std.proofs.Common.{◌≡◌, ◌∙◌, zero, suc, inl, inr, ℕ, ◌+◌, Bool, true, false, ◌||◌, cond, List, [], ◌∷◌, ◌++◌, length, append_assoc, refl, sym, ap, subst, eqb, eqb-true}
+use Rattle.std.proofs.Common.{◌≡◌, ◌∙◌, zero, suc, inl, inr, ℕ, ◌+◌, ◌<◌, Bool, true, false, ◌||◌, cond, List, [], ◌∷◌, ◌++◌, length, append_assoc, refl, sym, ap, subst, eqb, eqb-true}
 use Rattle.std.specs.Prelude.{Option, Some, None, codes, bytes_eq, is_some}
 use Rattle.std.specs.List.{slice_get, list_all, list_any}
 use Rattle.std.proofs.lemmas.List.Folds.{list_any-append}
@@ -41,11 +41,10 @@ use Rattle.ada_resolve.specs.Naming.{Context, IsNumberNamed, IsStaticRead, IsKin
 use Rattle.ada_resolve.specs.Reading.{AreInitialItems, IsInitialRead}
 use Rattle.ada_resolve.specs.Rights.{Assigned, a_value, a_whole}
 use Rattle.ada_resolve.specs.Paths.{name_of_type, elementary_of}
-use Rattle.ada_resolve.proofs.WellFormed.Inherits.{type_stands}
 use Rattle.ada_resolve.proofs.WellFormed.Remarks.{Quiet, quiet_if, quiet_unless}
 use Rattle.ada_resolve.proofs.WellFormed.Names.{EntityFits, PartsFit, same_text, visible_fits}
-use Rattle.ada_resolve.proofs.WellFormed.Laid.{OfParts, RecordHas, append_none, elementary_same, laid_stays}
-use Rattle.ada_resolve.proofs.WellFormed.Numbered.{order_alike, positive}
+use Rattle.ada_resolve.proofs.WellFormed.Laid.{OfParts, RecordHas, append_none, elementary_is, laid_stays}
+use Rattle.ada_resolve.proofs.WellFormed.Numbered.{IsFinalizedAlike, order_alike, positive}
 use Rattle.ada_resolve.proofs.WellFormed.Types.{IsBegun, made_has, made_laid, made_order}
 use Rattle.ada_resolve.proofs.WellFormed.Tables.{first_part, second_part}
 use Rattle.ada_resolve.proofs.Agreeing.{Agrees, EntityRead, Readable, visible_read}
@@ -53,7 +52,7 @@ use Rattle.ada_resolve.proofs.ComponentLists.{in_more}
 use Rattle.ada_resolve.proofs.Keeping.{HasName, has_name, Lasts}
 use Rattle.ada_resolve.proofs.Standing.{Sound, IsSettled, visible_settled}
 use Rattle.ada_resolve.proofs.WellFormed.Forms as forms
-use Rattle.ada_resolve.proofs.WellFormed.Forms.{access_stays, access_there, get_form, record_stays}
+use Rattle.ada_resolve.proofs.WellFormed.Forms.{access_stays, access_there, bare_final, get_form, record_stays, same_final}
 use Rattle.ada_resolve.proofs.Reading.{FoundRight, right_read, empty_is, no_name}
 
 -- what declarations are read by, where a type may be incomplete
@@ -97,8 +96,9 @@ no_value k (Some (minus spot n)) q = absurd q
 no_value k (Some (static_name name)) q = absurd q.1
 
 -- a record type that is settled is that of the program
-record_lasts : (k : Known) (p : Context) → Lasts k p → (t : ℕ) (name : List ℕ) (ps : List PartForm) (cs : List ComponentKind) (final : Option Finalized) → slice_get k.types t ≡ Some (record_of name ps cs final) → IsSettled k t → slice_get p.types t ≡ Some (record_of name ps cs final)
-record_lasts k p w t name ps cs final is settled = forms.record_there p.types t name ps cs final (w.settled t (record_of name ps cs final) (get_form k.types t (record_of name ps cs final) is) settled)
+pub record_lasts : (k : Known) (p : Context) → Lasts k p → (t : ℕ) (name : List ℕ) (ps : List PartForm) (cs : List ComponentKind) (final : Option Finalized) → slice_get k.types t ≡ Some (record_of name ps cs final) → IsSettled k t → (z : Option Finalized) × (slice_get p.types t ≡ Some (record_of name ps cs z)) × (bare_final z ≡ bare_final final)
+record_lasts k p w t name ps cs final is settled =
+    forms.record_there p.types t name ps cs (bare_final final) (w.settled t (record_of name ps cs (bare_final final)) (get_form k.types t (record_of name ps cs final) is) settled)
 
 kind_read : (k : Known) (p : Context) (name type_name : Ident) (initial : Option StaticTree) (o : Option Entity) → Legible k p → visible k type_name.text ≡ o → ((e : Entity) → o ≡ Some e → EntityFits k.types k.variables type_name.text e) → ((e : Entity) → o ≡ Some e → EntityRead p type_name.text e) → Quiet (kind_wanted o k (record { name = name; type_name = type_name; initial = initial })) → IsKindRead p (record { name = name; type_name = type_name; initial = initial }) (kind_in o k initial)
 kind_read k p name type_name initial (Some entity.Integer) w is f t q = integer_read k p name type_name initial w (t entity.Integer refl) q
@@ -108,16 +108,9 @@ kind_read k p name type_name initial (Some (entity.Access a)) w is f t q =
     let last = access_there p.types a.0 type_name.text there.0 (w.lasts.accesses a.0 type_name.text there.0 (get_form k.types a.0 (access_to type_name.text there.0 there.1) there.2)) in
     ((t (entity.Access a) refl, there.0, last.0, last.1), no_value k initial q)
 kind_read k p name type_name initial (Some (entity.Record u size)) w is f t q =
-    let there = f (entity.Record u size) refl in (
-      (
-        t (entity.Record u size) refl,
-        there.0,
-        there.1,
-        there.2,
-        record_lasts k p w.lasts u.0 type_name.text there.0 there.1 there.2 there.3 (visible_settled k type_name.text u size w.sound is),
-      ),
-      no_value k initial q,
-    )
+    let there = f (entity.Record u size) refl in
+    let last = record_lasts k p w.lasts u.0 type_name.text there.0 there.1 there.2 there.3 (visible_settled k type_name.text u size w.sound is) in
+    ((t (entity.Record u size) refl, there.0, there.1, last.0, last.1), no_value k initial q)
 kind_read k p name type_name initial (Some e) w is f t q = absurd q
 kind_read k p name type_name initial None w is f t q = absurd q
 
@@ -143,15 +136,18 @@ components_read k p before (c ∷ cs) w q = (
 )
 
 -- they lie one behind the other in the program, and so do their controlled parts
-type_lasts : (k : Known) (p : Context) → Legible k p → (text : List ℕ) (t : TypeNo) (size : ℕ) → visible k text ≡ Some (entity.Record t size) → slice_get p.types t.0 ≡ slice_get k.types t.0
+type_lasts : (k : Known) (p : Context) → Legible k p → (text : List ℕ) (t : TypeNo) (size : ℕ) → visible k text ≡ Some (entity.Record t size) → (elementary_of p.types t.0 ≡ elementary_of k.types t.0) × IsFinalizedAlike k.types p.types t.0
 type_lasts k p w text t size is =
     let there = visible_fits k w.sound.names text (entity.Record t size) is in
-    record_lasts k p w.lasts t.0 text there.0 there.1 there.2 there.3 (visible_settled k text t size w.sound is) ∙ sym there.3
+    let last = record_lasts k p w.lasts t.0 text there.0 there.1 there.2 there.3 (visible_settled k text t size w.sound is) in (
+      elementary_is p.types t.0 text there.0 there.1 last.0 last.1 ∙ sym (elementary_is k.types t.0 text there.0 there.1 there.2 there.3),
+      ap (λ (o : Option TypeForm). bare_final (well.finalization_in o)) last.1 ∙ (last.2 ∙ ap (λ (o : Option TypeForm). bare_final (well.finalization_in o)) (sym there.3)),
+    )
 
 pub all_laid : (k : Known) (p : Context) (before : Composition) (cs : List ComponentTree) → IsBegun before → Legible k p → AreLaidOut p.types 0 (composed k before cs).parts (composed k before cs).kinds
 all_laid k p before cs begun w =
     laid_stays k.types p.types 0 (composed k before cs).parts (composed k before cs).kinds
-    (made_has k (λ t. elementary_of p.types t ≡ elementary_of k.types t) (λ text t size is. elementary_same k.types p.types t.0 (type_lasts k p w text t size is)) before cs begun)
+    (made_has k (λ t. elementary_of p.types t ≡ elementary_of k.types t) (λ text t size is. (type_lasts k p w text t size is).0) before cs begun)
     (made_laid k [] None before cs begun w.sound.names).0
 
 order_is : (types : List TypeForm) (count from : ℕ) (ps : List PartForm) → well.parts_in_order types count from ps ≡ true → ArePartsInOrder types from ps count
@@ -177,12 +173,16 @@ made_limited k limited before (c ∷ cs) e =
     (or_last limited (list_any (λ (d : PartForm). limited_within k.types d.kind) before.parts) (limited_within k.types (kind_of_component k c)) before.limited e ∙
     ap (λ (b : Bool). limited || b) (sym (list_any-append (λ (d : PartForm). limited_within k.types d.kind) before.parts (one ∷ []))))
 
-limited_alike : (types more : List TypeForm) (kind : PartKind) → RecordHas (λ t. well.finalization_of more t ≡ well.finalization_of types t) kind → limited_within more kind ≡ limited_within types kind
+limited_bare : (o : Option Finalized) → says_limited (bare_final o) ≡ says_limited o
+limited_bare None = refl
+limited_bare (Some f) = refl
+
+limited_alike : (types more : List TypeForm) (kind : PartKind) → RecordHas (IsFinalizedAlike types more) kind → limited_within more kind ≡ limited_within types kind
 limited_alike types more (part.Elementary kind) h = refl
-limited_alike types more (part.Record t) h = ap (λ (o : Option Finalized). says_limited o) h
+limited_alike types more (part.Record t) h = same_final (λ o. says_limited o) limited_bare (well.finalization_of more t.0) (well.finalization_of types t.0) h
 limited_alike types more part.Parent h = refl
 
-any_alike : (types more : List TypeForm) (ps : List PartForm) → OfParts (RecordHas (λ t. well.finalization_of more t ≡ well.finalization_of types t)) ps → list_any (λ (c : PartForm). limited_within more c.kind) ps ≡ list_any (λ (c : PartForm). limited_within types c.kind) ps
+any_alike : (types more : List TypeForm) (ps : List PartForm) → OfParts (RecordHas (IsFinalizedAlike types more)) ps → list_any (λ (c : PartForm). limited_within more c.kind) ps ≡ list_any (λ (c : PartForm). limited_within types c.kind) ps
 any_alike types more [] h = refl
 any_alike types more (c ∷ ps) h = rw (limited_alike types more c.kind (h 0 c refl), any_alike types more ps (λ i. h (suc i))) refl
 
@@ -193,12 +193,29 @@ all_finalized k p limited before cs begun start w = by_count (eqb (composed k be
     by_count : (b : Bool) → eqb (composed k before cs).controlled 0 ≡ b → IsFinalized p.types p.place.controlled limited (composed k before cs).parts (cond b None (Some (record { number = record { 0 = k.controlled }; parts = (composed k before cs).controlled; limited = (composed k before cs).limited; operations = no_operations })))
     by_count b is =
         let own = composed k before cs in
-        let alike = made_has k (λ t. well.finalization_of p.types t ≡ well.finalization_of k.types t) (λ text t size there. ap (λ (o : Option TypeForm). well.finalization_in o) (type_lasts k p w text t size there)) before cs begun in
+        let alike = made_has k (IsFinalizedAlike k.types p.types) (λ text t size there. (type_lasts k p w text t size there).1) before cs begun in
         let in_order = order_is p.types own.controlled 0 own.parts (order_alike k.types p.types own.controlled 0 own.parts alike ∙ made_order k before cs begun) in
         elim b as (λ c. eqb own.controlled 0 ≡ c → IsFinalized p.types p.place.controlled limited own.parts (cond c None (Some (record { number = record { 0 = k.controlled }; parts = own.controlled; limited = own.limited; operations = no_operations })))) [
           | true ↦ λ on. subst (λ (n : ℕ). ArePartsInOrder p.types 0 own.parts n) (eqb-true own.controlled 0 on) in_order
-          | false ↦ λ off. (sym w.agrees.controlled, positive own.controlled off, in_order, made_limited k limited before cs start ∙ ap (λ (c : Bool). limited || c) (sym (any_alike k.types p.types own.parts alike)), refl)
+          | false ↦ λ off. (sym w.agrees.controlled, positive own.controlled off, in_order, made_limited k limited before cs start ∙ ap (λ (c : Bool). limited || c) (sym (any_alike k.types p.types own.parts alike)))
         ] is
+
+-- so it is, whatever it overrides in the end
+pub finalized_alike : (types : List TypeForm) (number : ℕ) (limited : Bool) (ps : List PartForm) (z final : Option Finalized) → bare_final z ≡ bare_final final → IsFinalized types number limited ps final → IsFinalized types number limited ps z
+finalized_alike types number limited ps None None e w = w
+finalized_alike types number limited ps None (Some f) e w = absurd (cc e)
+finalized_alike types number limited ps (Some g) None e w = absurd (cc e)
+finalized_alike types number limited ps (Some g) (Some f) e w =
+    let own : Finalized = record g { operations = no_operations } in
+    let other : Finalized = record f { operations = no_operations } in
+    let same : own ≡ other = cc e in
+    let counts : g.parts ≡ f.parts = ap (λ (v : Finalized). v.parts) same in
+    let limits : g.limited ≡ f.limited = ap (λ (v : Finalized). v.limited) same in (
+      ap (λ (v : Finalized). v.number.0) same ∙ w.0,
+      subst (λ (n : ℕ). 0 < n) (sym counts) w.1,
+      subst (λ (n : ℕ). ArePartsInOrder types 0 ps n) (sym counts) w.2,
+      limits ∙ w.3,
+    )
 
 -- no two components have one name
 abbrev IsApart : List ℕ → List PartForm → Type 0
@@ -270,9 +287,9 @@ record_there types text d (Some (record_of name ps cs final)) there same is =
 record_there types text d (Some (access_to name u pool)) there same is = absurd (cc is)
 record_there types text d (Some (object_of record_type)) there same is = absurd (cc is)
 
-pub designated_read : (p : Context) (text designated : List ℕ) (t d : ℕ) (pool : Option ℕ) → list_all (type_stands p.types) p.types ≡ true → slice_get p.types t ≡ Some (access_to text d pool) → HasName p.types designated d → IsTypeNamed p designated d → IsRecordNamed p designated d
+pub designated_read : (p : Context) (text designated : List ℕ) (t d : ℕ) (pool : Option ℕ) → list_all (well.type_fits p.types) p.types ≡ true → slice_get p.types t ≡ Some (access_to text d pool) → HasName p.types designated d → IsTypeNamed p designated d → IsRecordNamed p designated d
 designated_read p text designated t d pool all there same named_so =
-    let is = record_there p.types designated d (slice_get p.types d) refl same (all_at (type_stands p.types) p.types t (access_to text d pool) all there) in (named_so, is.0, is.1, is.2, is.3)
+    let is = record_there p.types designated d (slice_get p.types d) refl same (all_at (well.type_fits p.types) p.types t (access_to text d pool) all there) in (named_so, is.0, is.1, is.2, is.3)
 
 -- the access type of an instance
 abbrev pub FoundAccess : Known → Context → Ident → Ident → Option TypeNo → Type 0
@@ -426,12 +443,12 @@ object_at k p name type_name (Some right) (entity.Access a) w alone f t q g = re
 }
 object_at k p name type_name None (entity.Record u size) w alone f t q g = record {
   alone = alone;
-  record_named = (t, f.0, f.1, f.2, record_stays k.types p.types w.ahead.types u.0 type_name.first.text f.0 f.1 f.2 f.3);
+  record_named = (let last = record_stays k.types p.types w.ahead.types u.0 type_name.first.text f.0 f.1 f.2 f.3 in (t, f.0, f.1, last.0, last.1));
   starts = tt;
 }
 object_at k p name type_name (Some right) (entity.Record u size) w alone f t q g = record {
   alone = alone;
-  record_named = (t, f.0, f.1, f.2, record_stays k.types p.types w.ahead.types u.0 type_name.first.text f.0 f.1 f.2 f.3);
+  record_named = (let last = record_stays k.types p.types w.ahead.types u.0 type_name.first.text f.0 f.1 f.2 f.3 in (t, f.0, f.1, last.0, last.1));
   starts = record_starts p u right (initial_found k (Some (held.Record u)) (Some right)) (right_read k p (held.Record u) false right w q);
 }
 object_at k p name type_name initial e w alone f t q g = absurd g

@@ -1,20 +1,22 @@
 -- Types that are derived from one of Ada.Finalization: what is wrong with a declaration, and what is known after it.
 
-use Rattle.std.specs.Prelude.{Bool, true, false, if◌then◌else◌, [], ◌∷◌, Option, Some, None}
+use Rattle.std.specs.Prelude.{ℕ, Bool, true, false, if◌then◌else◌, List, [], ◌∷◌, Option, Some, None}
 use Rattle.ada_text.specs.declared.spot.Spot.{Spot}
 use Rattle.ada_tree.specs.Names.{Ident, NameTree}
 use Rattle.ada_tree.specs.Records.{RecordTree}
 use Rattle.ada_program.specs.ProgramForm.{PartForm}
 use Rattle.ada_program.specs.declared.program.PartKind.TheVariants as part
+use Rattle.ada_program.specs.declared.program.TypeNo.{TypeNo}
 use Rattle.ada_resolve.specs.declared.fault.NameRule.TheVariants.{WrongType}
 use Rattle.ada_resolve.specs.declared.library.LibraryName.{LibraryName}
 use Rattle.ada_resolve.specs.declared.library.LibraryName.TheVariants.{Controlled, LimitedControlled}
+use Rattle.ada_resolve.specs.Instances.{with_number}
 use Rattle.ada_resolve.specs.Known.{Known, library_found, library_remark, missing, new_name_remark, type_begins, visible}
 use Rattle.ada_resolve.specs.declared.scope.Entity.{Entity}
 use Rattle.ada_resolve.specs.Library.{is_library_root}
 use Rattle.ada_resolve.specs.Records.{Composition, components_remark, components_written, composed, with_record}
 use Rattle.ada_resolve.specs.Remark.{Remark, fine, wrong, ◌also◌}
-use Rattle.ada_resolve.specs.Types.{completed_type, new_unless}
+use Rattle.ada_resolve.specs.Types.{completed_type, new_unless, number_of}
 
 -- A type is derived from Controlled or Limited_Controlled (7.6): another name of the library is of the wrong kind (8.6).
 abbrev pub parent_wanted : Option LibraryName → Spot → Remark
@@ -62,7 +64,17 @@ derived_type_remark known spot name parent definition =
     parent_remark known parent also
     components_remark known (with_parent (limited_parent known parent)) (components_written definition)
 
--- After it the record type is known.
+-- The numbers of limited types with that of one more, if it is limited.
+abbrev pub limited_with : (limited : Bool) → TypeNo → List ℕ → List ℕ
+limited_with true t ts = with_number ts t.0
+limited_with false t ts = ts
+
+-- What is known once the type of a number is derived from Limited_Controlled, or from Controlled (7.6).
+abbrev pub with_limited : (limited : Bool) → TypeNo → Known → Known
+with_limited limited t known = record known { limited = limited_with limited t known.limited }
+
+-- After it the record type is known, and whether it is derived from Limited_Controlled.
 abbrev pub derived_type_known : Known → Ident → NameTree → RecordTree → Known
 derived_type_known known name parent definition =
-    with_record known name (composed known (with_parent (limited_parent known parent)) (components_written definition))
+    with_limited (limited_parent known parent) (number_of (completed_type known name) known.types)
+    (with_record known name (composed known (with_parent (limited_parent known parent)) (components_written definition)))

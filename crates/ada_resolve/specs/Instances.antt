@@ -1,13 +1,15 @@
 -- Instances of Unchecked_Deallocation: what is wrong with each, and what is known after it.
 
 use Rattle.std.specs.List.{list_any}
-use Rattle.std.specs.Prelude.{ℕ, Bool, true, false, ◌||◌, ◌==◌, nat_eq, nat_lt, not, if◌then◌else◌, List, [], ◌∷◌, ◌++◌, Option, Some, None}
+use Rattle.std.specs.Prelude.{ℕ, zero, suc, Bool, true, false, ◌||◌, ◌==◌, nat_eq, nat_lt, not, if◌then◌else◌, List, [], ◌∷◌, ◌++◌, map, Option, Some, None, slice_get}
 use Rattle.ada_text.specs.declared.spot.Spot.{Spot}
 use Rattle.ada_program.specs.Form.{DeclarationForm, creates_pool, collects, declares, declares_record}
 use Rattle.ada_tree.specs.Names.{Ident, NameTree}
-use Rattle.ada_program.specs.ProgramForm.{TypeForm}
+use Rattle.ada_program.specs.ProgramForm.{PartForm, TypeForm, record_of, access_to, object_of}
 use Rattle.ada_program.specs.declared.program.ComponentKind.{ComponentKind}
 use Rattle.ada_program.specs.declared.program.ComponentKind.TheVariants as component
+use Rattle.ada_program.specs.declared.program.PartKind.{PartKind}
+use Rattle.ada_program.specs.declared.program.PartKind.TheVariants as part
 use Rattle.ada_program.specs.declared.program.TypeNo.{TypeNo}
 use Rattle.ada_resolve.specs.declared.fault.NameRule.TheVariants.{WrongType, Layout}
 use Rattle.ada_resolve.specs.declared.library.LibraryName.{LibraryName}
@@ -136,13 +138,52 @@ abbrev pub components_behind : List TypeForm → Option ℕ → List ComponentKi
 components_behind types (Some t) = elementary_of types t
 components_behind types None = []
 
--- What an instance freezes (13.14): its access type, and those of the components of what that designates, at any depth.
-abbrev pub frozen_by : List TypeForm → ℕ → List ℕ → List ℕ
-frozen_by types access frozen = with_components_frozen (components_behind types (designated_of types access)) (with_number frozen access)
+-- What a declared component is.
+abbrev pub kind_of_part : PartForm → PartKind
+kind_of_part c = c.kind
+
+-- What the declared components of a record type are, where it has controlled parts (7.6).
+abbrev pub kinds_declared : Option TypeForm → List PartKind
+kinds_declared (Some (record_of name parts components (Some finalization))) = map kind_of_part parts
+kinds_declared (Some (record_of name parts components None)) = []
+kinds_declared (Some (access_to name designated pool)) = []
+kinds_declared (Some (object_of record_type)) = []
+kinds_declared None = []
+
+-- The numbers with that of the record type that a component is, and those that come with it.
+abbrev pub with_kind_frozen : (ℕ → List ℕ → List ℕ) → PartKind → List ℕ → List ℕ
+with_kind_frozen freeze (part.Record t) frozen = freeze t.0 frozen
+with_kind_frozen freeze (part.Elementary kind) frozen = frozen
+with_kind_frozen freeze part.Parent frozen = frozen
+
+-- The numbers with those of the record types that declared components are, in order.
+abbrev pub with_kinds_frozen : (ℕ → List ℕ → List ℕ) → List PartKind → List ℕ → List ℕ
+with_kinds_frozen freeze [] frozen = frozen
+with_kinds_frozen freeze (kind ∷ kinds) frozen = with_kinds_frozen freeze kinds (with_kind_frozen freeze kind frozen)
+
+-- The numbers with that of a record type and those of its parts at any depth, unless it is among them; as many levels deep. A type with controlled parts
+-- is completed behind those of its components, so no more levels are wanted than such types are known (7.6).
+unfoldable pub with_record_frozen : List TypeForm → (levels : ℕ) → ℕ → List ℕ → List ℕ
+with_record_frozen types zero t frozen = frozen
+with_record_frozen types (suc n) t frozen =
+    if is_among t frozen then frozen else
+    with_kinds_frozen (with_record_frozen types n) (kinds_declared (slice_get types t)) (with_number frozen t)
+
+-- The numbers with those of the record type that is designated, and of its parts, where it is known.
+abbrev pub with_designated_frozen : List TypeForm → (levels : ℕ) → Option ℕ → List ℕ → List ℕ
+with_designated_frozen types levels (Some t) frozen = with_record_frozen types levels t frozen
+with_designated_frozen types levels None frozen = frozen
+
+-- What an instance freezes (13.14): its access type, and those of the components of what that designates, at any depth; and the record type that it
+-- designates, and those of the components of that, at any depth.
+abbrev pub frozen_by : List TypeForm → (levels : ℕ) → ℕ → List ℕ → List ℕ
+frozen_by types levels access frozen =
+    with_designated_frozen types levels (designated_of types access)
+    (with_components_frozen (components_behind types (designated_of types access)) (with_number frozen access))
 
 -- What is known once an instance for this access type is behind.
 abbrev pub with_frozen : ℕ → Known → Known
-with_frozen access known = record known { frozen = frozen_by known.types access known.frozen }
+with_frozen access known = record known { frozen = frozen_by known.types known.controlled access known.frozen }
 
 -- After it the collection of the access type is created (the profile's place for it), and the instance is known.
 abbrev pub instance_of : Known → Ident → Option TypeNo → Known

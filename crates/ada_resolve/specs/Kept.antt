@@ -17,6 +17,10 @@ use Rattle.ada_resolve.specs.Records.{Composition, composed_by}
 abbrev pub entry_form : Bor (List ℕ) × KnownComponent → PartForm
 entry_form e = record { name = e.0.now; kind = e.1.kind; first = e.1.first; part = e.1.part }
 
+-- What a component is, as the code keeps it.
+abbrev pub kind_of_known : KnownComponent → PartKind
+kind_of_known c = c.kind
+
 -- The components of a record type as they are declared, in order.
 unfoldable pub forms_of : Components → List PartForm
 forms_of cs = map entry_form cs.entries.entries

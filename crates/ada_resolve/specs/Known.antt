@@ -1,6 +1,6 @@
 -- What is known at a place in the procedures of a tree, and what the names stand for there.
 
-use Rattle.std.specs.Prelude.{ℕ, ◌-◌, Bool, true, false, ◌==◌, not, nat_lt, ◌&&◌, ◌||◌, if◌then◌else◌, List, [], ◌∷◌, ◌++◌, length, Option, Some, None, is_some, codes, bytes_eq}
+use Rattle.std.specs.Prelude.{ℕ, ◌+◌, ◌-◌, Bool, true, false, ◌==◌, not, nat_lt, ◌&&◌, ◌||◌, if◌then◌else◌, List, [], ◌∷◌, ◌++◌, length, Option, Some, None, is_some, codes, bytes_eq}
 use Rattle.ada_text.specs.declared.spot.Spot.{Spot}
 use Rattle.ada_tree.specs.Names.{Ident, SelectorTree, component, dereference, PathTree, is_name}
 use Rattle.ada_program.specs.Form.{DeclarationForm}
@@ -26,11 +26,30 @@ pub record Named : Type 0 where
   pub text : List ℕ
   pub entity : Entity
 
--- A declarative part, or the scope of a loop parameter (8.1): the names that it declares so far, in order; the numbers of its first type, of its
--- first variable behind formal parameters, and of the first procedure whose body ends in it; what it elaborates so far (3.11); and, where it is
--- that of a procedure's body, the modes of the formal parameters, in order, and the variables of the body around.
+-- A specification of an operation of a controlled type (7.6): the type, and the name of the formal parameter.
+pub record Specified : Type 0 where
+  pub record_type : ℕ
+  pub formal : List ℕ
+
+-- The specifications of operations in a part (7.6): those of Initialize, of Adjust and of Finalize, in order; how many there are, and how many of them
+-- wait for their bodies.
+pub record Specifications : Type 0 where
+  pub initializes : List Specified
+  pub adjusts : List Specified
+  pub finalizes : List Specified
+  pub count : ℕ
+  pub awaited : ℕ
+
+-- No operation is specified yet.
+abbrev pub no_specifications : Specifications
+no_specifications = record { initializes = []; adjusts = []; finalizes = []; count = 0; awaited = 0 }
+
+-- A declarative part, or the scope of a loop parameter (8.1): the names that it declares so far, in order; the operations that it specifies so far (7.6);
+-- the numbers of its first type, of its first variable behind formal parameters, and of the first procedure whose body ends in it; what it elaborates so
+-- far (3.11); and, where it is that of a procedure's body, the modes of the formal parameters, in order, and the variables of the body around.
 pub record Part : Type 0 where
   pub names : List Named
+  pub specified : Specifications
   pub first_type : ℕ
   pub first_variable : ℕ
   pub first_body : ℕ
@@ -40,8 +59,9 @@ pub record Part : Type 0 where
 
 -- What is known: the library units of the with clauses, the main procedure's name, the declarative part that declares here, those around it, the
 -- inner ones first (8.1); by their numbers all types, all pools, the bodies of the procedures that have ended, the variables of the body at this
--- place, all exceptions, of which that is the name, and all texts; the numbers of the access types that instances of Unchecked_Deallocation have
--- frozen (13.14); and how many record types with controlled parts are complete (7.6).
+-- place, all exceptions, of which that is the name, and all texts; the numbers of the access types, and of the record types with controlled parts, that
+-- instances of Unchecked_Deallocation have frozen (13.14); how many record types with controlled parts are complete (7.6); and the numbers of the types
+-- that are derived from Limited_Controlled.
 pub record Known : Type 0 where
   pub withs : Withs
   pub procedure : List ℕ
@@ -55,6 +75,7 @@ pub record Known : Type 0 where
   pub texts : List (List ℕ)
   pub frozen : List ℕ
   pub controlled : ℕ
+  pub limited : List ℕ
 
 -- The declarative parts of a place, the innermost first (8.1).
 abbrev pub parts : Known → List Part
@@ -63,7 +84,7 @@ parts known = known.here ∷ known.outer
 -- A declarative part in which nothing is declared yet, behind so many types, variables and bodies.
 abbrev pub part_from : (types variables bodies : ℕ) → Part
 part_from types variables bodies =
-    record { names = []; first_type = types; first_variable = variables; first_body = bodies; elaborated = []; modes = []; around = None }
+    record { names = []; specified = no_specifications; first_type = types; first_variable = variables; first_body = bodies; elaborated = []; modes = []; around = None }
 
 -- The part that begins at a place.
 abbrev pub next_part : Known → Part
@@ -162,9 +183,9 @@ most_names = 500
 abbrev pub formals_of : Part → ℕ
 formals_of part = if is_some part.around then part.first_variable else 0
 
--- How many names a part declares besides formal parameters.
+-- How many names a part declares besides formal parameters: each specification of an operation counts as one.
 abbrev pub own_names : Part → ℕ
-own_names part = length part.names - formals_of part
+own_names part = (length part.names - formals_of part) + part.specified.count
 
 -- What is wrong with declaring a name, in a declaration that begins at `first`: it is predefined; its part declares it already (8.3);
 -- it is the name of a primitive of controlled types; or there are too many.

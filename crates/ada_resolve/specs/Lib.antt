@@ -20,6 +20,8 @@ pub mod Records
 pub mod Derived
 -- instances of Unchecked_Deallocation (12.3, 13.11.2)
 pub mod Instances
+-- the operations of controlled types (7.6)
+pub mod Primitives
 -- attribute clauses (13.3)
 pub mod Clauses
 -- paths where a value is wanted (4.1)
@@ -56,6 +58,8 @@ pub mod Calls
 pub mod Exceptions
 -- procedures, and their formal parameters (6.1, 6.3)
 pub mod Procedures
+-- specifications of operations (7.6, 6.1)
+pub mod Specifications
 -- statements (5.1)
 pub mod Statements
 -- the program of a tree, or its first fault

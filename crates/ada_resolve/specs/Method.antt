@@ -38,6 +38,7 @@ use Rattle.ada_program.specs.declared.program.ComponentNo.{ComponentNo}
 use Rattle.ada_program.specs.declared.program.Declaration.{Declaration}
 use Rattle.ada_program.specs.declared.program.Item.{Item}
 use Rattle.ada_program.specs.declared.program.Right.{Right as RightOf}
+use Rattle.ada_program.specs.declared.program.ProcedureNo.{ProcedureNo}
 use Rattle.ada_program.specs.declared.program.TypeNo.{TypeNo}
 use Rattle.ada_program.specs.declared.program.Variable.{Variable}
 use Rattle.ada_program.specs.declared.program.VariableKind.{VariableKind}
@@ -52,22 +53,25 @@ use Rattle.ada_resolve.specs.declared.items.Filling.{Filling as FillingOf}
 use Rattle.ada_resolve.specs.declared.meant.Meant.{Meant as MeantOf}
 use Rattle.ada_resolve.specs.declared.notes.Notes.{Notes}
 use Rattle.ada_resolve.specs.declared.part.Part.{Part as PartOf}
+use Rattle.ada_resolve.specs.declared.primitives.Operation.{Operation}
 use Rattle.ada_resolve.specs.declared.procedures.Sequence.{Sequence}
 use Rattle.ada_resolve.specs.declared.resolver.Resolver.{Resolver}
 use Rattle.ada_resolve.specs.declared.scope.Entity.{Entity}
 use Rattle.ada_resolve.specs.Arguments.{argument_remark, arguments_remark, image_remark, none_wanted}
+use Rattle.ada_resolve.specs.Derived.{with_limited}
 use Rattle.ada_resolve.specs.Expressions.{expression_meant, item_remark}
 use Rattle.ada_resolve.specs.Items.{Filling, after_item, filled_components, first_filling, for_remark}
 use Rattle.ada_resolve.specs.Kept.{composition_in, kept_with, known_type_form}
-use Rattle.ada_resolve.specs.Known.{Known, Named, Part, entered, new_name_remark, visible, with_elaborated}
+use Rattle.ada_resolve.specs.Known.{Known, Named, Part, Specifications, entered, new_name_remark, no_specifications, visible, with_elaborated}
 use Rattle.ada_resolve.specs.Objects.{initial_source, record_created, variable_created}
 use Rattle.ada_resolve.specs.Pools.{with_pool}
 use Rattle.ada_resolve.specs.Paths.{Meant, written_wanted}
+use Rattle.ada_resolve.specs.Primitives.{answered, overridden_if}
 use Rattle.ada_resolve.specs.Records.{Composition, further_component_remark, with_record_defined}
 use Rattle.ada_resolve.specs.Remark.{Remark, ◌also◌, noted}
 use Rattle.ada_resolve.specs.Procedures.{Formals, body_begun, body_ended, body_of, formal_remark, variables_around, with_formal, with_procedure, without_body}
 use Rattle.ada_resolve.specs.Resolution.{At, Others, Told, branches_told, procedure_from, program_of, told_of, with_parameter}
-use Rattle.ada_resolve.specs.Types.{completion_remark, new_unless, with_definition}
+use Rattle.ada_resolve.specs.Types.{completion_remark, new_unless, number_of, with_definition}
 use Rattle.ada_resolve.specs.View.{filling_in, formals_in, handlers_in, known_of, meant_of, optional_items, optional_variables, part_of, right_in, statements_in, AnswersBranches, AnswersWith, Tells}
 
 -- The resolver of a method that only looks at a part of the tree.
@@ -106,6 +110,11 @@ Changes resolver change = known_of resolver.exit.now ≡ change (known_of resolv
 abbrev pub Enters : Both (MutBor PartOf) (MutBor PartOf) → List ℕ → Entity → Type 0
 Enters part text entity =
     part_of part.exit.now ≡ record (part_of part.entry.now) { names = entered text entity (part_of part.entry.now).names }
+
+-- The call changes what the part specifies in this way, and changes nothing else of it.
+abbrev pub Specifies : Both (MutBor PartOf) (MutBor PartOf) → (Specifications → Specifications) → Type 0
+Specifies part change =
+    part_of part.exit.now ≡ record (part_of part.entry.now) { specified = change (part_of part.entry.now).specified }
 
 -- The call adds these to what the part elaborates, and changes nothing else of it.
 abbrev pub Elaborates : Both (MutBor PartOf) (MutBor PartOf) → List DeclarationForm → Type 0
@@ -264,6 +273,11 @@ abbrev pub with_composed : Option TypeNo → Identifier → Components → Known
 with_composed completes name components known =
     with_record_defined completes known (ident_of name) (composition_in components)
 
+-- What is known once such a type is declared that is derived from Limited_Controlled, or from Controlled.
+abbrev pub with_derived : (limited : Bool) → Option TypeNo → Identifier → Components → Known → Known
+with_derived limited completes name components known =
+    with_limited limited (number_of completes known.types) (with_composed completes name components known)
+
 -- What is known once an object or a borrower is declared (3.3.1): it is named, is a variable, and is created with its initial value.
 abbrev pub with_object : Identifier → (borrows : Bool) → VariableKind → Option RightOf → Known → Known
 with_object name borrows kind value known = variable_created known (ident_of name) borrows kind (initial_source (right_in value))
@@ -324,7 +338,7 @@ program_in resolver body = program_of (known_of resolver) (statements_in body.st
 -- are these.
 abbrev pub part_of_body : List Named → (types formals bodies : ℕ) → List FormalMode → List VariableForm → Part
 part_of_body names types formals bodies modes around =
-    record { names = names; first_type = types; first_variable = formals; first_body = bodies; elaborated = []; modes = modes; around = Some around }
+    record { names = names; specified = no_specifications; first_type = types; first_variable = formals; first_body = bodies; elaborated = []; modes = modes; around = Some around }
 
 -- The call changes in this way the formal parameters that are looked at.
 abbrev pub Declaring : Both (MutBor FormalsOf) (MutBor FormalsOf) → (Formals → Formals) → Type 0
@@ -354,3 +368,11 @@ without_body_of body start last known =
 -- What is known behind the body of a procedure of this name, whose statements and handlers these are, and whose first token and last `end` stand here.
 abbrev pub ended_with : Identifier → Sequence → (start last : Spot) → Known → Known
 ended_with name body start last = body_ended (ident_of name) (statements_in body.statements) (handlers_in body.handlers) start last
+
+-- What is known once the body of an operation has ended that the part specifies.
+abbrev pub with_answered : Operation → Known → Known
+with_answered operation known = record known { here = record known.here { specified = answered (Some operation) known.here.specified } }
+
+-- What is known once a procedure overrides an operation of a type, where that is known.
+abbrev pub with_overridden : Operation → ProcedureNo → Option ℕ → Known → Known
+with_overridden operation procedure t known = record known { types = overridden_if (Some operation) procedure t known.types }

@@ -15,13 +15,14 @@ use Rattle.ada_program.specs.declared.program.Exception.{Exception}
 use Rattle.ada_program.specs.declared.program.Exception.TheVariants as exception
 use Rattle.ada_program.specs.declared.program.PartKind.{PartKind}
 use Rattle.ada_program.specs.declared.program.PartKind.TheVariants as part
+use Rattle.ada_program.specs.declared.program.ProcedureNo.{ProcedureNo}
 use Rattle.ada_program.specs.declared.program.VariableKind.{VariableKind}
 use Rattle.ada_program.specs.declared.program.VariableKind.TheVariants as variable
 use Rattle.ada_program.specs.ProgramForm.{PartForm, PoolForm, TypeForm, record_of, access_to, VariableForm, BodyForm}
-use Rattle.ada_program.specs.Controlled.{no_operations}
 use Rattle.ada_program.specs.WellFormed.{parts_within}
 use Rattle.ada_resolve.specs.Controlled.{limited_within}
 use Rattle.ada_resolve.specs.Derived.{parent_part}
+use Rattle.ada_resolve.specs.declared.primitives.Operation.{Operation}
 use Rattle.ada_resolve.specs.Library.{library_name}
 use Rattle.ada_resolve.specs.declared.library.LibraryName.TheVariants.{UncheckedDeallocation, Controlled, LimitedControlled, FirstFitPool, EndError}
 use Rattle.ada_resolve.specs.Pools.{most_words}
@@ -49,10 +50,24 @@ pub record Binding : Type 0 where
   pub text : List ℕ
   pub meaning : Meaning
 
+-- A specification of an operation of the type of a number, and the name of its formal parameter (6.1, 7.6).
+pub record Specification : Type 0 where
+  pub operation : Operation
+  pub record_type : ℕ
+  pub formal : List ℕ
+
+-- An operation of the type of a number is overridden by a procedure (7.6).
+pub record Overriding : Type 0 where
+  pub operation : Operation
+  pub record_type : ℕ
+  pub procedure : ProcedureNo
+
 -- A place in the text: what the innermost declarative part has bound before it, the last first; what the parts around it have bound, the inner
 -- ones first; the number of the first type of the part; how many types, pools and exceptions are declared before it, how many variables of its body,
 -- and how many bodies of procedures have ended before it; how many texts Put_Line writes before it; the numbers of the types whose pools aspects
--- and clauses before it name; and how many record types with controlled parts are complete before it (7.6).
+-- and clauses before it name; how many record types with controlled parts are complete before it (7.6), and the numbers of those that are derived from
+-- Limited_Controlled; the operations that the part has specified before it, the last first; and the operations whose bodies have ended before it, the
+-- last first (7.6).
 pub record Place : Type 0 where
   pub here : List Binding
   pub outer : List Binding
@@ -65,6 +80,9 @@ pub record Place : Type 0 where
   pub texts : ℕ
   pub placed : List ℕ
   pub controlled : ℕ
+  pub limited : List ℕ
+  pub specified : List Specification
+  pub overridden : List Overriding
 
 -- What a tree is read by: a place in it, the tables of the program, and the variables of the body at the place.
 pub record Context : Type 0 where
@@ -210,12 +228,12 @@ ArePartsInOrder types before (c ∷ cs) count = (c.part ≡ before) × ArePartsI
 
 -- How the objects of a record type with these components are finalized (7.6), whose parent makes it limited or not: it has as many controlled parts as
 -- its components, if any, and it is limited where its parent or one of its components makes it so (7.5). Its number tells how many record types with
--- controlled parts are complete before it. It overrides no operation.
+-- controlled parts are complete before it.
 abbrev pub IsFinalized : List TypeForm → (number : ℕ) → (limited : Bool) → List PartForm → Option Finalization → Type 0
 IsFinalized types number limited parts None = ArePartsInOrder types 0 parts 0
 IsFinalized types number limited parts (Some f) =
     (f.number.0 ≡ number) × (0 < f.parts) × ArePartsInOrder types 0 parts f.parts ×
-    (f.limited ≡ (limited || list_any (λ c. limited_within types c.kind) parts)) × (f.operations ≡ no_operations)
+    (f.limited ≡ (limited || list_any (λ c. limited_within types c.kind) parts))
 
 -- The parent of a derived type is Controlled or Limited_Controlled (7.6), the second of which makes it limited (7.5).
 abbrev pub IsParentRead : NameTree → (limited : Bool) → Type 0

@@ -1,6 +1,6 @@
 -- Procedures: what is wrong with the head of a body, what is known where the body begins, and what is known behind it.
 
-use Rattle.std.specs.Prelude.{◌+◌, false, not, List, [], ◌∷◌, ◌++◌, length, Option, Some, None, is_some}
+use Rattle.std.specs.Prelude.{ℕ, ◌+◌, false, not, List, [], ◌∷◌, ◌++◌, length, Option, Some, None, is_some, bytes_eq}
 use Rattle.ada_text.specs.declared.spot.Spot.{Spot}
 use Rattle.ada_tree.specs.Declarations.{FormalTree, HeadTree}
 use Rattle.ada_tree.specs.Names.{Ident}
@@ -8,17 +8,20 @@ use Rattle.ada_program.specs.Form.{StmtsForm, HandlersForm}
 use Rattle.ada_program.specs.ProgramForm.{TypeForm, object_of, VariableForm, BodyForm}
 use Rattle.ada_program.specs.declared.program.FormalMode.{FormalMode}
 use Rattle.ada_program.specs.declared.program.FormalMode.TheVariants.{In, InOut}
+use Rattle.ada_program.specs.declared.program.ProcedureNo.{ProcedureNo}
 use Rattle.ada_program.specs.declared.program.TypeNo.{TypeNo}
 use Rattle.ada_program.specs.declared.program.VariableKind.{VariableKind}
 use Rattle.ada_program.specs.declared.program.VariableKind.TheVariants as variable
 use Rattle.ada_program.specs.declared.program.VariableNo.{VariableNo}
 use Rattle.ada_resolve.specs.declared.fault.NameRule.TheVariants.{DeclaredTwice, WrongType, NotInProfile, Layout}
+use Rattle.ada_resolve.specs.declared.primitives.Operation.{Operation}
 use Rattle.ada_resolve.specs.declared.scope.Entity.{Entity}
 use Rattle.ada_resolve.specs.declared.scope.Entity.TheVariants as entity
-use Rattle.ada_resolve.specs.Known.{Known, Named, Part, declared, entered, first_named, left_to, missing, named, new_name_remark, next_procedure, no_variable_yet, parts, visible}
+use Rattle.ada_resolve.specs.Known.{Known, Named, Part, entered, first_named, left_to, missing, named, new_name_remark, next_procedure, no_specifications, no_variable_yet, parts, visible}
 use Rattle.ada_resolve.specs.Library.{is_primitive, is_taken}
+use Rattle.ada_resolve.specs.Primitives.{answered, declared_unless, entered_unless, formal_name, formal_specified, operand, operand_of, operation_named, overridden_if, overrider, specified_for}
 use Rattle.ada_resolve.specs.Remark.{Remark, fine, wrong, node, ◌also◌, wrong_if}
-use Rattle.ada_resolve.specs.Spots.{first_or}
+use Rattle.ada_resolve.specs.Spots.{head_spot}
 
 -- The formal parameters of a procedure, as far as they are looked at (6.1): what their names stand for, the variables that they are, their modes, and
 -- the types that those that are records are known by.
@@ -119,26 +122,60 @@ abbrev pub with_formals : Known → List FormalTree → Formals → Formals
 with_formals known [] before = before
 with_formals known (f ∷ fs) before = with_formals known fs (with_formal known f before)
 
--- `overriding` is not in the profile (8.3.1).
+-- `overriding` is not in the profile, but for operations of controlled types (8.3.1).
 abbrev pub overriding_remark : Option Spot → Remark
 overriding_remark (Some spot) = wrong spot NotInProfile
 overriding_remark None = fine
 
+-- The operation of a controlled type may be marked as overriding.
+abbrev pub overriding_unless : Option Operation → Option Spot → Remark
+overriding_unless None overriding = overriding_remark overriding
+overriding_unless (Some operation) overriding = fine
+
+-- The type of which a procedure with these formals is the operation (7.6), if it is one.
+abbrev pub operand_for : Option Operation → Known → Formals → Option ℕ
+operand_for None known formals = None
+operand_for (Some operation) known formals = operand known operation formals.modes formals.types
+
+-- The same, by its head.
+abbrev pub head_operand : Option Operation → Known → HeadTree → Option ℕ
+head_operand operation known head = operand_for operation known (with_formals known head.formals no_formals)
+
+-- The body of an operation of a type is for a specification of the part, whose formal has this name: else it is not in the profile. It is the first one
+-- for it, and its formal has the same name (6.3.1).
+abbrev pub specified_wanted : Option (List ℕ) → Known → Operation → ℕ → HeadTree → Remark
+specified_wanted None known operation t head = wrong (head_spot head) NotInProfile
+specified_wanted (Some formal) known operation t head =
+    wrong_if (is_some (overrider operation known.types t)) head.name.spot DeclaredTwice also
+    wrong_if (not (bytes_eq (formal_name head.formals) formal)) head.name.spot WrongType
+
+-- The body of an operation is for a type that has it.
+abbrev pub operand_wanted : Option ℕ → Known → Operation → HeadTree → Remark
+operand_wanted None known operation head = wrong (head_spot head) NotInProfile
+operand_wanted (Some t) known operation head =
+    specified_wanted (formal_specified t (specified_for operation known.here.specified)) known operation t head
+
+-- The name of a body is new, or it is that of an operation, which is for a type that has it.
+abbrev pub head_name_remark : Option Operation → Option ℕ → Known → HeadTree → Remark
+head_name_remark None t known head = new_name_remark known head.name (head_spot head)
+head_name_remark (Some operation) t known head = operand_wanted t known operation head
+
 -- `procedure P (..) is` (6.1, 6.3): what is wrong with the head of a body. It is a node of the source before the objects of its part; so are its
--- formals, and its name is new.
+-- formals; and its name is new, or it is an operation of a controlled type (7.6).
 unfoldable pub body_head_remark : Known → HeadTree → Remark
 body_head_remark known head =
-    node (first_or head.overriding head.spot) also
-    wrong_if (not (no_variable_yet known)) (first_or head.overriding head.spot) Layout also
-    overriding_remark head.overriding also
+    node (head_spot head) also
+    wrong_if (not (no_variable_yet known)) (head_spot head) Layout also
+    overriding_unless (operation_named head.name.text) head.overriding also
     formals_remark known no_formals head.formals also
-    new_name_remark known head.name (first_or head.overriding head.spot)
+    head_name_remark (operation_named head.name.text) (head_operand (operation_named head.name.text) known head) known head
 
 -- The declarative part of a procedure's body, in which the formals are declared, behind the types that they are known by; the variables of the body
 -- around are put aside.
 abbrev pub body_part : Known → Formals → Part
 body_part known formals = record {
   names = formals.names;
+  specified = no_specifications;
   first_type = length (known.types ++ formals.types);
   first_variable = length formals.variables;
   first_body = length known.bodies;
@@ -156,9 +193,9 @@ with_body formals known = record known {
   variables = formals.variables;
 }
 
--- The name stands for a procedure whose body has not ended, and the body begins.
+-- The name stands for a procedure whose body has not ended, unless it is an operation's, and the body begins.
 abbrev pub body_begun : Ident → Formals → Known → Known
-body_begun name formals known = with_body formals (declared known name.text entity.Procedure)
+body_begun name formals known = with_body formals (declared_unless (operation_named name.text) known name.text entity.Procedure)
 
 -- What is known where the declarations of a body begin, by its head.
 unfoldable pub behind_head : Known → HeadTree → Known
@@ -189,7 +226,19 @@ without_body known = record (left_to known.outer known) { variables = variables_
 abbrev pub with_procedure : BodyForm → Known → Known
 with_procedure body known = record known { bodies = known.bodies ++ body ∷ [] }
 
--- Behind a body, whose first token and whose last `end` stand here, its name stands for the procedure, which may be called.
+-- Behind the body of a procedure of this name and this number its name stands for the procedure, which may be called. An operation is not called by its
+-- name: it overrides that of its type, and is awaited no more (7.6).
+abbrev pub closed : Option Operation → List ℕ → ProcedureNo → Option ℕ → Known → Known
+closed operation text procedure t known = record known {
+  here = record known.here {
+    names = entered_unless operation text (entity.Callable procedure) known.here.names;
+    specified = answered operation known.here.specified;
+  };
+  types = overridden_if operation procedure t known.types;
+}
+
+-- Behind a body, whose first token and whose last `end` stand here, there is one more procedure, of this name.
 abbrev pub body_ended : Ident → StmtsForm → HandlersForm → (start last : Spot) → Known → Known
 body_ended name forms handled start last known =
-    declared (with_procedure (body_of known forms handled start last) (without_body known)) name.text (entity.Callable (next_procedure known))
+    closed (operation_named name.text) name.text (next_procedure known) (operand_of known.types known.here.modes known.variables)
+    (with_procedure (body_of known forms handled start last) (without_body known))

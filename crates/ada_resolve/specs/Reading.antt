@@ -1,14 +1,14 @@
 -- A program read back: what its tree says at each place, name by name. A name in the tree and what the program has there have to agree, where
 -- an inner declaration hides the outer ones (8.3).
 
-use Rattle.std.specs.Prelude.{◌≡◌, ◌⊎◌, ℕ, ◌+◌, ◌<◌, Bool, true, false, ◌&&◌, not, nat_le, nat_lt, List, [], ◌∷◌, ◌++◌, map, length, Option, Some, None, slice_get, codes, ℤ}
+use Rattle.std.specs.Prelude.{◌≡◌, ◌⊎◌, ℕ, ◌+◌, ◌<◌, ◌≤◌, Bool, true, false, ◌==◌, ◌&&◌, if◌then◌else◌, not, nat_le, nat_lt, List, [], ◌∷◌, ◌++◌, map, length, Option, Some, None, slice_get, codes, ℤ}
 use Rattle.ada_text.specs.declared.spot.Spot.{Spot}
 use Rattle.ada_values.specs.declared.operator.BinaryOperator.{BinaryOperator}
 use Rattle.ada_values.specs.declared.operator.BinaryOperator.TheVariants as binary
 use Rattle.ada_tree.specs.Names.{Ident, NameTree, SelectorTree, component, dereference, PathTree}
 use Rattle.ada_tree.specs.Expressions.{ExpressionTree, number_expression, null_expression, path_expression, aggregate_expression, enclosed_expression, unary_expression, binary_expression, ItemsTree, no_more_items, an_item, RightTree, expression_right, allocator_right, creation_right, ArgumentTree, expression_argument, text_argument, attribute_argument}
 use Rattle.ada_tree.specs.Declarations.{ChoiceTree, named_choice, others_choice, FormalTree, HeadTree}
-use Rattle.ada_tree.specs.Statements.{DeclarationTree, exception_declaration, constant_declaration, pool_declaration, attribute_clause, object_declaration, borrower_declaration, incomplete_type, access_type, record_type, derived_type, body_declaration, instance, DeclarationsTree, no_declarations, a_declaration, SchemeTree, endless, while_scheme, for_scheme, StatementTree, null_statement, assignment, call, if_statement, loop_statement, exit_statement, return_statement, raise_statement, block, declare_block, StatementsTree, no_statements, a_statement, BranchesTree, no_branches, a_branch, HandlersTree, no_handlers, a_handler, SequenceTree, a_sequence, UnitTree}
+use Rattle.ada_tree.specs.Statements.{DeclarationTree, exception_declaration, constant_declaration, pool_declaration, attribute_clause, object_declaration, borrower_declaration, incomplete_type, access_type, record_type, derived_type, specification, body_declaration, instance, DeclarationsTree, no_declarations, a_declaration, SchemeTree, endless, while_scheme, for_scheme, StatementTree, null_statement, assignment, call, if_statement, loop_statement, exit_statement, return_statement, raise_statement, block, declare_block, StatementsTree, no_statements, a_statement, BranchesTree, no_branches, a_branch, HandlersTree, no_handlers, a_handler, SequenceTree, a_sequence, UnitTree}
 use Rattle.ada_program.specs.declared.program.FormalMode.{FormalMode}
 use Rattle.ada_program.specs.declared.program.FormalMode.TheVariants.{In, InOut}
 use Rattle.ada_program.specs.declared.program.Choice.{Choice}
@@ -17,6 +17,7 @@ use Rattle.ada_program.specs.declared.program.ComponentKind.{ComponentKind}
 use Rattle.ada_program.specs.declared.program.Finalization.{Finalization}
 use Rattle.ada_program.specs.declared.program.PartKind.{PartKind}
 use Rattle.ada_program.specs.declared.program.PartKind.TheVariants as part
+use Rattle.ada_program.specs.declared.program.ProcedureNo.{ProcedureNo}
 use Rattle.ada_program.specs.declared.program.TypeNo.{TypeNo}
 use Rattle.ada_program.specs.declared.program.VariableKind.{VariableKind}
 use Rattle.ada_program.specs.declared.program.VariableKind.TheVariants as variable
@@ -26,7 +27,11 @@ use Rattle.ada_program.specs.ProgramForm.{PartForm, TypeForm, record_of, object_
 use Rattle.ada_program.specs.WellFormed as fits
 use Rattle.ada_resolve.specs.Library.{library_name}
 use Rattle.ada_resolve.specs.declared.library.LibraryName.TheVariants.{PutLine, Get}
-use Rattle.ada_resolve.specs.Naming.{Context, Place, Binding, Meaning, an_incomplete_type, a_type, a_number, an_exception, a_pool, an_instance, a_variable, a_parameter, a_procedure, a_procedure_around, an_outer_object, meaning_among, is_one_of, IsPredefined, IsExceptionNamed, IsNumberNamed, IsRecordNamed, IsVariableNamed, IsObjectNamed, IsAccessNamed, IsBound, IsFullRecordNamed, IsFullTypeNamed, IsStaticRead, IsTypeRead, IsPoolRead, IsClauseRead, IsInstanceRead, IsInstanceNamed, IsProcedureNamed, IsKindNamed, truth_name}
+use Rattle.ada_resolve.specs.declared.primitives.Operation.{Operation}
+use Rattle.ada_resolve.specs.declared.primitives.Operation.TheVariants.{Initialize, Adjust, Finalize}
+use Rattle.ada_resolve.specs.Derived.{is_limited_parent}
+use Rattle.ada_resolve.specs.Primitives.{overrider}
+use Rattle.ada_resolve.specs.Naming.{Context, Place, Specification, Overriding, Binding, Meaning, an_incomplete_type, a_type, a_number, an_exception, a_pool, an_instance, a_variable, a_parameter, a_procedure, a_procedure_around, an_outer_object, meaning_among, is_one_of, IsPredefined, IsExceptionNamed, IsNumberNamed, IsRecordNamed, IsVariableNamed, IsObjectNamed, IsAccessNamed, IsBound, IsFullRecordNamed, IsFullTypeNamed, IsStaticRead, IsTypeRead, IsPoolRead, IsClauseRead, IsInstanceRead, IsInstanceNamed, IsProcedureNamed, IsKindNamed, truth_name}
 use Rattle.ada_resolve.specs.Clauses.{pool_of}
 use Rattle.ada_resolve.specs.Known.{parts_of}
 use Rattle.ada_resolve.specs.Operators.{joined}
@@ -343,14 +348,14 @@ AreChoicesRead p (written ∷ rest) (c ∷ cs) = IsChoiceRead p written c × Are
 abbrev pub read_at : Place → Context → Context
 read_at place p = record p { place = place }
 
--- Where an inner declarative part begins (8.1): it has bound nothing yet.
+-- Where an inner declarative part begins (8.1): it has bound and specified nothing yet.
 abbrev pub inside : Place → Place
-inside place = record place { here = []; outer = place.here ++ place.outer; first_type = place.types }
+inside place = record place { here = []; outer = place.here ++ place.outer; first_type = place.types; specified = [] }
 
 -- The place behind an inner part, whose end this is: what it has bound is hidden again, and its types, variables and exceptions keep their
 -- numbers (8.2).
 abbrev pub behind : Place → (end : Place) → Place
-behind place end = record end { here = place.here; outer = place.outer; first_type = place.first_type }
+behind place end = record end { here = place.here; outer = place.outer; first_type = place.first_type; specified = place.specified }
 
 -- A name that may be declared at a place: the innermost part has not declared it yet (8.3), and it is not predefined (A.1).
 abbrev pub IsNew : Place → Ident → Type 0
@@ -380,9 +385,15 @@ with_new_pool name place = record (with_binding name (a_pool place.pools) place)
 abbrev pub with_placed : ℕ → Place → Place
 with_placed t place = record place { placed = t ∷ place.placed }
 
--- The place once the type of a number is declared, perhaps with an aspect.
+-- The place once the type of a number is declared, which is derived from Limited_Controlled, or is not.
+abbrev pub with_limited_if : Bool → ℕ → Place → Place
+with_limited_if true t place = record place { limited = t ∷ place.limited }
+with_limited_if false t place = place
+
+-- The place once the type of a number is declared, perhaps with an aspect, or with a parent that makes it limited (7.5).
 abbrev pub with_aspect : DeclarationTree → ℕ → Place → Place
 with_aspect (access_type spot name designated (Some aspect)) t place = with_placed t place
+with_aspect (derived_type spot name parent definition) t place = with_limited_if (is_limited_parent (Some (library_name parent.first.text parent.rest))) t place
 with_aspect d t place = place
 
 -- The place once one more type is complete, which is counted where it is a record type with controlled parts (7.6).
@@ -578,37 +589,127 @@ from_body other = other
 abbrev pub bound_outside : Binding → Binding
 bound_outside b = record { text = b.text; meaning = from_body b.meaning }
 
--- Where the body of a procedure of this name begins (6.3): it is a part of its own, which has bound nothing yet, and has variables of its own.
-abbrev pub body_place : Ident → Place → Place
-body_place name place = record place {
+-- What the body of a procedure of this name sees around it (6.3, 8.3): its own name too, but that of an operation is visible nowhere (the profile's).
+abbrev pub names_around : (overrides : Option (Operation × ℕ)) → Ident → Place → List Binding
+names_around None name place = record { text = name.text; meaning = a_procedure_around } ∷ place.here ++ place.outer
+names_around (Some which) name place = place.here ++ place.outer
+
+-- Where the body of a procedure of this name begins (6.3): it is a part of its own, which has bound and specified nothing yet, and has variables of its
+-- own.
+abbrev pub body_place : (overrides : Option (Operation × ℕ)) → Ident → Place → Place
+body_place overrides name place = record place {
   here = [];
-  outer = map bound_outside (record { text = name.text; meaning = a_procedure_around } ∷ place.here ++ place.outer);
+  outer = map bound_outside (names_around overrides name place);
   first_type = place.types;
   variables = 0;
+  specified = [];
 }
 
+-- What the part has bound behind the body of the procedure of a number: the name stands for it, but that of an operation for nothing.
+abbrev pub names_behind : (overrides : Option (Operation × ℕ)) → Ident → (procedure : ℕ) → List Binding → List Binding
+names_behind None name n here = record { text = name.text; meaning = a_procedure n } ∷ here
+names_behind (Some which) name n here = here
+
+-- The operations whose bodies have ended behind the body of the procedure of a number, which overrides this one (7.6).
+abbrev pub overridden_behind : (overrides : Option (Operation × ℕ)) → (procedure : ℕ) → List Overriding → List Overriding
+overridden_behind None n overridden = overridden
+overridden_behind (Some which) n overridden = record { operation = which.0; record_type = which.1; procedure = record { 0 = n } } ∷ overridden
+
 -- The place behind a body of this name, whose end this is: the name is that of the next procedure, and the body around is at work again.
-abbrev pub behind_body : Ident → Place → (end : Place) → Place
-behind_body name place end = record end {
-  here = record { text = name.text; meaning = a_procedure end.bodies } ∷ place.here;
+abbrev pub behind_body : (overrides : Option (Operation × ℕ)) → Ident → Place → (end : Place) → Place
+behind_body overrides name place end = record end {
+  here = names_behind overrides name end.bodies place.here;
   outer = place.outer;
   first_type = place.first_type;
   bodies = end.bodies + 1;
   variables = place.variables;
+  specified = place.specified;
+  overridden = overridden_behind overrides end.bodies end.overridden;
 }
 
 -- The tables of a program, read where the body of a procedure of this name begins.
-abbrev pub in_body : Ident → BodyForm → Context → Context
-in_body name b p = record p { place = body_place name p.place; variables = b.variables }
+abbrev pub in_body : (overrides : Option (Operation × ℕ)) → Ident → BodyForm → Context → Context
+in_body overrides name b p = record p { place = body_place overrides name p.place; variables = b.variables }
 
 -- The name after the `end` of a body is that of its procedure, where one is written (6.3).
 abbrev pub IsEndName : List ℕ → Option Ident → Type 0
 IsEndName text None = Unit {0}
 IsEndName text (Some name) = name.text ≡ text
 
--- What is written before a body (6.1, 6.3): its name is new in the part, and it overrides nothing.
-abbrev pub IsHeadRead : Context → HeadTree → Type 0
-IsHeadRead p head = IsNew p.place head.name × (head.overriding ≡ None)
+-- How the operations of controlled types are called (7.6).
+abbrev pub operation_name : Operation → List ℕ
+operation_name Initialize = codes "INITIALIZE"
+operation_name Adjust = codes "ADJUST"
+operation_name Finalize = codes "FINALIZE"
+
+-- A controlled type has the operation (7.6): one that is derived from Limited_Controlled has no Adjust.
+abbrev pub HasOperation : (limited : Bool) → Operation → Type 0
+HasOperation true Adjust = ⊥
+HasOperation limited operation = Unit {0}
+
+-- A name is that of the controlled type of a number (7.6): it is complete there, and its components begin with a parent part.
+abbrev pub IsControlledNamed : Context → List ℕ → ℕ → Type 0
+IsControlledNamed p text t =
+    IsFullTypeNamed p text t × (first : PartForm) × (parts : List PartForm) × (components : List ComponentKind) × (finalization : Option Finalization) ×
+    (slice_get p.types t ≡ Some (record_of text (first ∷ parts) components finalization)) × (first.kind ≡ part.Parent)
+
+-- A procedure is this operation of the type of a number (7.6): its name is that of the operation, and it has one formal parameter, which is of mode
+-- `in out`, has this name, and is of that type. The type is a controlled one of the innermost part, and has the operation.
+pub record IsOperationRead (p : Context) (head : HeadTree) (operation : Operation) (t : ℕ) (formal : List ℕ) : Type 0 where
+  pub named : head.name.text ≡ operation_name operation
+  pub f : FormalTree
+  pub alone : head.formals ≡ f ∷ []
+  pub formal_named : f.name.text ≡ formal
+  pub mode : IsModeRead f InOut
+  pub type_named : IsControlledNamed p f.type_name.text t
+  pub own : p.place.first_type ≤ t
+  pub has : HasOperation (is_one_of t p.place.limited) operation
+
+-- Whether two operations are of one name.
+abbrev pub is_named_alike : Operation → Operation → Bool
+is_named_alike Initialize Initialize = true
+is_named_alike Adjust Adjust = true
+is_named_alike Finalize Finalize = true
+is_named_alike one other = false
+
+-- Whether this operation of the type of a number is that one.
+abbrev pub is_this_operation : Operation → Operation → (t u : ℕ) → Bool
+is_this_operation one other t u = is_named_alike one other && t == u
+
+-- The formal parameter's name in the specification of an operation of a type among these, where it has one.
+abbrev pub formal_among : Operation → ℕ → List Specification → Option (List ℕ)
+formal_among operation t [] = None
+formal_among operation t (s ∷ ss) = if is_this_operation operation s.operation t s.record_type then Some s.formal else formal_among operation t ss
+
+-- The procedure that overrides an operation of a type among these, where one does.
+abbrev pub procedure_among : Operation → ℕ → List Overriding → Option ProcedureNo
+procedure_among operation t [] = None
+procedure_among operation t (o ∷ os) = if is_this_operation operation o.operation t o.record_type then Some o.procedure else procedure_among operation t os
+
+-- The place once the operation of the type of a number is specified (6.1).
+abbrev pub with_specified : Operation → ℕ → List ℕ → Place → Place
+with_specified operation t formal place =
+    record place { specified = record { operation = operation; record_type = t; formal = formal } ∷ place.specified }
+
+-- Each operation that the part specifies has its body there (3.11.1).
+abbrev pub HaveBodies : Place → Type 0
+HaveBodies place =
+    (operation : Operation) (t : ℕ) (formal : List ℕ) → formal_among operation t place.specified ≡ Some formal →
+    procedure_among operation t place.overridden ≡ None → ⊥
+
+-- What is written before the body of an operation of a type (6.3, 7.6): the part has specified it, with this formal parameter, and no body overrides it
+-- before.
+abbrev pub IsOperationBody : Context → HeadTree → Operation → ℕ → Type 0
+IsOperationBody p head operation t =
+    (formal : List ℕ) × IsOperationRead p head operation t formal × (formal_among operation t p.place.specified ≡ Some formal) ×
+    (procedure_among operation t p.place.overridden ≡ None)
+
+-- What is written before a body (6.1, 6.3): its name is that of an operation, which it overrides (7.6), or it is no such name, is new in the part, and
+-- overrides nothing.
+abbrev pub IsHeadRead : Context → HeadTree → (overrides : Option (Operation × ℕ)) → Type 0
+IsHeadRead p head None =
+    IsNew p.place head.name × (head.overriding ≡ None) × ((operation : Operation) → head.name.text ≡ operation_name operation → ⊥)
+IsHeadRead p head (Some which) = IsOperationBody p head which.0 which.1
 
 -- The bodies of a program and what the text up to a place tells of one (6.3): it is the next one that ends, has as many formal parameters and
 -- variables, begins where its first token stands, and ends where its last `end` does.
@@ -631,8 +732,9 @@ abbrev mutual
   -- The rest of a declarative part, up to its end (3.11): among its types, where the collections of these access types are created before (7.6.1), or
   -- behind them. Each name is new in the part, and is bound behind its declaration. An incomplete type is the next type, which a full type
   -- declaration of the part completes. An instance creates the collection of its access type. The types end at the first body, at the first object
-  -- or where the part ends. Each body has a part, statements and handlers of its own. A pool is created where it is declared. A type, a number, an
-  -- exception, a clause or a body creates nothing.
+  -- or where the part ends. A specification is that of an operation (7.6). Each body has a part, statements and handlers of its own. Behind the
+  -- bodies each operation that is specified has one. A pool is created where it is declared. A type, a number, an exception, a clause, a specification or a
+  -- body creates nothing.
   pub IsPartRead : Context → (made : Option (List ℕ)) → DeclarationsTree → List DeclarationForm → (end : Place) → Type 0
   IsPartRead p (Some made) (a_declaration (incomplete_type spot name) ds) forms end =
       IsNew p.place name × IsPartRead (read_at (with_incomplete_type name p.place) p) (Some made) ds forms end
@@ -655,14 +757,19 @@ abbrev mutual
   IsPartRead p (Some made) (a_declaration (instance spot name generic object access) ds) forms end =
       (t : ℕ) × (rest : List DeclarationForm) × (forms ≡ collects t ∷ rest) × IsNew p.place name × IsInstanceRead p generic object access t ×
       IsPartRead (read_at (with_binding name (an_instance t) p.place) p) (Some (t ∷ made)) ds rest end
+  IsPartRead p (Some made) (a_declaration (specification head) ds) forms end =
+      (operation : Operation) × (t : ℕ) × (formal : List ℕ) × IsOperationRead p head operation t formal ×
+      (formal_among operation t p.place.specified ≡ None) × IsPartRead (read_at (with_specified operation t formal p.place) p) (Some made) ds forms end
   IsPartRead p made (a_declaration (body_declaration head inner body end_name) ds) forms end =
-      (b : BodyForm) × (rest : List DeclarationForm) × (formals declared done : Place) × DoTypesEnd p made forms rest × IsHeadRead p head ×
-      AreFormalsRead (in_body head.name b p) p.place head.formals b.formals formals ×
-      IsPartRead (read_at formals (in_body head.name b p)) (Some []) inner b.declarations declared ×
-      IsSequenceRead (read_at declared (in_body head.name b p)) body b.statements b.handlers done ×
+      (b : BodyForm) × (rest : List DeclarationForm) × (overrides : Option (Operation × ℕ)) × (formals declared done : Place) ×
+      DoTypesEnd p made forms rest × IsHeadRead p head overrides ×
+      AreFormalsRead (in_body overrides head.name b p) p.place head.formals b.formals formals ×
+      IsPartRead (read_at formals (in_body overrides head.name b p)) (Some []) inner b.declarations declared ×
+      IsSequenceRead (read_at declared (in_body overrides head.name b p)) body b.statements b.handlers done ×
       IsNextBody p b head body formals done × IsEndName head.name.text end_name ×
-      IsPartRead (read_at (behind_body head.name p.place done) p) None ds rest end
-  IsPartRead p made ds forms end = (rest : List DeclarationForm) × DoTypesEnd p made forms rest × AreObjectsRead p ds rest end
+      IsPartRead (read_at (behind_body overrides head.name p.place done) p) None ds rest end
+  IsPartRead p made ds forms end =
+      (rest : List DeclarationForm) × DoTypesEnd p made forms rest × HaveBodies p.place × AreObjectsRead p ds rest end
 
   -- The statements and the handlers of a part (11.2), and the place behind them.
   pub IsSequenceRead : Context → SequenceTree → StmtsForm → HandlersForm → (end : Place) → Type 0
@@ -712,7 +819,7 @@ abbrev mutual
 
 -- The place before the first declaration of a tree.
 abbrev pub first_place : Place
-first_place = record { here = []; outer = []; first_type = 0; types = 0; pools = 0; bodies = 0; variables = 0; exceptions = 0; texts = 0; placed = []; controlled = 0 }
+first_place = record { here = []; outer = []; first_type = 0; types = 0; pools = 0; bodies = 0; variables = 0; exceptions = 0; texts = 0; placed = []; controlled = 0; limited = []; specified = []; overridden = [] }
 
 -- A tree is read from there, by the tables of a program.
 abbrev pub first_context : ProgramForm → Context
@@ -741,12 +848,19 @@ pub record AreCounted (program : ProgramForm) (end : Place) : Type 0 where
 abbrev pub ArePlaced : ProgramForm → (end : Place) → Type 0
 ArePlaced program end = (t n : ℕ) → pool_of program.types t ≡ Some n → is_one_of t end.placed ≡ true
 
+-- Of each type the program says what overrides its operations, and that is what the text up to the place says (7.6): the procedure of the body that overrides
+-- this operation of this type, and nothing where no body does.
+abbrev pub AreOverridden : ProgramForm → (end : Place) → Type 0
+AreOverridden program end =
+    (operation : Operation) (t : ℕ) → overrider operation program.types t ≡ procedure_among operation t end.overridden
+
 -- Each declaration and each statement of the program is what the tree says there: nothing is left out, put in or filled up in silence, and each
 -- name, literal, operator and text is the one that is written. Types, pools, exceptions and the texts of Put_Line are numbered in the order of the text,
 -- procedures in the order in which their bodies end, and the variables of each body in the order of the text; each has a number of its own. A name
 -- stands for what its innermost declaration declares; a part declares a name once (8.3), no declaration has a predefined one (A.1), a body uses no
 -- object of the bodies around, and nothing is written to a loop parameter or a formal parameter of mode `in`, nor to its components at any depth that
--- are reached without following an access value (5.5, 6.2).
+-- are reached without following an access value (5.5, 6.2). A body of the name of an operation overrides that very operation of the controlled type that
+-- is named for its formal parameter, and nothing else overrides anything (7.6).
 pub record IsReadAs (tree : UnitTree) (program : ProgramForm) : Type 0 where
   pub own_name : IsNew first_place tree.name
   pub end_name : IsEndName tree.name.text tree.end_name
@@ -756,3 +870,4 @@ pub record IsReadAs (tree : UnitTree) (program : ProgramForm) : Type 0 where
   pub body : IsSequenceRead (read_at declared (first_context program)) tree.body program.statements program.handlers end
   pub counted : AreCounted program end
   pub placed : ArePlaced program end
+  pub overridden : AreOverridden program end

@@ -1,11 +1,11 @@
 -- The program of a tree, or its first fault.
 
-use Rattle.std.specs.Prelude.{◌≡◌, ℕ, Bool, true, false, ◌||◌, if◌then◌else◌, List, [], ◌∷◌, length, map, Option, Some, None, bytes_eq}
+use Rattle.std.specs.Prelude.{◌≡◌, ℕ, ◌==◌, Bool, true, false, ◌||◌, not, if◌then◌else◌, List, [], ◌∷◌, length, map, Option, Some, None, bytes_eq}
 use Rattle.ada_text.specs.declared.spot.Spot.{Spot}
 use Rattle.ada_tree.specs.Expressions.{ExpressionTree}
 use Rattle.ada_tree.specs.Names.{Ident, NameTree}
 use Rattle.ada_tree.specs.Declarations.{ChoiceTree, ClauseTree, HeadTree}
-use Rattle.ada_tree.specs.Statements.{DeclarationTree, exception_declaration, constant_declaration, incomplete_type, access_type, record_type, derived_type, attribute_clause, pool_declaration, instance, object_declaration, borrower_declaration, body_declaration, DeclarationsTree, no_declarations, a_declaration, SchemeTree, endless, while_scheme, for_scheme, StatementTree, if_statement, loop_statement, block, declare_block, StatementsTree, no_statements, a_statement, BranchesTree, no_branches, a_branch, BranchTree, HandlersTree, no_handlers, a_handler, HandlerTree, SequenceTree, a_sequence, begin_of, UnitTree}
+use Rattle.ada_tree.specs.Statements.{DeclarationTree, exception_declaration, constant_declaration, incomplete_type, access_type, record_type, derived_type, attribute_clause, pool_declaration, specification, instance, object_declaration, borrower_declaration, body_declaration, DeclarationsTree, no_declarations, a_declaration, SchemeTree, endless, while_scheme, for_scheme, StatementTree, if_statement, loop_statement, block, declare_block, StatementsTree, no_statements, a_statement, BranchesTree, no_branches, a_branch, BranchTree, HandlersTree, no_handlers, a_handler, HandlerTree, SequenceTree, a_sequence, begin_of, UnitTree}
 use Rattle.ada_program.specs.Form.{ExpressionForm, StmtForm, chooses, counts, encloses, repeats, StmtsForm, no_stmts, a_stmt, BranchesForm, otherwise, HandlersForm}
 use Rattle.ada_program.specs.Form as form
 use Rattle.ada_program.specs.declared.program.Choice.{Choice}
@@ -32,6 +32,7 @@ use Rattle.ada_resolve.specs.Objects.{after_types, object_known, object_remark, 
 use Rattle.ada_resolve.specs.Pools.{pool_known, pool_remark}
 use Rattle.ada_resolve.specs.Procedures.{behind_head, body_ended, body_head_remark}
 use Rattle.ada_resolve.specs.Records.{record_type_known, record_type_remark}
+use Rattle.ada_resolve.specs.Specifications.{specification_known, specification_remark}
 use Rattle.ada_resolve.specs.Statements.{bound_meant, bound_remark, condition_meant, condition_remark, simple_texts, statement_meant, statement_remark, with_texts}
 use Rattle.ada_resolve.specs.Statics.{constant_known, constant_remark}
 use Rattle.ada_resolve.specs.Types.{access_known, access_remark, incomplete_known, incomplete_remark}
@@ -110,6 +111,7 @@ known_first withs procedure = record {
   texts = [];
   frozen = [];
   controlled = 0;
+  limited = [];
 }
 
 -- Nothing is noted yet.
@@ -139,6 +141,7 @@ declaration_remark known (pool_declaration name type_name label size) = pool_rem
 declaration_remark known (attribute_clause spot name attribute value) = clause_remark known spot name attribute value
 declaration_remark known (object_declaration name type_name initial) = object_remark known name type_name initial
 declaration_remark known (borrower_declaration name designated initial) = borrower_remark known name designated initial
+declaration_remark known (specification head) = specification_remark known head
 declaration_remark known other = unused_remark other
 
 -- What is known after it.
@@ -154,6 +157,7 @@ declaration_known known (pool_declaration name type_name label size) = pool_know
 declaration_known known (attribute_clause spot name attribute value) = clause_known known name value
 declaration_known known (object_declaration name type_name initial) = object_known known name type_name initial
 declaration_known known (borrower_declaration name designated initial) = borrower_known known name initial
+declaration_known known (specification head) = specification_known known head
 declaration_known known other = known
 
 -- A declaration where it stands: the first of the rules that it breaks, or what is known after it.
@@ -186,11 +190,13 @@ some_incomplete (e ∷ es) = is_incomplete e || some_incomplete es
 abbrev pub entity_in : Named → Entity
 entity_in n = n.entity
 
--- At `begin` no type of the part is incomplete (3.10.1), and the types end.
+-- At `begin` no type of the part is incomplete (3.10.1), and each operation that it specifies has its body (3.11.1).
 abbrev pub begin_remark : Known → Spot → Remark
-begin_remark known spot = wrong_if (some_incomplete (map entity_in known.here.names)) spot BodyMissing
+begin_remark known spot =
+    wrong_if (some_incomplete (map entity_in known.here.names)) spot BodyMissing also
+    wrong_if (not (known.here.specified.awaited == 0)) spot BodyMissing
 
--- The outcome of `begin`: a type is incomplete there, or what is known once the types end.
+-- The outcome of `begin`: what is wanted there is missing, or what is known once the types end.
 abbrev pub at_begin : Spot → At → Told At
 at_begin spot at = settled (noted (begin_remark at.0 spot) at.1) (after_types at.0)
 

@@ -35,9 +35,10 @@ use Rattle.ada_resolve.specs.Rights.{Assigned, a_value, a_whole}
 use Rattle.ada_resolve.specs.declared.formals.Formals.{Formals as FormalsOf}
 use Rattle.ada_resolve.specs.declared.items.Filling.{Filling as FillingOf}
 use Rattle.ada_resolve.specs.declared.part.Part.{Part as PartOf}
+use Rattle.ada_resolve.specs.declared.primitives.Specifications.{Specifications as SpecificationsOf}
 use Rattle.ada_resolve.specs.declared.procedures.Sequence.{Sequence}
 use Rattle.ada_resolve.specs.Kept.{known_type_form}
-use Rattle.ada_resolve.specs.Known.{Known, Named, Part}
+use Rattle.ada_resolve.specs.Known.{Known, Named, Part, Specifications, Specified}
 use Rattle.ada_resolve.specs.Items.{Filling}
 use Rattle.ada_resolve.specs.Procedures.{Formals}
 use Rattle.ada_resolve.specs.declared.library.Withs.{Withs}
@@ -76,10 +77,30 @@ abbrev pub optional_variables : Option (Vec Variable) → Option (List VariableF
 optional_variables (Some variables) = Some (map variable_form variables.items)
 optional_variables None = None
 
+-- A text, where there is one.
+abbrev pub text_of : Option (Bor (List ℕ)) → Option (List ℕ)
+text_of None = None
+text_of (Some text) = Some text.now
+
+-- A specification, as the code keeps it: by the type.
+abbrev pub specified_of : ℕ × Bor (List ℕ) → Specified
+specified_of entry = record { record_type = entry.0; formal = entry.1.now }
+
+-- The specifications of operations in a part, as the code keeps them.
+unfoldable pub specifications_in : SpecificationsOf → Specifications
+specifications_in s = record {
+  initializes = map specified_of s.initializes.entries;
+  adjusts = map specified_of s.adjusts.entries;
+  finalizes = map specified_of s.finalizes.entries;
+  count = s.count;
+  awaited = s.awaited;
+}
+
 -- A declarative part, as the code keeps it.
 unfoldable pub part_of : PartOf → Part
 part_of p = record {
   names = map named_of p.names.entries;
+  specified = specifications_in p.specified;
   first_type = p.first_type;
   first_variable = p.first_variable;
   first_body = p.first_body;
@@ -103,6 +124,7 @@ known_of r = record {
   texts = map string_bytes r.texts.items;
   frozen = r.frozen.keys;
   controlled = r.controlled;
+  limited = r.limited.keys;
 }
 
 -- The items of a record.

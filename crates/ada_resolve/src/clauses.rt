@@ -110,7 +110,7 @@ impl<'t> Resolver<'t> {
 
     /// Whether an instance has frozen a type.
     #[tactic(auto, unfolding(crate::specs::View::known_of))]
-    fn is_frozen(&self, access: TypeNo) -> bool
+    pub(crate) fn is_frozen(&self, access: TypeNo) -> bool
         ensures { result ≡ is_among access.0 (known self).frozen }
     {
         self.frozen.contains(&access.0)

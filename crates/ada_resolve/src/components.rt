@@ -3,10 +3,12 @@
 ghost use Rattle.std.specs.Prelude.{◌≡◌, ◌+◌, ◌∷◌, [], map, length, slice_get, IfOk, OnOk, IfErr};
 ghost use Rattle.ada_tree.specs.Names.{ident_of};
 ghost use Rattle.ada_program.specs.ProgramForm.{part_form, type_form};
-ghost use Rattle.ada_resolve.specs.Kept.{composition_in, forms_of, known_type_form, with_controlled, with_declared, with_kinds};
+ghost use Rattle.ada_resolve.specs.Kept.{composition_in, forms_of, kind_of_known, known_type_form, with_controlled, with_declared, with_kinds};
 ghost use Rattle.ada_resolve.specs.Method.{Finds, Composes, each, kinds_listed};
 ghost use Rattle.ada_resolve.specs.Paths.{component_at, component_named};
 ghost use Rattle.ada_resolve.specs.Derived.{with_parent};
+ghost use Rattle.ada_resolve.specs.Instances.{kind_of_part};
+ghost use Rattle.ada_resolve.specs.Primitives.{begins_with_parent, is_parent_part};
 ghost use Rattle.ada_resolve.specs.Records.{finalization_made, is_component, no_components, record_with};
 
 use crate::fault::NameFault;
@@ -138,6 +140,24 @@ impl<'t> Components<'t> {
         ensures { result.now ≡ self.now.kinds.items }
     {
         &self.kinds
+    }
+
+    /// Whether the parent part of a controlled type stands first.
+    #[tactic(auto, unfolding(crate::specs::Kept::forms_of))]
+    pub(crate) fn begin_with_parent(&self) -> bool
+        ensures { result ≡ begins_with_parent (forms_of self.now) }
+    {
+        match self.at(0) {
+            Some((_, first)) => is_parent_part(first.kind),
+            None => false,
+        }
+    }
+
+    /// As they are declared, in order.
+    pub(crate) fn declared(&self) -> &[KnownComponent]
+        ensures { map kind_of_known result.now ≡ map kind_of_part (forms_of self.now) }
+    {
+        self.entries.values().as_slice()
     }
 
     /// How many components are declared.
@@ -330,4 +350,14 @@ pub(crate) fn definitions(
         made.push(one.definition(alloc)?)?;
     }
     Ok(made)
+}
+
+/// Whether a component is the parent part of a controlled type.
+fn is_parent_part(kind: PartKind) -> bool
+    ensures { result ≡ is_parent_part kind }
+{
+    match kind {
+        PartKind::Parent => true,
+        PartKind::Record(_) | PartKind::Elementary(_) => false,
+    }
 }

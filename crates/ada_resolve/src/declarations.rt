@@ -1,6 +1,6 @@
 //! Resolution of declarations, in order, up to `begin` (3.1).
 
-ghost use Rattle.std.specs.Prelude.{◌≡◌, map};
+ghost use Rattle.std.specs.Prelude.{◌≡◌, ◌==◌, not, map};
 ghost use Rattle.ada_tree.specs.StatementView.{declaration_of, declarations_of};
 ghost use Rattle.ada_resolve.specs.Method.{known, IsNoted, Takes};
 ghost use Rattle.ada_resolve.specs.Resolution.{declaration_told, declarations_told, single_told, some_incomplete, entity_in, at_begin, unused_remark};
@@ -138,20 +138,28 @@ impl<'t> Resolver<'t> {
                 self.end_of_types()?;
                 self.borrower(*name, *designated, initial, notes)
             }
-            Declaration::Specification(_) | Declaration::Body { .. } => not_in_use(
-                declaration,
-                notes,
-            ),
+            Declaration::Specification(head) => self.specification(head, notes),
+            Declaration::Body { .. } => not_in_use(declaration, notes),
         }
     }
 
-    /// At `begin` no type of the part is left incomplete (3.10.1), and the types end.
+    /// At `begin` no type of the part is left incomplete (3.10.1), each operation that it specifies has its body, and the types
+    /// end.
     pub(crate) fn begin(&mut self, spot: Spot, notes: &mut Notes) -> Result<(), NameFault>
         ensures { Takes result self notes (at_begin spot) }
     {
         notes.note_if(self.has_incomplete(), spot, NameRule::BodyMissing);
+        notes.note_if(self.awaits(), spot, NameRule::BodyMissing);
         notes.settle()?;
         self.end_of_types()
+    }
+
+    /// Whether an operation that the part specifies waits for its body.
+    #[tactic(auto, unfolding(crate::specs::View::known_of))]
+    fn awaits(&self) -> bool
+        ensures { result ≡ not ((known self).here.specified.awaited == 0) }
+    {
+        self.here.awaits()
     }
 
     /// Whether a name of the part stands for an incomplete type.

@@ -1,18 +1,18 @@
 //! Resolution of types that are derived from one of Ada.Finalization (3.4, 7.6).
 
-ghost use Rattle.std.specs.Prelude.{◌≡◌};
+ghost use Rattle.std.specs.Prelude.{◌≡◌, OnOk, IfErr};
 ghost use Rattle.ada_tree.specs.Names.{name_of};
-ghost use Rattle.ada_resolve.specs.Derived.{is_limited_parent, limited_parent, parent_remark, parent_wanted, with_parent};
+ghost use Rattle.ada_resolve.specs.Derived.{is_limited_parent, limited_parent, parent_remark, parent_wanted, with_limited, with_parent};
 ghost use Rattle.ada_resolve.specs.Kept.{composition_in};
 ghost use Rattle.ada_resolve.specs.Look.{Looks, components_look};
-ghost use Rattle.ada_resolve.specs.Method.{known, IsNoted, derived_tree, Declares};
+ghost use Rattle.ada_resolve.specs.Method.{known, IsNoted, Changes, derived_tree, with_derived, Declares};
 
 use crate::components::Components;
 use crate::fault::{NameFault, NameRule};
 use crate::library::{LibraryName, is_library_root};
 use crate::notes::Notes;
 use crate::resolver::Resolver;
-use ada_program::Spot;
+use ada_program::{Spot, TypeNo};
 use ada_tree::names::{Identifier, Name};
 use ada_tree::records::RecordDefinition;
 
@@ -35,7 +35,35 @@ impl<'t> Resolver<'t> {
         let limited = self.parent(parent, notes);
         let components = self.derived_components(limited, definition, notes)?;
         notes.settle()?;
-        self.define_record(completes, name, components)
+        self.define_derived(completes, name, components, limited)
+    }
+
+    /// A record type of these components is known, and whether it is derived from Limited_Controlled.
+    fn define_derived(
+        &mut self,
+        completes: Option<TypeNo>,
+        name: Identifier<'t>,
+        components: Components<'t>,
+        limited: bool,
+    ) -> Result<(), NameFault>
+        ensures known { OnOk result (Changes self (with_derived limited completes name.entry components.entry)) }
+        ensures memory { IfErr result (λ e. e ≡ NameFault.NoMemory) }
+    {
+        let number = self.number_of(completes);
+        self.define_record(completes, name, components)?;
+        self.limit(limited, number)
+    }
+
+    /// The type is derived from Limited_Controlled, or it is not.
+    #[tactic(auto, unfolding(crate::specs::View::known_of))]
+    fn limit(&mut self, limited: bool, number: TypeNo) -> Result<(), NameFault>
+        ensures known { OnOk result (Changes self (with_limited limited number)) }
+        ensures memory { IfErr result (λ e. e ≡ NameFault.NoMemory) }
+    {
+        if limited {
+            self.limited.insert(number.0)?;
+        }
+        Ok(())
     }
 
     /// The components of a derived type, behind its parent part, which makes it limited or not.

@@ -1,23 +1,24 @@
 //! Resolution of instances of Unchecked_Deallocation (12.3, 13.11.2).
 
-ghost use Rattle.std.specs.Prelude.{◌≡◌, OnOk, IfErr, ◌∷◌, [], map, option_copied};
+ghost use Rattle.std.specs.Prelude.{◌≡◌, OnOk, IfErr, ◌∷◌, [], map, slice_get, option_copied};
 ghost use Rattle.ada_tree.specs.Names.{ident_of, name_of};
 ghost use Rattle.ada_program.specs.Form.{collects};
 ghost use Rattle.ada_resolve.specs.Method.{known, entity_of, IsNoted, Changes, instance_tree, Declares};
-ghost use Rattle.ada_resolve.specs.Kept.{kinds_in, known_type_form};
+ghost use Rattle.ada_resolve.specs.Kept.{kind_of_known, kinds_in, known_type_form};
 ghost use Rattle.ada_resolve.specs.Paths.{designated_of};
 ghost use Rattle.ada_resolve.specs.Types.{designates};
-ghost use Rattle.ada_resolve.specs.Instances.{access_type_in, components_behind, designates_if_known, freed_found, freed_remark, is_collected, one_instance, own_type, complete_wanted, generic_remark, with_component_frozen, with_components_frozen, with_frozen, with_number};
+ghost use Rattle.ada_resolve.specs.Instances.{access_type_in, components_behind, designates_if_known, freed_found, freed_remark, is_collected, kinds_declared, one_instance, own_type, complete_wanted, generic_remark, with_component_frozen, with_components_frozen, with_frozen, with_number, with_record_frozen};
 ghost use Rattle.ada_resolve.specs.Known.{with_elaborated};
+ghost use Rattle.ada_resolve.specs.View.{optional_number};
 
-use crate::components::{Components, KnownType};
+use crate::components::{Components, KnownComponent, KnownType};
 use crate::fault::{NameFault, NameRule};
 use crate::library::{LibraryName, is_library_root};
 use crate::notes::Notes;
 use crate::paths::components_of;
 use crate::resolver::Resolver;
 use crate::scope::Entity;
-use ada_program::program::ComponentKind;
+use ada_program::program::{ComponentKind, PartKind};
 use ada_program::{Spot, TypeNo};
 use ada_tree::names::{Identifier, Name};
 use indexmap::IndexSet;
@@ -214,27 +215,104 @@ impl<'t> Resolver<'t> {
     {
         self.here.add_collection(number)
     }
-    /// An instance freezes its access type, and those of the components of what that designates (13.14).
+
+    /// An instance freezes its access type, and those of the components of what that designates (13.14); and the record type that
+    /// it designates, and those of the components of that.
     #[tactic(auto, unfolding(crate::specs::View::known_of))]
     fn freeze(&mut self, access: TypeNo) -> Result<(), NameFault>
         ensures known { OnOk result (Changes self (with_frozen access.0)) }
         ensures memory { IfErr result (λ e. e ≡ NameFault.NoMemory) }
     {
         freeze(&mut self.frozen, access)?;
-        match behind(&self.types, access) {
-            Some(components) => freeze_components(&mut self.frozen, components.elementary()),
+        freeze_elementary(&mut self.frozen, behind(&self.types, access))?;
+        match designated(&self.types, access) {
+            Some(record) => freeze_record(&self.types, self.controlled, record, &mut self.frozen),
             None => Ok(()),
         }
     }
 }
 
-/// An access type is frozen.
-fn freeze(frozen: &mut IndexSet<usize>, access: TypeNo) -> Result<(), NameFault>
-    ensures added { OnOk result (frozen.new.keys ≡ with_number frozen.old.keys access.0) }
+/// A type is frozen.
+fn freeze(frozen: &mut IndexSet<usize>, number: TypeNo) -> Result<(), NameFault>
+    ensures added { OnOk result (frozen.new.keys ≡ with_number frozen.old.keys number.0) }
     ensures memory { IfErr result (λ e. e ≡ NameFault.NoMemory) }
 {
-    frozen.insert(access.0)?;
+    frozen.insert(number.0)?;
     Ok(())
+}
+
+/// A record type is frozen, and those of its parts at any depth, as many levels deep.
+#[tactic(auto, using(crate::proofs::Specified::frozen_next, crate::proofs::Specified::frozen_last, crate::proofs::Specified::frozen_before))]
+fn freeze_record(
+    types: &[KnownType<'_>],
+    levels: usize,
+    number: TypeNo,
+    frozen: &mut IndexSet<usize>,
+) -> Result<(), NameFault>
+    ensures added { OnOk result
+        (frozen.new.keys ≡ with_record_frozen (map known_type_form types.now) levels number.0 frozen.old.keys) }
+    ensures memory { IfErr result (λ e. e ≡ NameFault.NoMemory) }
+{
+    if levels == 0 || frozen.contains(&number.0) {
+        return Ok(());
+    }
+    freeze(frozen, number)?;
+    let below = levels - 1;
+    'parts: for component in declared_in(types, number) {
+        if let PartKind::Record(inner) = component.kind {
+            freeze_record(types, below, inner, frozen)?;
+        }
+    }
+    Ok(())
+}
+
+/// The declared components of a record type, where it has controlled parts.
+#[tactic(auto, using(crate::proofs::Names::map_get))]
+fn declared_in<'k>(types: &'k [KnownType<'_>], number: TypeNo) -> &'k [KnownComponent]
+    ensures { map kind_of_known result.now ≡ kinds_declared (slice_get (map known_type_form types.now) number.0) }
+{
+    match types.get(number.0) {
+        Some(
+            KnownType::Record {
+                name: _,
+                components,
+                finalization: Some(_),
+            },
+        ) => components.declared(),
+        _ => &[],
+    }
+}
+
+/// The record type that an access type designates.
+#[tactic(auto, unfolding(crate::specs::Paths::designated_of), using(crate::proofs::Names::map_get))]
+fn designated(types: &[KnownType<'_>], access: TypeNo) -> Option<TypeNo>
+    ensures { optional_number result ≡ designated_of (map known_type_form types.now) access.0 }
+{
+    match types.get(access.0) {
+        Some(
+            KnownType::Access {
+                name: _,
+                designated,
+                pool: _,
+            },
+        ) => Some(*designated),
+        _ => None,
+    }
+}
+
+/// The access types of the elementary components of a record type, where it is known, are frozen.
+fn freeze_elementary(
+    frozen: &mut IndexSet<usize>,
+    components: Option<&Components<'_>>,
+) -> Result<(), NameFault>
+    ensures added { OnOk result
+        (frozen.new.keys ≡ with_components_frozen (kinds_in (option_copied components.entry)) frozen.old.keys) }
+    ensures memory { IfErr result (λ e. e ≡ NameFault.NoMemory) }
+{
+    match components {
+        Some(components) => freeze_components(frozen, components.elementary()),
+        None => Ok(()),
+    }
 }
 
 /// The access types of elementary components are frozen.

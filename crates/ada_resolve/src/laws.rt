@@ -1,11 +1,10 @@
 //! The laws of resolution. Each is a function that does nothing, and whose contract is the theorem.
 
-ghost use Rattle.std.specs.Prelude.{◌≡◌, true};
 ghost use Rattle.ada_tree.specs.Statements.{UnitTree};
 ghost use Rattle.ada_program.specs.Freed.{FreesItsOwn};
 ghost use Rattle.ada_program.specs.Nested.{CollectionsNest};
 ghost use Rattle.ada_program.specs.ProgramForm.{ProgramForm};
-ghost use Rattle.ada_program.specs.WellFormed.{IsWellFormed, overrides_none};
+ghost use Rattle.ada_program.specs.WellFormed.{IsWellFormed};
 ghost use Rattle.ada_resolve.specs.First.{NotesTheFirst};
 ghost use Rattle.ada_resolve.specs.Reading.{IsReadAs};
 ghost use Rattle.ada_resolve.specs.Resolution.{Resolves};
@@ -14,12 +13,6 @@ ghost use Rattle.ada_resolve.specs.Resolution.{Resolves};
 pub fn programs_are_well_formed()
     ensures { (tree : UnitTree) (program : ProgramForm) →
         Resolves tree program → IsWellFormed program }
-{}
-
-/// The types of the program that a tree means override no operation (7.6).
-pub fn programs_override_nothing()
-    ensures { (tree : UnitTree) (program : ProgramForm) →
-        Resolves tree program → overrides_none program ≡ true }
 {}
 
 /// The program that a tree means frees each object by the instance of `Unchecked_Deallocation` for the very access type

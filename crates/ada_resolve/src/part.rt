@@ -1,30 +1,37 @@
 //! A declarative part: what it declares so far, and what names stand for in it.
 
-ghost use Rattle.std.specs.Prelude.{◌≡◌, map, reverse, is_some, OnOk, IfErr, [], ◌∷◌};
+ghost use Rattle.std.specs.Prelude.{◌≡◌, ◌==◌, not, nat_lt, map, reverse, is_some, OnOk, IfErr, [], ◌∷◌};
 ghost use Rattle.ada_program.specs.Form.{collects, creates_pool, declares, declares_record, declaration_form};
 ghost use Rattle.ada_program.specs.Kept.{variables_in};
 ghost use Rattle.ada_program.specs.ProgramForm.{variable_form};
 ghost use Rattle.ada_resolve.specs.Instances.{is_collected};
-ghost use Rattle.ada_resolve.specs.Known.{formals_of, from_part, from_within, named, named_in, own_names, part_from, role_of};
-ghost use Rattle.ada_resolve.specs.Method.{each, part_of_body, Elaborates, Enters};
+ghost use Rattle.ada_resolve.specs.Known.{formals_of, from_part, from_within, most_names, named, named_in, own_names, part_from, role_of};
+ghost use Rattle.ada_resolve.specs.Method.{each, part_of_body, Elaborates, Enters, Specifies};
 ghost use Rattle.ada_resolve.specs.Paths.{is_incomplete_entity, is_incomplete_in};
+ghost use Rattle.ada_resolve.specs.Primitives.{answered, formal_specified, sole_changed, specified_for, specified_more};
 ghost use Rattle.ada_resolve.specs.Resolution.{some_incomplete, entity_in};
 ghost use Rattle.ada_resolve.specs.Objects.{initial_source};
-ghost use Rattle.ada_resolve.specs.View.{names_in, optional_items, optional_variables, part_of, right_in};
+ghost use Rattle.ada_resolve.specs.View.{names_in, optional_items, optional_variables, part_of, right_in, text_of};
 
 use crate::fault::NameFault;
+use crate::primitives::{Operation, Specifications};
 use crate::scope::{Entity, Role};
 use ada_program::borrowers::is_borrower;
-use ada_program::program::{self, Declaration, FormalMode, Variable};
+use ada_program::program::{self, Declaration, FormalMode, Variable, VariableKind};
 use ada_program::{PoolNo, TypeNo, VariableNo};
 use indexmap::IndexMap;
 use std::alloc::Global;
+
+/// The most names that a declarative part declares.
+const MOST_NAMES: usize = 500;
 
 /// A declarative part (3.11), or the scope of a loop parameter (8.1).
 #[derive(Drop)]
 pub(crate) struct Part<'t> {
     /// The names that it declares, in order.
     names: IndexMap<&'t str, Entity>,
+    /// The operations that it specifies.
+    specified: Specifications<'t>,
     /// The number of its first type.
     pub(crate) first_type: usize,
     /// The number of its first variable behind formal parameters.
@@ -63,6 +70,7 @@ impl<'t> Part<'t> {
     {
         Part {
             names: IndexMap::new(alloc),
+            specified: Specifications::new(alloc),
             first_type,
             first_variable,
             first_body,
@@ -89,6 +97,7 @@ impl<'t> Part<'t> {
     {
         Part {
             names,
+            specified: Specifications::new(alloc),
             first_type,
             first_variable,
             first_body,
@@ -106,12 +115,65 @@ impl<'t> Part<'t> {
         self.names.get(text).copied()
     }
 
-    /// How many names it declares besides formal parameters.
+    /// Whether it has room for one more name besides formal parameters.
     #[tactic(auto, unfolding(crate::specs::View::part_of))]
-    pub(crate) fn own_names(&self) -> usize
-        ensures { result ≡ own_names (part_of self.now) }
+    pub(crate) fn has_room(&self) -> bool
+        ensures { result ≡ nat_lt (own_names (part_of self.now)) most_names }
     {
-        self.names.len().saturating_sub(self.formals())
+        let names = self.names.len().saturating_sub(self.formals());
+        match names.checked_add(self.specified.count()) {
+            Some(names) => names < MOST_NAMES,
+            None => false,
+        }
+    }
+
+    /// The name of the formal in its specification of an operation of a type, if it has one.
+    #[tactic(auto, unfolding(crate::specs::View::part_of))]
+    pub(crate) fn formal_specified(&self, operation: Operation, number: TypeNo) -> Option<&'t str>
+        ensures { text_of result ≡ formal_specified number.0 (specified_for operation (part_of self.now).specified) }
+    {
+        self.specified.formal(operation, number)
+    }
+
+    /// It specifies an operation of a type, with a formal of this name.
+    #[tactic(auto, unfolding(crate::specs::View::part_of))]
+    pub(crate) fn specify(
+        &mut self,
+        operation: Operation,
+        number: TypeNo,
+        formal: &'t str,
+    ) -> Result<(), NameFault>
+        ensures known { OnOk result (Specifies self (specified_more operation number.0 formal.now)) }
+        ensures memory { IfErr result (λ e. e ≡ NameFault.NoMemory) }
+    {
+        self.specified.add(operation, number, formal)
+    }
+
+    /// The body of an operation that it specifies has ended.
+    #[tactic(auto, unfolding(crate::specs::View::part_of))]
+    pub(crate) fn answer(&mut self, operation: Operation)
+        ensures { Specifies self (answered (Some operation)) }
+    {
+        self.specified.answer(operation);
+    }
+
+    /// Whether an operation that it specifies waits for its body.
+    #[tactic(auto, unfolding(crate::specs::View::part_of))]
+    pub(crate) fn awaits(&self) -> bool
+        ensures { result ≡ not ((part_of self.now).specified.awaited == 0) }
+    {
+        self.specified.awaited() != 0
+    }
+
+    /// What its one formal holds, of mode `in out`, where it is the part of a body with these variables and there is no other.
+    #[tactic(auto, unfolding(crate::specs::View::part_of))]
+    pub(crate) fn sole_changed(&self, variables: &[Variable]) -> Option<VariableKind>
+        ensures { result ≡ sole_changed (part_of self.now).modes (variables_in variables.now) }
+    {
+        match (self.modes.as_slice(), variables) {
+            ([FormalMode::InOut], [formal, ..]) => Some(formal.kind),
+            _ => None,
+        }
     }
 
     /// How many formal parameters it declares.
@@ -262,6 +324,7 @@ impl<'t> Part<'t> {
     {
         let Part {
             names: _,
+            specified: _,
             first_type: _,
             first_variable: _,
             first_body: _,

@@ -1,26 +1,27 @@
 //! Procedures: where their bodies begin, and where they end (6.1, 6.3).
 
-ghost use Rattle.std.specs.Prelude.{◌≡◌, OnOk, IfErr};
+ghost use Rattle.std.specs.Prelude.{◌≡◌, Some, OnOk, IfErr};
 ghost use Rattle.ada_tree.specs.Declarations.{head_of};
-ghost use Rattle.ada_tree.specs.Names.{ident_of, optional_ident_of};
+ghost use Rattle.ada_tree.specs.Names.{optional_ident_of};
 ghost use Rattle.ada_resolve.specs.Method.{known, IsNoted, Changes, Takes, begun_with, ended_with};
 ghost use Rattle.ada_resolve.specs.Known.{next_procedure};
-ghost use Rattle.ada_resolve.specs.Procedures.{overriding_remark};
+ghost use Rattle.ada_resolve.specs.Primitives.{formal_specified, specified_for};
+ghost use Rattle.ada_resolve.specs.Procedures.{head_name_remark, operand_for, operand_wanted, overriding_unless};
 ghost use Rattle.ada_resolve.specs.Resolution.{head_told_of, same_name};
-ghost use Rattle.ada_resolve.specs.Spots.{first_or};
-ghost use Rattle.ada_resolve.specs.View.{done, Tells};
+ghost use Rattle.ada_resolve.specs.View.{done, formals_in, optional_number, text_of, Tells};
 
 use crate::fault::{NameFault, NameRule};
 use crate::formals::Formals;
 use crate::notes::Notes;
-use crate::part::Part;
+use crate::primitives::{Operation, operation_named};
 use crate::resolver::Resolver;
 use crate::scope::Entity;
-use ada_program::Spot;
-use ada_program::program::{Handler, Procedure, ProcedureNo, Stmt};
+use crate::specifications::formal_name;
+use crate::spots::head_spot;
+use ada_program::program::{Handler, ProcedureNo, Stmt};
+use ada_program::{Spot, TypeNo};
 use ada_tree::declarations::ProcedureHead;
 use ada_tree::names::Identifier;
-use std::mem;
 
 /// What the statements of a part do, and what handles their exceptions (11.2).
 #[derive(Drop)]
@@ -39,23 +40,84 @@ impl<'t> Resolver<'t> {
     ) -> Result<(), NameFault>
         ensures { Takes result self notes (head_told_of (head_of head.now)) }
     {
-        let first = head.overriding.unwrap_or(head.spot);
+        let first = head_spot(head);
         notes.node(first);
         notes.note_if(!self.no_object_yet(), first, NameRule::Layout);
-        no_overriding(head.overriding, notes);
+        let operation = operation_named(head.name.text);
+        overriding_unless(operation, head.overriding, notes);
         let formals = self.formals(&head.formals, notes)?;
-        self.new_name(head.name, first, notes);
+        let number = self.operand_if(operation, &formals);
+        self.head_name(operation, number, head, notes);
         notes.settle()?;
         self.begin_body(head.name, formals)
     }
 
-    /// The name stands for a procedure whose body has not ended, and the body begins. The variables of the body around
-    /// are put aside.
+    /// The type of which a procedure with these formals is the operation, where it is one by its name.
+    fn operand_if(&self, operation: Option<Operation>, formals: &Formals<'t>) -> Option<TypeNo>
+        ensures { optional_number result ≡ operand_for operation (known self) (formals_in formals.now) }
+    {
+        self.operand(operation?, formals)
+    }
+
+    /// The name of a body is new, or that of an operation that its part specifies.
+    fn head_name(
+        &self,
+        operation: Option<Operation>,
+        number: Option<TypeNo>,
+        head: &ProcedureHead<'t>,
+        notes: &mut Notes,
+    )
+        ensures { IsNoted notes (head_name_remark operation (optional_number number) (known self) (head_of head.now)) }
+    {
+        match operation {
+            None => self.new_name(head.name, head_spot(head), notes),
+            Some(operation) => match number {
+                None => notes.note(head_spot(head), NameRule::NotInProfile),
+                Some(number) => self.specified_wanted(operation, number, head, notes),
+            },
+        }
+    }
+
+    /// The body of an operation of a type is for a specification, is the first one for it, and its formal has the same name.
+    fn specified_wanted(
+        &self,
+        operation: Operation,
+        number: TypeNo,
+        head: &ProcedureHead<'t>,
+        notes: &mut Notes,
+    )
+        ensures { IsNoted notes (operand_wanted (Some number.0) (known self) operation (head_of head.now)) }
+    {
+        let name = head.name.spot;
+        let Some(formal) = self.formal_specified(operation, number) else {
+            notes.note(head_spot(head), NameRule::NotInProfile);
+            return;
+        };
+        let overridden = self.overrider(operation, number).is_some();
+        notes.note_if(overridden, name, NameRule::DeclaredTwice);
+        notes.note_if(
+            formal_name(&head.formals) != formal,
+            name,
+            NameRule::WrongType,
+        );
+    }
+
+    /// The name of the formal in the specification of an operation of a type, if the innermost part has one.
+    #[tactic(auto, unfolding(crate::specs::View::known_of))]
+    pub(crate) fn formal_specified(&self, operation: Operation, number: TypeNo) -> Option<&'t str>
+        ensures { text_of result
+            ≡ formal_specified number.0 (specified_for operation (known self).here.specified) }
+    {
+        self.here.formal_specified(operation, number)
+    }
+
+    /// The name stands for a procedure whose body has not ended, unless it is an operation's, and the body begins. The variables
+    /// of the body around are put aside.
     fn begin_body(&mut self, name: Identifier<'t>, formals: Formals<'t>) -> Result<(), NameFault>
         ensures known { OnOk result (Changes self (begun_with name.entry formals.entry)) }
         ensures memory { IfErr result (λ e. e ≡ NameFault.NoMemory) }
     {
-        self.declare(name.text, Entity::Procedure)?;
+        self.declare_unless(operation_named(name.text), name.text, Entity::Procedure)?;
         self.enter_body(formals)
     }
 
@@ -71,9 +133,10 @@ impl<'t> Resolver<'t> {
         ensures known { OnOk result (Changes self (ended_with name.entry body start end)) }
         ensures memory { IfErr result (λ e. e ≡ NameFault.NoMemory) }
     {
-        let number = self.next_procedure();
+        let procedure = self.next_procedure();
+        let number = self.own_operand();
         self.leave_body(start, end, body)?;
-        self.declare(name.text, Entity::Callable(number))
+        self.close(name.text, procedure, number)
     }
 
     /// The number of the next procedure whose body ends.
@@ -85,11 +148,11 @@ impl<'t> Resolver<'t> {
     }
 }
 
-/// `overriding` is not in use (8.3.1).
-fn no_overriding(overriding: Option<Spot>, notes: &mut Notes)
-    ensures { IsNoted notes (overriding_remark overriding) }
+/// `overriding` is not in use, but for operations (8.3.1).
+fn overriding_unless(operation: Option<Operation>, overriding: Option<Spot>, notes: &mut Notes)
+    ensures { IsNoted notes (overriding_unless operation overriding) }
 {
-    if let Some(spot) = overriding {
+    if let (None, Some(spot)) = (operation, overriding) {
         notes.note(spot, NameRule::NotInProfile);
     }
 }

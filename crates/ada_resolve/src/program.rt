@@ -1,22 +1,20 @@
 //! From the tree to the program: what each name stands for, and whether each form has the types that it wants.
 
-ghost use Rattle.std.specs.Prelude.{◌≡◌, map, true, IfOk, IfErr};
+ghost use Rattle.std.specs.Prelude.{◌≡◌, map, IfOk, IfErr};
 ghost use Rattle.ada_tree.specs.Declarations.{clause_of};
 ghost use Rattle.ada_tree.specs.Names.{ident_of, name_of};
 ghost use Rattle.ada_tree.specs.StatementView.{unit_of};
 ghost use Rattle.ada_program.specs.Freed.{FreesItsOwn};
 ghost use Rattle.ada_program.specs.Nested.{CollectionsNest};
 ghost use Rattle.ada_program.specs.ProgramForm.{program_form};
-ghost use Rattle.ada_program.specs.WellFormed.{IsWellFormed, overrides_none};
+ghost use Rattle.ada_program.specs.WellFormed.{IsWellFormed};
 ghost use Rattle.ada_resolve.specs.Method.{Finds, IsNoted, program_in, procedure_outcome};
 ghost use Rattle.ada_resolve.specs.Resolution.{units_of, clause_told, clauses_told, alone_remark, Resolves, no_units, unit_told};
 ghost use Rattle.ada_resolve.specs.View.{same_units, Answers, Faults};
 
 use crate::components::definitions;
 use crate::fault::{NameFault, NameRule};
-use crate::laws::{
-    collections_nest, programs_are_well_formed, programs_free_their_own, programs_override_nothing,
-};
+use crate::laws::{collections_nest, programs_are_well_formed, programs_free_their_own};
 use crate::library::{LibraryName, Withs, is_primitive, library_name};
 use crate::notes::Notes;
 use crate::procedures::{Sequence, same_name};
@@ -27,8 +25,8 @@ use ada_tree::names::{Identifier, Name};
 use ada_tree::unit::{Clause, Unit};
 use std::alloc::Global;
 
-/// The program of a tree, which is well formed, whose collections nest, which frees each object by the instance for its
-/// very access type, and whose types override no operation.
+/// The program of a tree, which is well formed, whose collections nest, and which frees each object by the instance for its
+/// very access type.
 ///
 /// # Errors
 /// At the first declaration or statement that breaks a rule of names; there at the leftmost spot, and of two rules
@@ -37,12 +35,10 @@ pub fn resolve(alloc: Global, unit: &Unit<'_>) -> Result<Program, NameFault>
     ensures resolves { IfOk result (λ p. Resolves (unit_of unit.now) (program_form p)) }
     ensures first { IfErr result (λ e. Faults e (unit_of unit.now)) }
     ensures well_formed { IfOk result (λ p. IsWellFormed (program_form p)) }
-    ensures overrides { IfOk result (λ p. overrides_none (program_form p) ≡ true) }
     ensures nests { IfOk result (λ p. CollectionsNest (program_form p)) }
     ensures frees_own { IfOk result (λ p. FreesItsOwn (program_form p)) }
 {
     programs_are_well_formed();
-    programs_override_nothing();
     collections_nest();
     programs_free_their_own();
     whole_program(alloc, unit)
@@ -54,7 +50,14 @@ fn whole_program(alloc: Global, unit: &Unit<'_>) -> Result<Program, NameFault>
     ensures first { IfErr result (λ e. Faults e (unit_of unit.now)) }
 {
     let withs = library_units(&unit.clauses)?;
-    let mut resolver = Resolver::new(alloc, withs, unit.name.text);
+    program_behind(Resolver::new(alloc, withs, unit.name.text), unit)
+}
+
+/// The program of a tree behind its `with` clauses.
+fn program_behind<'t>(resolver: Resolver<'t>, unit: &Unit<'t>) -> Result<Program, NameFault>
+    ensures { Answers result program_form (procedure_outcome resolver.entry unit.now) }
+{
+    let mut resolver = resolver;
     let body = procedure(&mut resolver, unit)?;
     assemble(resolver, body)
 }
@@ -169,6 +172,7 @@ fn assemble(resolver: Resolver<'_>, body: Sequence) -> Result<Program, NameFault
         texts,
         frozen: _,
         controlled: _,
+        limited: _,
     } = resolver;
     Ok(Program {
         types,

@@ -1,10 +1,10 @@
 //! A resolution in progress: what is declared so far, and what names stand for.
 
-ghost use Rattle.std.specs.Prelude.{◌≡◌, map, length, IfOk, OnOk, IfErr, bytes_eq};
+ghost use Rattle.std.specs.Prelude.{◌≡◌, nat_lt, map, length, IfOk, OnOk, IfErr, bytes_eq};
 ghost use Rattle.ada_tree.specs.Names.{ident_of};
 ghost use Rattle.ada_program.specs.Form.{declaration_form};
 ghost use Rattle.ada_program.specs.ProgramForm.{body_form, variable_form};
-ghost use Rattle.ada_resolve.specs.Known.{named, named_in, next_part, no_body_yet, own_names, parts, declared, visible, name_remark, new_name_remark, library_remark, library_found, library_rule, is_with, no_variable_yet, outermost, type_begins, types_go_on, with_part, without_part};
+ghost use Rattle.ada_resolve.specs.Known.{most_names, named, named_in, next_part, no_body_yet, own_names, parts, declared, visible, name_remark, new_name_remark, library_remark, library_found, library_rule, is_with, no_variable_yet, outermost, type_begins, types_go_on, with_part, without_part};
 ghost use Rattle.ada_resolve.specs.Method.{at_work_again, known, each, IsNoted, Changes, with_type, without_body_of};
 ghost use Rattle.ada_resolve.specs.Procedures.{with_body, with_procedure};
 ghost use Rattle.ada_resolve.specs.Resolution.{known_first};
@@ -24,9 +24,6 @@ use ada_tree::names::Identifier;
 use indexmap::IndexSet;
 use std::alloc::Global;
 use std::mem;
-
-/// The most names that a declarative part declares.
-const MOST_NAMES: usize = 500;
 
 /// A resolution in progress: what is declared so far, and what it has given.
 #[derive(Drop)]
@@ -51,10 +48,13 @@ pub(crate) struct Resolver<'t> {
     pub(crate) exceptions: Vec<String>,
     /// The texts that the statements so far write.
     pub(crate) texts: Vec<String>,
-    /// The numbers of the access types that instances of Unchecked_Deallocation have frozen (13.14).
+    /// The numbers of the access types, and of the record types with controlled parts, that instances of Unchecked_Deallocation
+    /// have frozen (13.14).
     pub(crate) frozen: IndexSet<usize>,
     /// How many record types with controlled parts are complete (7.6).
     pub(crate) controlled: usize,
+    /// The numbers of the types that are derived from Limited_Controlled.
+    pub(crate) limited: IndexSet<usize>,
 }
 
 impl<'t> Resolver<'t> {
@@ -77,6 +77,7 @@ impl<'t> Resolver<'t> {
             texts: Vec::new(alloc),
             frozen: IndexSet::new(alloc),
             controlled: 0,
+            limited: IndexSet::new(alloc),
         }
     }
 
@@ -226,12 +227,12 @@ impl<'t> Resolver<'t> {
         }
     }
 
-    /// How many names the innermost part declares besides formal parameters.
+    /// Whether the innermost part has room for one more name besides formal parameters.
     #[tactic(auto, unfolding(crate::specs::View::known_of))]
-    fn own_names(&self) -> usize
-        ensures { result ≡ own_names (known self).here }
+    pub(crate) fn has_room(&self) -> bool
+        ensures { result ≡ nat_lt (own_names (known self).here) most_names }
     {
-        self.here.own_names()
+        self.here.has_room()
     }
 
     /// Whether it is the main procedure's name.
@@ -298,7 +299,7 @@ impl<'t> Resolver<'t> {
             NameRule::DeclaredTwice,
         );
         notes.note_if(is_primitive(name.text), first, NameRule::NotInProfile);
-        notes.note_if(self.own_names() >= MOST_NAMES, name.spot, NameRule::Limit);
+        notes.note_if(!self.has_room(), name.spot, NameRule::Limit);
     }
 
     /// What a name of the library stands for, whose unit is named in a `with` clause.

@@ -128,6 +128,17 @@ impl<'t> Resolver<'t> {
         Ok(number)
     }
 
+    /// The number of the type that a declaration defines.
+    #[tactic(auto, unfolding(crate::specs::View::known_of))]
+    pub(crate) fn number_of(&self, completes: Option<TypeNo>) -> TypeNo
+        ensures { result ≡ number_of completes (known self).types }
+    {
+        match completes {
+            Some(number) => number,
+            None => TypeNo(self.types.len()),
+        }
+    }
+
     /// The definition of a type that was incomplete.
     #[tactic(auto, unfolding(crate::specs::View::known_of), using(crate::proofs::Names::map_set, crate::proofs::Names::set_beyond))]
     pub(crate) fn replace_type(&mut self, number: TypeNo, definition: KnownType<'t>)

@@ -7,10 +7,12 @@ use Rattle.ada_program.specs.declared.program.Exception.TheVariants.{ConstraintE
 use Rattle.ada_program.specs.Nested.{body_nests, callees_from}
 use Rattle.ada_program.specs.ProgramForm.{TypeForm, BodyForm}
 use Rattle.ada_resolve.specs.declared.library.Withs.{Withs}
+use Rattle.ada_resolve.specs.declared.primitives.Operation.{Operation}
 use Rattle.ada_resolve.specs.declared.scope.Entity.{Entity}
 use Rattle.ada_resolve.specs.declared.scope.Entity.TheVariants as entity
 use Rattle.ada_resolve.specs.Known.{Known, Named, Part, entered, named, from_part, named_in, inner_first, outermost, unit_named, visible, parts}
 use Rattle.ada_resolve.specs.Library.{predefined}
+use Rattle.ada_resolve.specs.Primitives.{entered_unless}
 use Rattle.ada_resolve.proofs.Nesting.Callees.{Wider, wider_on, bodies_theirs, body_wider, callees_widen, callees_in, callees_last}
 use Rattle.ada_resolve.proofs.WellFormed.Growing.{AreIn}
 use Rattle.ada_resolve.proofs.WellFormed.Names.{all_entered, first_of_two, within_of, unit_only}
@@ -48,6 +50,10 @@ module _ (types : List TypeForm) where
   pub calls_entered : (bodies : List BodyForm) (around : List ℕ) (ns : List Named) (text : List ℕ) (e : Entity) → EntityCalls types bodies around e → NamesCall types bodies around ns → NamesCall types bodies around (entered text e ns)
   calls_entered bodies around ns text e own old =
       all_entered (λ t x. EntityCalls types bodies around x) ns text e own (λ t x ne is. old t x is)
+
+  pub calls_unless : (bodies : List BodyForm) (around : List ℕ) (o : Option Operation) (ns : List Named) (text : List ℕ) (e : Entity) → EntityCalls types bodies around e → NamesCall types bodies around ns → NamesCall types bodies around (entered_unless o text e ns)
+  calls_unless bodies around None ns text e own old = calls_entered bodies around ns text e own old
+  calls_unless bodies around (Some o) ns text e own old = old
 
   -- one more procedure, whose body nests
   pub callee_more : (bodies : List BodyForm) (around : List ℕ) (b : BodyForm) → body_nests types (callees_from types [] bodies) b around ≡ true → IsCallee types (bodies ++ b ∷ []) around (length bodies)

@@ -14,7 +14,6 @@ use Rattle.ada_resolve.specs.declared.scope.Entity.{Entity}
 use Rattle.ada_resolve.specs.declared.scope.Entity.TheVariants as entity
 use Rattle.ada_resolve.specs.Instances.{is_collected}
 use Rattle.ada_resolve.specs.Known.{Known, named}
-use Rattle.ada_resolve.proofs.WellFormed.Inherits.{type_stands}
 use Rattle.ada_resolve.proofs.Nesting.Callees.{IsAway, Wider}
 use Rattle.ada_resolve.proofs.Nesting.Open.{RecordOpen, EntityOpen, OpenAt, KindLies, ComponentsLie, IsOwnType, OpenAround, all_of, collected_is, one_of_both, one_of_first, one_of_second, record_opener, parts_opener}
 use Rattle.ada_resolve.proofs.Standing.{Sound, Complete}
@@ -121,7 +120,7 @@ module _ (around : List ℕ) (m : Known) (s : Sound m) (l : Late m) (f : IsFresh
   record_own : (t : ℕ) (name : List ℕ) (ps : List PartForm) (cs : List ComponentKind) (final : Option Finalization) → m.here.first_type ≤ t → slice_get m.types t ≡ Some (record_of name ps cs final) → RecordOpen there m.types t
   record_own t name ps cs final behind is =
       let form = record_of name ps cs final in
-      (name, ps, cs, final, is, components_there cs (w.forms t form behind is) (plain_of m.types form (all_get (type_stands m.types) m.types t form s.types_fit is)))
+      (name, ps, cs, final, is, components_there cs (w.forms t form behind is) (plain_of m.types form (all_get (fits.type_fits m.types) m.types t form s.types_fit is)))
 
   record_designated : (d : ℕ) → (d < m.here.first_type → RecordOpen around m.types d) → fits.is_record m.types d ≡ true → RecordOpen there m.types d
   record_designated d lies is = by_place (nat_le m.here.first_type d) refl
@@ -142,21 +141,21 @@ module _ (around : List ℕ) (m : Known) (s : Sound m) (l : Late m) (f : IsFresh
   access_nests types g a e =
       let own = own_collected m l f a e in
       let is = access_there m.types a own.1 in
-      let record_is = all_get (type_stands m.types) m.types a (access_to is.0 is.1 is.2) s.types_fit is.3 in
+      let record_is = all_get (fits.type_fits m.types) m.types a (access_to is.0 is.1 is.2) s.types_fit is.3 in
       let r = record_designated is.1 (w.forms a (access_to is.0 is.1 is.2) own.0 is.3) record_is in
       let access_later = access_stays m.types types g a is.0 is.1 is.2 is.3 in
       let record_later = record_stays m.types types g is.1 r.0 r.1 r.2 r.3 r.4 in
-      both_parts (not (is_one_of around a)) (are_open there (fits.reached_components types a)) (not_around a own.0) (rw (access_later.1, record_later) r.5)
+      both_parts (not (is_one_of around a)) (are_open there (fits.reached_components types a)) (not_around a own.0) (rw (access_later.1, record_later.1) r.5)
 
   -- the record objects of the part
   object_nests : (types : List TypeForm) → AreIn (forms m.types) (forms types) → (o : ℕ) → is_one_of (record_objects m.here.elaborated) o ≡ true → record_nests types there o ≡ true
   object_nests types g o e =
       let own = w.objects o e in
-      let record_is = all_get (type_stands m.types) m.types o (object_of own.1) s.types_fit own.2 in
+      let record_is = all_get (fits.type_fits m.types) m.types o (object_of own.1) s.types_fit own.2 in
       let r = record_designated own.1 (w.forms o (object_of own.1) own.0 own.2) record_is in
       let object_later = object_stays m.types types g o own.1 own.2 in
       let record_later = record_stays m.types types g own.1 r.0 r.1 r.2 r.3 r.4 in
-      rw (object_later, record_later) r.5
+      rw (object_later, record_later.1) r.5
 
   -- the collections and the record objects of the part nest, whatever types are declared behind it
   pub own_nests : (types : List TypeForm) → AreIn (forms m.types) (forms types) → part_nests types around m.here.elaborated ≡ true

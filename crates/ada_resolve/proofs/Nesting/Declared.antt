@@ -4,10 +4,10 @@ use Rattle.std.proofs.Common.{◌≡◌, ℕ, ◌+◌, ◌<◌, ◌≤◌, Bool,
 use Rattle.std.specs.Prelude.{Option, Some, None, ◌||◌, nat_le}
 use Rattle.std.specs.List.{list_all, slice_get, slice_set}
 use Rattle.std.proofs.lemmas.Bool.{leb-true, leb-false}
-use Rattle.ada_tree.specs.Declarations.{SizeTree}
+use Rattle.ada_tree.specs.Declarations.{HeadTree, SizeTree}
 use Rattle.ada_tree.specs.Names.{Ident, NameTree}
 use Rattle.ada_tree.specs.Records.{StaticTree, ComponentTree}
-use Rattle.ada_tree.specs.Statements.{DeclarationTree, exception_declaration, constant_declaration, pool_declaration, attribute_clause, incomplete_type, access_type, record_type, derived_type, instance, object_declaration, borrower_declaration}
+use Rattle.ada_tree.specs.Statements.{DeclarationTree, exception_declaration, constant_declaration, pool_declaration, attribute_clause, incomplete_type, access_type, record_type, derived_type, specification, instance, object_declaration, borrower_declaration}
 use Rattle.ada_program.specs.declared.program.ComponentKind.{ComponentKind}
 use Rattle.ada_program.specs.declared.program.ComponentKind.TheVariants as component
 use Rattle.ada_program.specs.declared.program.Exception.TheVariants as exception
@@ -18,25 +18,29 @@ use Rattle.ada_program.specs.declared.program.VariableKind.TheVariants as variab
 use Rattle.ada_program.specs.Form.{ItemForm, PathForm, RightForm, value_of, DeclarationForm, creates_pool, collects, declares, declares_record}
 use Rattle.ada_program.specs.Nested.{is_one_of, kind_is_open, record_objects}
 use Rattle.ada_program.specs.ProgramForm.{TypeForm, record_of, access_to, object_of, pool_number}
+use Rattle.ada_resolve.specs.declared.primitives.Operation.{Operation}
 use Rattle.ada_resolve.specs.declared.scope.Entity.{Entity}
 use Rattle.ada_resolve.specs.declared.scope.Entity.TheVariants as entity
 use Rattle.ada_resolve.specs.Borrowers.{borrower_created, lender_found}
 use Rattle.ada_resolve.specs.Exceptions.{next_exception}
 use Rattle.ada_resolve.specs.Clauses.{placed, with_placed, placed_if, clause_pool}
 use Rattle.ada_resolve.specs.Instances.{access_type_in, freed_found, instance_of, is_collected}
-use Rattle.ada_resolve.specs.Known.{Known, Named, Part, named, entered, declared, visible, is_empty, next_variable, parts, types_go_on}
+use Rattle.ada_resolve.specs.Known.{Known, Named, Part, Specifications, named, entered, declared, visible, is_empty, next_variable, parts, types_go_on}
 use Rattle.ada_resolve.specs.Library.{is_library_root}
 use Rattle.ada_resolve.specs.Objects.{type_in, object_type_found, held_of, kind_of, initial_items_in, initial_value_in, initial_found, collections_of, own_types, missing_collections, ends_types, after_types, initial_source, variable_created, object_created, next_record, record_created, created_of}
 use Rattle.ada_resolve.specs.Paths.{elementary_in, elementary_of}
 use Rattle.ada_resolve.specs.Pools.{aspect_found, next_pool, pool_known}
 use Rattle.ada_resolve.specs.Rights.{Assigned}
-use Rattle.ada_resolve.specs.Derived.{limited_parent, with_parent}
+use Rattle.ada_resolve.specs.Derived.{limited_parent, limited_with, with_parent}
+use Rattle.ada_resolve.specs.Primitives.{formal_name, operation_named, specified_more}
+use Rattle.ada_resolve.specs.Procedures.{head_operand}
+use Rattle.ada_resolve.specs.Specifications.{operation_known, specified_if}
 use Rattle.ada_resolve.specs.Records.{Composition, no_components, kind_in, kind_of_component, kinds_within, composed_with, composed, components_written, counted, finalization_made, record_made, with_record}
 use Rattle.ada_resolve.specs.Resolution.{known_at, declaration_remark, declaration_known}
 use Rattle.ada_resolve.specs.Statics.{static_value}
 use Rattle.ada_resolve.specs.Types.{completed_type, record_in, record_found, defined, number_of, incomplete_known, access_defined}
 use Rattle.ada_resolve.proofs.Nesting.Open.{RecordOpen, EntityOpen, PartsOpen, KindLies, ComponentsLie, FormLies, ObjectsLie, IsOwnType, OpenAround, EntityLies, visible_lies, visible_open, record_later, right_or}
-use Rattle.ada_resolve.proofs.Standing.{IsBefore, PartsBefore, Sound, Keeps, object_settled, outer_settled, ended_sound, IsSlot, slot_of, declaration_keeps}
+use Rattle.ada_resolve.proofs.Standing.{IsBefore, PartsBefore, Sound, Keeps, object_settled, outer_settled, none_ended, record_made_keeps, ended_sound, IsSlot, slot_of, declaration_keeps}
 use Rattle.ada_resolve.proofs.WellFormed.Forms.{bare, forms, forms_in, get_form, object_stays, object_there}
 use Rattle.ada_resolve.proofs.WellFormed.Names.{all_entered}
 use Rattle.ada_resolve.proofs.WellFormed.Placed.{each_was, grown, placed_forms}
@@ -228,6 +232,22 @@ record_type_open around k name before cs old s w slot g =
     type_open around k name.text (entity.Record (number_of c k.types) made.size) c (record_made k.controlled name made) (counted (finalization_made k.controlled made) k.controlled) s w g
     (own_number k name.text c s slot) (components_lie around k w before cs old)
 
+-- which types are limited alone changes
+open_limited : (around limited : List ℕ) (k : Known) → OpenAround around k → OpenAround around (record k { limited = limited })
+open_limited around limited k w = record { before = w.before; outer = w.outer; own = w.own; forms = w.forms; objects = w.objects }
+
+-- `procedure Finalize (X : in out T);`
+open_specified : (around : List ℕ) (specified : Specifications) (k : Known) → OpenAround around k → OpenAround around (record k { here = record k.here { specified = specified } })
+open_specified around specified k w = record { before = w.before; outer = w.outer; own = w.own; forms = w.forms; objects = w.objects }
+
+specified_open : (around : List ℕ) (k : Known) (o : Operation) (t : Option ℕ) (formal : List ℕ) → OpenAround around k → OpenAround around (specified_if o t formal k)
+specified_open around k o (Some t) formal w = open_specified around (specified_more o t formal k.here.specified) k w
+specified_open around k o None formal w = w
+
+operation_open : (around : List ℕ) (k : Known) (o : Option Operation) (head : HeadTree) → OpenAround around k → OpenAround around (operation_known o k head)
+operation_open around k (Some o) head w = specified_open around k o (head_operand (Some o) k head) (formal_name head.formals) w
+operation_open around k None head w = w
+
 -- `procedure Free is new Ada.Unchecked_Deallocation (T, A);`
 instance_open : (around : List ℕ) (k : Known) (name : Ident) (o : Option TypeNo) → OpenAround around k → OpenAround around (instance_of k name o)
 instance_open around k name None w = w
@@ -388,8 +408,10 @@ declaration_open around k (access_type spot name designated aspect) s w q =
 declaration_open around k (record_type spot name definition) s w q =
     record_type_open around k name no_components (components_written definition) tt s w (slot_of k name spot q.1.0) (declaration_keeps k (record_type spot name definition) s q)
 declaration_open around k (derived_type spot name parent definition) s w q =
-    record_type_open around k name (with_parent (limited_parent k parent)) (components_written definition) tt s w (slot_of k name spot q.1.0)
-    (declaration_keeps k (derived_type spot name parent definition) s q)
+    let made = composed k (with_parent (limited_parent k parent)) (components_written definition) in
+    open_limited around (limited_with (limited_parent k parent) (number_of (completed_type k name) k.types) (with_record k name made).limited) (with_record k name made)
+    (record_type_open around k name (with_parent (limited_parent k parent)) (components_written definition) tt s w (slot_of k name spot q.1.0)
+    (record_made_keeps k name made (none_ended k spot q.0) s (slot_of k name spot q.1.0)))
 declaration_open around k (instance spot name generic object access) s w q = instance_open around k name (freed_found k access (record_found k object)) w
 declaration_open around k (constant_declaration name value) s w q = name_open around k name.text (entity.Number (static_value k value)) w tt
 declaration_open around k (exception_declaration name) s w q = record {
@@ -408,4 +430,5 @@ declaration_open around k (object_declaration name type_name initial) s w q =
     (ended_sound k s) o (object_type_lies around m type_name o)
 declaration_open around k (borrower_declaration name designated initial) s w q =
     borrower_open around (after_types k) name (lender_found (after_types k) initial) (ended_open around k w)
+declaration_open around k (specification head) s w q = operation_open around k (operation_named head.name.text) head w
 declaration_open around k d s w q = absurd q

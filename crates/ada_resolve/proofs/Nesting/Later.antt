@@ -6,7 +6,7 @@ use Rattle.std.specs.List.{list_all}
 use Rattle.ada_text.specs.declared.spot.Spot.{Spot}
 use Rattle.ada_tree.specs.Declarations.{HeadTree}
 use Rattle.ada_tree.specs.Names.{Ident}
-use Rattle.ada_tree.specs.Statements.{DeclarationTree, exception_declaration, constant_declaration, pool_declaration, attribute_clause, incomplete_type, access_type, record_type, derived_type, instance}
+use Rattle.ada_tree.specs.Statements.{DeclarationTree, exception_declaration, constant_declaration, pool_declaration, attribute_clause, incomplete_type, access_type, record_type, derived_type, specification, instance}
 use Rattle.ada_program.specs.declared.program.PoolNo.{PoolNo}
 use Rattle.ada_program.specs.declared.program.TypeNo.{TypeNo}
 use Rattle.ada_program.specs.declared.program.VariableKind.{VariableKind}
@@ -14,29 +14,34 @@ use Rattle.ada_program.specs.declared.program.VariableKind.TheVariants as variab
 use Rattle.ada_program.specs.Form.{ItemForm, PathForm, RightForm, value_of, DeclarationForm, creates_pool, collects, declares, declares_record, StmtsForm, HandlersForm}
 use Rattle.ada_program.specs.Nested.{collected, record_objects, collection_nests, record_nests, part_nests, body_nests, callees_from}
 use Rattle.ada_program.specs.ProgramForm.{TypeForm, record_of, object_of}
+use Rattle.ada_resolve.specs.declared.primitives.Operation.{Operation}
 use Rattle.ada_resolve.specs.declared.scope.Entity.{Entity}
 use Rattle.ada_resolve.specs.declared.scope.Entity.TheVariants as entity
 use Rattle.ada_resolve.specs.Borrowers.{borrower_created}
 use Rattle.ada_resolve.specs.Clauses.{placed_if, clause_pool}
 use Rattle.ada_resolve.specs.Instances.{access_type_in, freed_found, instance_of}
-use Rattle.ada_resolve.specs.Known.{Known, Named, Part, declared, entered, named, next_procedure, next_variable, parts, types_go_on, visible}
+use Rattle.ada_resolve.specs.Known.{Known, Named, Part, entered, named, next_procedure, next_variable, parts, types_go_on, visible}
 use Rattle.ada_resolve.specs.Objects.{after_types, ends_types, initial_source, kind_of, initial_value_in, initial_items_in, variable_created, object_created, record_created, created_of, next_record}
 use Rattle.ada_resolve.specs.Pools.{aspect_found}
-use Rattle.ada_resolve.specs.Procedures.{body_of}
+use Rattle.ada_resolve.specs.Primitives.{entered_unless, formal_name, operation_named, overridden_if}
+use Rattle.ada_resolve.specs.Procedures.{body_of, head_operand}
 use Rattle.ada_resolve.specs.Rights.{Assigned}
 use Rattle.ada_resolve.specs.Resolution.{known_at, declaration_known}
+use Rattle.ada_resolve.specs.Specifications.{operation_known, specified_if}
 use Rattle.ada_resolve.specs.Types.{access_defined, completed_type, record_found}
 use Rattle.ada_resolve.proofs.Elaborated.{after_full, after_names}
-use Rattle.ada_resolve.proofs.Nesting.Calls.{PartsCall, calls_on, calls_entered, callee_more}
+use Rattle.ada_resolve.proofs.Nesting.Calls.{PartsCall, calls_on, calls_entered, calls_unless, callee_more}
 use Rattle.ada_resolve.proofs.Nesting.Callees.{IsAway, wider_same}
 use Rattle.ada_resolve.proofs.Nesting.Collected.{IsFresh, own_nests, own_wider, open_behind}
 use Rattle.ada_resolve.proofs.Nesting.Declared.{ended_open}
 use Rattle.ada_resolve.proofs.Nesting.Open.{RecordOpen, EntityOpen, NamesOpen, PartsOpen, OpenAt, OpenAround, EntityLies, record_later}
-use Rattle.ada_resolve.proofs.Standing.{Sound, Complete, longer_types, ended_sound, ended_keeps, around_body, InBody, left_body}
+use Rattle.ada_resolve.proofs.Standing.{Sound, Complete, longer_types, ended_sound, ended_keeps, around_body, InBody, closed_body, operand_at}
 use Rattle.ada_resolve.proofs.WellFormed.Alike.{after_alike}
 use Rattle.ada_resolve.proofs.WellFormed.Elaborated.{InOrder, after_late}
 use Rattle.ada_resolve.proofs.WellFormed.Forms.{AreIn, forms, forms_in, object_stays, record_stays}
 use Rattle.ada_resolve.proofs.WellFormed.Names.{all_entered}
+use Rattle.ada_resolve.proofs.WellFormed.Overridden.{if_forms}
+use Rattle.ada_resolve.proofs.WellFormed.Placed.{grown}
 use Rattle.ada_resolve.proofs.WellFormed.Tables.{all_more, both_parts, first_part, second_part, get_more, get_last}
 
 -- behind more types the same collections are open
@@ -52,6 +57,10 @@ parts_later around types more g (p ∷ ps) w = (λ text e is. entity_later aroun
 
 names_entered : (around : List ℕ) (types : List TypeForm) (ns : List Named) (text : List ℕ) (e : Entity) → EntityOpen around types e → NamesOpen around types ns → NamesOpen around types (entered text e ns)
 names_entered around types ns text e own old = all_entered (λ t x. EntityOpen around types x) ns text e own (λ t x ne is. old t x is)
+
+pub names_unless : (around : List ℕ) (types : List TypeForm) (o : Option Operation) (ns : List Named) (text : List ℕ) (e : Entity) → EntityOpen around types e → NamesOpen around types ns → NamesOpen around types (entered_unless o text e ns)
+names_unless around types None ns text e own old = names_entered around types ns text e own old
+names_unless around types (Some o) ns text e own old = old
 
 -- an object creates no collection
 collected_value : (es : List DeclarationForm) (x : ℕ) (v : RightForm) → collected (es ++ declares x v ∷ []) ≡ collected es
@@ -164,7 +173,7 @@ module _ (types : List TypeForm) where
       let more = k.types ++ object_of t ∷ [] in
       let object_later = object_stays more types g (length k.types) t (get_last k.types (object_of t)) in
       let record_is = record_stays more types g t r.0 r.1 r.2 r.3 (get_more k.types (object_of t) t (record_of r.0 r.1 r.2 r.3) r.4) in
-      rw (object_later, record_is) r.5
+      rw (object_later, record_is.1) r.5
 
   late_record : (around : List ℕ) (k : Known) (name : Ident) (t : TypeNo) (initial : Option (List ItemForm)) → RecordOpen (collected k.here.elaborated ++ around) k.types t.0 → LateOpen around k → LateOpen around (record_created k name t initial)
   late_record around k name t initial r w =
@@ -208,7 +217,7 @@ module _ (types : List TypeForm) where
   late_borrower around k name (Some lender) w = late_value around k name true (variable.Access lender.1) (value_of lender.0) w
 
   -- the body of a procedure, which nests where it stands
-  pub late_body : (around : List ℕ) (k z : Known) (head : HeadTree) (fs : StmtsForm) (hs : HandlersForm) (start last : Spot) → LateOpen around k → InBody (around_body k head) z → body_nests types (callees_from types [] z.bodies) (body_of z fs hs start last) (collected k.here.elaborated ++ around) ≡ true → LateOpen around (declared (left_body (around_body k head) z (body_of z fs hs start last)) head.name.text (entity.Callable (next_procedure z)))
+  pub late_body : (around : List ℕ) (k z : Known) (head : HeadTree) (fs : StmtsForm) (hs : HandlersForm) (start last : Spot) → LateOpen around k → InBody (around_body k head) z → body_nests types (callees_from types [] z.bodies) (body_of z fs hs start last) (collected k.here.elaborated ++ around) ≡ true → LateOpen around (closed_body (around_body k head) z head.name.text (body_of z fs hs start last))
   late_body around k z head fs hs start last w f h =
       let b = body_of z fs hs start last in
       let us = collected k.here.elaborated ++ around in
@@ -217,19 +226,21 @@ module _ (types : List TypeForm) where
       let e = entity.Callable (next_procedure z) in
       let all = z.bodies ++ b ∷ [] in
       let grows : AreIn k.bodies all = λ i x is. get_more z.bodies b i x (f.bodies i x is) in
-      let types_in : AreIn (forms k.types) (forms z.types) = λ i x is. f.types i x is in
-      let more = longer_types k.types z.types types_in in
-      let old = parts_later us k.types z.types types_in (parts k) w.place.open_at.names in
+      let o = operation_named text in
+      let now = overridden_if o (next_procedure z) (operand_at z) z.types in
+      let types_in : AreIn (forms k.types) (forms now) = λ i x is. grown z.types now (if_forms o (next_procedure z) (operand_at z) z.types) i x (f.types i x is) in
+      let more = longer_types k.types now types_in in
+      let old = parts_later us k.types now types_in (parts k) w.place.open_at.names in
       let called = calls_on types k.bodies all us us grows (wider_same k.bodies us) (parts k) w.place.calls in
       let own = callee_more types z.bodies us b h in
       record {
         place = record {
           open_at = record {
             before = λ a is. let less = w.place.open_at.before a is in omega (arith, less, more);
-            names = (names_entered us z.types (entered text entity.Procedure ns) text e tt (names_entered us z.types ns text entity.Procedure tt old.0), old.1);
+            names = (names_unless us now o (entered_unless o text entity.Procedure ns) text e tt (names_unless us now o ns text entity.Procedure tt old.0), old.1);
           };
           calls = (
-            calls_entered types all us (entered text entity.Procedure ns) text e own (calls_entered types all us ns text entity.Procedure tt called.0),
+            calls_unless types all us o (entered_unless o text entity.Procedure ns) text e own (calls_unless types all us o ns text entity.Procedure tt called.0),
             called.1,
           );
         };
@@ -250,6 +261,14 @@ module _ (types : List TypeForm) where
   clause_calls us k (Some access) None w = w
   clause_calls us k None pool w = w
 
+  specified_calls : (us : List ℕ) (k : Known) (o : Operation) (t : Option ℕ) (formal : List ℕ) → PartsCall types k.bodies us (parts k) → PartsCall types (specified_if o t formal k).bodies us (parts (specified_if o t formal k))
+  specified_calls us k o (Some t) formal w = w
+  specified_calls us k o None formal w = w
+
+  operation_calls : (us : List ℕ) (k : Known) (o : Option Operation) (head : HeadTree) → PartsCall types k.bodies us (parts k) → PartsCall types (operation_known o k head).bodies us (parts (operation_known o k head))
+  operation_calls us k (Some o) head w = specified_calls us k o (head_operand (Some o) k head) (formal_name head.formals) w
+  operation_calls us k None head w = w
+
   -- declarations among the types
   abbrev pub IsEarly : DeclarationTree → Type 0
   IsEarly (incomplete_type spot name) = Unit {0}
@@ -261,6 +280,7 @@ module _ (types : List TypeForm) where
   IsEarly (exception_declaration name) = Unit {0}
   IsEarly (pool_declaration name type_name label size) = Unit {0}
   IsEarly (attribute_clause spot name attribute value) = Unit {0}
+  IsEarly (specification head) = Unit {0}
   IsEarly d = ⊥
 
   pub declaration_calls : (us : List ℕ) (k : Known) (d : DeclarationTree) → IsEarly d → PartsCall types k.bodies us (parts k) → PartsCall types (declaration_known (known_at k d) d).bodies us (parts (declaration_known (known_at k d) d))
@@ -273,4 +293,5 @@ module _ (types : List TypeForm) where
   declaration_calls us k (exception_declaration name) is w = (calls_entered types k.bodies us k.here.names name.text _ tt w.0, w.1)
   declaration_calls us k (pool_declaration name type_name label size) is w = (calls_entered types k.bodies us k.here.names name.text _ tt w.0, w.1)
   declaration_calls us k (attribute_clause spot name attribute value) is w = clause_calls us k (access_type_in (visible k name.text)) (clause_pool k value) w
+  declaration_calls us k (specification head) is w = operation_calls us k (operation_named head.name.text) head w
   declaration_calls us k d is w = absurd is

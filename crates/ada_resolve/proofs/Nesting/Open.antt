@@ -17,7 +17,7 @@ use Rattle.ada_resolve.specs.declared.scope.Entity.TheVariants as entity
 use Rattle.ada_resolve.specs.Instances.{is_collected}
 use Rattle.ada_resolve.specs.Known.{Known, Named, Part, named, from_part, named_in, inner_first, outermost, unit_named, visible, parts}
 use Rattle.ada_resolve.specs.Library.{predefined}
-use Rattle.ada_resolve.proofs.WellFormed.Forms.{forms, get_form, record_there}
+use Rattle.ada_resolve.proofs.WellFormed.Forms.{bare_final, forms, get_form, record_there}
 use Rattle.ada_resolve.proofs.WellFormed.Names.{first_of_two, within_of, unit_only}
 use Rattle.ada_resolve.proofs.WellFormed.Tables.{all_weaker, both_parts, first_part, second_part}
 
@@ -196,10 +196,12 @@ pub parts_opener : (us vs : List ℕ) (types : List TypeForm) (ps : List Part) �
 parts_opener us vs types [] w = tt
 parts_opener us vs types (p ∷ ps) w = (λ text e is. entity_opener us vs types e (w.0 text e is), parts_opener us vs types ps w.1)
 
--- where types stay, but for their pools, records stay open
+-- where types stay, but for their pools and operations, records stay open
 pub record_later : (around : List ℕ) (types more : List TypeForm) (t : ℕ) → ((form : TypeForm) → slice_get (forms types) t ≡ Some form → slice_get (forms more) t ≡ Some form) → RecordOpen around types t → RecordOpen around more t
 record_later around types more t g w =
-    let form = record_of w.0 w.1 w.2 w.3 in (w.0, w.1, w.2, w.3, record_there more t w.0 w.1 w.2 w.3 (g form (get_form types t form w.4)), w.5)
+    let form = record_of w.0 w.1 w.2 (bare_final w.3) in
+    let there = record_there more t w.0 w.1 w.2 (bare_final w.3) (g form (get_form types t (record_of w.0 w.1 w.2 w.3) w.4)) in
+    (w.0, w.1, w.2, there.0, there.1, w.5)
 
 -- the collections that declarations create are those that are collected
 pub collected_is : (es : List DeclarationForm) (a : ℕ) → is_one_of (collected es) a ≡ is_collected a es

@@ -2,32 +2,36 @@
 -- are the types in the end.
 
 use Rattle.std.proofs.Common.{◌≡◌, ◌∙◌, ℕ, ◌≤◌, Bool, true, false, List, [], ◌∷◌, ◌++◌, length-append, refl, sym, ap, subst, arith}
-use Rattle.std.specs.Prelude.{◌&&◌}
+use Rattle.std.specs.Prelude.{◌&&◌, Option, Some, None}
+use Rattle.std.specs.List.{slice_get}
 use Rattle.ada_text.specs.declared.spot.Spot.{Spot}
 use Rattle.ada_tree.specs.Declarations.{HeadTree}
 use Rattle.ada_tree.specs.Names.{Ident}
-use Rattle.ada_tree.specs.Statements.{DeclarationTree, exception_declaration, constant_declaration, pool_declaration, attribute_clause, incomplete_type, access_type, record_type, derived_type, instance, object_declaration, borrower_declaration, body_declaration, SchemeTree, endless, while_scheme, for_scheme, StatementTree, if_statement, loop_statement, block, declare_block, DeclarationsTree, no_declarations, a_declaration, StatementsTree, no_statements, a_statement, BranchesTree, no_branches, a_branch, HandlersTree, no_handlers, a_handler, SequenceTree, a_sequence}
+use Rattle.ada_tree.specs.Statements.{DeclarationTree, exception_declaration, constant_declaration, pool_declaration, attribute_clause, incomplete_type, access_type, record_type, derived_type, specification, instance, object_declaration, borrower_declaration, body_declaration, SchemeTree, endless, while_scheme, for_scheme, StatementTree, if_statement, loop_statement, block, declare_block, DeclarationsTree, no_declarations, a_declaration, StatementsTree, no_statements, a_statement, BranchesTree, no_branches, a_branch, HandlersTree, no_handlers, a_handler, SequenceTree, a_sequence}
 use Rattle.ada_program.specs.declared.program.VariableKind.TheVariants as variable
 use Rattle.ada_program.specs.Form.{StmtForm, chooses, repeats, counts, encloses, StmtsForm, no_stmts, a_stmt, BranchesForm, otherwise, HandlersForm}
 use Rattle.ada_program.specs.Form as form
 use Rattle.ada_program.specs.Nested.{collected, part_nests, statement_nests, statements_nest, branches_nest, handlers_nest, callees_from}
 use Rattle.ada_program.specs.ProgramForm.{TypeForm, BodyForm, VariableForm}
+use Rattle.ada_resolve.specs.declared.primitives.Operation.{Operation}
 use Rattle.ada_resolve.specs.declared.scope.Entity.{Entity}
 use Rattle.ada_resolve.specs.declared.scope.Entity.TheVariants as entity
 use Rattle.ada_resolve.specs.Borrowers.{lender_found}
-use Rattle.ada_resolve.specs.Known.{Known, Part, parts, with_part, left_to, next_variable, types_go_on}
+use Rattle.ada_resolve.specs.Known.{Known, Part, parts, with_part, left_to, next_procedure, next_variable, types_go_on}
 use Rattle.ada_resolve.specs.Objects.{after_types, object_type_found, initial_found, held_of}
+use Rattle.ada_resolve.specs.Primitives.{operation_named}
 use Rattle.ada_resolve.specs.Procedures.{no_formals, with_formals, behind_head}
+use Rattle.ada_resolve.specs.Specifications.{specified_remark}
 use Rattle.ada_resolve.specs.Resolution.{gives, At, known_at, declaration_remark, declaration_known, LoopHead, on_condition, over_range, with_parameter, loop_of, behind_loop, Others, SequenceForm, simple_told, statement_told, sequence_told, statements_told, branches_told, handlers_told, declaration_told, declarations_told}
 use Rattle.ada_resolve.specs.Spots.{end_of, head_spot}
 use Rattle.ada_resolve.proofs.Elaborated.{no_types, some_variable, object_made, borrower_made, made_full, made_back, body_back, body_late, complete_back}
 use Rattle.ada_resolve.proofs.Nesting.Callees.{IsAway, wider_same}
-use Rattle.ada_resolve.proofs.Nesting.Calls.{EntityCalls, NamesCall, PartsCall, calls_on, calls_entered}
+use Rattle.ada_resolve.proofs.Nesting.Calls.{EntityCalls, NamesCall, PartsCall, calls_on, calls_entered, calls_unless}
 use Rattle.ada_resolve.proofs.Nesting.Declared.{declaration_open, object_type_at}
-use Rattle.ada_resolve.proofs.Nesting.Later.{Place, LateOpen, State, early, behind, ready, parts_later, late_object, late_borrower, late_body, IsEarly, declaration_calls}
+use Rattle.ada_resolve.proofs.Nesting.Later.{Place, LateOpen, State, early, behind, ready, names_unless, parts_later, late_object, late_borrower, late_body, IsEarly, declaration_calls}
 use Rattle.ada_resolve.proofs.Nesting.Open.{EntityOpen, NamesOpen, PartsOpen, IsOwnType}
 use Rattle.ada_resolve.proofs.Nesting.Simple.{meant_nests}
-use Rattle.ada_resolve.proofs.Standing.{get_front, Sound, Complete, Stays, IsFormal, head_formals, more_types, made_gives, gives_same, HeadIs, simple_done, if_done, loop_done, block_done, declare_done, sequence_done, procedure_done, single_done, declarations_done, statements_done, branch_done, handler_done, complete_grows, ended_sound, ended_keeps, told_sound, declarations_sound, declarations_keep, declaration_keeps, begin_open, begin_complete, part_sound, OthersStay, around_body, ended_is, body_stays, sequence_stays, head_sound, head_complete, statement_stays, statements_stay, branches_stay, handlers_stay}
+use Rattle.ada_resolve.proofs.Standing.{get_front, Sound, Complete, Stays, IsFormal, head_formals, more_types, made_gives, gives_same, HeadIs, simple_done, if_done, loop_done, block_done, declare_done, sequence_done, procedure_done, single_done, declarations_done, statements_done, branch_done, handler_done, complete_grows, ended_sound, ended_keeps, told_sound, declarations_sound, declarations_keep, declaration_keeps, begin_open, begin_complete, part_sound, OthersStay, around_body, operand_at, ended_is, body_stays, sequence_stays, head_sound, head_complete, statement_stays, statements_stay, branches_stay, handlers_stay}
 use Rattle.ada_resolve.proofs.WellFormed.Alike.{body_early, after_follows, declaration_alike}
 use Rattle.ada_resolve.proofs.WellFormed.Bodies.{body_begins}
 use Rattle.ada_resolve.proofs.WellFormed.Doing.{parameter_follows, part_follows}
@@ -35,6 +39,7 @@ use Rattle.ada_resolve.proofs.WellFormed.Elaborated.{InOrder, part_early}
 use Rattle.ada_resolve.proofs.WellFormed.Forms.{AreIn, forms, forms_in}
 use Rattle.ada_resolve.proofs.WellFormed.Lasting.{Ended}
 use Rattle.ada_resolve.proofs.WellFormed.Names.{all_entered}
+use Rattle.ada_resolve.proofs.WellFormed.Overridden.{if_forms}
 use Rattle.ada_resolve.proofs.WellFormed.Remarks.{Quiet}
 use Rattle.ada_resolve.proofs.WellFormed.Stated.{statement_fit, statements_fit, told_ordered, declarations_ordered}
 use Rattle.ada_resolve.proofs.WellFormed.Tables.{both_parts, get_within}
@@ -127,17 +132,14 @@ module _ (types : List TypeForm) where
       early (record {
         lies = record {
           before = λ a e. let less = w.open_at.before a e in omega (arith, less, longer);
-          outer = (
-            all_entered (λ t x. EntityOpen us more x) k.here.names head.name.text entity.Procedure tt (λ t x ne is. open_later.0 t x is),
-            open_later.1,
-          );
+          outer = (names_unless us more (operation_named head.name.text) k.here.names head.name.text entity.Procedure tt open_later.0, open_later.1);
           own = λ text e is. formal_own _ _ text e (f.names text e is);
           forms = λ t form behind is. let within = get_within more t form is in absurd (omega (arith, behind, within));
           objects = λ o e. absurd (cc e);
         };
         calls = (
           λ text e is. formal_calls types k.bodies us _ text e (f.names text e is),
-          (calls_entered types k.bodies us k.here.names head.name.text entity.Procedure tt w.calls.0, w.calls.1),
+          (calls_unless types k.bodies us (operation_named head.name.text) k.here.names head.name.text entity.Procedure tt w.calls.0, w.calls.1),
         );
         fresh = λ a past. b.below a (omega (arith, past, longer));
       })
@@ -225,6 +227,11 @@ module _ (types : List TypeForm) where
       both_parts (part_nests types us ds && statements_nest types callees (collected ds ++ us) body.0) (handlers_nest types callees (collected ds ++ us) body.1)
       (both_parts (part_nests types us ds) (statements_nest types callees (collected ds ++ us) body.0) h.0 (h.1 bs g)) (h.2 bs g)
 
+  -- no operation is specified behind the types
+  no_operation : (k : Known) (head : HeadTree) → types_go_on k ≡ false → (o : Option Operation) → Quiet (specified_remark o k head) → ⊥
+  no_operation k head off (Some o) q = no_types k (head_spot head) off q.0
+  no_operation k head off None q = q
+
   -- a declaration among the types
   early_state : (us : List ℕ) (k : Known) (d : DeclarationTree) → IsEarly types d → Sound k → State types us k → Quiet (declaration_remark (known_at k d) d) → State types us (declaration_known (known_at k d) d)
   early_state us k d is s (early w) q =
@@ -243,6 +250,7 @@ module _ (types : List TypeForm) where
   early_state us k (exception_declaration name) is s (behind off w) q = absurd (no_types k name.spot off q.0)
   early_state us k (pool_declaration name type_name label size) is s (behind off w) q = absurd (no_types k name.spot off q.0)
   early_state us k (attribute_clause spot name attribute value) is s (behind off w) q = absurd (no_types k spot off q.0)
+  early_state us k (specification head) is s (behind off w) q = absurd (no_operation k head off (operation_named head.name.text) q)
   early_state us k d is s (behind off w) q = absurd is
 
   -- a part, with its declarations, given what these and its statements do
@@ -342,7 +350,9 @@ module _ (types : List TypeForm) where
         let late = ready types us at.0 s o w (body_back head ds body end_name at next d s (c off)) in
         let vs = collected k.here.elaborated ++ us in
         let is = d.known ∙ ended_is (around_body k head) z head.name fs hs start last stays.done_in in
-        let ts : AreIn (forms z.types) (forms types) = subst (λ (v : Known). AreIn (forms v.types) (forms types)) is (g off) in
+        let behind_in = subst (λ (v : Known). AreIn (forms v.types) (forms types)) is (g off) in
+        let same = if_forms (operation_named head.name.text) (next_procedure z) (operand_at z) z.types in
+        let ts : AreIn (forms z.types) (forms types) = λ i x there. behind_in i x (ap (λ (fs : List TypeForm). slice_get fs i) same ∙ there) in
         let order : InOrder d.inner.0 = subst InOrder (sym d.inner_known) (body_early k head) in
         let ended : Ended d.inner.0 = subst Ended (sym d.inner_known) ((body_begins k head).ended ((after_follows at.0).ended b)) in
         let state : State types vs d.inner.0 = subst (λ v. State types vs v) (sym d.inner_known) (begun_body vs k head ((after_follows at.0).ended b) late.place) in
@@ -398,7 +408,9 @@ module _ (types : List TypeForm) where
     told_nested (attribute_clause spot name attribute value) us at next s o b w c g e =
         let one = single_done (attribute_clause spot name attribute value) at next e in
         subst (λ v. State types us v) (sym one.known) (early_state us at.0 (attribute_clause spot name attribute value) tt s w one.quiet)
-    told_nested d us at next s o b w c g e = absurd (single_done d at next e).quiet
+    told_nested (specification head) us at next s o b w c g e =
+        let one = single_done (specification head) at next e in
+        subst (λ v. State types us v) (sym one.known) (early_state us at.0 (specification head) tt s w one.quiet)
 
     -- declarations, one behind another
     pub declarations_nested : (ds : DeclarationsTree) (us : List ℕ) (at after : At) → Sound at.0 → InOrder at.0 → Ended at.0 → State types us at.0 → Complete after.0 → AreIn (forms after.0.types) (forms types) → declarations_told ds at ≡ gives after → State types us after.0

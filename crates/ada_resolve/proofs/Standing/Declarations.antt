@@ -33,7 +33,7 @@ none_open (n ∷ ns) text t off is =
 
 -- no type is incomplete behind `begin`
 pub begin_open : (k : Known) (spot : Spot) → Quiet (begin_remark k spot) → Complete k
-begin_open k spot q text t is = none_open k.here.names text t (quiet_if (some_incomplete (map entity_in k.here.names)) spot BodyMissing q) is
+begin_open k spot q text t is = none_open k.here.names text t (quiet_if (some_incomplete (map entity_in k.here.names)) spot BodyMissing q.0) is
 
 ends_complete : (b : Bool) (k : Known) → Complete k → Complete (ends_types b k)
 ends_complete true k c = c

@@ -2,6 +2,7 @@
 
 use Rattle.std.proofs.Common.{◌≡◌, ℕ, ◌≤◌, Bool, true, false, cond, List, [], ◌∷◌, ◌++◌, length, length-append, refl, sym, ◌∙◌, subst, arith}
 use Rattle.std.specs.Prelude.{◌||◌, not, nat_lt, Option, Some, None, is_some}
+use Rattle.std.specs.List.{list_all}
 use Rattle.ada_text.specs.declared.spot.Spot.{Spot}
 use Rattle.ada_program.specs.declared.program.Exception.TheVariants as exception
 use Rattle.ada_program.specs.declared.program.PoolNo.{PoolNo}
@@ -11,23 +12,27 @@ use Rattle.ada_program.specs.declared.program.VariableKind.TheVariants as variab
 use Rattle.ada_program.specs.Form.{DeclarationForm, ItemForm, creates_pool, collects, declares, declares_record, RightForm, value_of}
 use Rattle.ada_program.specs.ProgramForm.{TypeForm, record_of, access_to, object_of, PoolForm, pool_number, VariableForm}
 use Rattle.ada_program.specs.WellFormed as fits
-use Rattle.ada_tree.specs.Declarations.{AspectTree, SizeTree}
+use Rattle.ada_tree.specs.Declarations.{AspectTree, HeadTree, SizeTree}
 use Rattle.ada_tree.specs.Expressions.{RightTree}
 use Rattle.ada_tree.specs.Names.{Ident, NameTree}
 use Rattle.ada_tree.specs.Records.{RecordTree}
-use Rattle.ada_tree.specs.Statements.{DeclarationTree, exception_declaration, constant_declaration, pool_declaration, attribute_clause, incomplete_type, access_type, record_type, derived_type, instance, object_declaration, borrower_declaration}
+use Rattle.ada_tree.specs.Statements.{DeclarationTree, exception_declaration, constant_declaration, pool_declaration, attribute_clause, incomplete_type, access_type, record_type, derived_type, specification, instance, object_declaration, borrower_declaration}
+use Rattle.ada_resolve.specs.declared.primitives.Operation.{Operation}
 use Rattle.ada_resolve.specs.declared.scope.Entity.{Entity}
 use Rattle.ada_resolve.specs.declared.scope.Entity.TheVariants as entity
 use Rattle.ada_resolve.specs.Borrowers.{borrower_remark, borrower_known}
 use Rattle.ada_resolve.specs.Exceptions.{next_exception, with_exception, exception_known}
 use Rattle.ada_resolve.specs.Clauses.{placed, pool_of, no_pool_yet, with_placed, placed_if, clause_pool, clause_known, clause_remark, storage_remark}
 use Rattle.ada_resolve.specs.Instances.{access_type_in, freed_found, instance_of, with_frozen}
-use Rattle.ada_resolve.specs.Known.{Known, Part, parts, no_variable_yet, no_body_yet, types_go_on, type_begins, next_variable, visible, with_elaborated}
+use Rattle.ada_resolve.specs.Known.{Known, Part, Specifications, parts, no_variable_yet, no_body_yet, types_go_on, type_begins, next_variable, visible, with_elaborated}
 use Rattle.ada_resolve.specs.Pools.{aspect_found, is_storage_pool, size_value, next_pool, with_pool, pool_known}
 use Rattle.ada_resolve.specs.Remark.{wrong}
 use Rattle.ada_resolve.specs.Rights.{Assigned}
 use Rattle.ada_resolve.specs.Objects.{object_type_found, held_of, kind_of, initial_items_in, initial_value_in, initial_found, initial_source, missing_collections, ends_types, after_types, with_variable, variable_created, object_created, next_record, with_record_object, record_created, created_of, object_known}
-use Rattle.ada_resolve.specs.Derived.{derived_type_known, derived_type_remark, limited_parent, with_parent}
+use Rattle.ada_resolve.specs.Derived.{derived_type_known, derived_type_remark, limited_parent, limited_with, with_parent}
+use Rattle.ada_resolve.specs.Primitives.{formal_name, operation_named, specified_more}
+use Rattle.ada_resolve.specs.Procedures.{head_operand}
+use Rattle.ada_resolve.specs.Specifications.{operation_known, specified_if}
 use Rattle.ada_resolve.specs.Records.{Composition, composed, composition_of, components_written, counted, finalization_made, record_made, record_type_known, record_type_remark, with_record}
 use Rattle.ada_resolve.specs.Resolution.{known_at, declaration_remark, declaration_known}
 use Rattle.ada_resolve.specs.Statics.{static_value}
@@ -35,8 +40,11 @@ use Rattle.ada_resolve.specs.Types.{completed_type, record_found, number_of, inc
 use Rattle.ada_resolve.proofs.WellFormed.Borrowers.{lent_of, lent_kind, borrower_is}
 use Rattle.ada_resolve.proofs.WellFormed.Exceptions.{raised_outer}
 use Rattle.ada_resolve.proofs.WellFormed.Names.{EntityFits, variables_behind, PartsFit, laid_in}
-use Rattle.ada_resolve.proofs.WellFormed.Numbered.{numbered_same}
-use Rattle.ada_resolve.proofs.WellFormed.Placed.{grown, placed_forms, placed_housed, placed_fit, placed_unused, parts_placed}
+use Rattle.ada_resolve.proofs.Operating.{overrider_more}
+use Rattle.ada_resolve.proofs.WellFormed.Forms.{forms}
+use Rattle.ada_resolve.proofs.WellFormed.Numbered.{made_inherits, numbered_same}
+use Rattle.ada_resolve.proofs.WellFormed.Operations.{HaveOperations, callables}
+use Rattle.ada_resolve.proofs.WellFormed.Placed.{grown, placed_forms, placed_housed, placed_fit, placed_operations, placed_unused, parts_placed}
 use Rattle.ada_resolve.proofs.WellFormed.Remarks.{Quiet, quiet_if, quiet_unless}
 use Rattle.ada_resolve.specs.declared.fault.NameRule.TheVariants.{Layout, NotInProfile}
 use Rattle.ada_resolve.proofs.WellFormed.Tables.{all_more, all_weaker, both_parts, second_part, get_more, get_last, types_keep, variable_kept}
@@ -44,12 +52,13 @@ use Rattle.ada_resolve.proofs.WellFormed.Types.{IsAccessIn, found_access, IsKind
 use Rattle.ada_resolve.proofs.Standing.Housed.{called_later, housed_later, clause_pool_known}
 use Rattle.ada_resolve.proofs.Standing.Order.{Sound, IsSettled, Keeps, keeps_same, keeps_on, longer_types, visible_settled}
 use Rattle.ada_resolve.proofs.Standing.Types.{name_sound, incomplete_sound, record_sound, derived_sound, access_sound, object_type_sound, one_longer}
-use Rattle.ada_resolve.proofs.Standing.Kept.{IsSlot, new_slot, slot_of, keeps_new, keeps_name, keeps_defined, keeps_elaborated, keeps_object_type, keeps_variable, keeps_exception, keeps_pool, keeps_frozen, keeps_placed}
+use Rattle.ada_resolve.proofs.Standing.Kept.{IsSlot, new_slot, slot_of, keeps_new, keeps_name, keeps_defined, keeps_elaborated, keeps_object_type, keeps_variable, keeps_exception, keeps_pool, keeps_frozen, keeps_limited, keeps_placed, keeps_specified}
 
 -- only what is elaborated changes
 pub elaborated_sound : (es : List DeclarationForm) (k : Known) → Sound k → Sound (with_elaborated es k)
 elaborated_sound es k w = record {
   types_fit = w.types_fit;
+  operations = w.operations;
   variables_fit = w.variables_fit;
   names = w.names;
   exceptions = w.exceptions;
@@ -81,6 +90,7 @@ longer_by (x ∷ variables) v = let h = longer_by variables v in omega arith
 pub variable_sound : (v : VariableForm) (k : Known) → Sound k → fits.variable_fits k.types v ≡ true → Sound (with_variable v k)
 variable_sound v k w fit = record {
   types_fit = w.types_fit;
+  operations = w.operations;
   variables_fit = all_more (fits.variable_fits k.types) k.variables (v ∷ []) w.variables_fit (both_parts (fits.variable_fits k.types v) true fit refl);
   names = parts_stay k.types k.variables v (parts k) w.names;
   exceptions = w.exceptions;
@@ -103,6 +113,7 @@ variable_sound v k w fit = record {
 raised_sound : (name : List ℕ) (k : Known) → Sound k → Sound (with_exception name k)
 raised_sound name k w = record {
   types_fit = w.types_fit;
+  operations = w.operations;
   variables_fit = w.variables_fit;
   names = w.names;
   exceptions = raised_outer k.exceptions name (parts k) w.exceptions;
@@ -119,6 +130,7 @@ with_pool_sound p k w =
     let one = length-append k.pools (p ∷ []) in
     record {
       types_fit = w.types_fit;
+      operations = w.operations;
       variables_fit = w.variables_fit;
       names = w.names;
       exceptions = w.exceptions;
@@ -133,6 +145,7 @@ with_pool_sound p k w =
 frozen_sound : (access : ℕ) (k : Known) → Sound k → Sound (with_frozen access k)
 frozen_sound access k w = record {
   types_fit = w.types_fit;
+  operations = w.operations;
   variables_fit = w.variables_fit;
   names = w.names;
   exceptions = w.exceptions;
@@ -143,19 +156,56 @@ frozen_sound access k w = record {
   bounds = record { first = w.bounds.first; first_variable = w.bounds.first_variable; modes = w.bounds.modes; first_body = w.bounds.first_body; open_own = w.bounds.open_own; open_unused = w.bounds.open_unused; outer_before = w.bounds.outer_before };
 }
 
--- an access type is on a pool
-placed_sound : (access : TypeNo) (pool : PoolNo) (k : Known) → nat_lt pool.0 (length k.pools) ≡ true → Sound k → Sound (with_placed access pool k)
-placed_sound access pool k there w =
-    let more = placed pool.0 k.types access.0 in
-    let same = placed_forms pool.0 k.types access.0 in
+-- the specifications of the part alone change
+pub specified_sound : (specified : Specifications) (k : Known) → Sound k → Sound (record k { here = record k.here { specified = specified } })
+specified_sound specified k w = record {
+  types_fit = w.types_fit;
+  operations = w.operations;
+  variables_fit = w.variables_fit;
+  names = w.names;
+  exceptions = w.exceptions;
+  called = w.called;
+  housed = w.housed;
+  controlled = w.controlled;
+  sized = w.sized;
+  bounds = record { first = w.bounds.first; first_variable = w.bounds.first_variable; modes = w.bounds.modes; first_body = w.bounds.first_body; open_own = w.bounds.open_own; open_unused = w.bounds.open_unused; outer_before = w.bounds.outer_before };
+}
+
+if_specified_sound : (k : Known) (o : Operation) (t : Option ℕ) (formal : List ℕ) → Sound k → Sound (specified_if o t formal k)
+if_specified_sound k o (Some t) formal w = specified_sound (specified_more o t formal k.here.specified) k w
+if_specified_sound k o None formal w = w
+
+operation_sound : (k : Known) (o : Option Operation) (head : HeadTree) → Sound k → Sound (operation_known o k head)
+operation_sound k (Some o) head w = if_specified_sound k o (head_operand (Some o) k head) (formal_name head.formals) w
+operation_sound k None head w = w
+
+-- which types are limited alone changes
+limited_sound : (limited : List ℕ) (k : Known) → Sound k → Sound (record k { limited = limited })
+limited_sound limited k w = record {
+  types_fit = w.types_fit;
+  operations = w.operations;
+  variables_fit = w.variables_fit;
+  names = w.names;
+  exceptions = w.exceptions;
+  called = w.called;
+  housed = w.housed;
+  controlled = w.controlled;
+  sized = w.sized;
+  bounds = record { first = w.bounds.first; first_variable = w.bounds.first_variable; modes = w.bounds.modes; first_body = w.bounds.first_body; open_own = w.bounds.open_own; open_unused = w.bounds.open_unused; outer_before = w.bounds.outer_before };
+}
+
+-- types become the same but for their pools and operations
+pub retyped_sound : (more : List TypeForm) (k : Known) → forms more ≡ forms k.types → list_all (fits.has_known_pool (length k.pools)) more ≡ true → HaveOperations more (callables k.bodies) → Sound k → Sound (record k { types = more })
+retyped_sound more k same housed operations w =
     let g = grown k.types more same in
     record {
       types_fit = placed_fit k.types more same (laid_in k.types k.variables (parts k) w.names) w.types_fit;
+      operations = operations;
       variables_fit = all_weaker (fits.variable_fits k.types) (fits.variable_fits more) (variable_kept k.types more (types_keep k.types more g)) k.variables w.variables_fit;
       names = parts_placed k.types more same k.variables (parts k) w.names;
       exceptions = w.exceptions;
       called = w.called;
-      housed = placed_housed (length k.pools) pool.0 k.types access.0 there w.housed;
+      housed = housed;
       controlled = w.controlled ∙ sym (numbered_same k.types more same);
       sized = w.sized;
       bounds = record {
@@ -169,6 +219,12 @@ placed_sound access pool k there w =
       };
     }
 
+-- an access type is on a pool
+placed_sound : (access : TypeNo) (pool : PoolNo) (k : Known) → nat_lt pool.0 (length k.pools) ≡ true → Sound k → Sound (with_placed access pool k)
+placed_sound access pool k there w =
+    retyped_sound (placed pool.0 k.types access.0) k (placed_forms pool.0 k.types access.0) (placed_housed (length k.pools) pool.0 k.types access.0 there w.housed)
+    (placed_operations pool.0 k.types access.0 (callables k.bodies) w.operations) w
+
 -- no type follows a body
 pub none_ended : (k : Known) (spot : Spot) → Quiet (type_begins k spot) → no_body_yet k ≡ true
 none_ended k spot q = second_part (no_variable_yet k) (no_body_yet k) (quiet_unless (types_go_on k) spot Layout q.1)
@@ -178,20 +234,21 @@ incomplete_keeps : (k : Known) (spot : Spot) (name : Ident) → Quiet (incomplet
 incomplete_keeps k spot name q =
     keeps_new k name.text (entity.Incomplete (record { 0 = length k.types })) (k.types ++ record_of name.text [] [] None ∷ []) k.controlled (new_slot k name spot q.1)
     (λ t form is. get_more k.types (record_of name.text [] [] None) t form is) (one_longer k.types (record_of name.text [] [] None)) (omega arith)
+    (overrider_more k.types (record_of name.text [] [] None) refl)
 
 -- `type A is access T;`
 access_keeps_at : (k : Known) (name : Ident) (o : Option TypeNo) (pool : Option PoolNo) → no_body_yet k ≡ true → Sound k → IsSlot k name.text (completed_type k name) → Keeps k (access_defined k name (completed_type k name) o pool)
 access_keeps_at k name None pool none w slot = keeps_same k
-access_keeps_at k name (Some d) pool none w slot = keeps_defined k name.text (entity.Access (number_of (completed_type k name) k.types)) (completed_type k name) (access_to name.text d.0 (pool_number pool)) k.controlled none w slot refl tt
+access_keeps_at k name (Some d) pool none w slot = keeps_defined k name.text (entity.Access (number_of (completed_type k name) k.types)) (completed_type k name) (access_to name.text d.0 (pool_number pool)) k.controlled none w slot refl refl tt
 
 access_keeps : (k : Known) (spot : Spot) (name designated : Ident) (aspect : Option AspectTree) → Sound k → Quiet (access_remark k spot name designated aspect) → Keeps k (access_known k name designated aspect)
 access_keeps k spot name designated aspect w q = access_keeps_at k name (record_found k designated) (aspect_found k aspect) (none_ended k spot q.0) w (slot_of k name spot q.1.1.0)
 
 -- a record type that is made of this
-record_made_keeps : (k : Known) (name : Ident) (made : Composition) → no_body_yet k ≡ true → Sound k → IsSlot k name.text (completed_type k name) → Keeps k (with_record k name made)
+pub record_made_keeps : (k : Known) (name : Ident) (made : Composition) → no_body_yet k ≡ true → Sound k → IsSlot k name.text (completed_type k name) → Keeps k (with_record k name made)
 record_made_keeps k name made none w slot =
     keeps_defined k name.text (entity.Record (number_of (completed_type k name) k.types) made.size) (completed_type k name)
-    (record_made k.controlled name made) (counted (finalization_made k.controlled made) k.controlled) none w slot refl tt
+    (record_made k.controlled name made) (counted (finalization_made k.controlled made) k.controlled) none w slot refl (made_inherits k.controlled made) tt
 
 -- `type T is record .. end record;`
 record_keeps : (k : Known) (spot : Spot) (name : Ident) (definition : RecordTree) → Sound k → Quiet (record_type_remark k spot name definition) → Keeps k (record_type_known k name definition)
@@ -201,7 +258,19 @@ record_keeps k spot name definition w q =
 -- `type T is new Ada.Finalization.Controlled with record .. end record;`
 derived_keeps : (k : Known) (spot : Spot) (name : Ident) (parent : NameTree) (definition : RecordTree) → Sound k → Quiet (derived_type_remark k spot name parent definition) → Keeps k (derived_type_known k name parent definition)
 derived_keeps k spot name parent definition w q =
-    record_made_keeps k name (composed k (with_parent (limited_parent k parent)) (components_written definition)) (none_ended k spot q.0) w (slot_of k name spot q.1.0)
+    let m = with_record k name (composed k (with_parent (limited_parent k parent)) (components_written definition)) in
+    keeps_on k m (derived_type_known k name parent definition)
+    (record_made_keeps k name (composed k (with_parent (limited_parent k parent)) (components_written definition)) (none_ended k spot q.0) w (slot_of k name spot q.1.0))
+    (keeps_limited (limited_with (limited_parent k parent) (number_of (completed_type k name) k.types) m.limited) m)
+
+-- `procedure Finalize (X : in out T);`
+specified_keeps : (k : Known) (o : Operation) (t : Option ℕ) (formal : List ℕ) → Keeps k (specified_if o t formal k)
+specified_keeps k o (Some t) formal = keeps_specified (specified_more o t formal k.here.specified) k
+specified_keeps k o None formal = keeps_same k
+
+operation_keeps : (k : Known) (o : Option Operation) (head : HeadTree) → Keeps k (operation_known o k head)
+operation_keeps k (Some o) head = specified_keeps k o (head_operand (Some o) k head) (formal_name head.formals)
+operation_keeps k None head = keeps_same k
 
 -- `procedure Free is new Ada.Unchecked_Deallocation (T, A);`
 instance_sound_at : (k : Known) (name : Ident) (o : Option TypeNo) → Sound k → IsAccessIn k.types o → Sound (instance_of k name o)
@@ -372,7 +441,9 @@ pub declaration_sound : (k : Known) (d : DeclarationTree) → Sound k → Quiet 
 declaration_sound k (incomplete_type spot name) w q = incomplete_sound k name w
 declaration_sound k (access_type spot name designated aspect) w q = access_sound k name designated aspect (none_ended k spot q.0) w q.1.0
 declaration_sound k (record_type spot name definition) w q = record_sound k name definition (none_ended k spot q.0) w
-declaration_sound k (derived_type spot name parent definition) w q = derived_sound k name parent definition (none_ended k spot q.0) w
+declaration_sound k (derived_type spot name parent definition) w q =
+    let m = with_record k name (composed k (with_parent (limited_parent k parent)) (components_written definition)) in
+    limited_sound (limited_with (limited_parent k parent) (number_of (completed_type k name) k.types) m.limited) m (derived_sound k name parent definition (none_ended k spot q.0) w)
 declaration_sound k (instance spot name generic object access) w q = instance_sound_at k name (freed_found k access (record_found k object)) w (found_access k access (record_found k object) w.names)
 declaration_sound k (constant_declaration name value) w q = name_sound k name.text (entity.Number (static_value k value)) w tt tt tt tt (λ none. tt)
 declaration_sound k (exception_declaration name) w q = exception_sound k name w
@@ -386,6 +457,7 @@ declaration_sound k (object_declaration name type_name initial) w q =
     let there = full_visible m type_name t size is in
     (record_visible m s.names type_name.first.text t size there, visible_settled m type_name.first.text t size s there))
 declaration_sound k (borrower_declaration name designated initial) w q = borrower_sound (after_types k) name designated initial (ended_sound k w) q
+declaration_sound k (specification head) w q = operation_sound k (operation_named head.name.text) head w
 declaration_sound k d w q = absurd q
 
 pub declaration_keeps : (k : Known) (d : DeclarationTree) → Sound k → Quiet (declaration_remark (known_at k d) d) → Keeps k (declaration_known (known_at k d) d)
@@ -405,4 +477,5 @@ declaration_keeps k (object_declaration name type_name initial) w q =
 declaration_keeps k (borrower_declaration name designated initial) w q =
     let m = after_types k in
     keeps_on k m (borrower_known m name initial) (ended_keeps k) (borrower_keeps m name designated initial (ended_sound k w) q)
+declaration_keeps k (specification head) w q = operation_keeps k (operation_named head.name.text) head
 declaration_keeps k d w q = absurd q

@@ -51,6 +51,7 @@ parts_before n m (p ∷ ps) le b = (λ text e is. before_more n m e le (b.0 text
 pub part_sound : (k : Known) → Sound k → Complete k → Sound (with_part k)
 part_sound k s c = record {
   types_fit = s.types_fit;
+  operations = s.operations;
   variables_fit = s.variables_fit;
   names = (λ text e is. absurd (cc is), s.names);
   exceptions = (λ text e is. absurd (cc is), s.exceptions);
@@ -73,7 +74,7 @@ pub part_complete : (k : Known) → Complete (with_part k)
 part_complete k text t is = cc is
 
 pub part_inside : (k : Known) → Sound k → Complete k → Inside k (with_part k)
-part_inside k s c = record { sound = part_sound k s c; around = refl; outer = refl; withs = refl; procedure = refl; grows = record { types = λ t x is. is; placed = λ t n is. is; pools = λ t x is. is; variables = λ t x is. is; exceptions = λ t x is. is; texts = λ t x is. is; bodies = λ t x is. is } }
+part_inside k s c = record { sound = part_sound k s c; around = refl; outer = refl; withs = refl; procedure = refl; grows = record { types = λ t x is. is; overridden = λ o t p is. is; overriders = λ o t less. refl; first_type = s.bounds.first; placed = λ t n is. is; pools = λ t x is. is; variables = λ t x is. is; exceptions = λ t x is. is; texts = λ t x is. is; bodies = λ t x is. is } }
 
 -- the part of a loop parameter begins
 pub parameter_sound : (name : Ident) (k : Known) → Sound k → Complete k → Sound (with_parameter name k)
@@ -98,6 +99,9 @@ parameter_inside name k s c = record {
   procedure = refl;
   grows = record {
     types = λ t x is. is;
+    overridden = λ o t p is. is;
+    overriders = λ o t less. refl;
+    first_type = s.bounds.first;
     placed = λ t n is. is;
     pools = λ t x is. is;
     variables = λ x v is. get_more k.variables (record { name = name.text; spot = name.spot; kind = variable.Integer; borrows = false }) x v is;
@@ -145,6 +149,7 @@ outers_called k m w outer = subst (λ (ps : List Part). PartsCalled (length m.bo
 left_sound : (k m : Known) → Sound k → Complete k → Sound m → m.here.around ≡ None → m.outer ≡ parts k → Grows k m → Sound (record m { here = k.here; outer = k.outer })
 left_sound k m s c w around outer g = record {
   types_fit = w.types_fit;
+  operations = w.operations;
   variables_fit = w.variables_fit;
   names = subst (λ (a : Option (List VariableForm)). PartsFit m.types (variables_behind a m.variables) (parts k)) around (outers_fit k m w outer);
   exceptions = outers_raised k m w outer;
@@ -177,5 +182,5 @@ leave_stays k m s c f = subst (λ (z : Known). Stays k z) (sym (left_to_parts k 
   outer = refl;
   withs = f.withs;
   procedure = f.procedure;
-  grows = record { types = f.grows.types; placed = f.grows.placed; pools = f.grows.pools; variables = f.grows.variables; exceptions = f.grows.exceptions; texts = f.grows.texts; bodies = f.grows.bodies };
+  grows = record { types = f.grows.types; overridden = f.grows.overridden; overriders = f.grows.overriders; first_type = omega arith; placed = f.grows.placed; pools = f.grows.pools; variables = f.grows.variables; exceptions = f.grows.exceptions; texts = f.grows.texts; bodies = f.grows.bodies };
 })

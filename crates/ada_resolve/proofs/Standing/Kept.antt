@@ -10,16 +10,19 @@ use Rattle.ada_program.specs.declared.program.TypeNo.{TypeNo}
 use Rattle.ada_program.specs.Form.{DeclarationForm}
 use Rattle.ada_program.specs.ProgramForm.{PoolForm, TypeForm, record_of, access_to, object_of, VariableForm}
 use Rattle.ada_resolve.specs.declared.fault.NameRule.TheVariants.{DeclaredTwice}
+use Rattle.ada_resolve.specs.declared.primitives.Operation.{Operation}
 use Rattle.ada_resolve.specs.declared.scope.Entity.{Entity}
 use Rattle.ada_resolve.specs.declared.scope.Entity.TheVariants as entity
 use Rattle.ada_resolve.specs.Clauses.{pool_of, with_placed}
 use Rattle.ada_resolve.specs.Exceptions.{with_exception}
 use Rattle.ada_resolve.specs.Instances.{with_frozen}
-use Rattle.ada_resolve.specs.Known.{Known, Named, named, entered, declared, new_name_remark, no_body_yet, with_elaborated}
+use Rattle.ada_resolve.specs.Known.{Known, Named, Specifications, named, entered, declared, new_name_remark, no_body_yet, with_elaborated}
 use Rattle.ada_resolve.specs.Objects.{with_variable}
 use Rattle.ada_resolve.specs.Paths.{name_of_type}
 use Rattle.ada_resolve.specs.Pools.{with_pool}
+use Rattle.ada_resolve.specs.Primitives.{overrider}
 use Rattle.ada_resolve.specs.Types.{incomplete_of, completed_type, new_unless, defined, number_of, with_definition}
+use Rattle.ada_resolve.proofs.Operating.{Inherits, inherits_none, overrider_more, overrider_placed, overrider_set}
 use Rattle.ada_resolve.proofs.WellFormed.Forms.{AreIn, bare, forms, forms_in, form_as, form_there, access_there, same_at}
 use Rattle.ada_resolve.proofs.WellFormed.Placed.{placed_forms, pools_in, pools_placed, pools_set}
 use Rattle.ada_resolve.proofs.WellFormed.Remarks.{Quiet, quiet_if}
@@ -77,9 +80,13 @@ settled_entered : (ns : List Named) (text : List ℕ) (e : Entity) (t : ℕ) →
 settled_entered ns text e t own old other u is =
     all_entered (λ v x. IsOther t x) ns text e own (λ v x ne there. other_of t x (λ w same. old v w (there ∙ ap (λ y. Some y) same))) other (entity.Incomplete u) is
 
+-- the same procedures override operations of the same types
+abbrev pub OverridesSame : List TypeForm → List TypeForm → Type 0
+OverridesSame types more = (o : Operation) (t : ℕ) → overrider o more t ≡ overrider o types t
+
 -- a new name, with types that only grow; it stands for no incomplete type, or for a new one
-pub keeps_new : (k : Known) (text : List ℕ) (e : Entity) (types : List TypeForm) (n : ℕ) → named text k.here.names ≡ None → ((t : ℕ) (form : TypeForm) → slice_get k.types t ≡ Some form → slice_get types t ≡ Some form) → length k.types ≤ length types → IsBehind (length k.types) e → Keeps k (declared (record k { types = types; controlled = n }) text e)
-keeps_new k text e types n none grow long own = record {
+pub keeps_new : (k : Known) (text : List ℕ) (e : Entity) (types : List TypeForm) (n : ℕ) → named text k.here.names ≡ None → ((t : ℕ) (form : TypeForm) → slice_get k.types t ≡ Some form → slice_get types t ≡ Some form) → length k.types ≤ length types → IsBehind (length k.types) e → OverridesSame k.types types → Keeps k (declared (record k { types = types; controlled = n }) text e)
+keeps_new k text e types n none grow long own same = record {
   types = λ t form is settled. (
     forms_in k.types types grow t form is,
     λ none.
@@ -87,6 +94,8 @@ keeps_new k text e types n none grow long own = record {
         settled_entered k.here.names text e t (other_own t (length k.types) e (get_within k.types t there.0 there.1) own) (settled none),
   );
   accesses = λ t name d is. forms_in k.types types grow t (access_to name d None) is;
+  overridden = λ o t p is. same o t ∙ is;
+  overriders = λ o t less. same o t;
   placed = pools_in k.types types grow;
   pools = λ t x is. is;
   type_names = λ t name is. named_type t name (slice_get k.types t) refl is;
@@ -112,11 +121,11 @@ keeps_new k text e types n none grow long own = record {
 
 -- a new name alone
 pub keeps_name : (k : Known) (text : List ℕ) (e : Entity) → named text k.here.names ≡ None → IsBehind (length k.types) e → Keeps k (declared k text e)
-keeps_name k text e none own = keeps_new k text e k.types k.controlled none (λ t form is. is) (omega arith) own
+keeps_name k text e none own = keeps_new k text e k.types k.controlled none (λ t form is. is) (omega arith) own (λ o t. refl)
 
 -- a completed name
-pub keeps_full : (k : Known) (text : List ℕ) (e : Entity) (t : TypeNo) (form : TypeForm) (n : ℕ) → no_body_yet k ≡ true → Sound k → named text k.here.names ≡ Some (entity.Incomplete t) → name_of_type (Some form) ≡ Some text → IsSettledEntity e → Keeps k (declared (record k { types = slice_set k.types t.0 form; controlled = n }) text e)
-keeps_full k text e t form n none w there own done = record {
+pub keeps_full : (k : Known) (text : List ℕ) (e : Entity) (t : TypeNo) (form : TypeForm) (n : ℕ) → no_body_yet k ≡ true → Sound k → named text k.here.names ≡ Some (entity.Incomplete t) → name_of_type (Some form) ≡ Some text → Inherits form → IsSettledEntity e → Keeps k (declared (record k { types = slice_set k.types t.0 form; controlled = n }) text e)
+keeps_full k text e t form n none w there own inherits done = record {
   types = λ u x is settled. (
     other_form u x (λ same. settled none text t there same) is,
     λ yet. settled_entered k.here.names text e u (no_other u e done) (settled yet),
@@ -124,6 +133,8 @@ keeps_full k text e t form n none w there own done = record {
   accesses = λ u name d is.
       let own = access_there k.types u name d is in
       other_form u (access_to name d None) (λ same. no_access name d own.0 (subst (λ (n : ℕ). slice_get k.types n ≡ Some (access_to name d own.0)) (sym same) own.1)) is;
+  overridden = λ o u p is. same_full o u ∙ is;
+  overriders = λ o u less. same_full o u;
   placed = pools_set k.types t.0 (record_of text [] [] None) form old refl;
   pools = λ t x is. is;
   type_names = λ u name is. by_number u name is (eqb t.0 u) refl;
@@ -145,6 +156,9 @@ keeps_full k text e t form n none w there own done = record {
   where
     old : slice_get k.types t.0 ≡ Some (record_of text [] [] None)
     old = w.names.0 text (entity.Incomplete t) there
+
+    same_full : OverridesSame k.types (slice_set k.types t.0 form)
+    same_full o = overrider_set k.types t.0 (record_of text [] [] None) form old o (inherits_none form inherits o ∙ sym (inherits_none (record_of text [] [] None) refl o))
 
     no_other : (u : ℕ) (x : Entity) → IsSettledEntity x → IsOther u x
     no_other u (entity.Incomplete v) s = absurd s
@@ -177,13 +191,14 @@ keeps_full k text e t form n none w there own done = record {
         unsettled x s same = cc same
 
 -- a type that is declared
-pub keeps_defined : (k : Known) (text : List ℕ) (e : Entity) (c : Option TypeNo) (form : TypeForm) (n : ℕ) → no_body_yet k ≡ true → Sound k → IsSlot k text c → name_of_type (Some form) ≡ Some text → IsSettledEntity e → Keeps k (declared (record k { types = defined c form k.types; controlled = n }) text e)
-keeps_defined k text e None form n yet w slot own done = keeps_new k text e (k.types ++ form ∷ []) n slot (λ t x is. get_more k.types form t x is) (one_longer k.types form) (own_settled e done)
+pub keeps_defined : (k : Known) (text : List ℕ) (e : Entity) (c : Option TypeNo) (form : TypeForm) (n : ℕ) → no_body_yet k ≡ true → Sound k → IsSlot k text c → name_of_type (Some form) ≡ Some text → Inherits form → IsSettledEntity e → Keeps k (declared (record k { types = defined c form k.types; controlled = n }) text e)
+keeps_defined k text e None form n yet w slot own inherits done =
+    keeps_new k text e (k.types ++ form ∷ []) n slot (λ t x is. get_more k.types form t x is) (one_longer k.types form) (own_settled e done) (overrider_more k.types form inherits)
   where
     own_settled : (x : Entity) → IsSettledEntity x → IsBehind (length k.types) x
     own_settled (entity.Incomplete u) s = absurd s
     own_settled x s = tt
-keeps_defined k text e (Some t) form n yet w slot own done = keeps_full k text e t form n yet w slot own done
+keeps_defined k text e (Some t) form n yet w slot own inherits done = keeps_full k text e t form n yet w slot own inherits done
 
 -- it is there
 pub defined_there : (k : Known) (text : List ℕ) (c : Option TypeNo) (form : TypeForm) → Sound k → IsSlot k text c → slice_get (defined c form k.types) (number_of c k.types).0 ≡ Some form
@@ -195,6 +210,8 @@ pub keeps_elaborated : (es : List DeclarationForm) (k : Known) → Keeps k (with
 keeps_elaborated es k = record {
   types = λ t x is settled. (is, settled);
   accesses = λ t name d is. is;
+  overridden = λ o t p is. is;
+  overriders = λ o t less. refl;
   placed = λ t n is. is;
   pools = λ t x is. is;
   type_names = λ t name is. is;
@@ -219,6 +236,8 @@ pub keeps_object_type : (r : ℕ) (k : Known) → Keeps k (with_definition None 
 keeps_object_type r k = record {
   types = λ t x is settled. (forms_in k.types (k.types ++ object_of r ∷ []) (λ u y there. get_more k.types (object_of r) u y there) t x is, settled);
   accesses = λ t name d is. forms_in k.types (k.types ++ object_of r ∷ []) (λ u y there. get_more k.types (object_of r) u y there) t (access_to name d None) is;
+  overridden = λ o t p is. overrider_more k.types (object_of r) refl o t ∙ is;
+  overriders = λ o t less. overrider_more k.types (object_of r) refl o t;
   placed = pools_in k.types (k.types ++ object_of r ∷ []) (λ u y there. get_more k.types (object_of r) u y there);
   pools = λ t x is. is;
   type_names = λ t name is. named_type t name (slice_get k.types t) refl is;
@@ -247,6 +266,8 @@ pub keeps_variable : (v : VariableForm) (k : Known) → Keeps k (with_variable v
 keeps_variable v k = record {
   types = λ t x is settled. (is, settled);
   accesses = λ t name d is. is;
+  overridden = λ o t p is. is;
+  overriders = λ o t less. refl;
   placed = λ t n is. is;
   pools = λ t x is. is;
   type_names = λ t name is. is;
@@ -271,6 +292,8 @@ pub keeps_exception : (name : List ℕ) (k : Known) → Keeps k (with_exception 
 keeps_exception name k = record {
   types = λ t x is settled. (is, settled);
   accesses = λ t name d is. is;
+  overridden = λ o t p is. is;
+  overriders = λ o t less. refl;
   placed = λ t n is. is;
   pools = λ t x is. is;
   type_names = λ t name is. is;
@@ -297,10 +320,12 @@ name_bare (access_to name d pool) = refl
 name_bare (object_of r) = refl
 
 -- what leaves the types as they were but for their pools, and has more pools, and nothing else
-keeps_housed : (k m : Known) → forms m.types ≡ forms k.types → ((t n : ℕ) → pool_of k.types t ≡ Some n → pool_of m.types t ≡ Some n) → ((n : ℕ) (p : PoolForm) → slice_get k.pools n ≡ Some p → slice_get m.pools n ≡ Some p) → m ≡ record k { types = m.types; pools = m.pools; frozen = m.frozen } → Keeps k m
-keeps_housed k m same had more is = subst (λ (v : Known). Keeps k v) (sym is) (record {
+keeps_housed : (k m : Known) → forms m.types ≡ forms k.types → OverridesSame k.types m.types → ((t n : ℕ) → pool_of k.types t ≡ Some n → pool_of m.types t ≡ Some n) → ((n : ℕ) (p : PoolForm) → slice_get k.pools n ≡ Some p → slice_get m.pools n ≡ Some p) → m ≡ record k { types = m.types; pools = m.pools; frozen = m.frozen } → Keeps k m
+keeps_housed k m same operations had more is = subst (λ (v : Known). Keeps k v) (sym is) (record {
   types = λ t x there settled. (grow t x there, settled);
   accesses = λ t name d there. grow t (access_to name d None) there;
+  overridden = λ o t p there. operations o t ∙ there;
+  overriders = λ o t less. operations o t;
   placed = had;
   pools = more;
   type_names = λ t name there. named_type t name (slice_get k.types t) refl there;
@@ -329,12 +354,64 @@ keeps_housed k m same had more is = subst (λ (v : Known). Keeps k v) (sym is) (
 
 -- one more pool
 pub keeps_pool : (p : PoolForm) (k : Known) → Keeps k (with_pool p k)
-keeps_pool p k = keeps_housed k (with_pool p k) refl (λ t n is. is) (λ n x is. get_more k.pools p n x is) refl
+keeps_pool p k = keeps_housed k (with_pool p k) refl (λ o t. refl) (λ t n is. is) (λ n x is. get_more k.pools p n x is) refl
 
 -- access types are frozen
 pub keeps_frozen : (access : ℕ) (k : Known) → Keeps k (with_frozen access k)
-keeps_frozen access k = keeps_housed k (with_frozen access k) refl (λ t n is. is) (λ n x is. is) refl
+keeps_frozen access k = keeps_housed k (with_frozen access k) refl (λ o t. refl) (λ t n is. is) (λ n x is. is) refl
+
+-- the specifications of the part alone change
+pub keeps_specified : (specified : Specifications) (k : Known) → Keeps k (record k { here = record k.here { specified = specified } })
+keeps_specified specified k = record {
+  types = λ t x is settled. (is, settled);
+  accesses = λ t name d is. is;
+  overridden = λ o t p is. is;
+  overriders = λ o t less. refl;
+  placed = λ t n is. is;
+  pools = λ t x is. is;
+  type_names = λ t name is. is;
+  names = λ text e settled is. is;
+  more = omega arith;
+  variables = λ t x is. is;
+  exceptions = λ t x is. is;
+  texts = λ t x is. is;
+  bodies = λ t x is. is;
+  first_type = refl;
+  first_variable = refl;
+  modes = refl;
+  first_body = refl;
+  around = refl;
+  outer = refl;
+  withs = refl;
+  procedure = refl;
+}
+
+-- which types are limited alone changes
+pub keeps_limited : (limited : List ℕ) (k : Known) → Keeps k (record k { limited = limited })
+keeps_limited limited k = record {
+  types = λ t x is settled. (is, settled);
+  accesses = λ t name d is. is;
+  overridden = λ o t p is. is;
+  overriders = λ o t less. refl;
+  placed = λ t n is. is;
+  pools = λ t x is. is;
+  type_names = λ t name is. is;
+  names = λ text e settled is. is;
+  more = omega arith;
+  variables = λ t x is. is;
+  exceptions = λ t x is. is;
+  texts = λ t x is. is;
+  bodies = λ t x is. is;
+  first_type = refl;
+  first_variable = refl;
+  modes = refl;
+  first_body = refl;
+  around = refl;
+  outer = refl;
+  withs = refl;
+  procedure = refl;
+}
 
 -- an access type that had no pool is on one
 pub keeps_placed : (access : TypeNo) (pool : PoolNo) (k : Known) → pool_of k.types access.0 ≡ None → Keeps k (with_placed access pool k)
-keeps_placed access pool k none = keeps_housed k (with_placed access pool k) (placed_forms pool.0 k.types access.0) (pools_placed pool.0 k.types access.0 none) (λ n x is. is) refl
+keeps_placed access pool k none = keeps_housed k (with_placed access pool k) (placed_forms pool.0 k.types access.0) (overrider_placed pool.0 k.types access.0) (pools_placed pool.0 k.types access.0 none) (λ n x is. is) refl

@@ -1,22 +1,26 @@
 -- What is known is in order, and what of it stays as more is declared.
 
-use Rattle.std.proofs.Common.{◌≡◌, ◌∙◌, ℕ, ◌<◌, ◌≤◌, true, false, List, [], ◌∷◌, length, refl, sym, ap, subst, suc, arith}
+use Rattle.std.proofs.Common.{◌≡◌, ◌∙◌, ℕ, ◌<◌, ◌≤◌, true, false, List, [], ◌∷◌, length, refl, sym, ap, subst, arith}
 use Rattle.std.specs.Prelude.{Bool, Option, Some, None, bytes_eq}
 use Rattle.std.specs.List.{list_all, slice_get}
+use Rattle.ada_program.specs.declared.program.ProcedureNo.{ProcedureNo}
 use Rattle.ada_program.specs.declared.program.TypeNo.{TypeNo}
 use Rattle.ada_program.specs.ProgramForm.{TypeForm, record_of, access_to, object_of, PoolForm, VariableForm, BodyForm}
 use Rattle.ada_program.specs.WellFormed as fits
 use Rattle.ada_resolve.specs.declared.library.Withs.{Withs}
+use Rattle.ada_resolve.specs.declared.primitives.Operation.{Operation}
 use Rattle.ada_resolve.specs.declared.scope.Entity.{Entity}
 use Rattle.ada_resolve.specs.declared.scope.Entity.TheVariants as entity
 use Rattle.ada_resolve.specs.Clauses.{pool_of}
 use Rattle.ada_resolve.specs.Known.{Known, Named, Part, named, from_part, named_in, inner_first, outermost, visible, parts, no_body_yet}
 use Rattle.ada_resolve.specs.Paths.{name_of_type}
+use Rattle.ada_resolve.specs.Primitives.{overrider}
 use Rattle.ada_resolve.specs.Resolution.{known_first}
-use Rattle.ada_resolve.proofs.WellFormed.Inherits.{type_stands}
-use Rattle.ada_resolve.proofs.WellFormed.Forms.{forms, forms_length}
-use Rattle.ada_resolve.proofs.WellFormed.Laid.{IsUnused}
-use Rattle.ada_resolve.proofs.WellFormed.Names.{PartsFit, first_of_two, within_of, outermost_fits}
+use Rattle.ada_resolve.proofs.WellFormed.Forms.{forms}
+pub use Rattle.ada_resolve.proofs.WellFormed.Forms.{longer, longer_types}
+use Rattle.ada_resolve.proofs.WellFormed.Laid.{AreRecordsLaid, IsUnused}
+use Rattle.ada_resolve.proofs.WellFormed.Operations.{HaveOperations, callables}
+use Rattle.ada_resolve.proofs.WellFormed.Names.{PartsFit, first_of_two, laid_in, within_of, outermost_fits}
 use Rattle.ada_resolve.proofs.WellFormed.Exceptions.{PartsRaised}
 
 -- what a name of a complete part stands for, whose types have lower numbers than this
@@ -66,7 +70,8 @@ pub record IsBounded (k : Known) : Type 0 where
 
 -- what is known is in order, at any place
 pub record Sound (k : Known) : Type 0 where
-  pub types_fit : list_all (type_stands k.types) k.types ≡ true
+  pub types_fit : list_all (fits.type_fits k.types) k.types ≡ true
+  pub operations : HaveOperations k.types (callables k.bodies)
   pub variables_fit : list_all (fits.variable_fits k.types) k.variables ≡ true
   pub names : PartsFit k.types k.variables (parts k)
   pub exceptions : PartsRaised k.exceptions (parts k)
@@ -76,13 +81,20 @@ pub record Sound (k : Known) : Type 0 where
   pub sized : AllSized k.bodies
   pub bounds : IsBounded k
 
+-- the components of the types that are known lie one behind the other
+pub sound_laid : (k : Known) → Sound k → AreRecordsLaid k.types
+sound_laid k s = laid_in k.types k.variables (parts k) s.names
+
 -- no name of the innermost part stands for an incomplete type
 abbrev pub Complete : Known → Type 0
 Complete k = (text : List ℕ) (t : TypeNo) → named text k.here.names ≡ Some (entity.Incomplete t) → ⊥
 
--- tables only grow: what is there stays, but that types may get pools
+-- tables only grow: what is there stays, but that types may get pools and operations; the types of the parts around get no operations
 pub record Grows (k m : Known) : Type 0 where
   pub types : (t : ℕ) (form : TypeForm) → slice_get (forms k.types) t ≡ Some form → slice_get (forms m.types) t ≡ Some form
+  pub overridden : (o : Operation) (t : ℕ) (p : ProcedureNo) → overrider o k.types t ≡ Some p → overrider o m.types t ≡ Some p
+  pub overriders : (o : Operation) (t : ℕ) → t < k.here.first_type → overrider o m.types t ≡ overrider o k.types t
+  pub first_type : k.here.first_type ≤ m.here.first_type
   pub placed : (t n : ℕ) → pool_of k.types t ≡ Some n → pool_of m.types t ≡ Some n
   pub pools : (n : ℕ) (p : PoolForm) → slice_get k.pools n ≡ Some p → slice_get m.pools n ≡ Some p
   pub variables : (x : ℕ) (v : VariableForm) → slice_get k.variables x ≡ Some v → slice_get m.variables x ≡ Some v
@@ -99,11 +111,14 @@ abbrev pub IsSettledEntity : Entity → Type 0
 IsSettledEntity (entity.Incomplete t) = ⊥
 IsSettledEntity e = Unit {0}
 
--- what stays within the declarations of a part: a type but for its pool, unless a name of the part stands for it, incomplete; each access type but for
--- its pool, and a pool that it has; the name of each type; what a name stands for, unless that is incomplete; all pools, variables, exceptions and texts
+-- what stays within the declarations of a part: a type but for its pool and its operations, unless a name of the part stands for it, incomplete; each
+-- access type but for its pool, and a pool that it has; what overrides an operation, and, of a type of the parts around, which operations are inherited; the
+-- name of each type; what a name stands for, unless that is incomplete; all pools, variables, exceptions and texts
 pub record Keeps (k m : Known) : Type 0 where
   pub types : (t : ℕ) (form : TypeForm) → slice_get (forms k.types) t ≡ Some form → IsSettled k t → (slice_get (forms m.types) t ≡ Some form) × IsSettled m t
   pub accesses : (t : ℕ) (name : List ℕ) (d : ℕ) → slice_get (forms k.types) t ≡ Some (access_to name d None) → slice_get (forms m.types) t ≡ Some (access_to name d None)
+  pub overridden : (o : Operation) (t : ℕ) (p : ProcedureNo) → overrider o k.types t ≡ Some p → overrider o m.types t ≡ Some p
+  pub overriders : (o : Operation) (t : ℕ) → t < k.here.first_type → overrider o m.types t ≡ overrider o k.types t
   pub placed : (t n : ℕ) → pool_of k.types t ≡ Some n → pool_of m.types t ≡ Some n
   pub pools : (n : ℕ) (p : PoolForm) → slice_get k.pools n ≡ Some p → slice_get m.pools n ≡ Some p
   pub type_names : (t : ℕ) (name : List ℕ) → name_of_type (slice_get k.types t) ≡ Some name → name_of_type (slice_get m.types t) ≡ Some name
@@ -141,19 +156,6 @@ pub record Inside (k m : Known) : Type 0 where
   pub procedure : m.procedure ≡ k.procedure
   pub grows : Grows k m
 
--- tables that grow are no shorter
-pub longer : {X : Type 0} (xs ys : List X) → ((i : ℕ) (x : X) → slice_get xs i ≡ Some x → slice_get ys i ≡ Some x) → length xs ≤ length ys
-longer [] ys w = omega arith
-longer (x ∷ xs) [] w = let no : None ≡ Some x = w 0 x refl in absurd (cc no)
-longer (x ∷ xs) (y ∷ ys) w = let h = longer xs ys (λ i. w (suc i)) in omega arith
-
-pub longer_types : (types more : List TypeForm) → ((t : ℕ) (form : TypeForm) → slice_get (forms types) t ≡ Some form → slice_get (forms more) t ≡ Some form) → length types ≤ length more
-longer_types types more g =
-    let long = longer (forms types) (forms more) g in
-    let before = forms_length types in
-    let behind = forms_length more in
-    omega (arith, long, before, behind)
-
 pub more_types : (k m : Known) → Grows k m → length k.types ≤ length m.types
 more_types k m g = longer_types k.types m.types g.types
 
@@ -167,11 +169,14 @@ pub more_variables : (k m : Known) → Grows k m → length k.variables ≤ leng
 more_variables k m g = longer k.variables m.variables g.variables
 
 pub grows_same : (k : Known) → Grows k k
-grows_same k = record { types = λ t x is. is; placed = λ t n is. is; pools = λ t x is. is; variables = λ t x is. is; exceptions = λ t x is. is; texts = λ t x is. is; bodies = λ t x is. is }
+grows_same k = record { types = λ t x is. is; overridden = λ o t p is. is; overriders = λ o t less. refl; first_type = omega arith; placed = λ t n is. is; pools = λ t x is. is; variables = λ t x is. is; exceptions = λ t x is. is; texts = λ t x is. is; bodies = λ t x is. is }
 
 pub grows_on : (k m z : Known) → Grows k m → Grows m z → Grows k z
 grows_on k m z f g = record {
   types = λ t x is. g.types t x (f.types t x is);
+  overridden = λ o t p is. g.overridden o t p (f.overridden o t p is);
+  overriders = λ o t less. let before = f.first_type in g.overriders o t (omega (arith, less, before)) ∙ f.overriders o t less;
+  first_type = let before = f.first_type in let behind = g.first_type in omega (arith, before, behind);
   placed = λ t n is. g.placed t n (f.placed t n is);
   pools = λ t x is. g.pools t x (f.pools t x is);
   variables = λ t x is. g.variables t x (f.variables t x is);
@@ -184,6 +189,8 @@ pub keeps_same : (k : Known) → Keeps k k
 keeps_same k = record {
   types = λ t x is settled. (is, settled);
   accesses = λ t name d is. is;
+  overridden = λ o t p is. is;
+  overriders = λ o t less. refl;
   placed = λ t n is. is;
   pools = λ t x is. is;
   type_names = λ t name is. is;
@@ -207,6 +214,8 @@ pub keeps_on : (k m z : Known) → Keeps k m → Keeps m z → Keeps k z
 keeps_on k m z f g = record {
   types = λ t x is settled. let so = f.types t x is settled in g.types t x so.0 so.1;
   accesses = λ t name d is. g.accesses t name d (f.accesses t name d is);
+  overridden = λ o t p is. g.overridden o t p (f.overridden o t p is);
+  overriders = λ o t less. g.overriders o t (subst (λ (n : ℕ). t < n) (sym f.first_type) less) ∙ f.overriders o t less;
   placed = λ t n is. g.placed t n (f.placed t n is);
   pools = λ t x is. g.pools t x (f.pools t x is);
   type_names = λ t name is. g.type_names t name (f.type_names t name is);
@@ -244,6 +253,9 @@ stays_on k m z f g = record {
 pub complete_grows : (k m : Known) → Complete k → Keeps k m → Grows k m
 complete_grows k m c f = record {
   types = λ t x is. (f.types t x is (λ none text u there same. c text u there)).0;
+  overridden = f.overridden;
+  overriders = f.overriders;
+  first_type = let same = f.first_type in omega (arith, same);
   placed = f.placed;
   pools = f.pools;
   variables = f.variables;
@@ -307,6 +319,7 @@ object_settled k t r s is none other u there same =
 pub first_sound : (withs : Withs) (procedure : List ℕ) → Sound (known_first withs procedure)
 first_sound withs procedure = record {
   types_fit = refl;
+  operations = λ t. refl;
   variables_fit = refl;
   names = (λ t x e. absurd (cc e), (λ t form e. absurd (cc e), refl));
   exceptions = (λ t x e. absurd (cc e), tt);

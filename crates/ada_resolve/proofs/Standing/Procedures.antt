@@ -1,12 +1,13 @@
 -- Bodies of procedures: what is known is in order where one begins, and behind it.
 
-use Rattle.std.proofs.Common.{◌≡◌, ◌∙◌, ℕ, ◌+◌, ◌≤◌, Bool, true, false, cond, List, [], ◌∷◌, ◌++◌, length, append-nil, append_assoc, length-append, refl, sym, ap, subst, zero, suc, arith}
+use Rattle.std.proofs.Common.{◌≡◌, ◌∙◌, ℕ, ◌+◌, ◌<◌, ◌≤◌, Bool, true, false, cond, List, [], ◌∷◌, ◌++◌, inl, length, append-nil, append_assoc, length-append, refl, sym, ap, subst, zero, suc, arith}
 use Rattle.std.specs.Prelude.{Option, Some, None}
 use Rattle.std.specs.List.{list_all, slice_get}
 use Rattle.std.proofs.lemmas.Bool.{eqb-true}
 use Rattle.ada_text.specs.declared.spot.Spot.{Spot}
 use Rattle.ada_program.specs.declared.program.FormalMode.{FormalMode}
 use Rattle.ada_program.specs.declared.program.FormalMode.TheVariants.{In, InOut}
+use Rattle.ada_program.specs.declared.program.ProcedureNo.{ProcedureNo}
 use Rattle.ada_program.specs.declared.program.TypeNo.{TypeNo}
 use Rattle.ada_program.specs.declared.program.VariableKind.{VariableKind}
 use Rattle.ada_program.specs.declared.program.VariableNo.{VariableNo}
@@ -17,18 +18,24 @@ use Rattle.ada_tree.specs.Declarations.{FormalTree, HeadTree}
 use Rattle.ada_tree.specs.Names.{Ident}
 use Rattle.ada_resolve.specs.declared.scope.Entity.{Entity}
 use Rattle.ada_resolve.specs.declared.scope.Entity.TheVariants as entity
+use Rattle.ada_resolve.specs.declared.primitives.Operation.{Operation}
 use Rattle.ada_resolve.specs.Clauses.{pool_of}
-use Rattle.ada_resolve.specs.Known.{Known, Named, declared, entered, first_named, named, next_procedure, no_body_yet, parts, visible}
+use Rattle.ada_resolve.specs.Known.{Known, Named, entered, first_named, named, next_procedure, no_body_yet, parts, visible}
 use Rattle.ada_resolve.specs.Paths.{name_of_type}
-use Rattle.ada_resolve.specs.Procedures.{Formals, no_formals, formal_type, formal_types, formal_kind, formal_mode, formal_entity, known_by, with_next, with_formal, with_formals, with_body, behind_head, variables_around, body_of, with_procedure, body_ended}
+use Rattle.ada_resolve.specs.Primitives.{answered, declared_unless, entered_unless, operand_of, operation_named, overridden_if, overrider}
+use Rattle.ada_resolve.specs.Procedures.{Formals, no_formals, formal_type, formal_types, formal_kind, formal_mode, formal_entity, known_by, with_next, with_formal, with_formals, with_body, behind_head, variables_around, body_of, closed, with_procedure, body_ended}
 use Rattle.ada_resolve.proofs.Parts.{left_parts}
 use Rattle.ada_resolve.proofs.WellFormed.Exceptions.{RaisedFits}
-use Rattle.ada_resolve.proofs.WellFormed.Forms.{forms, forms_in, same_at}
+use Rattle.ada_resolve.proofs.Operating.{inherits_none, overrider_in}
+use Rattle.ada_resolve.proofs.WellFormed.Forms.{AreIn, forms, forms_in, same_at}
 use Rattle.ada_resolve.proofs.WellFormed.Names.{EntityFits, variables_behind, PartsFit, all_entered, named_entered, other_text, visible_fits}
-use Rattle.ada_resolve.proofs.WellFormed.Placed.{pools_in}
+use Rattle.ada_resolve.proofs.WellFormed.Operations.{callables, callables_in, have_stays, profile_at, profile_got}
+use Rattle.ada_resolve.proofs.WellFormed.Overridden.{if_forms, if_housed, if_operations, if_pool, operand_operates, overridden_other}
+use Rattle.ada_resolve.proofs.WellFormed.Placed.{grown, pools_in}
 use Rattle.ada_resolve.proofs.WellFormed.Tables as tables
-use Rattle.ada_resolve.proofs.WellFormed.Tables.{all_get, all_more, all_weaker, both_parts, first_part, get_more, get_last, keeps_more, variable_kept}
+use Rattle.ada_resolve.proofs.WellFormed.Tables.{all_get, all_more, all_weaker, both_parts, first_part, get_more, get_last, get_within, keeps_more, none_past, variable_kept}
 pub use Rattle.ada_resolve.proofs.WellFormed.Tables.{types_keep}
+use Rattle.ada_resolve.proofs.Standing.Declared.{retyped_sound, specified_sound}
 use Rattle.ada_resolve.proofs.Standing.Housed.{called_later}
 use Rattle.ada_resolve.proofs.Standing.Order.{IsCalled, AllSized, Sound, Complete, IsSettled, Keeps, longer, longer_types, visible_settled}
 use Rattle.ada_resolve.proofs.WellFormed.Types.{record_visible}
@@ -253,6 +260,7 @@ with_body_sound k f s g fit =
     let types = k.types ++ f.types in
     record {
       types_fit = s.types_fit;
+      operations = s.operations;
       variables_fit = fit;
       names = (λ text e is. formal_fits types f.variables text e fit (g.names text e is), s.names);
       exceptions = (λ text e is. formal_raised k.exceptions f.variables text e (g.names text e is), s.exceptions);
@@ -276,10 +284,14 @@ with_body_sound k f s g fit =
 
 -- what is known around a body
 abbrev pub around_body : Known → HeadTree → Known
-around_body k head = declared k head.name.text entity.Procedure
+around_body k head = declared_unless (operation_named head.name.text) k head.name.text entity.Procedure
+
+around_by : (k : Known) (text : List ℕ) (o : Option Operation) → Sound k → Sound (declared_unless o k text entity.Procedure)
+around_by k text None s = name_sound k text entity.Procedure s tt tt tt tt (λ none. tt)
+around_by k text (Some o) s = s
 
 pub around_sound : (k : Known) (head : HeadTree) → Sound k → Sound (around_body k head)
-around_sound k head s = name_sound k head.name.text entity.Procedure s tt tt tt tt (λ none. tt)
+around_sound k head s = around_by k head.name.text (operation_named head.name.text) s
 
 pub head_sound : (k : Known) (head : HeadTree) → Sound k → Sound (behind_head k head)
 unfolding behind_head
@@ -292,7 +304,7 @@ pub head_complete : (k : Known) (head : HeadTree) → Complete (behind_head k he
 unfolding behind_head
 head_complete k head text t is = (head_formals k head.formals).names text (entity.Incomplete t) is
 
--- a place in a body that stands at another place: in it, or behind its declarations
+-- a place in a body that stands at another place: in it, or behind its declarations; no type that is known there gets an operation
 pub record InBody (k m : Known) : Type 0 where
   pub sound : Sound m
   pub around : m.here.around ≡ Some k.variables
@@ -300,27 +312,52 @@ pub record InBody (k m : Known) : Type 0 where
   pub withs : m.withs ≡ k.withs
   pub procedure : m.procedure ≡ k.procedure
   pub types : (t : ℕ) (form : TypeForm) → slice_get (forms k.types) t ≡ Some form → slice_get (forms m.types) t ≡ Some form
+  pub overriders : (o : Operation) (t : ℕ) → t < length k.types → overrider o m.types t ≡ overrider o k.types t
+  pub first_type : length k.types ≤ m.here.first_type
   pub placed : (t n : ℕ) → pool_of k.types t ≡ Some n → pool_of m.types t ≡ Some n
   pub pools : (n : ℕ) (p : PoolForm) → slice_get k.pools n ≡ Some p → slice_get m.pools n ≡ Some p
   pub exceptions : (n : ℕ) (name : List ℕ) → slice_get k.exceptions n ≡ Some name → slice_get m.exceptions n ≡ Some name
   pub texts : (n : ℕ) (text : List ℕ) → slice_get k.texts n ≡ Some text → slice_get m.texts n ≡ Some text
   pub bodies : (n : ℕ) (b : BodyForm) → slice_get k.bodies n ≡ Some b → slice_get m.bodies n ≡ Some b
 
+-- types that are added leave the operations of those before them
+pub overriders_front : (types more : List TypeForm) (o : Operation) (t : ℕ) → t < length types → overrider o (types ++ more) t ≡ overrider o types t
+unfolding overrider
+overriders_front types more o t less = by_form (slice_get types t) refl
+  where
+    by_form : (found : Option TypeForm) → slice_get types t ≡ found → overrider_in o (slice_get (types ++ more) t) ≡ overrider_in o (slice_get types t)
+    by_form None is = let past = none_past types t is in absurd (omega (arith, less, past))
+    by_form (Some x) is = ap (λ f. overrider_in o f) (get_front types more t x is ∙ sym is)
+
+-- what overrides an operation of a type is there
+overrider_within : (types : List TypeForm) (o : Operation) (t : ℕ) (p : ProcedureNo) → overrider o types t ≡ Some p → t < length types
+unfolding overrider
+overrider_within types o t p e = by_form (slice_get types t) refl e
+  where
+    by_form : (found : Option TypeForm) → slice_get types t ≡ found → overrider_in o found ≡ Some p → t < length types
+    by_form None is e = let no : None ≡ Some p = sym (inherits_none (object_of 0) refl o) ∙ e in absurd (cc no)
+    by_form (Some x) is e = get_within types t x is
+
 pub head_in_body : (k : Known) (head : HeadTree) → Sound k → InBody (around_body k head) (behind_head k head)
 unfolding behind_head
-head_in_body k head s = record {
-  sound = head_sound k head s;
-  around = refl;
-  outer = refl;
-  withs = refl;
-  procedure = refl;
-  types = forms_in k.types (k.types ++ (with_formals k head.formals no_formals).types) (λ t x is. get_front k.types (with_formals k head.formals no_formals).types t x is);
-  placed = pools_in k.types (k.types ++ (with_formals k head.formals no_formals).types) (λ t x is. get_front k.types (with_formals k head.formals no_formals).types t x is);
-  pools = λ t x is. is;
-  exceptions = λ t x is. is;
-  texts = λ t x is. is;
-  bodies = λ t x is. is;
-}
+head_in_body k head s =
+    let own = (with_formals k head.formals no_formals).types in
+    let longer_by = length-append k.types own in
+    record {
+      sound = head_sound k head s;
+      around = refl;
+      outer = refl;
+      withs = refl;
+      procedure = refl;
+      types = forms_in k.types (k.types ++ (with_formals k head.formals no_formals).types) (λ t x is. get_front k.types (with_formals k head.formals no_formals).types t x is);
+      overriders = overriders_front k.types (with_formals k head.formals no_formals).types;
+      first_type = omega (arith, longer_by);
+      placed = pools_in k.types (k.types ++ (with_formals k head.formals no_formals).types) (λ t x is. get_front k.types (with_formals k head.formals no_formals).types t x is);
+      pools = λ t x is. is;
+      exceptions = λ t x is. is;
+      texts = λ t x is. is;
+      bodies = λ t x is. is;
+    }
 
 -- what is known behind a body, but for the name of the procedure
 abbrev pub left_body : Known → Known → BodyForm → Known
@@ -346,6 +383,7 @@ sized_more (c ∷ bodies) b w own = (w.0, sized_more bodies b w.1 own)
 left_body_sound : (k z : Known) (b : BodyForm) → Sound k → InBody k z → length b.formals ≤ length b.variables → Sound (left_body k z b)
 left_body_sound k z b s f own = record {
   types_fit = f.sound.types_fit;
+  operations = have_stays z.types z.types (callables z.bodies) (callables (z.bodies ++ b ∷ [])) (λ o r is. is) (callables_in z.bodies (z.bodies ++ b ∷ []) (λ i x is. get_more z.bodies b i x is)) (λ t. inl refl) f.sound.operations;
   variables_fit = all_weaker (fits.variable_fits k.types) (fits.variable_fits z.types) (variable_kept k.types z.types (types_keep k.types z.types f.types)) k.variables s.variables_fit;
   names = subst (λ (a : Option (List VariableForm)). PartsFit z.types (variables_behind a z.variables) (parts k)) f.around (outers_fit k z f.sound f.outer);
   exceptions = outers_raised k z f.sound f.outer;
@@ -364,13 +402,34 @@ left_body_sound k z b s f own = record {
   };
 }
 
+-- what a body at the end of which this is known is an operation of, if it is one
+abbrev pub operand_at : Known → Option ℕ
+operand_at z = operand_of z.types z.here.modes z.variables
+
 -- what is known behind a body, in the words of the place before it
-pub ended_is : (k z : Known) (name : Ident) (fs : StmtsForm) (hs : HandlersForm) (start last : Spot) → InBody k z → body_ended name fs hs start last z ≡ declared (left_body k z (body_of z fs hs start last)) name.text (entity.Callable (next_procedure z))
+abbrev pub closed_body : Known → Known → List ℕ → BodyForm → Known
+closed_body k z text b = closed (operation_named text) text (next_procedure z) (operand_at z) (left_body k z b)
+
+pub ended_is : (k z : Known) (name : Ident) (fs : StmtsForm) (hs : HandlersForm) (start last : Spot) → InBody k z → body_ended name fs hs start last z ≡ closed_body k z name.text (body_of z fs hs start last)
 ended_is k z name fs hs start last f =
-    ap (λ (v : Known). declared (with_procedure (body_of z fs hs start last) (record v { variables = variables_around z.here.around })) name.text (entity.Callable (next_procedure z)))
+    ap (λ (v : Known). closed (operation_named name.text) name.text (next_procedure z) (operand_at z) (with_procedure (body_of z fs hs start last) (record v { variables = variables_around z.here.around })))
     (left_parts z z.outer k.here k.outer f.outer) ∙
-    ap (λ (a : Option (List VariableForm)). declared (with_procedure (body_of z fs hs start last) (record z { here = k.here; outer = k.outer; variables = variables_around a })) name.text (entity.Callable (next_procedure z)))
+    ap (λ (a : Option (List VariableForm)). closed (operation_named name.text) name.text (next_procedure z) (operand_at z) (with_procedure (body_of z fs hs start last) (record z { here = k.here; outer = k.outer; variables = variables_around a })))
     f.around
+
+-- behind the body of an operation, its type overrides that
+closed_sound : (k : Known) (o : Option Operation) (text : List ℕ) (p : ProcedureNo) (found : Option ℕ) → Sound k → p.0 < length k.bodies → ((t : ℕ) → found ≡ Some t → fits.is_operation k.types t (slice_get (callables k.bodies) p.0) ≡ true) → Sound (closed o text p found k)
+closed_sound k None text p found s called own = name_sound k text (entity.Callable p) s tt tt called tt (λ none. tt)
+closed_sound k (Some o) text p found s called own =
+    specified_sound (answered (Some o) k.here.specified) (record k { types = overridden_if (Some o) p found k.types })
+    (retyped_sound (overridden_if (Some o) p found k.types) k (if_forms (Some o) p found k.types) (if_housed (length k.pools) (Some o) p found k.types s.housed)
+    (if_operations (Some o) p found k.types (callables k.bodies) own s.operations) s)
+
+-- a body is an operation of the type of its one formal parameter
+body_operates : (z : Known) (fs : StmtsForm) (hs : HandlersForm) (start last : Spot) (t : ℕ) → operand_at z ≡ Some t → fits.is_operation z.types t (slice_get (callables (z.bodies ++ body_of z fs hs start last ∷ [])) (length z.bodies)) ≡ true
+body_operates z fs hs start last t e =
+    let b = body_of z fs hs start last in
+    ap (λ o. fits.is_operation z.types t o) (profile_got (z.bodies ++ b ∷ []) (length z.bodies) ∙ ap (λ o. profile_at o) (get_last z.bodies b)) ∙ operand_operates z.types z.here.modes z.variables t e
 
 pub body_ended_sound : (k z : Known) (name : Ident) (fs : StmtsForm) (hs : HandlersForm) (start last : Spot) → Sound k → InBody k z → Sound (body_ended name fs hs start last z)
 body_ended_sound k z name fs hs start last s f =
@@ -379,7 +438,8 @@ body_ended_sound k z name fs hs start last s f =
     let modes = f.sound.bounds.modes in
     let variables = f.sound.bounds.first_variable in
     subst Sound (sym (ended_is k z name fs hs start last f))
-    (name_sound (left_body k z b) name.text (entity.Callable (next_procedure z)) (left_body_sound k z b s f (omega (arith, modes, variables))) tt tt (omega (arith, one)) tt (λ none. tt))
+    (closed_sound (left_body k z b) (operation_named name.text) name.text (next_procedure z) (operand_at z) (left_body_sound k z b s f (omega (arith, modes, variables))) (omega (arith, one))
+    (body_operates z fs hs start last))
 
 -- a name that stands for something is another than a new one, which is entered twice
 pub twice_entered : (ns : List Named) (name text : List ℕ) (a b x : Entity) → named name ns ≡ None → named text ns ≡ Some x → named text (entered name b (entered name a ns)) ≡ Some x
@@ -393,30 +453,71 @@ twice_entered ns name text a b x none is =
     apart : text ≡ name → ⊥
     apart same = no_entity (sym none ∙ subst (λ (n : List ℕ). named n ns ≡ Some x) same is)
 
+-- the body of an operation declares nothing
+entered_behind : (o : Option Operation) (ns : List Named) (name text : List ℕ) (a b x : Entity) → (o ≡ None → named name ns ≡ None) → named text ns ≡ Some x → named text (entered_unless o name b (entered_unless o name a ns)) ≡ Some x
+entered_behind None ns name text a b x none is = twice_entered ns name text a b x (none refl) is
+entered_behind (Some o) ns name text a b x none is = is
+
+-- the name of a body is new, unless it is that of an operation
+abbrev pub IsNewBody : Known → HeadTree → Type 0
+IsNewBody k head = operation_named head.name.text ≡ None → named head.name.text k.here.names ≡ None
+
 -- what was declared in its part is so behind a body
-pub body_ended_names : (k z : Known) (head : HeadTree) (fs : StmtsForm) (hs : HandlersForm) (start last : Spot) → named head.name.text k.here.names ≡ None → InBody (around_body k head) z → (text : List ℕ) (x : Entity) → named text k.here.names ≡ Some x → named text (body_ended head.name fs hs start last z).here.names ≡ Some x
+pub body_ended_names : (k z : Known) (head : HeadTree) (fs : StmtsForm) (hs : HandlersForm) (start last : Spot) → IsNewBody k head → InBody (around_body k head) z → (text : List ℕ) (x : Entity) → named text k.here.names ≡ Some x → named text (body_ended head.name fs hs start last z).here.names ≡ Some x
 body_ended_names k z head fs hs start last none f text x is =
     ap (λ (v : Known). named text v.here.names) (ended_is (around_body k head) z head.name fs hs start last f) ∙
-    twice_entered k.here.names head.name.text text entity.Procedure (entity.Callable (next_procedure z)) x none is
+    entered_behind (operation_named head.name.text) k.here.names head.name.text text entity.Procedure (entity.Callable (next_procedure z)) x none is
 
 -- a body stands before there
 pub body_ended_some : (k z : Known) (name : Ident) (fs : StmtsForm) (hs : HandlersForm) (start last : Spot) → Sound k → InBody k z → no_body_yet (body_ended name fs hs start last z) ≡ true → ⊥
 body_ended_some k z name fs hs start last s f none = some_body k z (body_of z fs hs start last) s f (ap (λ (v : Known). no_body_yet v) (sym (ended_is k z name fs hs start last f)) ∙ none)
 
+-- an operation of a type of the part is inherited
+abbrev pub IsOpen : Known → Option Operation → Option ℕ → Type 0
+IsOpen k None found = Unit {0}
+IsOpen k (Some o) None = Unit {0}
+IsOpen k (Some o) (Some t) = (k.here.first_type ≤ t) × (overrider o k.types t ≡ None)
+
+-- so it may be overridden: what overrides others stays
+still_overridden : (k z : Known) (o : Option Operation) (found : Option ℕ) (p : ProcedureNo) (a : Operation) (t : ℕ) (q : ProcedureNo) → IsOpen k o found → overrider a k.types t ≡ Some q → overrider a z.types t ≡ Some q → overrider a (overridden_if o p found z.types) t ≡ Some q
+still_overridden k z None found p a t q may is there = there
+still_overridden k z (Some o) None p a t q may is there = there
+still_overridden k z (Some o) (Some u) p a t q may is there = overridden_other o p z.types u a t apart ∙ there
+  where
+    apart : a ≡ o → t ≡ u → ⊥
+    apart same at =
+        let none : overrider a k.types t ≡ None = ap (λ (c : Operation). overrider c k.types t) same ∙ (ap (λ (n : ℕ). overrider o k.types n) at ∙ may.1) in
+        cc (none, is)
+
+-- and so does what overrides those of types of the parts around
+not_overridden : (k z : Known) (o : Option Operation) (found : Option ℕ) (p : ProcedureNo) (a : Operation) (t : ℕ) → IsOpen k o found → t < k.here.first_type → overrider a (overridden_if o p found z.types) t ≡ overrider a z.types t
+not_overridden k z None found p a t may less = refl
+not_overridden k z (Some o) None p a t may less = refl
+not_overridden k z (Some o) (Some u) p a t may less = overridden_other o p z.types u a t (λ same at. let first = may.0 in omega (arith, first, less, at))
+
 -- a body leaves the names of its part but its own, and the tables
-pub body_ended_keeps : (k : Known) (z : Known) (head : HeadTree) (spot : Spot) (fs : StmtsForm) (hs : HandlersForm) (start last : Spot) → Sound k → named head.name.text k.here.names ≡ None → InBody (around_body k head) z → Keeps k (body_ended head.name fs hs start last z)
-body_ended_keeps k z head spot fs hs start last s none f =
+pub body_ended_keeps : (k : Known) (z : Known) (head : HeadTree) (spot : Spot) (fs : StmtsForm) (hs : HandlersForm) (start last : Spot) → Sound k → IsNewBody k head → IsOpen k (operation_named head.name.text) (operand_at z) → InBody (around_body k head) z → Keeps k (body_ended head.name fs hs start last z)
+body_ended_keeps k z head spot fs hs start last s none may f =
     let k1 = around_body k head in
     let b = body_of z fs hs start last in
     let e = entity.Callable (next_procedure z) in
+    let o = operation_named head.name.text in
+    let p = next_procedure z in
+    let more = overridden_if o p (operand_at z) z.types in
+    let same : forms more ≡ forms z.types = if_forms o p (operand_at z) z.types in
+    let g : AreIn (forms k.types) (forms more) = λ t form is. grown z.types more same t form (f.types t form is) in
     subst (λ (v : Known). Keeps k v) (sym (ended_is k1 z head.name fs hs start last f)) (record {
-      types = λ t form is settled. (f.types t form is, λ yet. absurd (some_body k1 z b (around_sound k head s) f yet));
-      accesses = λ t name d is. f.types t (access_to name d None) is;
-      placed = f.placed;
+      types = λ t form is settled. (g t form is, λ yet. absurd (some_body k1 z b (around_sound k head s) f yet));
+      accesses = λ t name d is. g t (access_to name d None) is;
+      overridden = λ a t q is.
+          let less = overrider_within k.types a t q is in
+          still_overridden k z o (operand_at z) p a t q may is (f.overriders a t less ∙ is);
+      overriders = λ a t less. let first = s.bounds.first in not_overridden k z o (operand_at z) p a t may less ∙ f.overriders a t (omega (arith, first, less));
+      placed = λ t n is. if_pool o p (operand_at z) z.types t ∙ f.placed t n is;
       pools = f.pools;
       type_names = λ t name is. named_type t name (slice_get k.types t) refl is;
-      names = λ text x settled is. twice_entered k.here.names head.name.text text entity.Procedure e x none is;
-      more = longer_types k.types z.types f.types;
+      names = λ text x settled is. entered_behind o k.here.names head.name.text text entity.Procedure e x none is;
+      more = longer_types k.types more g;
       variables = λ x v is. is;
       exceptions = f.exceptions;
       texts = f.texts;
@@ -431,6 +532,12 @@ body_ended_keeps k z head spot fs hs start last s none f =
       procedure = f.procedure;
     })
   where
-    named_type : (t : ℕ) (name : List ℕ) (o : Option TypeForm) → slice_get k.types t ≡ o → name_of_type o ≡ Some name → name_of_type (slice_get z.types t) ≡ Some name
+    more_types : List TypeForm
+    more_types = overridden_if (operation_named head.name.text) (next_procedure z) (operand_at z) z.types
+
+    more_in : AreIn (forms k.types) (forms more_types)
+    more_in t form is = grown z.types more_types (if_forms (operation_named head.name.text) (next_procedure z) (operand_at z) z.types) t form (f.types t form is)
+
+    named_type : (t : ℕ) (name : List ℕ) (o : Option TypeForm) → slice_get k.types t ≡ o → name_of_type o ≡ Some name → name_of_type (slice_get more_types t) ≡ Some name
     named_type t name None is so = absurd (cc so)
-    named_type t name (Some form) is so = same_at k.types z.types f.types (λ o. name_of_type o) name_bare t form is ∙ so
+    named_type t name (Some form) is so = same_at k.types more_types more_in (λ o. name_of_type o) name_bare t form is ∙ so

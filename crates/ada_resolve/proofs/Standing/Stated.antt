@@ -1,25 +1,26 @@
 -- Statements leave the parts as they were.
 
-use Rattle.std.proofs.Common.{◌≡◌, ◌∙◌, ℕ, Bool, true, false, List, refl, sym, ap, subst}
+use Rattle.std.proofs.Common.{◌≡◌, ◌∙◌, ℕ, arith, Bool, true, false, List, refl, sym, ap, subst}
 use Rattle.ada_text.specs.declared.spot.Spot.{Spot}
 use Rattle.ada_program.specs.Form.{StmtForm, StmtsForm, no_stmts, BranchesForm, otherwise, HandlersForm}
 use Rattle.ada_program.specs.Form as form
 use Rattle.ada_tree.specs.Statements.{DeclarationTree, body_declaration, DeclarationsTree, no_declarations, a_declaration, SchemeTree, endless, while_scheme, for_scheme, StatementTree, if_statement, loop_statement, block, declare_block, StatementsTree, no_statements, a_statement, BranchesTree, no_branches, a_branch, HandlersTree, no_handlers, a_handler, SequenceTree, a_sequence}
-use Rattle.ada_resolve.specs.Known.{Known, Part, new_name_remark}
-use Rattle.std.specs.Prelude.{Option}
+use Rattle.ada_resolve.specs.declared.primitives.Operation.{Operation}
+use Rattle.ada_resolve.specs.Known.{Known, Part}
+use Rattle.ada_resolve.specs.Primitives.{operation_named}
+use Rattle.std.specs.Prelude.{Option, Some}
 use Rattle.ada_tree.specs.Names.{Ident}
 use Rattle.ada_tree.specs.Declarations.{HeadTree}
-use Rattle.ada_resolve.specs.Procedures.{body_head_remark}
-use Rattle.ada_resolve.specs.Spots.{end_of, first_or, head_spot}
-use Rattle.ada_resolve.proofs.WellFormed.Remarks.{Quiet}
+use Rattle.ada_resolve.specs.Procedures.{head_operand}
+use Rattle.ada_resolve.specs.Spots.{end_of, head_spot}
 use Rattle.ada_resolve.specs.Objects.{after_types}
 use Rattle.ada_resolve.specs.Resolution.{gives, At, LoopHead, behind_loop, Others, simple_told, statement_told, SequenceForm, sequence_told, declaration_told, declarations_told, statements_told, branches_told, handlers_told}
 use Rattle.ada_resolve.specs.Statements.{simple_texts, with_texts}
-use Rattle.ada_resolve.proofs.Standing.Order.{Sound, Complete, Keeps, keeps_same, keeps_on, complete_grows, Stays, Inside, stays_same, stays_on}
+use Rattle.ada_resolve.proofs.Standing.Order.{Sound, Complete, Keeps, keeps_same, keeps_on, complete_grows, grows_on, Stays, Inside, stays_same, stays_on}
 use Rattle.ada_resolve.proofs.Standing.Given.{made_gives, HeadIs, simple_done, if_done, loop_done, block_done, declare_done, sequence_done, ProcedureDone, procedure_done, single_done, declarations_done, statements_done, branch_done, handler_done}
 use Rattle.ada_resolve.proofs.Standing.Declared.{ended_sound, ended_keeps, declaration_sound, declaration_keeps}
-use Rattle.ada_resolve.proofs.Standing.Kept.{new_slot}
-use Rattle.ada_resolve.proofs.Standing.Procedures.{get_front, around_body, around_sound, InBody, head_in_body, head_complete as body_complete, body_ended_sound, body_ended_keeps}
+use Rattle.ada_resolve.proofs.Standing.Operands.{head_is_new, is_open, operand_ends}
+use Rattle.ada_resolve.proofs.Standing.Procedures.{get_front, around_body, around_sound, InBody, head_in_body, head_complete as body_complete, body_ended_sound, body_ended_keeps, operand_at}
 use Rattle.ada_resolve.proofs.Standing.Declarations.{gives_same, begin_open, begin_complete}
 use Rattle.ada_resolve.proofs.Standing.Inner.{part_complete, part_inside, parameter_sound, parameter_complete, parameter_inside, inside_on, begun_inside, leave_stays}
 
@@ -36,6 +37,7 @@ pub texts_stay : (texts : List (List ℕ)) (k : Known) → Sound k → Complete 
 texts_stay texts k s c = record {
   sound = record {
     types_fit = s.types_fit;
+    operations = s.operations;
     variables_fit = s.variables_fit;
     names = s.names;
     exceptions = s.exceptions;
@@ -50,7 +52,7 @@ texts_stay texts k s c = record {
   outer = refl;
   withs = refl;
   procedure = refl;
-  grows = record { types = λ t x is. is; placed = λ t n is. is; pools = λ t x is. is; variables = λ t x is. is; exceptions = λ t x is. is; texts = λ n x is. get_front k.texts texts n x is; bodies = λ n x is. is };
+  grows = record { types = λ t x is. is; overridden = λ o t p is. is; overriders = λ o t less. refl; first_type = omega arith; placed = λ t n is. is; pools = λ t x is. is; variables = λ t x is. is; exceptions = λ t x is. is; texts = λ n x is. get_front k.texts texts n x is; bodies = λ n x is. is };
 }
 
 pub simple_stays : (inside : Bool) (s : StatementTree) (at : At) (done : StmtForm × At) → Sound at.0 → Complete at.0 → simple_told inside s at ≡ gives done → Stays at.0 done.1.0
@@ -95,6 +97,8 @@ body_behind k m z f c s g =
       withs = g.withs ∙ f.withs;
       procedure = g.procedure ∙ f.procedure;
       types = λ t x is. grows.types t x (f.types t x is);
+      overriders = λ o t less. let first = f.first_type in g.overriders o t (omega (arith, first, less)) ∙ f.overriders o t less;
+      first_type = let first = f.first_type in let same = g.first_type in omega (arith, first, same);
       placed = λ t n is. grows.placed t n (f.placed t n is);
       pools = λ t x is. grows.pools t x (f.pools t x is);
       exceptions = λ t x is. grows.exceptions t x (f.exceptions t x is);
@@ -111,17 +115,14 @@ body_on k m z f g = record {
   withs = g.withs ∙ f.withs;
   procedure = g.procedure ∙ f.procedure;
   types = λ t x is. g.grows.types t x (f.types t x is);
+  overriders = λ o t less. let first = f.first_type in g.grows.overriders o t (omega (arith, first, less)) ∙ f.overriders o t less;
+  first_type = let first = f.first_type in let more = g.grows.first_type in omega (arith, first, more);
   placed = λ t n is. g.grows.placed t n (f.placed t n is);
   pools = λ t x is. g.grows.pools t x (f.pools t x is);
   exceptions = λ t x is. g.grows.exceptions t x (f.exceptions t x is);
   texts = λ t x is. g.grows.texts t x (f.texts t x is);
   bodies = λ t x is. g.grows.bodies t x (f.bodies t x is);
 }
-
--- its name is new
-pub head_new : (k : Known) (head : HeadTree) → Quiet (body_head_remark k head) → Quiet (new_name_remark k head.name (first_or head.overriding head.spot))
-unfolding body_head_remark
-head_new k head q = q.1.1.1.1
 
 -- a body, with what its declarations and its statements leave
 pub record BodyStays (at inner behind next : At) (head : HeadTree) (done : SequenceForm × At) : Type 0 where
@@ -133,6 +134,8 @@ pub record BodyStays (at inner behind next : At) (head : HeadTree) (done : Seque
   pub done_in : InBody (around_body (after_types at.0) head) done.1.0
   pub sound : Sound next.0
   pub keeps : Keeps at.0 next.0
+  -- an operation that ends is one of the type for which its formal stands
+  pub operand : (o : Operation) (t : ℕ) → operation_named head.name.text ≡ Some o → head_operand (Some o) (after_types at.0) head ≡ Some t → operand_at done.1.0 ≡ Some t
 
 body_stays_by : (head : HeadTree) (ds : DeclarationsTree) (body : SequenceTree) (end_name : Option Ident) (at next : At) (d : ProcedureDone head ds body end_name at next) → Sound at.0 → (Sound d.inner.0 → Sound d.behind.0) → (Sound d.inner.0 → Keeps d.inner.0 d.behind.0) → (Sound d.behind.0 → SequenceStays d.behind.0 d.done.1.0) → BodyStays at d.inner d.behind next head d.done
 body_stays_by head ds body end_name at next d s declares keeps sequence =
@@ -145,7 +148,16 @@ body_stays_by head ds body end_name at next d s declares keeps sequence =
     let stays = sequence behind_sound in
     let ready_in = body_behind (around_body k head) d.behind.0 (after_types d.behind.0) behind_in stays.complete (ended_sound d.behind.0 behind_sound) (ended_keeps d.behind.0) in
     let done_in = body_on (around_body k head) (after_types d.behind.0) d.done.1.0 ready_in stays.stays in
+    let z = d.done.1.0 in
+    let inner_keeps = keeps inner_in.sound in
+    let declared_stay = complete_grows d.inner.0 d.behind.0 inner_complete inner_keeps in
+    let ended_stay = complete_grows d.behind.0 (after_types d.behind.0) stays.complete (ended_keeps d.behind.0) in
+    let grows = grows_on d.inner.0 d.behind.0 z declared_stay (grows_on d.behind.0 (after_types d.behind.0) z ended_stay stays.stays.grows) in
+    let modes : z.here.modes ≡ d.inner.0.here.modes = ap (λ (p : Part). p.modes) stays.stays.here ∙ ((ended_keeps d.behind.0).modes ∙ inner_keeps.modes) in
+    let operand : (o : Operation) (t : ℕ) → operation_named head.name.text ≡ Some o → head_operand (Some o) k head ≡ Some t → operand_at z ≡ Some t =
+    λ o t named has. operand_ends k head o t d.inner.0 z d.inner_known modes grows.types grows.variables has in
     record {
+      operand = operand;
       before = before;
       inner_sound = inner_in.sound;
       inner_complete = inner_complete;
@@ -155,7 +167,7 @@ body_stays_by head ds body end_name at next d s declares keeps sequence =
       sound = subst Sound (sym d.known) (body_ended_sound (around_body k head) d.done.1.0 head.name d.done.0.0 d.done.0.1 (head_spot head) (end_of body) (around_sound k head before) done_in);
       keeps = keeps_on at.0 k next.0 (ended_keeps at.0)
           (subst (λ (v : Known). Keeps k v) (sym d.known)
-          (body_ended_keeps k d.done.1.0 head head.spot d.done.0.0 d.done.0.1 (head_spot head) (end_of body) before (new_slot k head.name (first_or head.overriding head.spot) (head_new k head d.quiet)) done_in));
+          (body_ended_keeps k d.done.1.0 head head.spot d.done.0.0 d.done.0.1 (head_spot head) (end_of body) before (head_is_new k head d.quiet) (is_open k head z d.quiet operand) done_in));
     }
 
 mutual

@@ -9,6 +9,7 @@ use Rattle.ada_program.specs.declared.program.PoolNo.{PoolNo}
 use Rattle.ada_program.specs.declared.program.TypeNo.{TypeNo}
 use Rattle.ada_program.specs.ProgramForm.{PartForm, TypeForm, record_of, access_to, object_of, pool_number, VariableForm}
 use Rattle.ada_program.specs.WellFormed as fits
+use Rattle.ada_program.specs.WellFormed.{Profile}
 use Rattle.ada_tree.specs.Declarations.{AspectTree}
 use Rattle.ada_tree.specs.Names.{Ident, NameTree}
 use Rattle.ada_tree.specs.Records.{ComponentTree, RecordTree}
@@ -17,10 +18,10 @@ use Rattle.ada_resolve.specs.declared.scope.Entity.{Entity}
 use Rattle.ada_resolve.specs.declared.scope.Entity.TheVariants as entity
 use Rattle.ada_resolve.specs.Known.{Known, Named, Part, named, entered, declared, parts, no_body_yet}
 use Rattle.ada_resolve.specs.Pools.{aspect_found}
-use Rattle.ada_resolve.specs.Derived.{derived_type_known, limited_parent, with_parent}
+use Rattle.ada_resolve.specs.Derived.{limited_parent, with_parent}
 use Rattle.ada_resolve.specs.Records.{Composition, components_written, composed, counted, finalization_made, no_components, record_made, record_type_known, with_record}
 use Rattle.ada_resolve.specs.Types.{incomplete_of, completed_type, record_found, is_designated, number_of, defined, incomplete_known, completion_remark, access_defined, access_known, with_definition}
-use Rattle.ada_resolve.proofs.WellFormed.Inherits.{type_stands}
+use Rattle.ada_resolve.proofs.WellFormed.Operations.{HaveOperations, callables, have_more, have_set}
 use Rattle.ada_resolve.proofs.WellFormed.Remarks.{Quiet, quiet_if}
 use Rattle.ada_resolve.proofs.WellFormed.Tables as tables
 use Rattle.ada_resolve.proofs.WellFormed.Tables.{all_more, all_set, get_more, get_last, get_set, get_other, keeps_more, record_more, keeps_set, record_set, record_other, plains_without, plains_kept, type_both, components_kept, object_kind_kept, variable_kept, all_weaker, both_parts}
@@ -44,7 +45,8 @@ pub record Grown (n : ℕ) (text : List ℕ) (types more : List TypeForm) : Type
   pub keeps : (t : ℕ) (form : TypeForm) → (form_name form ≡ text → ⊥) → slice_get types t ≡ Some form → slice_get more t ≡ Some form
   pub before : (t : ℕ) (form : TypeForm) → t < n → slice_get types t ≡ Some form → slice_get more t ≡ Some form
   pub longer : length types ≤ length more
-  pub types_fit : list_all (type_stands more) more ≡ true
+  pub types_fit : list_all (fits.type_fits more) more ≡ true
+  pub operations : (callable : List Profile) → HaveOperations types callable → HaveOperations more callable
   pub laid : AreRecordsLaid more
 
 entity_kept : (n : ℕ) (types more : List TypeForm) (variables : List VariableForm) (text other : List ℕ) → Grown n text types more → (other ≡ text → ⊥) → (e : Entity) → EntityFits types variables other e → EntityFits more variables other e
@@ -101,6 +103,7 @@ OthersUnused k text more = no_body_yet k ≡ true → (other : List ℕ) (t : Ty
 pub type_sound : (k : Known) (text : List ℕ) (e : Entity) (more : List TypeForm) (n : ℕ) → Sound k → Grown k.here.first_type text k.types more → list_all (fits.has_known_pool (length k.pools)) more ≡ true → OthersUnused k text more → EntityFits more k.variables text e → RaisedFits k.exceptions text e → IsCalled (length k.bodies) (length k.pools) e → IsBehind k.here.first_type e → (no_body_yet k ≡ true → IsOwn k.here.first_type more e) → n ≡ fits.numbered_types more → Sound (declared (record k { types = more; controlled = n }) text e)
 type_sound k text e more n w g housed unused f r y behind own controlled = record {
   types_fit = g.types_fit;
+  operations = g.operations (callables k.bodies) w.operations;
   variables_fit = all_weaker (fits.variable_fits k.types) (fits.variable_fits more) (variable_kept k.types more g.kept) k.variables w.variables_fit;
   names = (
     names_entered more k.variables k.here.names text e f (λ t x ne is. entity_kept k.here.first_type k.types more k.variables text t g ne x (w.names.0 t x is)),
@@ -134,22 +137,23 @@ pub name_sound : (k : Known) (text : List ℕ) (e : Entity) → Sound k → Enti
 name_sound k text e w f r y behind own = type_sound k text e k.types k.controlled w same w.housed (λ none other t ne is. w.bounds.open_unused none other t is) f r y behind own w.controlled
   where
     same : Grown k.here.first_type text k.types k.types
-    same = record { kept = (λ t is. is, λ t is. is); keeps = λ t form ne is. is; before = λ t form b is. is; longer = omega arith; types_fit = w.types_fit; laid = laid_in k.types k.variables (parts k) w.names }
+    same = record { kept = (λ t is. is, λ t is. is); keeps = λ t form ne is. is; before = λ t form b is. is; longer = omega arith; types_fit = w.types_fit; operations = λ callable h. h; laid = laid_in k.types k.variables (parts k) w.names }
 
 -- one more type of any name
 pub one_longer : (types : List TypeForm) (form : TypeForm) → length types ≤ length (types ++ form ∷ [])
 one_longer [] form = omega arith
 one_longer (x ∷ types) form = let h = one_longer types form in omega arith
 
-grown_more : (n : ℕ) (text : List ℕ) (types : List TypeForm) (form : TypeForm) → list_all (type_stands types) types ≡ true → type_stands (types ++ form ∷ []) form ≡ true → IsNext (fits.numbered_types types) (fits.finalization_in (Some form)) → AreRecordsLaid types → IsLaid types form → Grown n text types (types ++ form ∷ [])
-grown_more n text types form all own next laid lies = record {
+grown_more : (n : ℕ) (text : List ℕ) (types : List TypeForm) (form : TypeForm) → list_all (fits.type_fits types) types ≡ true → fits.type_fits (types ++ form ∷ []) form ≡ true → IsNext (fits.numbered_types types) (fits.finalization_in (Some form)) → fits.overrides_nothing (fits.finalization_in (Some form)) ≡ true → AreRecordsLaid types → IsLaid types form → Grown n text types (types ++ form ∷ [])
+grown_more n text types form all own next inherits laid lies = record {
   kept = keeps_more types form;
   keeps = λ t x ne is. get_more types form t x is;
   before = λ t x b is. get_more types form t x is;
   longer = one_longer types form;
-  types_fit = all_more (type_stands (types ++ form ∷ [])) types (form ∷ [])
+  types_fit = all_more (fits.type_fits (types ++ form ∷ [])) types (form ∷ [])
       (types_kept types (types ++ form ∷ []) (keeps_more types form) (record_more types form) (counted_more types form laid next) all)
-      (both_parts (type_stands (types ++ form ∷ []) form) true own refl);
+      (both_parts (fits.type_fits (types ++ form ∷ []) form) true own refl);
+  operations = λ callable h. have_more types form callable inherits h;
   laid = records_laid_more types form laid lies;
 }
 
@@ -160,13 +164,14 @@ length_set (x ∷ types) zero form = refl
 length_set (x ∷ types) (suc t) form = let h = length_set types t form in omega arith
 
 -- the types of an incomplete type's name
-grown_set : (n : ℕ) (text : List ℕ) (types : List TypeForm) (t : ℕ) (form : TypeForm) → n ≤ t → slice_get types t ≡ Some (record_of text [] [] None) → list_all (type_stands (slice_set types t form)) (slice_set types t form) ≡ true → IsUnused types t → AreRecordsLaid types → Avoids t form → IsLaid types form → Grown n text types (slice_set types t form)
-grown_set n text types t form behind is all unused laid avoids lies = record {
+grown_set : (n : ℕ) (text : List ℕ) (types : List TypeForm) (t : ℕ) (form : TypeForm) → n ≤ t → slice_get types t ≡ Some (record_of text [] [] None) → list_all (fits.type_fits (slice_set types t form)) (slice_set types t form) ≡ true → fits.overrides_nothing (fits.finalization_in (Some form)) ≡ true → IsUnused types t → AreRecordsLaid types → Avoids t form → IsLaid types form → Grown n text types (slice_set types t form)
+grown_set n text types t form behind is all inherits unused laid avoids lies = record {
   kept = keeps_set types t form (record_is types t text [] [] None is);
   keeps = λ u x ne there. get_other types t u form (λ same. ne (same_name x (sym there ∙ (ap (λ v. slice_get types v) (sym same) ∙ is)))) ∙ there;
   before = λ u x b there. get_other types t u form (λ same. apart u b same) ∙ there;
   longer = let h = length_set types t form in omega arith;
   types_fit = all;
+  operations = λ callable h. have_set types t (record_of text [] [] None) form callable is refl inherits h;
   laid = records_laid_set types t form unused laid avoids lies;
 }
   where
@@ -228,7 +233,7 @@ incomplete_sound k name w =
     let form = record_of name.text [] [] None in
     let laid = laid_in k.types k.variables (parts k) w.names in
     type_sound k name.text (entity.Incomplete (record { 0 = length k.types })) (k.types ++ form ∷ []) k.controlled w
-    (grown_more k.here.first_type name.text k.types form w.types_fit refl tt laid (refl, λ i c is. absurd (cc is)))
+    (grown_more k.here.first_type name.text k.types form w.types_fit refl tt refl laid (refl, λ i c is. absurd (cc is)))
     (housed_defined (length k.pools) k.types None form w.housed refl)
     (λ none other t ne is. unused_more k.types form t.0 (w.bounds.open_unused none other t is) (λ i c is. absurd (cc is)))
     (get_last k.types form) tt tt w.bounds.first (λ none. (w.bounds.first, unused_more k.types form (length k.types) (new_unused k.types laid) (λ i c is. absurd (cc is))))
@@ -239,14 +244,14 @@ record_one : (types : List TypeForm) (n : ℕ) (text : List ℕ) (c : Option Typ
 record_one types n text None form h = one_behind types form
 record_one types n text (Some t) form h = one_replaced types t.0 (record_of text [] [] None) form h.1 refl
 
-record_defined : (n : ℕ) (types : List TypeForm) (variables : List VariableForm) (text : List ℕ) (ps : List PartForm) (cs : List ComponentKind) (final : Option Finalization) (size : ℕ) (c : Option TypeNo) → Completes n types text c → list_all (type_stands types) types ≡ true → list_all (fits.kind_fits types) cs ≡ true → SaysParts types ps final → AreRecordsLaid types → IsLaid types (record_of text ps cs final) → CompletedHas (λ t. Avoids t (record_of text ps cs final)) c → Grown n text types (defined c (record_of text ps cs final) types) × EntityFits (defined c (record_of text ps cs final) types) variables text (entity.Record (number_of c types) size)
+record_defined : (n : ℕ) (types : List TypeForm) (variables : List VariableForm) (text : List ℕ) (ps : List PartForm) (cs : List ComponentKind) (final : Option Finalization) (size : ℕ) (c : Option TypeNo) → Completes n types text c → list_all (fits.type_fits types) types ≡ true → list_all (fits.kind_fits types) cs ≡ true → SaysParts types ps final → AreRecordsLaid types → IsLaid types (record_of text ps cs final) → CompletedHas (λ t. Avoids t (record_of text ps cs final)) c → Grown n text types (defined c (record_of text ps cs final) types) × EntityFits (defined c (record_of text ps cs final) types) variables text (entity.Record (number_of c types) size)
 record_defined n types variables text ps cs final size None h all own says laid lies avoids =
     let form = record_of text ps cs final in
     let more = types ++ form ∷ [] in (
       grown_more n text types form all
           (type_both more form (components_kept types more (keeps_more types form) cs own)
           (record_counted types more text ps cs final all (one_behind types form) (alike_more types form form lies) says))
-          says.0 laid lies,
+          says.0 says.3 laid lies,
       (ps, cs, final, get_last types form),
     )
 record_defined n types variables text ps cs final size (Some t) h all own says laid lies avoids =
@@ -254,11 +259,11 @@ record_defined n types variables text ps cs final size (Some t) h all own says l
     let more = slice_set types t.0 form in
     let keeps : tables.Keeps types more = keeps_set types t.0 form (record_is types t.0 text [] [] None h.1) in (
       grown_set n text types t.0 form h.0 h.1
-          (all_set (type_stands more) types t.0 form
+          (all_set (fits.type_fits more) types t.0 form
           (types_kept types more keeps (record_set types t.0 text ps cs final) (counted_set types t.0 (record_of text [] [] None) form h.1 refl h.2 says.0) all)
           (type_both more form (components_kept types more keeps cs own)
           (record_counted types more text ps cs final all (one_replaced types t.0 (record_of text [] [] None) form h.1 refl) (alike_set types t.0 form form avoids) says)))
-          h.2 laid avoids lies,
+          says.3 h.2 laid avoids lies,
       (ps, cs, final, get_set types t.0 (record_of text [] [] None) form h.1),
     )
 
@@ -287,7 +292,7 @@ pub record_sound : (k : Known) (name : Ident) (definition : RecordTree) → no_b
 record_sound k name definition none w = made_sound k name no_components (components_written definition) by_none none w
 
 -- `type T is new Ada.Finalization.Controlled with record .. end record;`
-pub derived_sound : (k : Known) (name : Ident) (parent : NameTree) (definition : RecordTree) → no_body_yet k ≡ true → Sound k → Sound (derived_type_known k name parent definition)
+pub derived_sound : (k : Known) (name : Ident) (parent : NameTree) (definition : RecordTree) → no_body_yet k ≡ true → Sound k → Sound (with_record k name (composed k (with_parent (limited_parent k parent)) (components_written definition)))
 derived_sound k name parent definition none w =
     made_sound k name (with_parent (limited_parent k parent)) (components_written definition) (by_parent (limited_parent k parent)) none w
 
@@ -307,18 +312,18 @@ may_complete k name designated d (Some t) h r q = (
     one_name : (ps : List PartForm) (cs : List ComponentKind) (final : Option Finalization) → Some (record_of designated.text ps cs final) ≡ Some (record_of name.text [] [] None) → designated.text ≡ name.text
     one_name ps cs final e = cc e
 
-access_type_defined : (n : ℕ) (types : List TypeForm) (variables : List VariableForm) (text : List ℕ) (d : ℕ) (pool : Option ℕ) (c : Option TypeNo) → Completes n types text c → MayComplete types d c → fits.is_record types d ≡ true → list_all (type_stands types) types ≡ true → AreRecordsLaid types → Grown n text types (defined c (access_to text d pool) types) × EntityFits (defined c (access_to text d pool) types) variables text (entity.Access (number_of c types))
+access_type_defined : (n : ℕ) (types : List TypeForm) (variables : List VariableForm) (text : List ℕ) (d : ℕ) (pool : Option ℕ) (c : Option TypeNo) → Completes n types text c → MayComplete types d c → fits.is_record types d ≡ true → list_all (fits.type_fits types) types ≡ true → AreRecordsLaid types → Grown n text types (defined c (access_to text d pool) types) × EntityFits (defined c (access_to text d pool) types) variables text (entity.Access (number_of c types))
 access_type_defined n types variables text d pool None h m r all laid =
-    (grown_more n text types (access_to text d pool) all (record_more types (access_to text d pool) d r) tt laid tt, (d, pool, get_last types (access_to text d pool)))
+    (grown_more n text types (access_to text d pool) all (record_more types (access_to text d pool) d r) tt refl laid tt, (d, pool, get_last types (access_to text d pool)))
 access_type_defined n types variables text d pool (Some t) h m r all laid =
     let more = slice_set types t.0 (access_to text d pool) in
     let keeps : tables.Keeps types more = keeps_set types t.0 (access_to text d pool) (record_is types t.0 text [] [] None h.1) in (
       grown_set n text types t.0 (access_to text d pool) h.0 h.1
-          (all_set (type_stands more) types t.0 (access_to text d pool)
+          (all_set (fits.type_fits more) types t.0 (access_to text d pool)
           (types_stay types more (counted_set types t.0 (record_of text [] [] None) (access_to text d pool) h.1 refl h.2 tt) all
           (plains_without types more t.0 keeps (λ u ne. record_other types t.0 (access_to text d pool) u ne) types m.0 (λ u r is. h.2 u (object_of r) is) (plains types all)))
           (record_other types t.0 (access_to text d pool) d m.1 r))
-          h.2 laid tt tt,
+          refl h.2 laid tt tt,
       (d, pool, get_set types t.0 (record_of text [] [] None) (access_to text d pool) h.1),
     )
 
@@ -360,9 +365,10 @@ object_type_sound k r w is settled =
     let form = object_of r in
     let more = k.types ++ form ∷ [] in
     let g : Grown k.here.first_type [] k.types more =
-    grown_more k.here.first_type [] k.types form w.types_fit (record_more k.types form r is) tt (laid_in k.types k.variables (parts k) w.names) is in
+    grown_more k.here.first_type [] k.types form w.types_fit (record_more k.types form r is) tt refl (laid_in k.types k.variables (parts k) w.names) is in
     record {
       types_fit = g.types_fit;
+      operations = g.operations (callables k.bodies) w.operations;
       variables_fit = all_weaker (fits.variable_fits k.types) (fits.variable_fits more) (variable_kept k.types more g.kept) k.variables w.variables_fit;
       names = parts_more k.types k.variables form (parts k) (g.laid, g.types_fit) w.names;
       exceptions = w.exceptions;

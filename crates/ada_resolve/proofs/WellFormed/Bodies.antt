@@ -12,18 +12,19 @@ use Rattle.ada_program.specs.Freed.{body_frees_own}
 use Rattle.ada_program.specs.ProgramForm.{TypeForm, object_of}
 use Rattle.ada_program.specs.WellFormed as fits
 use Rattle.ada_program.specs.WellFormed.{declarations_fit, stmts_fit, handlers_fit, Creation}
-use Rattle.ada_resolve.specs.declared.scope.Entity.TheVariants as entity
-use Rattle.ada_resolve.specs.Known.{Known, declared, next_procedure, no_body_yet, no_variable_yet, types_go_on}
+use Rattle.ada_resolve.specs.Known.{Known, next_procedure, no_body_yet, no_variable_yet, types_go_on}
+use Rattle.ada_resolve.specs.Primitives.{operation_named}
 use Rattle.ada_resolve.specs.Procedures.{no_formals, with_formals, behind_head, body_of, body_ended}
-use Rattle.ada_resolve.proofs.Standing.{Sound, IsSettled, longer, get_front, around_body, around_sound, InBody, left_body, ended_is}
+use Rattle.ada_resolve.proofs.Standing.{Sound, IsSettled, longer, sound_laid, get_front, around_body, around_sound, InBody, closed_body, operand_at, ended_is}
 use Rattle.ada_resolve.proofs.Standing.Procedures.{AllObjects, head_complete, head_formals, head_objects, body_ended_some}
 use Rattle.ada_resolve.proofs.WellFormed.Alike.{body_late}
 use Rattle.ada_resolve.proofs.WellFormed.Called.{callables}
 use Rattle.ada_resolve.proofs.WellFormed.Created.{accesses, accesses_object, accesses_past, collected, bodies_collect, bodies_known, collect_least, created_more, Creates}
 use Rattle.ada_resolve.proofs.WellFormed.Elaborated.{Late, InOrder, late}
-use Rattle.ada_resolve.proofs.WellFormed.Forms.{AreIn, forms, forms_in}
+use Rattle.ada_resolve.proofs.WellFormed.Forms.{AreIn, forms, forms_in, forms_length}
 use Rattle.ada_resolve.proofs.WellFormed.Freed.{body_frees}
 use Rattle.ada_resolve.proofs.WellFormed.Lasting.{Ended, ended_on, body_later, one_body_more}
+use Rattle.ada_resolve.proofs.WellFormed.Overridden.{if_forms}
 use Rattle.ada_resolve.proofs.WellFormed.Tables.{all_more, both_parts, second_part}
 
 -- where a body begins
@@ -86,31 +87,31 @@ created_between k inner z cs types bodies c a = rw (sym (types a), sym bodies) (
 -- what is known behind it
 pub record BodyBehind (k next z : Known) : Type 0 where
   pub order : InOrder next
-  pub types : next.types ≡ z.types
   pub ended : Ended z → Ended next
 
 pub body_behind : (k z : Known) (head : HeadTree) (fs : StmtsForm) (hs : HandlersForm) (start last : Spot) → Sound k → Late k → InBody (around_body k head) z → ((a : ℕ) → accesses k.types a + collected a (fits.created_in (body_of z fs hs start last)) + bodies_collect z.bodies a ≡ accesses z.types a + bodies_collect k.bodies a) → fits.body_fits z.types z.texts z.exceptions (callables z.bodies) (body_of z fs hs start last) ≡ true → body_frees_own z.types (body_of z fs hs start last) ≡ true → list_all (fits.creates_known_pool (length z.pools)) (fits.created_in (body_of z fs hs start last)) ≡ true → BodyBehind k (body_ended head.name fs hs start last z) z
 body_behind k z head fs hs start last s w f creates fit own pools =
     let k1 = around_body k head in
     let b = body_of z fs hs start last in
-    let e = entity.Callable (next_procedure z) in
     let next = body_ended head.name fs hs start last z in
-    let so : next ≡ declared (left_body k1 z b) head.name.text e = ended_is k1 z head.name fs hs start last f in
+    let behind = closed_body k1 z head.name.text b in
+    let so : next ≡ behind = ended_is k1 z head.name fs hs start last f in
+    let same : forms behind.types ≡ forms z.types = if_forms (operation_named head.name.text) (next_procedure z) (operand_at z) z.types in
+    let as_long : length behind.types ≡ length z.types = sym (forms_length behind.types) ∙ (ap (λ (ts : List TypeForm). length ts) same ∙ forms_length z.types) in
     let some : no_body_yet next ≡ true → ⊥ = body_ended_some k1 z head.name fs hs start last (around_sound k head s) f in
-    let settled : (ts : List TypeForm) → ((t : ℕ) (form : TypeForm) → slice_get (forms z.types) t ≡ Some form → IsSettled (declared (left_body k1 z b) head.name.text e) t → slice_get (forms ts) t ≡ Some form) → AreIn (forms z.types) (forms ts) =
-    λ ts more t form is. more t form is (λ yet. absurd (some (ap (λ (v : Known). no_body_yet v) so ∙ yet))) in
+    let settled : (ts : List TypeForm) → ((t : ℕ) (form : TypeForm) → slice_get (forms behind.types) t ≡ Some form → IsSettled behind t → slice_get (forms ts) t ≡ Some form) → AreIn (forms z.types) (forms ts) =
+    λ ts more t form is. more t form (ap (λ (fs : List TypeForm). slice_get fs t) same ∙ is) (λ yet. absurd (some (ap (λ (v : Known). no_body_yet v) so ∙ yet))) in
     record {
-      order = late (subst Late (sym so) (body_late k z head b e s w f.types (λ i x is. f.bodies i x is) (longer k.pools z.pools f.pools) creates))
+      order = late (subst Late (sym so) (body_late k z head b s w f.types (λ i x is. f.bodies i x is) (longer k.pools z.pools f.pools) creates))
           (false_from_ne_true (types_go_on next) (λ on. some (second_part (no_variable_yet next) (no_body_yet next) on)));
-      types = ap (λ (v : Known). v.types) so;
       ended = λ done. subst Ended (sym so) (record {
-        fit = λ ts more.
+        fit = λ ts laid more.
             let all = settled ts more in
-            one_body_more ts z.texts z.exceptions [] z.bodies b (done.fit ts (λ t form is settled. all t form is))
-            (body_later z.types ts z.texts z.texts z.exceptions z.exceptions all (omega arith) (omega arith) (callables z.bodies) b fit);
+            one_body_more ts z.texts z.exceptions [] z.bodies b (done.fit ts laid (λ t form is settled. all t form is))
+            (body_later z.types ts z.texts z.texts z.exceptions z.exceptions all (sound_laid z f.sound) (omega arith) (omega arith) (callables z.bodies) b fit);
         below = λ a past.
-            let front = done.below a past in
-            let none = accesses_past z.types a past in
+            let front = done.below a (omega (arith, past, as_long)) in
+            let none = accesses_past z.types a (omega (arith, past, as_long)) in
             let all = creates a in
             let least = collect_least k.bodies z.bodies (λ i x is. f.bodies i x is) a in
             let both = created_more a z.bodies b in

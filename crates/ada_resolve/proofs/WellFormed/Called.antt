@@ -1,6 +1,6 @@
 -- A procedure that may be called has a profile, and actual parameters with which nothing is wrong suit it.
 
-use Rattle.std.proofs.Common.{◌≡◌, ◌∙◌, ℕ, ◌<◌, ◌≤◌, Bool, true, false, List, [], ◌∷◌, length, refl, sym, ap, subst, zero, suc, cond, arith, ◌==◌, eq-eqb}
+use Rattle.std.proofs.Common.{◌≡◌, ℕ, ◌<◌, ◌≤◌, Bool, true, false, List, [], ◌∷◌, length, refl, sym, ap, subst, zero, suc, cond, arith, ◌==◌, eq-eqb}
 use Rattle.std.specs.Prelude.{◌&&◌, Option, Some, None, map, take, bytes_eq, codes, not}
 use Rattle.std.specs.List.{slice_get}
 use Rattle.std.proofs.lemmas.Bool.{eqb-true}
@@ -30,35 +30,13 @@ use Rattle.ada_resolve.specs.Operators.{access_wanted, owner_wanted}
 use Rattle.ada_resolve.specs.Paths.{Meant, unknown, null_value, access_value, lent_value, integer_value, boolean_value, record_value, path_meant, record_known_by, record_of_object}
 use Rattle.ada_resolve.specs.Spots.{expression_spot}
 use Rattle.ada_resolve.proofs.Standing.Order.{IsCalled, PartsCalled, AllSized}
-use Rattle.ada_resolve.proofs.WellFormed.Growing.{AreIn}
 use Rattle.ada_resolve.proofs.WellFormed.Items.{expression_fits}
 use Rattle.ada_resolve.proofs.WellFormed.Meanings.{MeantFits, path_fits}
 use Rattle.ada_resolve.proofs.WellFormed.Names.{PartsFit, first_of_two, within_of, unit_only}
+pub use Rattle.ada_resolve.proofs.WellFormed.Operations.{callables, callables_in}
 use Rattle.ada_resolve.proofs.WellFormed.Remarks.{Quiet, quiet_if, quiet_unless}
 use Rattle.ada_resolve.proofs.WellFormed.Tables.{both_parts}
 use Rattle.ada_resolve.proofs.WellFormed.Typing.{is_of_type}
-
--- the profiles of the procedures whose bodies these are
-abbrev pub callables : List BodyForm → List fits.Profile
-callables bodies = map fits.profile_of bodies
-
--- the profile of a body that is there
-abbrev profile_at : Option BodyForm → Option fits.Profile
-profile_at (Some b) = Some (fits.profile_of b)
-profile_at None = None
-
-profile_got : (bs : List BodyForm) (i : ℕ) → slice_get (callables bs) i ≡ profile_at (slice_get bs i)
-profile_got [] i = refl
-profile_got (b ∷ bs) zero = refl
-profile_got (b ∷ bs) (suc i) = profile_got bs i
-
--- where there are more bodies, each profile stays
-pub callables_in : (bs cs : List BodyForm) → AreIn bs cs → AreIn (callables bs) (callables cs)
-callables_in bs cs w i p is = by_body (slice_get bs i) refl (sym (profile_got bs i) ∙ is)
-  where
-    by_body : (o : Option BodyForm) → slice_get bs i ≡ o → profile_at o ≡ Some p → slice_get (callables cs) i ≡ Some p
-    by_body None there is = absurd (cc is)
-    by_body (Some b) there is = profile_got cs i ∙ (ap (λ (o : Option BodyForm). profile_at o) (w i b there) ∙ is)
 
 -- the profile of a procedure whose body has ended
 profile_known : (bs : List BodyForm) (i : ℕ) → i < length bs → slice_get (callables bs) i ≡ Some (profile_in (slice_get bs i))

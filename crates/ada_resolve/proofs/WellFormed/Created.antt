@@ -168,6 +168,18 @@ accesses_grow types more w a = by_place (nat_le (length types) a) refl (slice_ge
     by_place false past (Some x) is = let same = stays_access types more w a x is in omega (arith, same)
 
 -- an access type with the number of one that was there is that one
+access_forms : (types : List TypeForm) (t : ℕ) → fits.is_access (forms types) t ≡ fits.is_access types t
+access_forms [] t = refl
+access_forms (record_of name ps cs final ∷ types) zero = refl
+access_forms (access_to name d pool ∷ types) zero = refl
+access_forms (object_of r ∷ types) zero = refl
+access_forms (x ∷ types) (suc t) = access_forms types t
+
+-- types that are the same but for their pools and operations
+pub accesses_alike : (types more : List TypeForm) → forms more ≡ forms types → (a : ℕ) → accesses more a ≡ accesses types a
+accesses_alike types more same a =
+    ap (λ (b : Bool). cond b 1 0) (sym (access_forms more a) ∙ (ap (λ (ts : List TypeForm). fits.is_access ts a) same ∙ access_forms types a))
+
 pub accesses_before : (types more : List TypeForm) → AreIn (forms types) (forms more) → (a : ℕ) → a < length types → accesses more a ≡ accesses types a
 accesses_before types more w a less = by_place (slice_get types a) refl
   where

@@ -23,7 +23,7 @@ use Rattle.ada_resolve.specs.Resolution.{gives, At, with_parameter, body_remark,
 use Rattle.ada_resolve.specs.Spots.{end_of, head_spot}
 use Rattle.ada_resolve.specs.Procedures.{body_of}
 use Rattle.ada_resolve.specs.Statements.{simple_texts, with_texts}
-use Rattle.ada_resolve.proofs.Standing.{Sound, Complete, Grows, Keeps, Stays, longer, more_pools, grows_on, complete_grows, get_front, ProcedureDone, BodyStays, simple_done, statements_done, ended_keeps, part_complete, parameter_complete}
+use Rattle.ada_resolve.proofs.Standing.{Sound, Complete, Grows, Keeps, Stays, longer, sound_laid, more_pools, grows_on, complete_grows, get_front, ProcedureDone, BodyStays, simple_done, statements_done, ended_keeps, part_complete, parameter_complete}
 use Rattle.ada_resolve.proofs.WellFormed.Remarks.{Quiet}
 use Rattle.ada_resolve.proofs.WellFormed.Tables.{both_parts, get_last}
 use Rattle.ada_resolve.proofs.WellFormed.Growing as growing
@@ -54,23 +54,23 @@ abbrev pub HandledFit : Known → Known → (inside : Bool) → HandlersForm →
 HandledFit k m inside f = (handlers_fit m.types m.variables m.texts m.exceptions (callables m.bodies) inside f ≡ true) × Creates k m (created_by_handlers f) × Follows k m × (handlers_free_own m.types m.variables f ≡ true)
 
 -- what fits stays so further on
-module _ (k m : Known) (g : Grows k m) where
-  pub type_later : (t : _) (e : ExpressionForm) → has_type k.types k.variables t e ≡ true → has_type m.types m.variables t e ≡ true
-  type_later t e h = growing.has_type_stays k.types m.types k.variables m.variables g.types g.variables t e h
+pub type_later : (k m : Known) (g : Grows k m) (t : _) (e : ExpressionForm) → has_type k.types k.variables t e ≡ true → has_type m.types m.variables t e ≡ true
+type_later k m g t e h = growing.has_type_stays k.types m.types k.variables m.variables g.types g.variables t e h
 
+module _ (k m : Known) (s : Sound k) (g : Grows k m) where
   pub declarations_later : (ds : _) → declarations_fit k.types k.variables ds ≡ true → declarations_fit m.types m.variables ds ≡ true
-  declarations_later ds h = growing.declarations_stay k.types m.types k.variables m.variables g.types g.variables ds h
+  declarations_later ds h = growing.declarations_stay k.types m.types k.variables m.variables g.types g.variables (sound_laid k s) ds h
 
   statement_later : (inside : Bool) (f : StmtForm) → statement_fits k.types k.variables k.texts k.exceptions (callables k.bodies) inside f ≡ true → statement_fits m.types m.variables m.texts m.exceptions (callables m.bodies) inside f ≡ true
-  statement_later inside f h = growing.statement_stays k.types m.types k.variables m.variables g.types g.variables k.texts m.texts k.exceptions m.exceptions (callables k.bodies) (callables m.bodies)
+  statement_later inside f h = growing.statement_stays k.types m.types k.variables m.variables g.types g.variables (sound_laid k s) k.texts m.texts k.exceptions m.exceptions (callables k.bodies) (callables m.bodies)
       (longer k.texts m.texts g.texts) (longer k.exceptions m.exceptions g.exceptions) (callables_in k.bodies m.bodies g.bodies) inside f h
 
   pub stmts_later : (inside : Bool) (fs : StmtsForm) → stmts_fit k.types k.variables k.texts k.exceptions (callables k.bodies) inside fs ≡ true → stmts_fit m.types m.variables m.texts m.exceptions (callables m.bodies) inside fs ≡ true
-  stmts_later inside fs h = growing.stmts_stay k.types m.types k.variables m.variables g.types g.variables k.texts m.texts k.exceptions m.exceptions (callables k.bodies) (callables m.bodies)
+  stmts_later inside fs h = growing.stmts_stay k.types m.types k.variables m.variables g.types g.variables (sound_laid k s) k.texts m.texts k.exceptions m.exceptions (callables k.bodies) (callables m.bodies)
       (longer k.texts m.texts g.texts) (longer k.exceptions m.exceptions g.exceptions) (callables_in k.bodies m.bodies g.bodies) inside fs h
 
   pub choices_later : (cs : List Choice) → list_all (choice_fits k.exceptions) cs ≡ true → list_all (choice_fits m.exceptions) cs ≡ true
-  choices_later cs h = growing.choices_stay k.types m.types k.variables m.variables g.types g.variables k.texts m.texts k.exceptions m.exceptions (callables k.bodies) (callables m.bodies)
+  choices_later cs h = growing.choices_stay k.types m.types k.variables m.variables g.types g.variables (sound_laid k s) k.texts m.texts k.exceptions m.exceptions (callables k.bodies) (callables m.bodies)
       (longer k.texts m.texts g.texts) (longer k.exceptions m.exceptions g.exceptions) (callables_in k.bodies m.bodies g.bodies) cs h
 
 -- so does what frees by the instances for the very types
@@ -178,32 +178,32 @@ over_range_fits name k z low high own last inside g l u s h =
     )
 
 -- a statement and those behind it, a branch and those behind it, a handler and those behind it
-pub more_fit : (k m z : Known) (inside : Bool) (f : StmtForm) (fs : StmtsForm) → Grows m z → DoneFits k m inside f → AllFit m z inside fs → AllFit k z inside (a_stmt f fs)
-more_fit k m z inside f fs g h i = (
+pub more_fit : (k m z : Known) (inside : Bool) (f : StmtForm) (fs : StmtsForm) → Sound m → Grows m z → DoneFits k m inside f → AllFit m z inside fs → AllFit k z inside (a_stmt f fs)
+more_fit k m z inside f fs s g h i = (
   both_parts (statement_fits z.types z.variables z.texts z.exceptions (callables z.bodies) inside f) (stmts_fit z.types z.variables z.texts z.exceptions (callables z.bodies) inside fs)
-      (statement_later m z g inside f h.0) i.0,
+      (statement_later m z s g inside f h.0) i.0,
   creates_both k m z (created_by f) (created_by_all fs) (more_pools m z g) h.1 i.1,
   follows_on k m z h.2 i.2,
   both_parts (statement_frees_own z.types z.variables f) (statements_free_own z.types z.variables fs) (frees_later m z g f h.3) i.3,
 )
 
-pub branch_fits : (k m z : Known) (inside : Bool) (c : ExpressionForm) (fs : StmtsForm) (bs : BranchesForm) → has_type z.types z.variables Boolean c ≡ true → Grows m z → AllFit k m inside fs → BranchesFit m z inside bs → BranchesFit k z inside (form.a_branch c fs bs)
-branch_fits k m z inside c fs bs condition g h i = (
+pub branch_fits : (k m z : Known) (inside : Bool) (c : ExpressionForm) (fs : StmtsForm) (bs : BranchesForm) → has_type z.types z.variables Boolean c ≡ true → Sound m → Grows m z → AllFit k m inside fs → BranchesFit m z inside bs → BranchesFit k z inside (form.a_branch c fs bs)
+branch_fits k m z inside c fs bs condition s g h i = (
   both_parts (has_type z.types z.variables Boolean c && stmts_fit z.types z.variables z.texts z.exceptions (callables z.bodies) inside fs)
       (branches_fit z.types z.variables z.texts z.exceptions (callables z.bodies) inside bs)
       (both_parts (has_type z.types z.variables Boolean c) (stmts_fit z.types z.variables z.texts z.exceptions (callables z.bodies) inside fs) condition
-      (stmts_later m z g inside fs h.0)) i.0,
+      (stmts_later m z s g inside fs h.0)) i.0,
   creates_both k m z (created_by_all fs) (created_by_branches bs) (more_pools m z g) h.1 i.1,
   follows_on k m z h.2 i.2,
   both_parts (statements_free_own z.types z.variables fs) (branches_free_own z.types z.variables bs) (free_later m z g fs h.3) i.3,
 )
 
-pub handler_fits : (k m z : Known) (inside : Bool) (cs : List Choice) (fs : StmtsForm) (hs : HandlersForm) → list_all (choice_fits z.exceptions) cs ≡ true → has_statement fs ≡ true → Grows m z → AllFit k m inside fs → HandledFit m z inside hs → HandledFit k z inside (form.a_handler cs fs hs)
-handler_fits k m z inside cs fs hs named there g h i = (
+pub handler_fits : (k m z : Known) (inside : Bool) (cs : List Choice) (fs : StmtsForm) (hs : HandlersForm) → list_all (choice_fits z.exceptions) cs ≡ true → has_statement fs ≡ true → Sound m → Grows m z → AllFit k m inside fs → HandledFit m z inside hs → HandledFit k z inside (form.a_handler cs fs hs)
+handler_fits k m z inside cs fs hs named there s g h i = (
   both_parts (list_all (choice_fits z.exceptions) cs && has_statement fs && stmts_fit z.types z.variables z.texts z.exceptions (callables z.bodies) inside fs)
       (handlers_fit z.types z.variables z.texts z.exceptions (callables z.bodies) inside hs)
       (both_parts (list_all (choice_fits z.exceptions) cs && has_statement fs) (stmts_fit z.types z.variables z.texts z.exceptions (callables z.bodies) inside fs)
-      (both_parts (list_all (choice_fits z.exceptions) cs) (has_statement fs) named there) (stmts_later m z g inside fs h.0)) i.0,
+      (both_parts (list_all (choice_fits z.exceptions) cs) (has_statement fs) named there) (stmts_later m z s g inside fs h.0)) i.0,
   creates_both k m z (created_by_all fs) (created_by_handlers hs) (more_pools m z g) h.1 i.1,
   follows_on k m z h.2 i.2,
   both_parts (statements_free_own z.types z.variables fs) (handlers_free_own z.types z.variables hs) (free_later m z g fs h.3) i.3,
@@ -226,8 +226,8 @@ pub record SequenceFits (m z : Known) (inside : Bool) (body : SequenceForm) : Ty
   pub own_frees : statements_free_own z.types z.variables body.0 ≡ true
   pub handled_frees : handlers_free_own z.types z.variables body.1 ≡ true
 
-pub sequence_fits_by : (m o z : Known) (inside : Bool) (fs : StmtsForm) (hs : HandlersForm) → InOrder m → Complete m → Stays (after_types m) o → Stays o z → AllFit (after_types m) o inside fs → HandledFit o z inside hs → SequenceFits m z inside (fs, hs)
-sequence_fits_by m o z inside fs hs order complete f g h i =
+pub sequence_fits_by : (m o z : Known) (inside : Bool) (fs : StmtsForm) (hs : HandlersForm) → InOrder m → Complete m → Sound (after_types m) → Stays (after_types m) o → Stays o z → AllFit (after_types m) o inside fs → HandledFit o z inside hs → SequenceFits m z inside (fs, hs)
+sequence_fits_by m o z inside fs hs order complete s f g h i =
     let r = after_types m in
     let late = after_late m order in
     let here : z.here ≡ r.here = g.here ∙ f.here in
@@ -235,8 +235,8 @@ sequence_fits_by m o z inside fs hs order complete f g h i =
     let ds = r.here.elaborated in
     record {
       declares = subst (λ (p : Part). declarations_fit z.types z.variables p.elaborated ≡ true) (sym here)
-          (declarations_later r z (grows_on r o z f.grows g.grows) ds (late_fits r late));
-      own = stmts_later o z g.grows inside fs h.0;
+          (declarations_later r z s (grows_on r o z f.grows g.grows) ds (late_fits r late));
+      own = stmts_later o z f.sound g.grows inside fs h.0;
       handled = i.0;
       creates = λ k types bodies first_type first_variable first_body.
           subst (λ (p : Part). Creates k z (map creation p.elaborated ++ created_by_all fs ++ created_by_handlers hs)) (sym here)

@@ -5,25 +5,29 @@ use Rattle.std.specs.Prelude.{Option, Some, None, nat_lt, is_some}
 use Rattle.std.specs.List.{slice_get}
 use Rattle.std.proofs.lemmas.Bool.{ltb-false, lt-ltb, ne_eqb}
 use Rattle.ada_text.specs.declared.spot.Spot.{Spot}
-use Rattle.ada_tree.specs.Declarations.{SizeTree}
+use Rattle.ada_tree.specs.Declarations.{HeadTree, SizeTree}
 use Rattle.ada_tree.specs.Names.{Ident, NameTree}
-use Rattle.ada_tree.specs.Statements.{DeclarationTree, exception_declaration, constant_declaration, pool_declaration, attribute_clause, incomplete_type, access_type, record_type, derived_type, instance, object_declaration, borrower_declaration}
+use Rattle.ada_tree.specs.Statements.{DeclarationTree, exception_declaration, constant_declaration, pool_declaration, attribute_clause, incomplete_type, access_type, record_type, derived_type, specification, instance, object_declaration, borrower_declaration}
 use Rattle.ada_program.specs.declared.program.PoolNo.{PoolNo}
 use Rattle.ada_program.specs.declared.program.TypeNo.{TypeNo}
 use Rattle.ada_program.specs.Form.{DeclarationForm, creates_pool, collects, declares, declares_record}
 use Rattle.ada_program.specs.ProgramForm.{PoolForm, TypeForm, record_of, access_to, object_of}
 use Rattle.ada_program.specs.WellFormed as fits
 use Rattle.ada_resolve.specs.declared.fault.NameRule.TheVariants.{Layout}
+use Rattle.ada_resolve.specs.declared.primitives.Operation.{Operation}
 use Rattle.ada_resolve.specs.declared.scope.Entity.{Entity}
 use Rattle.ada_resolve.specs.declared.scope.Entity.TheVariants as entity
 use Rattle.ada_resolve.specs.Clauses.{placed, placed_if, clause_pool}
-use Rattle.ada_resolve.specs.Known.{Known, declared, types_go_on, visible}
+use Rattle.ada_resolve.specs.Known.{Known, Specifications, declared, types_go_on, visible}
 use Rattle.ada_resolve.specs.Instances.{access_type_in, access_if, access_in, designates_if_known, freed_found, is_collected, one_instance, own_type, instance_remark, instance_of, instance_known}
 use Rattle.ada_resolve.specs.Objects.{after_types}
 use Rattle.ada_resolve.specs.Pools.{aspect_found, size_value, pool_known}
 use Rattle.ada_resolve.specs.Resolution.{known_at, declaration_remark, declaration_known}
-use Rattle.ada_resolve.specs.Derived.{derived_type_known}
-use Rattle.ada_resolve.specs.Records.{record_type_known}
+use Rattle.ada_resolve.specs.Derived.{derived_type_known, limited_parent, with_parent}
+use Rattle.ada_resolve.specs.Primitives.{formal_name, operation_named, specified_more}
+use Rattle.ada_resolve.specs.Procedures.{head_operand}
+use Rattle.ada_resolve.specs.Records.{components_written, composed, record_type_known, with_record}
+use Rattle.ada_resolve.specs.Specifications.{operation_known, specified_if}
 use Rattle.ada_resolve.specs.Types.{record_found, access_defined, completed_type}
 use Rattle.ada_resolve.proofs.Standing.{Sound, ended_sound, declaration_keeps}
 use Rattle.ada_resolve.proofs.Standing as standing
@@ -34,7 +38,7 @@ use Rattle.ada_resolve.proofs.WellFormed.Remarks.{Quiet, quiet_if}
 use Rattle.ada_resolve.proofs.WellFormed.Tables.{KeepsAccesses, all_more, all_weaker, both_parts, types_keep}
 use Rattle.ada_resolve.proofs.WellFormed.Types.{IsAccessIn, found_access, one_of_those}
 use Rattle.ada_resolve.proofs.WellFormed.Counts.{count_more, one_more}
-use Rattle.ada_resolve.proofs.WellFormed.Elaborated.{is_first, Early, InOrder, early, early_of, none_yet_of, after_late, after_order}
+use Rattle.ada_resolve.proofs.WellFormed.Elaborated.{is_first, Early, InOrder, early, late, early_of, none_yet_of, after_late, after_order}
 use Rattle.ada_resolve.proofs.WellFormed.Objects.{object_order, borrower_order}
 
 -- each access type stays one
@@ -63,6 +67,24 @@ early_types k more n text e w g = record {
   own = w.own;
   pools = w.pools;
 }
+
+-- which types are limited alone changes
+early_limited : (limited : List ℕ) (k : Known) → Early k → Early (record k { limited = limited })
+early_limited limited k w = record { collections_fit = w.collections_fit; only_collections = w.only_collections; at_most_one = w.at_most_one; own = w.own; pools = w.pools }
+
+-- the specifications of the part alone change
+order_specified : (specified : Specifications) (k : Known) → InOrder k → InOrder (record k { here = record k.here { specified = specified } })
+order_specified specified k (early w go) = early (record { collections_fit = w.collections_fit; only_collections = w.only_collections; at_most_one = w.at_most_one; own = w.own; pools = w.pools }) go
+order_specified specified k (late w off) =
+    late (record { collections_first = w.collections_first; collections_fit = w.collections_fit; initials_fit = w.initials_fit; one_each = w.one_each; in_order = w.in_order; pools = w.pools }) off
+
+specified_order : (k : Known) (o : Operation) (t : Option ℕ) (formal : List ℕ) → InOrder k → InOrder (specified_if o t formal k)
+specified_order k o (Some t) formal w = order_specified (specified_more o t formal k.here.specified) k w
+specified_order k o None formal w = w
+
+operation_order : (k : Known) (o : Option Operation) (head : HeadTree) → InOrder k → InOrder (operation_known o k head)
+operation_order k (Some o) head w = specified_order k o (head_operand (Some o) k head) (formal_name head.formals) w
+operation_order k None head w = w
 
 -- `type A is access T;`
 access_order : (k : Known) (name : Ident) (c o : Option TypeNo) (pool : Option PoolNo) → Early k → types_go_on k ≡ true → KeepsAccesses k.types (access_defined k name c o pool).types → InOrder (access_defined k name c o pool)
@@ -147,7 +169,8 @@ declaration_order k (record_type spot name definition) s o q =
     early (early_types k _ (record_type_known k name definition).controlled name.text _ (early_of k spot o q.0) (accesses_kept k _ (declaration_keeps k (record_type spot name definition) s q)))
     (none_yet_of k spot q.0)
 declaration_order k (derived_type spot name parent definition) s o q =
-    early (early_types k _ (derived_type_known k name parent definition).controlled name.text _ (early_of k spot o q.0) (accesses_kept k _ (declaration_keeps k (derived_type spot name parent definition) s q)))
+    early (early_limited (derived_type_known k name parent definition).limited (with_record k name (composed k (with_parent (limited_parent k parent)) (components_written definition)))
+    (early_types k _ (derived_type_known k name parent definition).controlled name.text _ (early_of k spot o q.0) (accesses_kept k _ (declaration_keeps k (derived_type spot name parent definition) s q))))
     (none_yet_of k spot q.0)
 declaration_order k (instance spot name generic object_name access) s o q = instance_order k spot name generic object_name access s o q
 declaration_order k (constant_declaration name value) s o q =
@@ -165,4 +188,5 @@ declaration_order k (object_declaration name type_name initial) s o q =
 declaration_order k (borrower_declaration name designated initial) s o q =
     let ended = ended_sound k s in
     borrower_order (after_types k) name designated initial ended.names ended.bounds.first_variable (after_late k o) q
+declaration_order k (specification head) s o q = operation_order k (operation_named head.name.text) head o
 declaration_order k d s o q = absurd q

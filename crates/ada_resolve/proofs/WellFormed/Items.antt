@@ -163,7 +163,7 @@ copied_record types variables path f =
     let access = fits.access_of (fits.path_kind types variables path.object) in
     let o = fits.object_components types access in
     let ks = fits.record_components types path.record_type in
-    let parts : Bool = fits.has_parts_from (fits.part_count types path.record_type) path.part (fits.parts_named types (fits.object_named types access)) in
+    let parts : Bool = fits.has_parts_at types path.record_type (fits.object_named types access) path.first path.part in
     leads_to_record types o path.first ks (first_part (fits.has_record_at o path.first ks) parts f)
 
 -- a copy has the items of a record

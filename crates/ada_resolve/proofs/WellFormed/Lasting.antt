@@ -8,15 +8,16 @@ use Rattle.ada_program.specs.Freed.{body_frees_own}
 use Rattle.ada_program.specs.ProgramForm.{TypeForm, BodyForm}
 use Rattle.ada_program.specs.WellFormed as fits
 use Rattle.ada_resolve.specs.Known.{Known, Part, left_to}
-use Rattle.ada_resolve.proofs.Standing.Order.{Complete, IsSettled, Stays}
+use Rattle.ada_resolve.proofs.Standing.Order.{IsSettled, Sound, Stays, sound_laid}
 use Rattle.ada_resolve.proofs.WellFormed.Called.{callables}
 use Rattle.ada_resolve.proofs.WellFormed.Created.{bodies_collect, creations_later}
 use Rattle.ada_resolve.proofs.WellFormed.Forms.{AreIn, forms}
 use Rattle.ada_resolve.proofs.WellFormed.Growing as growing
+use Rattle.ada_resolve.proofs.WellFormed.Laid.{AreRecordsLaid}
 use Rattle.ada_resolve.proofs.WellFormed.Tables.{all_weaker, both_parts, first_part, second_part, types_keep, variable_kept}
 
 -- as types, texts and exceptions are added
-module _ (types more : List TypeForm) (texts longer exceptions raised : List (List ℕ)) (ts : AreIn (forms types) (forms more)) (room : length texts ≤ length longer) (declared : length exceptions ≤ length raised) where
+module _ (types more : List TypeForm) (texts longer exceptions raised : List (List ℕ)) (ts : AreIn (forms types) (forms more)) (laid : AreRecordsLaid types) (room : length texts ≤ length longer) (declared : length exceptions ≤ length raised) where
   pub body_later : (callable : List fits.Profile) (b : BodyForm) → fits.body_fits types texts exceptions callable b ≡ true → fits.body_fits more longer raised callable b ≡ true
   body_later callable b h =
       let vs = b.variables in
@@ -38,10 +39,10 @@ module _ (types more : List TypeForm) (texts longer exceptions raised : List (Li
       (both_parts held_now created
       (all_weaker (fits.variable_fits types) (fits.variable_fits more) (variable_kept types more (types_keep types more ts)) vs (first_part held created two))
       (second_part held created two))
-      (growing.declarations_stay types more vs vs ts (λ i x is. is) b.declarations (second_part (held && created) part three)))
-      (growing.stmts_stay types more vs vs ts (λ i x is. is) texts longer exceptions raised callable callable room declared (λ i x is. is) false b.statements
+      (growing.declarations_stay types more vs vs ts (λ i x is. is) laid b.declarations (second_part (held && created) part three)))
+      (growing.stmts_stay types more vs vs ts (λ i x is. is) laid texts longer exceptions raised callable callable room declared (λ i x is. is) false b.statements
       (second_part (held && created && part) own four)))
-      (growing.handlers_stay types more vs vs ts (λ i x is. is) texts longer exceptions raised callable callable room declared (λ i x is. is) false b.handlers
+      (growing.handlers_stay types more vs vs ts (λ i x is. is) laid texts longer exceptions raised callable callable room declared (λ i x is. is) false b.handlers
       (second_part (held && created && part && own) handled h))
 
   pub bodies_later : (callable : List fits.Profile) (bs : List BodyForm) → fits.bodies_fit types texts exceptions callable bs ≡ true → fits.bodies_fit more longer raised callable bs ≡ true
@@ -69,7 +70,7 @@ one_body_more types texts exceptions callable (c ∷ bs) b h g =
 -- the bodies that have ended fit, whatever types that are still incomplete become, create collections of types that are there, and free by the instances
 -- for the very types of what they free; the pools that they create are there
 pub record Ended (k : Known) : Type 0 where
-  pub fit : (ts : List TypeForm) → ((t : ℕ) (form : TypeForm) → slice_get (forms k.types) t ≡ Some form → IsSettled k t → slice_get (forms ts) t ≡ Some form) → fits.bodies_fit ts k.texts k.exceptions [] k.bodies ≡ true
+  pub fit : (ts : List TypeForm) → AreRecordsLaid ts → ((t : ℕ) (form : TypeForm) → slice_get (forms k.types) t ≡ Some form → IsSettled k t → slice_get (forms ts) t ≡ Some form) → fits.bodies_fit ts k.texts k.exceptions [] k.bodies ≡ true
   pub below : (a : ℕ) → length k.types ≤ a → bodies_collect k.bodies a ≡ 0
   pub frees : (ts : List TypeForm) → ((t : ℕ) (form : TypeForm) → slice_get (forms k.types) t ≡ Some form → IsSettled k t → slice_get (forms ts) t ≡ Some form) → list_all (body_frees_own ts) k.bodies ≡ true
   pub pools : list_all (fits.creates_known_pool (length k.pools)) (fits.created_in_all k.bodies) ≡ true
@@ -77,9 +78,9 @@ pub record Ended (k : Known) : Type 0 where
 -- where no body ends, they go on fitting
 pub ended_on : (k m : Known) → m.bodies ≡ k.bodies → length k.texts ≤ length m.texts → length k.exceptions ≤ length m.exceptions → length k.types ≤ length m.types → length k.pools ≤ length m.pools → ((t : ℕ) (form : TypeForm) → slice_get (forms k.types) t ≡ Some form → IsSettled k t → (slice_get (forms m.types) t ≡ Some form) × IsSettled m t) → Ended k → Ended m
 ended_on k m same texts exceptions types pools keeps e = record {
-  fit = λ ts w. subst (λ bs. fits.bodies_fit ts m.texts m.exceptions [] bs ≡ true) (sym same)
-      (bodies_later ts ts k.texts m.texts k.exceptions m.exceptions (λ i x is. is) texts exceptions [] k.bodies
-      (e.fit ts (λ t form is settled. let so = keeps t form is settled in w t form so.0 so.1)));
+  fit = λ ts laid w. subst (λ bs. fits.bodies_fit ts m.texts m.exceptions [] bs ≡ true) (sym same)
+      (bodies_later ts ts k.texts m.texts k.exceptions m.exceptions (λ i x is. is) laid texts exceptions [] k.bodies
+      (e.fit ts laid (λ t form is settled. let so = keeps t form is settled in w t form so.0 so.1)));
   below = λ a past. subst (λ bs. bodies_collect bs a ≡ 0) (sym same) (e.below a (omega (arith, past, types)));
   frees = λ ts w. subst (λ bs. list_all (body_frees_own ts) bs ≡ true) (sym same) (e.frees ts (λ t form is settled. let so = keeps t form is settled in w t form so.0 so.1));
   pools = subst (λ bs. list_all (fits.creates_known_pool (length m.pools)) (fits.created_in_all bs) ≡ true) (sym same)
@@ -87,8 +88,8 @@ ended_on k m same texts exceptions types pools keeps e = record {
 }
 
 -- where no type is incomplete
-pub ended_all : (k : Known) → Complete k → Ended k → fits.bodies_fit k.types k.texts k.exceptions [] k.bodies ≡ true
-ended_all k c e = e.fit k.types (λ t form is settled. is)
+pub ended_all : (k : Known) → Sound k → Ended k → fits.bodies_fit k.types k.texts k.exceptions [] k.bodies ≡ true
+ended_all k s e = e.fit k.types (sound_laid k s) (λ t form is settled. is)
 
 pub ended_free : (k : Known) → Ended k → list_all (body_frees_own k.types) k.bodies ≡ true
 ended_free k e = e.frees k.types (λ t form is settled. is)

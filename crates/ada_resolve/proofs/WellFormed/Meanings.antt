@@ -1,6 +1,6 @@
 -- A path with which nothing is wrong means a value, and that has its type.
 
-use Rattle.std.proofs.Common.{◌≡◌, ◌∙◌, ℕ, ◌+◌, ◌≤◌, Bool, true, false, ◌&&◌, ◌||◌, List, [], ◌∷◌, ◌++◌, drop, refl, sym, ap, cond, eqb, eq-eqb}
+use Rattle.std.proofs.Common.{◌≡◌, ◌∙◌, ℕ, ◌+◌, ◌≤◌, Bool, true, false, ◌&&◌, ◌||◌, List, [], ◌∷◌, ◌++◌, length, drop, refl, sym, ap, cond, eqb, eq-eqb}
 use Rattle.std.specs.Prelude.{Option, Some, None, is_some, not, nat_lt}
 use Rattle.std.specs.List.{list_all, slice_get}
 use Rattle.std.proofs.Math.Seq.{drop-append_seam}
@@ -35,8 +35,10 @@ use Rattle.ada_resolve.specs.Operators.{Signature, arithmetic, ordering, equalit
 use Rattle.ada_resolve.specs.Remark.{wrong, wrong_if, ◌also◌}
 use Rattle.ada_resolve.proofs.WellFormed.Remarks.{Quiet}
 use Rattle.ada_resolve.proofs.WellFormed.Names.{EntityFits, TypesFit, PartsFit, visible_fits, kind_there, types_in}
-use Rattle.ada_resolve.proofs.WellFormed.Selected.{IsReached, IsWithin, named_record, whole_is, selectors_are}
+use Rattle.ada_resolve.proofs.WellFormed.Selected.{IsReached, IsWalked, IsWithin, named_record, whole_is, selectors_are}
+use Rattle.ada_resolve.proofs.WellFormed.Numbered.{positive}
 use Rattle.ada_resolve.proofs.WellFormed.Tables.{both_parts}
+use Rattle.ada_resolve.proofs.WellFormed.Walked.{walk_found, number_within}
 use Rattle.ada_resolve.proofs.WellFormed.Typing.{typed_by, joined_type}
 
 -- what is meant is known, and has its type
@@ -81,15 +83,32 @@ parts_from count from within le = either (eqb count 0) (nat_lt within (from + co
     either true c is = refl
     either false c is = ap (λ (x : Bool). not x) is
 
+-- it is found there, where it has any
+walk_there : (types : List TypeForm) (of : Option VariableKind) (t first from : ℕ) → TypesFit types → IsWalked types of t first from → (eqb (fits.part_count types t) 0 || fits.is_found types (length types) t (fits.place_from (fits.object_named types (fits.access_of of)) first from)) ≡ true
+walk_there types of t first from all w = by_count (eqb (fits.part_count types t) 0) refl
+  where
+    by_count : (b : Bool) → eqb (fits.part_count types t) 0 ≡ b → (b || fits.is_found types (length types) t (fits.place_from (fits.object_named types (fits.access_of of)) first from)) ≡ true
+    by_count true none = refl
+    by_count false off =
+        let some = positive (fits.part_count types t) off in
+        let walked = w some in
+        ap (λ (o : Option ℕ). fits.is_found types (length types) t (fits.place_from o first from)) walked.1 ∙
+        walk_found types all.1 (length types) walked.0 first from t walked.2 some (number_within types all.1 walked.0)
+
 -- a record within an object
-within_fits : (types : List TypeForm) (of : Option VariableKind) (t first from : ℕ) → TypesFit types → IsWithin types of (elementary_of types t) first from (fits.part_count types t) → fits.is_record types t ≡ true → (fits.has_record_at (fits.object_components types (fits.access_of of)) first (fits.record_components types t) && fits.has_parts_from (fits.part_count types t) from (fits.parts_named types (fits.object_named types (fits.access_of of)))) ≡ true
-within_fits types of t first from all w r =
+within_fits : (types : List TypeForm) (of : Option VariableKind) (t first from : ℕ) → TypesFit types → IsWithin types of (elementary_of types t) first from (fits.part_count types t) → fits.is_record types t ≡ true → IsWalked types of t first from → (fits.has_record_at (fits.object_components types (fits.access_of of)) first (fits.record_components types t) && fits.has_parts_at types t (fits.object_named types (fits.access_of of)) first from) ≡ true
+within_fits types of t first from all w r walked =
     let whole = components_there types w.1 (named_record types w.0 w.1 all w.5) in
     let own = components_there types t r in
     let ks = elementary_of types t in
     let rest : drop first (elementary_of types w.1) ≡ ks ++ w.3 = ap (λ cs. drop first cs) w.6 ∙ (ap (λ n. drop n (w.2 ++ (ks ++ w.3))) (sym w.7) ∙ drop-append_seam w.2 (ks ++ w.3)) in
-    both_parts (fits.has_record_at (fits.object_components types (fits.access_of of)) first (fits.record_components types t)) (fits.has_parts_from (fits.part_count types t) from (fits.parts_named types (fits.object_named types (fits.access_of of))))
-    (rw w.4 (rw w.5 (rw whole (rw own (rw rest (begins_own ks w.3)))))) (rw w.4 (rw w.5 (parts_from (fits.part_count types t) from (fits.part_count types w.1) w.8)))
+    let among : fits.has_parts_from (fits.part_count types t) from (fits.parts_named types (fits.object_named types (fits.access_of of))) ≡ true =
+    rw w.4 (rw w.5 (parts_from (fits.part_count types t) from (fits.part_count types w.1) w.8)) in
+    both_parts (fits.has_record_at (fits.object_components types (fits.access_of of)) first (fits.record_components types t)) (fits.has_parts_at types t (fits.object_named types (fits.access_of of)) first from)
+    (rw w.4 (rw w.5 (rw whole (rw own (rw rest (begins_own ks w.3))))))
+    (both_parts (fits.has_parts_from (fits.part_count types t) from (fits.parts_named types (fits.object_named types (fits.access_of of))))
+    (eqb (fits.part_count types t) 0 || fits.is_found types (length types) t (fits.place_from (fits.object_named types (fits.access_of of)) first from)) among
+    (walk_there types of t first from all walked))
 
 -- what is reached means what it holds
 reached_fits : (types : List TypeForm) (variables : List VariableForm) (path : PathForm) (spot : Spot) (at : Reached) → TypesFit types → IsReached types (fits.path_kind types variables path) at → Quiet (record_type_wanted at spot) → MeantFits types variables (reached_meant path at)
@@ -97,7 +116,7 @@ reached_fits types variables path spot (reached.Value variable.Integer) all is q
 reached_fits types variables path spot (reached.Value variable.Boolean) all is q = rw is refl
 reached_fits types variables path spot (reached.Value (variable.Access t)) all is q = is
 reached_fits types variables path spot (reached.Value (variable.Record object)) all is q = absurd q
-reached_fits types variables path spot (reached.Object t first from) all is q = within_fits types (fits.path_kind types variables path) t.0 first from all is.0 is.1
+reached_fits types variables path spot (reached.Object t first from) all is q = within_fits types (fits.path_kind types variables path) t.0 first from all is.0 is.1 is.2
 reached_fits types variables path spot reached.Nothing all is q = absurd is
 
 -- the root of a path is what its variable holds, or the record object that the variable is

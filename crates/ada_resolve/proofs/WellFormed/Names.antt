@@ -20,7 +20,6 @@ use Rattle.ada_resolve.specs.declared.scope.Role.{Role}
 use Rattle.ada_resolve.specs.declared.scope.Role.TheVariants as role
 use Rattle.ada_resolve.specs.Known.{Known, Named, Part, named, entered, first_named, role_of, from_within, from_part, named_in, inner_first, outermost, is_unit_named, unit_named, visible, parts}
 use Rattle.ada_resolve.specs.Library.{predefined}
-use Rattle.ada_resolve.proofs.WellFormed.Inherits.{type_stands}
 use Rattle.ada_resolve.proofs.WellFormed.Laid.{AreRecordsLaid}
 
 -- a variable of this name is there, which holds this, a borrower or not
@@ -52,7 +51,7 @@ NamesFit types variables names = (text : List ℕ) (e : Entity) → named text n
 
 -- the components of all types lie one behind the other, and each type fits
 abbrev pub TypesFit : List TypeForm → Type 0
-TypesFit types = AreRecordsLaid types × (list_all (type_stands types) types ≡ true)
+TypesFit types = AreRecordsLaid types × (list_all (fits.type_fits types) types ≡ true)
 
 -- the variables of the parts around a part: those of the body around, where the part is that of a body
 abbrev pub variables_behind : Option (List VariableForm) → List VariableForm → List VariableForm

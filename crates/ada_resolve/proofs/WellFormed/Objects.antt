@@ -28,7 +28,8 @@ use Rattle.ada_resolve.proofs.Names.{map_append}
 use Rattle.ada_resolve.proofs.WellFormed.Borrowers.{lent_of, borrower_is}
 use Rattle.ada_resolve.proofs.WellFormed.Remarks.{Quiet}
 use Rattle.ada_resolve.proofs.WellFormed.Tables.{all_more, both_parts, first_part, second_part, get_last, get_more}
-use Rattle.ada_resolve.proofs.WellFormed.Names.{PartsFit}
+use Rattle.ada_resolve.proofs.WellFormed.Laid.{AreRecordsLaid}
+use Rattle.ada_resolve.proofs.WellFormed.Names.{PartsFit, laid_in}
 use Rattle.ada_resolve.proofs.WellFormed.Counts.{count_more}
 use Rattle.ada_resolve.proofs.WellFormed.Created.{due, accesses_object, makes_known}
 use Rattle.ada_resolve.proofs.WellFormed.Forms.{forms_in}
@@ -68,7 +69,7 @@ first_is_before : (types : List TypeForm) (variables : List VariableForm) (cs : 
 first_is_before types variables [] i h = absurd (cc h)
 first_is_before types variables (c ∷ cs) i h = component_is_before types variables c i h
 
-copied_before : (types : List TypeForm) (variables : List VariableForm) (p : RecordPathForm) (found : Option VariableKind) → fits.path_kind types variables p.object ≡ found → (fits.has_record_at (fits.object_components types (fits.access_of found)) p.first (fits.record_components types p.record_type) && fits.has_parts_from (fits.part_count types p.record_type) p.part (fits.parts_named types (fits.object_named types (fits.access_of found)))) ≡ true → nat_lt p.object.root (length variables) ≡ true
+copied_before : (types : List TypeForm) (variables : List VariableForm) (p : RecordPathForm) (found : Option VariableKind) → fits.path_kind types variables p.object ≡ found → (fits.has_record_at (fits.object_components types (fits.access_of found)) p.first (fits.record_components types p.record_type) && fits.has_parts_at types p.record_type (fits.object_named types (fits.access_of found)) p.first p.part) ≡ true → nat_lt p.object.root (length variables) ≡ true
 copied_before types variables p None is h = absurd (cc h)
 copied_before types variables p (Some k) is h = path_before types variables p.object k is
 
@@ -145,15 +146,15 @@ not_none variables o n b first = both_fail (length (variables ++ o ∷ []) == n)
 abbrev pub IsCreatedWith : Known → VariableKind → (borrows : Bool) → RightForm → Type 0
 IsCreatedWith k kind borrows s = (fits.kind_takes k.types k.variables kind s ≡ true) × (fits.lends_to k.variables borrows s ≡ true)
 
-created_late : (k : Known) (name : Ident) (borrows : Bool) (kind : VariableKind) (s : RightForm) → Late k → IsCreatedWith k kind borrows s → Late (variable_created k name borrows kind s)
-created_late k name borrows kind s w f =
+created_late : (k : Known) (name : Ident) (borrows : Bool) (kind : VariableKind) (s : RightForm) → AreRecordsLaid k.types → Late k → IsCreatedWith k kind borrows s → Late (variable_created k name borrows kind s)
+created_late k name borrows kind s laid w f =
     let o : VariableForm = record { name = name.text; spot = name.spot; kind = kind; borrows = borrows } in
     let es = k.here.elaborated in
     record {
       collections_first = next_first es (declares (length k.variables) s) refl w.collections_first;
       collections_fit = all_more (fits.collection_fits k.types) es (declares (length k.variables) s ∷ []) w.collections_fit refl;
       initials_fit = all_more (fits.initial_fits k.types (k.variables ++ o ∷ [])) es (declares (length k.variables) s ∷ [])
-          (initials_stay k.types k.types k.variables (k.variables ++ o ∷ []) (λ i x is. is) (λ i x is. get_more k.variables o i x is) es w.initials_fit)
+          (initials_stay k.types k.types k.variables (k.variables ++ o ∷ []) (λ i x is. is) (λ i x is. get_more k.variables o i x is) laid es w.initials_fit)
           (both_parts (fits.initial_fits k.types (k.variables ++ o ∷ []) (declares (length k.variables) s)) true
           (both_parts
           (fits.names_before (length k.variables) s && fits.right_fits k.types (k.variables ++ o ∷ []) (fits.variable_kind (k.variables ++ o ∷ []) (length k.variables)) s)
@@ -162,9 +163,9 @@ created_late k name borrows kind s w f =
           (fits.right_fits k.types (k.variables ++ o ∷ []) (fits.variable_kind (k.variables ++ o ∷ []) (length k.variables)) s)
           (source_before k.types k.variables kind s f.0)
           (rw (kind_last k.variables o) (taken_stays k.types k.types k.variables (k.variables ++ o ∷ []) (λ i x is. is)
-          (λ i x is. get_more k.variables o i x is) kind s f.0)))
+          (λ i x is. get_more k.variables o i x is) laid kind s f.0)))
           (rw (borrows_last k.variables o) (lent_stays k.types k.types k.variables (k.variables ++ o ∷ []) (λ i x is. is)
-          (λ i x is. get_more k.variables o i x is) kind borrows s f.0 f.1)))
+          (λ i x is. get_more k.variables o i x is) laid kind borrows s f.0 f.1)))
           refl);
       one_each = λ a. let h = w.one_each a in let all = count_more a es (declares (length k.variables) s ∷ []) in omega (arith, h, all);
       in_order = λ n rest.
@@ -176,32 +177,32 @@ created_late k name borrows kind s w f =
     }
 
 -- one more variable
-made_order : (k : Known) (name : Ident) (borrows : Bool) (kind : VariableKind) (s : RightForm) → k.here.first_variable ≤ length k.variables → Late k → IsCreatedWith k kind borrows s → InOrder (variable_created k name borrows kind s)
-made_order k name borrows kind s first w f =
-    late (created_late k name borrows kind s w f) (not_none k.variables (record { name = name.text; spot = name.spot; kind = kind; borrows = borrows }) k.here.first_variable (no_body_yet k) first)
+made_order : (k : Known) (name : Ident) (borrows : Bool) (kind : VariableKind) (s : RightForm) → AreRecordsLaid k.types → k.here.first_variable ≤ length k.variables → Late k → IsCreatedWith k kind borrows s → InOrder (variable_created k name borrows kind s)
+made_order k name borrows kind s laid first w f =
+    late (created_late k name borrows kind s laid w f) (not_none k.variables (record { name = name.text; spot = name.spot; kind = kind; borrows = borrows }) k.here.first_variable (no_body_yet k) first)
 
 -- the items of a record object's initial value are those of its type
 abbrev IsRecordInitial : Known → TypeNo → Option (List ItemForm) → Type 0
 IsRecordInitial k t None = Unit {0}
 IsRecordInitial k t (Some items) = fits.record_fits k.types k.variables t.0 items ≡ true
 
-items_initial : (k : Known) (t : TypeNo) (o : VariableForm) (initial : Option (List ItemForm)) → IsRecordInitial k t initial → fits.record_initial_fits (k.types ++ object_of t.0 ∷ []) (k.variables ++ o ∷ []) (length k.variables) (fits.object_named (k.types ++ object_of t.0 ∷ []) (Some (length k.types))) initial ≡ true
-items_initial k t o None h = refl
-items_initial k t o (Some items) h =
+items_initial : (k : Known) (t : TypeNo) (o : VariableForm) (initial : Option (List ItemForm)) → AreRecordsLaid k.types → IsRecordInitial k t initial → fits.record_initial_fits (k.types ++ object_of t.0 ∷ []) (k.variables ++ o ∷ []) (length k.variables) (fits.object_named (k.types ++ object_of t.0 ∷ []) (Some (length k.types))) initial ≡ true
+items_initial k t o None laid h = refl
+items_initial k t o (Some items) laid h =
     let more = k.types ++ object_of t.0 ∷ [] in
     let others = k.variables ++ o ∷ [] in
     let filled : Bool = fits.is_filled k.types k.variables (fits.record_components k.types t.0) items in
     let own = list_all (fits.item_owns k.variables) items in
     let whole : Bool = fits.copies_whole t.0 (fits.finalization_of k.types t.0) items in
     let stays : fits.record_fits more others t.0 items ≡ true =
-    record_stays k.types more k.variables others (forms_in k.types more (λ i x is. get_more k.types (object_of t.0) i x is)) (λ i x is. get_more k.variables o i x is) t.0 items h in
+    record_stays k.types more k.variables others (forms_in k.types more (λ i x is. get_more k.types (object_of t.0) i x is)) (λ i x is. get_more k.variables o i x is) laid t.0 items h in
     both_parts (list_all (fits.item_before (length k.variables)) items) (fits.object_fits more others (fits.object_named more (Some (length k.types))) items)
     (filled_before k.types k.variables (fits.record_components k.types t.0) items (first_part filled own (first_part (filled && own) whole h)))
     (rw (get_last k.types (object_of t.0)) stays)
 
 -- one more record object, with the type that it is known by
-record_late : (k : Known) (name : Ident) (t : TypeNo) (initial : Option (List ItemForm)) → Late k → IsRecordInitial k t initial → Late (record_created k name t initial)
-record_late k name t initial w f =
+record_late : (k : Known) (name : Ident) (t : TypeNo) (initial : Option (List ItemForm)) → AreRecordsLaid k.types → Late k → IsRecordInitial k t initial → Late (record_created k name t initial)
+record_late k name t initial laid w f =
     let more = k.types ++ object_of t.0 ∷ [] in
     let o : VariableForm = record { name = name.text; spot = name.spot; kind = next_record k; borrows = false } in
     let others = k.variables ++ o ∷ [] in
@@ -212,11 +213,11 @@ record_late k name t initial w f =
       collections_fit = all_more (fits.collection_fits more) es (d ∷ [])
           (collections_stay k.types more k.variables others (forms_in k.types more (λ i x is. get_more k.types (object_of t.0) i x is)) (λ i x is. get_more k.variables o i x is) es w.collections_fit) refl;
       initials_fit = all_more (fits.initial_fits more others) es (d ∷ [])
-          (initials_stay k.types more k.variables others (forms_in k.types more (λ i x is. get_more k.types (object_of t.0) i x is)) (λ i x is. get_more k.variables o i x is) es w.initials_fit)
+          (initials_stay k.types more k.variables others (forms_in k.types more (λ i x is. get_more k.types (object_of t.0) i x is)) (λ i x is. get_more k.variables o i x is) laid es w.initials_fit)
           (both_parts (fits.initial_fits more others d) true
           (both_parts (fits.is_record_object (length k.types) (fits.variable_kind others (length k.variables)))
           (fits.record_initial_fits more others (length k.variables) (fits.object_named more (Some (length k.types))) initial)
-          (rw (kind_last k.variables o) (eq-eqb (length k.types) (length k.types) refl)) (items_initial k t o initial f)) refl);
+          (rw (kind_last k.variables o) (eq-eqb (length k.types) (length k.types) refl)) (items_initial k t o initial laid f)) refl);
       one_each = λ a.
           let h = w.one_each a in
           let same : due k.here.first_type more a ≡ due k.here.first_type k.types a = ap (λ (n : ℕ). cond (nat_le k.here.first_type a) n 0) (accesses_object k.types t.0 a) in
@@ -230,9 +231,9 @@ record_late k name t initial w f =
       pools = all_more (makes_known (length k.pools)) es (d ∷ []) w.pools refl;
     }
 
-record_order : (k : Known) (name : Ident) (t : TypeNo) (initial : Option (List ItemForm)) → k.here.first_variable ≤ length k.variables → Late k → IsRecordInitial k t initial → InOrder (record_created k name t initial)
-record_order k name t initial first w f =
-    late (record_late k name t initial w f) (not_none k.variables (record { name = name.text; spot = name.spot; kind = next_record k; borrows = false }) k.here.first_variable (no_body_yet k) first)
+record_order : (k : Known) (name : Ident) (t : TypeNo) (initial : Option (List ItemForm)) → AreRecordsLaid k.types → k.here.first_variable ≤ length k.variables → Late k → IsRecordInitial k t initial → InOrder (record_created k name t initial)
+record_order k name t initial laid first w f =
+    late (record_late k name t initial laid w f) (not_none k.variables (record { name = name.text; spot = name.spot; kind = next_record k; borrows = false }) k.here.first_variable (no_body_yet k) first)
 
 -- the initial value, null where none is written
 integer_initial : (k : Known) (o : Option Assigned) → IsSourceFor k.types k.variables held.Integer false o → IsCreatedWith k variable.Integer false (initial_source (initial_value_in o))
@@ -269,12 +270,12 @@ created_order k name None initial p first s w q g = s
 created_order k name (Some entity.Integer) None p first s w q g = absurd g
 created_order k name (Some entity.Boolean) None p first s w q g = absurd g
 created_order k name (Some entity.Integer) (Some right) p first s w q g =
-    made_order k name false variable.Integer _ first w (integer_initial k _ (right_fits k held.Integer false right p q))
+    made_order k name false variable.Integer _ (laid_in k.types k.variables (parts k) p) first w (integer_initial k _ (right_fits k held.Integer false right p q))
 created_order k name (Some entity.Boolean) (Some right) p first s w q g =
-    made_order k name false variable.Boolean _ first w (boolean_initial k _ (right_fits k held.Boolean false right p q))
+    made_order k name false variable.Boolean _ (laid_in k.types k.variables (parts k) p) first w (boolean_initial k _ (right_fits k held.Boolean false right p q))
 created_order k name (Some (entity.Access access)) initial p first s w q g =
-    made_order k name false (variable.Access access) _ first w (access_initial k access initial p q)
-created_order k name (Some (entity.Record t size)) initial p first s w q g = record_order k name t _ first w (record_initial k t initial p q)
+    made_order k name false (variable.Access access) _ (laid_in k.types k.variables (parts k) p) first w (access_initial k access initial p q)
+created_order k name (Some (entity.Record t size)) initial p first s w q g = record_order k name t _ (laid_in k.types k.variables (parts k) p) first w (record_initial k t initial p q)
 created_order k name (Some other) initial p first s w q g = s
 
 -- `X : T := ..;`, where the types have ended
@@ -286,4 +287,4 @@ pub borrower_order : (k : Known) (name designated : Ident) (initial : Option Rig
 borrower_order k name designated initial p first w q =
     let r = lent_of k name designated initial p q in
     subst InOrder (sym (borrower_is k name designated initial r))
-    (made_order k name true (variable.Access r.access) (value_of r.path) first w (rw (r.typed) (eq-eqb r.access.0 r.access.0 refl), refl))
+    (made_order k name true (variable.Access r.access) (value_of r.path) (laid_in k.types k.variables (parts k) p) first w (rw (r.typed) (eq-eqb r.access.0 r.access.0 refl), refl))

@@ -13,11 +13,11 @@ use Rattle.ada_resolve.specs.Clauses.{placed, placed_by, pool_by, pool_of}
 use Rattle.ada_resolve.specs.Known.{Part}
 use Rattle.ada_resolve.specs.Types.{defined, number_of}
 use Rattle.ada_resolve.specs.Paths.{elementary_of, elementary_in}
-use Rattle.ada_resolve.proofs.WellFormed.Inherits.{type_stands}
-use Rattle.ada_resolve.proofs.WellFormed.Forms.{AreIn, bare, forms, get_form, form_there, forms_length, forms_set, record_stays, access_stays, access_there, same_at, all_forms}
+use Rattle.ada_resolve.proofs.WellFormed.Forms.{AreIn, bare, forms, get_form, form_there, forms_length, forms_set, plain_stays, record_stays, access_stays, access_there, same_at, all_forms}
 use Rattle.ada_resolve.proofs.WellFormed.Laid.{AreRecordsLaid, IsLaid, IsUnused, Avoids, record_has, laid_stays}
 use Rattle.ada_resolve.proofs.WellFormed.Names.{EntityFits, PartsFit, variables_behind}
 use Rattle.ada_resolve.proofs.WellFormed.Numbered.{types_kept, counted_same}
+use Rattle.ada_resolve.proofs.WellFormed.Operations.{HaveOperations, have_set}
 use Rattle.ada_resolve.proofs.WellFormed.Tables.{all_set, get_more, get_last, get_other, get_set, get_within, none_past, past_none, object_kind_kept, types_keep, record_grows}
 
 pub placed_forms : (pool : ℕ) (types : List TypeForm) (access : ℕ) → forms (placed pool types access) ≡ forms types
@@ -45,8 +45,20 @@ placed_housed n pool types access less all = by_form (slice_get types access)
     by_form (Some (access_to name d before)) = all_set (fits.has_known_pool n) types access (access_to name d (Some pool)) all less
     by_form (Some (object_of r)) = all
 
-fit_bare : (types : List TypeForm) (x : TypeForm) → type_stands types (bare x) ≡ type_stands types x
-fit_bare types (record_of name ps cs final) = refl
+-- each type has the operations that it has
+pub placed_operations : (pool : ℕ) (types : List TypeForm) (access : ℕ) (callable : List fits.Profile) → HaveOperations types callable → HaveOperations (placed pool types access) callable
+unfolding placed
+placed_operations pool types access callable h = by_form (slice_get types access) refl
+  where
+    by_form : (o : Option TypeForm) → slice_get types access ≡ o → HaveOperations (placed_by o pool types access) callable
+    by_form None is = h
+    by_form (Some (record_of name ps cs final)) is = h
+    by_form (Some (access_to name d before)) is = have_set types access (access_to name d before) (access_to name d (Some pool)) callable is refl refl h
+    by_form (Some (object_of r)) is = h
+
+fit_bare : (types : List TypeForm) (x : TypeForm) → fits.type_fits types (bare x) ≡ fits.type_fits types x
+fit_bare types (record_of name ps cs None) = refl
+fit_bare types (record_of name ps cs (Some f)) = refl
 fit_bare types (access_to name d pool) = refl
 fit_bare types (object_of r) = refl
 
@@ -75,7 +87,7 @@ bare_avoids t (record_of name ps cs final) a = a
 bare_avoids t (access_to name d pool) a = a
 bare_avoids t (object_of r) a = a
 
--- types that are the same as these but for their pools
+-- types that are the same as these but for their pools and operations
 module _ (types more : List TypeForm) (same : forms more ≡ forms types) where
   pub grown : AreIn (forms types) (forms more)
   grown t x is = subst (λ (ts : List TypeForm). slice_get ts t ≡ Some x) (sym same) is
@@ -84,11 +96,11 @@ module _ (types more : List TypeForm) (same : forms more ≡ forms types) where
   pub each_was : (t : ℕ) (form : TypeForm) → slice_get more t ≡ Some form → (x : TypeForm) × (slice_get types t ≡ Some x) × (bare x ≡ bare form)
   each_was t form is = form_there types t (bare form) (subst (λ (ts : List TypeForm). slice_get ts t ≡ Some (bare form)) same (get_form more t form is))
 
-  pub placed_fit : AreRecordsLaid types → list_all (type_stands types) types ≡ true → list_all (type_stands more) more ≡ true
+  pub placed_fit : AreRecordsLaid types → list_all (fits.type_fits types) types ≡ true → list_all (fits.type_fits more) more ≡ true
   placed_fit laid all =
-      sym (all_forms (type_stands more) (fit_bare more) more) ∙
-      (ap (λ ts. list_all (type_stands more) ts) same ∙
-      (all_forms (type_stands more) (fit_bare more) types ∙ types_kept types more (types_keep types more grown) (record_grows types more grown) (counted_same types more same grown laid) all))
+      sym (all_forms (fits.type_fits more) (fit_bare more) more) ∙
+      (ap (λ ts. list_all (fits.type_fits more) ts) same ∙
+      (all_forms (fits.type_fits more) (fit_bare more) types ∙ types_kept types more (types_keep types more grown) (record_grows types more grown) (counted_same types more same grown laid) all))
 
   elementary_stays : (t : ℕ) → fits.is_record types t ≡ true → elementary_of more t ≡ elementary_of types t
   unfolding elementary_of
@@ -117,8 +129,8 @@ module _ (types more : List TypeForm) (same : forms more ≡ forms types) where
       bare_avoids t form (subst (λ (x : TypeForm). Avoids t x) was.2 (avoids_bare t was.0 (all u was.0 was.1)))
 
   entity_placed : (variables : List VariableForm) (text : List ℕ) (e : Entity) → EntityFits types variables text e → EntityFits more variables text e
-  entity_placed variables text (entity.Incomplete t) f = record_stays types more grown t.0 text _ _ _ f
-  entity_placed variables text (entity.Record t size) f = (f.0, f.1, f.2, record_stays types more grown t.0 text f.0 f.1 f.2 f.3)
+  entity_placed variables text (entity.Incomplete t) f = plain_stays types more grown t.0 text [] [] f
+  entity_placed variables text (entity.Record t size) f = let there = record_stays types more grown t.0 text f.0 f.1 f.2 f.3 in (f.0, f.1, there.0, there.1)
   entity_placed variables text (entity.Access t) f = let there = access_stays types more grown t.0 text f.0 f.1 f.2 in (f.0, there.0, there.1)
   entity_placed variables text (entity.Instance t) f = (types_keep types more grown).0 t.0 f
   entity_placed variables text (entity.Variable x kind) f = (f.0, object_kind_kept types more (types_keep types more grown) kind f.1)

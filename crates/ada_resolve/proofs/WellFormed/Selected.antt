@@ -1,6 +1,6 @@
 -- Where nothing is wrong with what is selected behind a variable, it is there.
 
-use Rattle.std.proofs.Common.{◌≡◌, ◌∙◌, ℕ, ◌+◌, ◌≤◌, Bool, true, false, cond, List, [], ◌∷◌, ◌++◌, length, append_assoc, refl, sym, ap, subst, suc, arith}
+use Rattle.std.proofs.Common.{◌≡◌, ◌∙◌, ℕ, ◌+◌, ◌<◌, ◌≤◌, Bool, true, false, cond, List, [], ◌∷◌, ◌++◌, length, append_assoc, refl, sym, ap, subst, suc, arith}
 use Rattle.std.specs.Prelude.{Option, Some, None, bytes_eq}
 use Rattle.std.specs.List.{slice_get}
 use Rattle.std.proofs.lemmas.List.{length-append}
@@ -14,6 +14,8 @@ use Rattle.ada_program.specs.declared.program.VariableKind.{VariableKind}
 use Rattle.ada_program.specs.declared.program.VariableKind.TheVariants as variable
 use Rattle.ada_program.specs.declared.program.TypeNo.{TypeNo}
 use Rattle.ada_program.specs.ProgramForm.{PartForm, TypeForm, record_of, access_to, object_of}
+use Rattle.ada_program.specs.Controlled as controlled
+use Rattle.ada_program.specs.Walks.{Walks, ends, into}
 use Rattle.ada_program.specs.WellFormed as fits
 use Rattle.ada_resolve.specs.declared.fault.NameRule.TheVariants.{WrongType}
 use Rattle.ada_resolve.specs.declared.selectors.Reached.{Reached}
@@ -24,12 +26,12 @@ use Rattle.ada_resolve.specs.Paths as path
 use Rattle.ada_resolve.specs.Paths.{components_of, elementary_of, elementary_in, known_component, first_behind, part_behind, held_by, number_by, designated_of, component_named, is_incomplete_type, component_in, component_behind, held_in, object_in, object_behind, selector_reached, selectors_reached, variable_reached, whole_object, record_known_by, record_of_object, number_in, component_selected, components_selected, component_wanted, selectable_wanted, component_within_remark, component_behind_remark, complete_behind, all_remark, selector_remark, selectors_remark}
 use Rattle.ada_resolve.specs.Records.{kinds_within}
 use Rattle.ada_resolve.specs.Remark.{wrong, wrong_if}
-use Rattle.ada_resolve.proofs.WellFormed.Inherits.{type_stands}
 use Rattle.ada_resolve.proofs.WellFormed.Names.{TypesFit, text_same}
 use Rattle.ada_resolve.proofs.WellFormed.Laid.{RecordHas, append_none, elementary_is, lies}
 use Rattle.ada_resolve.proofs.WellFormed.Numbered.{part_lies}
 use Rattle.ada_resolve.proofs.WellFormed.Remarks.{Quiet}
 use Rattle.ada_resolve.proofs.WellFormed.Tables.{all_get, designated_named}
+use Rattle.ada_resolve.proofs.WellFormed.Walked.{walks_on}
 
 -- a component that is found by a name is one of these, by its number, and has the name
 abbrev pub IsNamedOf : List ℕ → List PartForm → ℕ → Option (ℕ × KnownComponent) → Type 0
@@ -90,11 +92,23 @@ IsWithin types of kinds first from count =
     (fits.named_in (slice_get types access) ≡ Some d) × (elementary_of types d ≡ before ++ (kinds ++ behind)) × (length before ≡ first) ×
     (from + count ≤ fits.part_count types d)
 
+-- a record type with controlled parts is found, at this place, in the object behind what is held
+abbrev pub IsWalked : List TypeForm → Option VariableKind → (t first from : ℕ) → Type 0
+IsWalked types of t first from =
+    0 < fits.part_count types t → (d : ℕ) × (fits.object_named types (fits.access_of of) ≡ Some d) × Walks types d first from t
+
+-- so it is with a component that is a record
+abbrev pub KindWalked : List TypeForm → Option VariableKind → PartKind → (first from : ℕ) → Type 0
+KindWalked types of (part.Elementary kind) first from = Unit {0}
+KindWalked types of (part.Record t) first from = IsWalked types of t.0 first from
+KindWalked types of part.Parent first from = Unit {0}
+
 -- what is reached is held there, or is a record within the object behind what is held there
 abbrev pub IsReached : List TypeForm → Option VariableKind → Reached → Type 0
 IsReached types of reached.Nothing = ⊥
 IsReached types of (reached.Value kind) = of ≡ Some kind
-IsReached types of (reached.Object t first from) = IsWithin types of (elementary_of types t.0) first from (fits.part_count types t.0) × (fits.is_record types t.0 ≡ true)
+IsReached types of (reached.Object t first from) =
+    IsWithin types of (elementary_of types t.0) first from (fits.part_count types t.0) × (fits.is_record types t.0 ≡ true) × IsWalked types of t.0 first from
 
 -- a component that is found is one of this record type, and has the name
 abbrev pub IsPartOf : List TypeForm → ℕ → List ℕ → (ℕ × KnownComponent) → Type 0
@@ -119,7 +133,8 @@ IsHeld types of t first from text None = ⊥
 IsHeld types of t first from text (Some found) =
     IsPartOf types t text found ×
     IsWithin types of (kinds_within types found.1.kind) (first + found.1.first) (from + found.1.part) (fits.parts_within types found.1.kind) ×
-    RecordHas (λ u. fits.is_record types u ≡ true) found.1.kind × IsSelectable found.1.kind
+    RecordHas (λ u. fits.is_record types u ≡ true) found.1.kind × IsSelectable found.1.kind ×
+    KindWalked types of found.1.kind (first + found.1.first) (from + found.1.part)
 
 -- where a type has a component, it is a record type with these
 pub has_record : (types : List TypeForm) (t j : ℕ) (c : PartForm) → slice_get (components_of types t) j ≡ Some c → (name : List ℕ) × (parts : List PartForm) × (components : List ComponentKind) × (final : Option Finalization) × (slice_get types t ≡ Some (record_of name parts components final)) × (slice_get parts j ≡ Some c)
@@ -151,14 +166,49 @@ part_is types of t first from name ps cs final j c laid w there at =
     let within = w.8 in
     (w.0, w.1, w.2 ++ own.0, own.1 ++ w.3, w.4, w.5, w.6 ∙ (ap (λ ks. w.2 ++ (ks ++ w.3)) whole ∙ part_within w.2 own.0 kinds own.1 w.3), long ∙ omega (arith, place, begin), omega (arith, among, within))
 
+-- a component with controlled parts is found behind its record
+some_final : (o : Option Finalization) → 0 < fits.count_said o → (f : Finalization) × (o ≡ Some f)
+some_final None some = absurd (omega (arith, some))
+some_final (Some f) some = (f, refl)
+
+some_number : (o : Option Finalization) → 0 < fits.count_said o → (m : ℕ) × (controlled.number_in o ≡ Some m)
+some_number None some = absurd (omega (arith, some))
+some_number (Some f) some = (f.number.0, refl)
+
+part_walks : (types : List TypeForm) (of : Option VariableKind) (t first from : ℕ) (name : List ℕ) (ps : List PartForm) (cs : List ComponentKind) (final : Option Finalization) (j : ℕ) (c : PartForm) → TypesFit types → IsWalked types of t first from → slice_get types t ≡ Some (record_of name ps cs final) → slice_get ps j ≡ Some c → KindWalked types of c.kind (first + c.first) (from + c.part)
+part_walks types of t first from name ps cs final j c all w there at = by_kind c.kind refl
+  where
+    by_record : (u : TypeNo) → c.kind ≡ part.Record u → IsWalked types of u.0 (first + c.first) (from + c.part)
+    by_record u is some =
+        let own = part_lies types t name ps cs final j c all.1 there at in
+        let within : fits.parts_within types c.kind ≡ fits.part_count types u.0 = ap (λ (k : PartKind). fits.parts_within types k) is in
+        let said : fits.part_count types t ≡ fits.count_said final = ap (λ (o : Option TypeForm). fits.count_said (fits.finalization_in o)) there in
+        let behind = w (omega (arith, own, within, some)) in
+        let f = some_final final (omega (arith, own, within, some, said)) in
+        let number = some_number (fits.finalization_of types u.0) some in
+        let full : slice_get types t ≡ Some (record_of name ps cs (Some f.0)) = there ∙ ap (λ (o : Option Finalization). Some (record_of name ps cs o)) f.1 in
+        let step : Walks types t (c.first + 0) (c.part + 0) u.0 = into j 0 0 u.0 number.0 name ps cs f.0 c u full at is number.1 ends in
+        let no_first : c.first + 0 ≡ c.first = omega arith in
+        let no_part : c.part + 0 ≡ c.part = omega arith in (
+          behind.0,
+          behind.1,
+          walks_on types behind.0 first from t c.first c.part u.0 behind.2
+              (subst (λ (n : ℕ). Walks types t n c.part u.0) no_first (subst (λ (n : ℕ). Walks types t (c.first + 0) n u.0) no_part step)),
+        )
+
+    by_kind : (kind : PartKind) → c.kind ≡ kind → KindWalked types of kind (first + c.first) (from + c.part)
+    by_kind (part.Elementary kind) is = tt
+    by_kind (part.Record u) is = by_record u is
+    by_kind part.Parent is = tt
+
 -- a component of a record type, by what it is and where it lies
 abbrev IsSelected : List TypeForm → Option VariableKind → (t first from : ℕ) → List ℕ → ℕ → KnownComponent → Type 0
 IsSelected types of t first from text n m =
     IsPartOf types t text (n, m) × IsWithin types of (kinds_within types m.kind) (first + m.first) (from + m.part) (fits.parts_within types m.kind) ×
-    RecordHas (λ u. fits.is_record types u ≡ true) m.kind × IsSelectable m.kind
+    RecordHas (λ u. fits.is_record types u ≡ true) m.kind × IsSelectable m.kind × KindWalked types of m.kind (first + m.first) (from + m.part)
 
-held_within : (k : Known) (types : List TypeForm) (of : Option VariableKind) (spot : Spot) (t first from : ℕ) (c : Ident) → TypesFit types → Stays k.types types → IsWithin types of (elementary_of types t) first from (fits.part_count types t) → Quiet (component_within_remark k spot (Some t) c) → IsHeld types of t first from c.text (component_in k (Some t) c)
-held_within k types of spot t first from c laid w is q = complete_or (is_incomplete_type k t) q
+held_within : (k : Known) (types : List TypeForm) (of : Option VariableKind) (spot : Spot) (t first from : ℕ) (c : Ident) → TypesFit types → Stays k.types types → IsWithin types of (elementary_of types t) first from (fits.part_count types t) → IsWalked types of t first from → Quiet (component_within_remark k spot (Some t) c) → IsHeld types of t first from c.text (component_in k (Some t) c)
+held_within k types of spot t first from c laid w is walked q = complete_or (is_incomplete_type k t) q
   where
     found_or : (o : Option (ℕ × KnownComponent)) → IsNamedOf c.text (components_of k.types t) 0 o → Quiet (component_wanted o c) → IsHeld types of t first from c.text o
     found_or None i q = absurd q
@@ -168,7 +218,7 @@ held_within k types of spot t first from c laid w is q = complete_or (is_incompl
         let there : slice_get types t ≡ Some (record_of h.0 h.1 h.2 h.3) = w t (record_of h.0 h.1 h.2 h.3) h.4 in
         let selectable : IsSelectable i.1.kind = subst (λ (m : KnownComponent). IsSelectable m.kind) (sym i.4) (is_selectable found.1.kind c q) in
         let so : IsSelected types of t first from i.1.name i.0 (known_component i.1) =
-        ((h.0, h.1, h.2, h.3, there, h.5), part_is types of t first from h.0 h.1 h.2 h.3 i.0 i.1 laid is there h.5, (laid.0 t (record_of h.0 h.1 h.2 h.3) there).1 i.0 i.1 h.5, selectable) in
+        ((h.0, h.1, h.2, h.3, there, h.5), part_is types of t first from h.0 h.1 h.2 h.3 i.0 i.1 laid is there h.5, (laid.0 t (record_of h.0 h.1 h.2 h.3) there).1 i.0 i.1 h.5, selectable, part_walks types of t first from h.0 h.1 h.2 h.3 i.0 i.1 laid walked there h.5) in
         subst (λ (text : List ℕ). IsHeld types of t first from text (Some found)) i.5
         (subst (λ (m : KnownComponent). IsSelected types of t first from i.1.name found.0 m) i.4
         (subst (λ (n : ℕ). IsSelected types of t first from i.1.name n (known_component i.1)) (sym at) so))
@@ -184,15 +234,15 @@ named_record types t d w e = by_form (slice_get types t) refl e
     by_form : (o : Option TypeForm) → slice_get types t ≡ o → fits.named_in o ≡ Some d → fits.is_record types d ≡ true
     by_form None is e = absurd (cc e)
     by_form (Some (record_of name ps cs final)) is e = absurd (cc e)
-    by_form (Some (access_to name u pool)) is e = let same : u ≡ d = cc e in subst (λ (v : ℕ). fits.is_record types v ≡ true) same (all_get (type_stands types) types t (access_to name u pool) w.1 is)
-    by_form (Some (object_of u)) is e = let same : u ≡ d = cc e in subst (λ (v : ℕ). fits.is_record types v ≡ true) same (all_get (type_stands types) types t (object_of u) w.1 is)
+    by_form (Some (access_to name u pool)) is e = let same : u ≡ d = cc e in subst (λ (v : ℕ). fits.is_record types v ≡ true) same (all_get (fits.type_fits types) types t (access_to name u pool) w.1 is)
+    by_form (Some (object_of u)) is e = let same : u ≡ d = cc e in subst (λ (v : ℕ). fits.is_record types v ≡ true) same (all_get (fits.type_fits types) types t (object_of u) w.1 is)
 
 -- an object behind what is held
-object_behind_is : (k : Known) (types : List TypeForm) (of : Option VariableKind) (t : TypeNo) (d : ℕ) → TypesFit types → Stays k.types types → of ≡ Some (variable.Access t) → designated_of k.types t.0 ≡ Some d → IsWithin types of (elementary_of types d) 0 0 (fits.part_count types d) × (fits.is_record types d ≡ true)
+object_behind_is : (k : Known) (types : List TypeForm) (of : Option VariableKind) (t : TypeNo) (d : ℕ) → TypesFit types → Stays k.types types → of ≡ Some (variable.Access t) → designated_of k.types t.0 ≡ Some d → IsWithin types of (elementary_of types d) 0 0 (fits.part_count types d) × (fits.is_record types d ≡ true) × IsWalked types of d 0 0
 object_behind_is k types of t d all w is e =
     let there : fits.designated_type types t.0 ≡ Some d = sym (designated_same types t.0) ∙ designated_more k.types types t.0 d w e in
     let named_so = designated_named (slice_get types t.0) d there in
-    ((t.0, d, [], [], rw is refl, named_so, sym (append_none (elementary_of types d)), refl, omega arith), named_record types t.0 d all named_so)
+    ((t.0, d, [], [], rw is refl, named_so, sym (append_none (elementary_of types d)), refl, omega arith), named_record types t.0 d all named_so, λ some. (d, ap (λ (o : Option VariableKind). fits.object_named types (fits.access_of o)) is ∙ named_so, ends))
 
 -- the record type of a record object, by the type that the object is known by
 named_more : (types more : List TypeForm) (object d : ℕ) → Stays types more → record_of_object types object ≡ Some d → fits.named_in (slice_get more object) ≡ Some d
@@ -213,7 +263,7 @@ whole_is k types of object all w is = by_type (record_of_object k.types object.0
     by_type None e = is
     by_type (Some d) e =
         let named_so = named_more k.types types object.0 d w e in
-        ((object.0, d, [], [], rw is refl, named_so, sym (append_none (elementary_of types d)), refl, omega arith), named_record types object.0 d all named_so)
+        ((object.0, d, [], [], rw is refl, named_so, sym (append_none (elementary_of types d)), refl, omega arith), named_record types object.0 d all named_so, λ some. (d, ap (λ (o : Option VariableKind). fits.object_named types (fits.access_of o)) is ∙ named_so, ends))
 
 -- the record type whose component is selected
 abbrev pub IsBehind : Known → Reached → ℕ → Type 0
@@ -223,12 +273,13 @@ IsBehind k other d = ⊥
 
 held_designated : (k : Known) (types : List TypeForm) (of : Option VariableKind) (spot : Spot) (t : TypeNo) (c : Ident) (o : Option ℕ) → TypesFit types → Stays k.types types → of ≡ Some (variable.Access t) → designated_of k.types t.0 ≡ o → Quiet (component_within_remark k spot o c) → (d : ℕ) × (o ≡ Some d) × IsHeld types of d 0 0 c.text (component_in k o c)
 held_designated k types of spot t c None laid w is e q = absurd q
-held_designated k types of spot t c (Some d) laid w is e q = (d, refl, held_within k types of spot d 0 0 c laid w (object_behind_is k types of t d laid w is e).0 q)
+held_designated k types of spot t c (Some d) laid w is e q =
+    let behind = object_behind_is k types of t d laid w is e in (d, refl, held_within k types of spot d 0 0 c laid w behind.0 behind.2 q)
 
 pub held_behind : (k : Known) (types : List TypeForm) (of : Option VariableKind) (spot : Spot) (at : Reached) (c : Ident) → TypesFit types → Stays k.types types → IsReached types of at → Quiet (component_behind_remark k spot at c) → (d : ℕ) × IsBehind k at d × IsHeld types of d (first_behind at) (part_behind at) c.text (component_behind k at c)
 held_behind k types of spot reached.Nothing c laid w is q = absurd is
 held_behind k types of spot (reached.Value (variable.Access t)) c laid w is q = held_designated k types of spot t c (designated_of k.types t.0) laid w is refl q
-held_behind k types of spot (reached.Object t first from) c laid w is q = (t.0, refl, held_within k types of spot t.0 first from c laid w is.0 q)
+held_behind k types of spot (reached.Object t first from) c laid w is q = (t.0, refl, held_within k types of spot t.0 first from c laid w is.0 is.2 q)
 held_behind k types of spot at c laid w is q = absurd q
 
 -- an elementary component holds what its kind says
@@ -254,12 +305,12 @@ kind_is_behind types of n from count kind w =
 
 pub held_reached : (types : List TypeForm) (of : Option VariableKind) (d first from : ℕ) (text : List ℕ) (o : Option (ℕ × KnownComponent)) → IsHeld types of d first from text o → IsReached types (fits.selectors_kind types of (number_in first o)) (held_in first from o)
 held_reached types of d first from text None h = absurd h
-held_reached types of d first from text (Some found) h = by_kind found.1.kind h.1 h.2 h.3
+held_reached types of d first from text (Some found) h = by_kind found.1.kind h.1 h.2 h.3 h.4
   where
-    by_kind : (kind : PartKind) → IsWithin types of (kinds_within types kind) (first + found.1.first) (from + found.1.part) (fits.parts_within types kind) → RecordHas (λ u. fits.is_record types u ≡ true) kind → IsSelectable kind → IsReached types (fits.selectors_kind types of (number_by kind (first + found.1.first))) (held_by kind (first + found.1.first) (from + found.1.part))
-    by_kind (part.Elementary kind) w r s = kind_is_behind types of (first + found.1.first) (from + found.1.part) 0 kind w
-    by_kind (part.Record t) w r s = (w, r)
-    by_kind part.Parent w r s = absurd s
+    by_kind : (kind : PartKind) → IsWithin types of (kinds_within types kind) (first + found.1.first) (from + found.1.part) (fits.parts_within types kind) → RecordHas (λ u. fits.is_record types u ≡ true) kind → IsSelectable kind → KindWalked types of kind (first + found.1.first) (from + found.1.part) → IsReached types (fits.selectors_kind types of (number_by kind (first + found.1.first))) (held_by kind (first + found.1.first) (from + found.1.part))
+    by_kind (part.Elementary kind) w r s walked = kind_is_behind types of (first + found.1.first) (from + found.1.part) 0 kind w
+    by_kind (part.Record t) w r s walked = (w, r, walked)
+    by_kind part.Parent w r s walked = absurd s
 
 -- `all`
 object_designated : (k : Known) (types : List TypeForm) (of : Option VariableKind) (spot : Spot) (t : TypeNo) (o : Option ℕ) → TypesFit types → Stays k.types types → of ≡ Some (variable.Access t) → designated_of k.types t.0 ≡ o → Quiet (complete_behind k spot o) → IsReached types of (object_in k o)

@@ -118,7 +118,7 @@ mutual
       let own = statements_fit inside ss d.ready d.own sound complete d.told in
       let handled = handlers_all_fit inside hs d.own.1 d.handled stays.sound stays.complete d.handlers_so in
       sequence_is inside d.known d.form
-      (sequence_fits_by at.0 d.own.1.0 d.handled.1.0 inside d.own.0 d.handled.0 order (begin_open at.0 start d.quiet)
+      (sequence_fits_by at.0 d.own.1.0 d.handled.1.0 inside d.own.0 d.handled.0 order (begin_open at.0 start d.quiet) (ended_sound at.0 w)
       (subst (λ (v : Known). Stays v d.own.1.0) d.ready_known stays) later
       (subst (λ (v : Known). AllFit v d.own.1.0 inside d.own.0) d.ready_known own) handled)
 
@@ -152,7 +152,7 @@ mutual
       let stays = statement_stays inside s at d.own w c d.told in
       let later = statements_stay inside ss d.own.1 d.others stays.sound stays.complete d.others_told in
       all_done inside (known_of d.behind) d.form
-      (more_fit at.0 d.own.1.0 d.others.1.0 inside d.own.0 d.others.0 later.grows
+      (more_fit at.0 d.own.1.0 d.others.1.0 inside d.own.0 d.others.0 stays.sound later.grows
       (statement_fit inside s at d.own w c d.told) (statements_fit inside ss d.own.1 d.others stays.sound stays.complete d.others_told))
 
   pub branches_all_fit : (inside : Bool) (bs : BranchesTree) (tail : Others) (at : At) (done : BranchesForm × At) → TailFits inside tail → OthersStay tail → Sound at.0 → Complete at.0 → branches_told inside bs tail at ≡ gives done → BranchesFit at.0 done.1.0 inside done.0
@@ -176,7 +176,7 @@ mutual
       subst (λ (x : ExpressionForm). has_type k.types k.variables Boolean x ≡ true) (sym d.condition.form)
       (condition_is k condition w.names d.condition.quiet) in
       branches_done inside (known_of d.behind) d.form
-      (branch_fits k m z inside d.begun.0 d.own.0 d.others.0 (type_later k z (grows_on k m z grows later.grows) Boolean d.begun.0 is) later.grows own
+      (branch_fits k m z inside d.begun.0 d.own.0 d.others.0 (type_later k z (grows_on k m z grows later.grows) Boolean d.begun.0 is) stays.sound later.grows own
       (branches_all_fit inside bs tail d.own.1 d.others f g stays.sound stays.complete d.others_told))
 
   pub handlers_all_fit : (inside : Bool) (hs : HandlersTree) (at : At) (done : HandlersForm × At) → Sound at.0 → Complete at.0 → handlers_told inside hs at ≡ gives done → HandledFit at.0 done.1.0 inside done.0
@@ -199,6 +199,6 @@ mutual
       let named : list_all (choice_fits k.exceptions) d.begun.0 ≡ true =
       subst (λ cs. list_all (choice_fits k.exceptions) cs ≡ true) (sym d.choices_are) (choices_are k choices w.exceptions) in
       handlers_done inside (known_of d.behind) d.form
-      (handler_fits k m z inside d.begun.0 d.own.0 d.others.0 (choices_later k z (grows_on k m z grows later.grows) d.begun.0 named)
-      (body_has inside spot ss d.begun.1 d.own d.quiet.0 d.told) later.grows own
+      (handler_fits k m z inside d.begun.0 d.own.0 d.others.0 (choices_later k z w (grows_on k m z grows later.grows) d.begun.0 named)
+      (body_has inside spot ss d.begun.1 d.own d.quiet.0 d.told) stays.sound later.grows own
       (handlers_all_fit inside hs d.own.1 d.others stays.sound stays.complete d.others_told))

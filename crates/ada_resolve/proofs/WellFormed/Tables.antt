@@ -11,7 +11,6 @@ use Rattle.ada_program.specs.declared.program.VariableKind.TheVariants as variab
 use Rattle.ada_program.specs.ProgramForm.{PartForm, TypeForm, record_of, access_to, object_of, VariableForm}
 use Rattle.ada_program.specs.WellFormed as fits
 use Rattle.ada_resolve.specs.Types.{is_designated}
-use Rattle.ada_resolve.proofs.WellFormed.Inherits.{type_stands}
 use Rattle.ada_resolve.proofs.WellFormed.Forms.{AreIn, bare, forms, same_at}
 
 -- both parts of a test
@@ -221,76 +220,60 @@ is_plain types (object_of t) = fits.is_record types t
 
 -- its controlled parts
 abbrev pub is_counted : List TypeForm → TypeForm → Bool
-is_counted types (record_of name ps cs final) =
-    fits.parent_first ps && fits.says_parts types final ps && fits.is_numbered_alone types final && fits.overrides_nothing final
+is_counted types (record_of name ps cs final) = fits.parent_first ps && fits.says_parts types final ps && fits.is_numbered_alone types final
 is_counted types (access_to name d pool) = true
 is_counted types (object_of t) = true
 
 -- both together
-pub type_both : (types : List TypeForm) (x : TypeForm) → is_plain types x ≡ true → is_counted types x ≡ true → type_stands types x ≡ true
+pub type_both : (types : List TypeForm) (x : TypeForm) → is_plain types x ≡ true → is_counted types x ≡ true → fits.type_fits types x ≡ true
 type_both types (record_of name ps cs final) e f =
     let kinds = list_all (fits.kind_fits types) cs in
     let first = fits.parent_first ps in
     let says : Bool = fits.says_parts types final ps in
     let alone : Bool = fits.is_numbered_alone types final in
-    let overrides : Bool = fits.overrides_nothing final in
-    let front = first_part (first && says && alone) overrides f in
-    let own = first_part (first && says) alone front in
-    both_parts (kinds && first && says && alone) overrides
-    (both_parts (kinds && first && says) alone
-    (both_parts (kinds && first) says (both_parts kinds first e (first_part first says own)) (second_part first says own)) (second_part (first && says) alone front))
-    (second_part (first && says && alone) overrides f)
+    let own = first_part (first && says) alone f in
+    both_parts (kinds && first && says) alone
+    (both_parts (kinds && first) says (both_parts kinds first e (first_part first says own)) (second_part first says own)) (second_part (first && says) alone f)
 type_both types (access_to name d pool) e f = e
 type_both types (object_of t) e f = e
 
-pub plain_of : (types : List TypeForm) (x : TypeForm) → type_stands types x ≡ true → is_plain types x ≡ true
+pub plain_of : (types : List TypeForm) (x : TypeForm) → fits.type_fits types x ≡ true → is_plain types x ≡ true
 plain_of types (record_of name ps cs final) e =
     let kinds = list_all (fits.kind_fits types) cs in
     let first = fits.parent_first ps in
     let says : Bool = fits.says_parts types final ps in
     let alone : Bool = fits.is_numbered_alone types final in
-    let front = first_part (kinds && first && says && alone) (fits.overrides_nothing final) e in
-    first_part kinds first (first_part (kinds && first) says (first_part (kinds && first && says) alone front))
+    first_part kinds first (first_part (kinds && first) says (first_part (kinds && first && says) alone e))
 plain_of types (access_to name d pool) e = e
 plain_of types (object_of t) e = e
 
-pub counted_of : (types : List TypeForm) (x : TypeForm) → type_stands types x ≡ true → is_counted types x ≡ true
+pub counted_of : (types : List TypeForm) (x : TypeForm) → fits.type_fits types x ≡ true → is_counted types x ≡ true
 counted_of types (record_of name ps cs final) e =
     let kinds = list_all (fits.kind_fits types) cs in
     let first = fits.parent_first ps in
     let says : Bool = fits.says_parts types final ps in
     let alone : Bool = fits.is_numbered_alone types final in
-    let overrides : Bool = fits.overrides_nothing final in
-    let numbered = first_part (kinds && first && says && alone) overrides e in
-    let front = first_part (kinds && first && says) alone numbered in
-    both_parts (first && says && alone) overrides
-    (both_parts (first && says) alone
+    let front = first_part (kinds && first && says) alone e in
+    both_parts (first && says) alone
     (both_parts first says (second_part kinds first (first_part (kinds && first) says front)) (second_part (kinds && first) says front))
-    (second_part (kinds && first && says) alone numbered))
-    (second_part (kinds && first && says && alone) overrides e)
+    (second_part (kinds && first && says) alone e)
 counted_of types (access_to name d pool) e = refl
 counted_of types (object_of t) e = refl
 
 -- what is counted of a record type, apart
 module _ (types : List TypeForm) (name : List ℕ) (ps : List PartForm) (cs : List ComponentKind) (final : Option Finalization) (e : is_counted types (record_of name ps cs final) ≡ true) where
-  numbered : (fits.parent_first ps && fits.says_parts types final ps && fits.is_numbered_alone types final) ≡ true
-  numbered = first_part (fits.parent_first ps && fits.says_parts types final ps && fits.is_numbered_alone types final) (fits.overrides_nothing final) e
-
   pub counted_first : fits.parent_first ps ≡ true
   counted_first =
       first_part (fits.parent_first ps) (fits.says_parts types final ps)
-      (first_part (fits.parent_first ps && fits.says_parts types final ps) (fits.is_numbered_alone types final) numbered)
+      (first_part (fits.parent_first ps && fits.says_parts types final ps) (fits.is_numbered_alone types final) e)
 
   pub counted_says : fits.says_parts types final ps ≡ true
   counted_says =
       second_part (fits.parent_first ps) (fits.says_parts types final ps)
-      (first_part (fits.parent_first ps && fits.says_parts types final ps) (fits.is_numbered_alone types final) numbered)
+      (first_part (fits.parent_first ps && fits.says_parts types final ps) (fits.is_numbered_alone types final) e)
 
   pub counted_alone : fits.is_numbered_alone types final ≡ true
-  counted_alone = second_part (fits.parent_first ps && fits.says_parts types final ps) (fits.is_numbered_alone types final) numbered
-
-  pub counted_overrides : fits.overrides_nothing final ≡ true
-  counted_overrides = second_part (fits.parent_first ps && fits.says_parts types final ps && fits.is_numbered_alone types final) (fits.overrides_nothing final) e
+  counted_alone = second_part (fits.parent_first ps && fits.says_parts types final ps) (fits.is_numbered_alone types final) e
 
 -- types that keep both kinds keep what is plain
 plain_kept : (types more : List TypeForm) → Keeps types more → ((t : ℕ) → fits.is_record types t ≡ true → fits.is_record more t ≡ true) → (x : TypeForm) → is_plain types x ≡ true → is_plain more x ≡ true

@@ -26,7 +26,6 @@ use Rattle.ada_resolve.specs.Paths.{elementary_of, elementary_in}
 use Rattle.ada_resolve.specs.Records.{kind_in, kind_of_component, kinds_within, Composition, no_components, component_meant, composed_with, composed, finalization_made}
 use Rattle.ada_resolve.specs.Derived.{parent_part, with_parent}
 use Rattle.ada_resolve.specs.Types.{record_in, record_found}
-use Rattle.ada_resolve.proofs.WellFormed.Inherits.{type_stands}
 use Rattle.ada_resolve.proofs.WellFormed.Remarks.{Quiet}
 use Rattle.ada_resolve.proofs.WellFormed.Numbered.{IsNext, SaysParts, order_last, first_last, made_next, made_overrides, made_says}
 use Rattle.ada_resolve.proofs.WellFormed.Tables.{both_parts, all_more, all_get, each_more, plain_of}
@@ -56,23 +55,23 @@ kinds_there : (k : Known) (text : List ℕ) (o : Option Entity) (initial : Optio
 kinds_there k text (Some e) initial w = kind_there k text e initial (w e refl)
 kinds_there k text None initial w = refl
 
-elementary_fit : (types : List TypeForm) (t : ℕ) → list_all (type_stands types) types ≡ true → list_all (fits.kind_fits types) (elementary_of types t) ≡ true
+elementary_fit : (types : List TypeForm) (t : ℕ) → list_all (fits.type_fits types) types ≡ true → list_all (fits.kind_fits types) (elementary_of types t) ≡ true
 unfolding elementary_of
 elementary_fit types t all = by_form (slice_get types t) refl
   where
     by_form : (o : Option TypeForm) → slice_get types t ≡ o → list_all (fits.kind_fits types) (elementary_in o) ≡ true
     by_form None is = refl
-    by_form (Some (record_of name ps cs final)) is = plain_of types (record_of name ps cs final) (all_get (type_stands types) types t (record_of name ps cs final) all is)
+    by_form (Some (record_of name ps cs final)) is = plain_of types (record_of name ps cs final) (all_get (fits.type_fits types) types t (record_of name ps cs final) all is)
     by_form (Some (access_to name d pool)) is = refl
     by_form (Some (object_of r)) is = refl
 
-within_fit : (types : List TypeForm) (kind : PartKind) → list_all (type_stands types) types ≡ true → list_all (fits.kind_fits types) (own_kinds kind) ≡ true → list_all (fits.kind_fits types) (kinds_within types kind) ≡ true
+within_fit : (types : List TypeForm) (kind : PartKind) → list_all (fits.type_fits types) types ≡ true → list_all (fits.kind_fits types) (own_kinds kind) ≡ true → list_all (fits.kind_fits types) (kinds_within types kind) ≡ true
 within_fit types (part.Elementary kind) all own = own
 within_fit types (part.Record t) all own = elementary_fit types t.0 all
 within_fit types part.Parent all own = refl
 
 -- what a record type is made of fits
-composed_fit : (k : Known) → PartsFit k.types k.variables (parts k) → list_all (type_stands k.types) k.types ≡ true → (before : Composition) (cs : List ComponentTree) → list_all (fits.kind_fits k.types) before.kinds ≡ true → list_all (fits.kind_fits k.types) (composed k before cs).kinds ≡ true
+composed_fit : (k : Known) → PartsFit k.types k.variables (parts k) → list_all (fits.type_fits k.types) k.types ≡ true → (before : Composition) (cs : List ComponentTree) → list_all (fits.kind_fits k.types) before.kinds ≡ true → list_all (fits.kind_fits k.types) (composed k before cs).kinds ≡ true
 composed_fit k w all before [] h = h
 composed_fit k w all before (c ∷ cs) h =
     composed_fit k w all (composed_with k before c) cs
@@ -166,14 +165,14 @@ pub made_laid : (k : Known) (name : List ℕ) (final : Option Finalization) (bef
 made_laid k name final before cs begun w =
     (composed_laid k before cs (begun_laid k.types before begun), made_has k (λ t. fits.is_record k.types t ≡ true) (record_visible k w) before cs begun)
 
-pub made_fit : (k : Known) (before : Composition) (cs : List ComponentTree) → IsBegun before → PartsFit k.types k.variables (parts k) → list_all (type_stands k.types) k.types ≡ true → list_all (fits.kind_fits k.types) (composed k before cs).kinds ≡ true
+pub made_fit : (k : Known) (before : Composition) (cs : List ComponentTree) → IsBegun before → PartsFit k.types k.variables (parts k) → list_all (fits.type_fits k.types) k.types ≡ true → list_all (fits.kind_fits k.types) (composed k before cs).kinds ≡ true
 made_fit k before cs begun w all = composed_fit k w all before cs (begun_kinds k.types before begun)
 
 pub made_order : (k : Known) (before : Composition) (cs : List ComponentTree) → IsBegun before → fits.parts_in_order k.types (composed k before cs).controlled 0 (composed k before cs).parts ≡ true
 made_order k before cs begun = composed_order k before cs (begun_order k.types before begun)
 
 -- and its controlled parts are those that it says
-pub made_counted : (k : Known) (before : Composition) (cs : List ComponentTree) → IsBegun before → list_all (type_stands k.types) k.types ≡ true → k.controlled ≡ fits.numbered_types k.types → SaysParts k.types (composed k before cs).parts (finalization_made k.controlled (composed k before cs))
+pub made_counted : (k : Known) (before : Composition) (cs : List ComponentTree) → IsBegun before → list_all (fits.type_fits k.types) k.types ≡ true → k.controlled ≡ fits.numbered_types k.types → SaysParts k.types (composed k before cs).parts (finalization_made k.controlled (composed k before cs))
 made_counted k before cs begun all next =
     let made = composed k before cs in (
       subst (λ (n : ℕ). IsNext n (finalization_made k.controlled made)) next (made_next k.controlled made),
