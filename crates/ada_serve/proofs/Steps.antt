@@ -4,7 +4,6 @@ use Rattle.std.proofs.Common.{◌≡◌, ◌⊎◌, inl, inr, ℕ, ℤ, zero, su
 use Rattle.std.specs.Prelude.{IfOk}
 use Rattle.std.proofs.lemmas.Grind.{flat_map-append}
 use Rattle.std.specs.Io.KnownBytes.{Appends}
-use Rattle.ada_program.specs.Controlled.{OverridesNothing}
 use Rattle.ada_program.specs.ProgramForm.{body_forms}
 use Rattle.ada_program.specs.declared.program.Program.{Program}
 use Rattle.ada_meaning.specs.declared.request.Request.{Request as Asked}
@@ -16,7 +15,8 @@ use Rattle.ada_meaning.specs.Step.{halts, moves, tells, asks, picks}
 use Rattle.ada_meaning.specs.Named.{State, Next, next}
 use Rattle.ada_meaning.specs.Run.{Event, Choice, settled, grants, takes, Leads, Step, Halts, first_state}
 use Rattle.ada_meaning.specs.Chosen.{begun_with, begun, goes_on}
-use Rattle.ada_meaning.specs.Ending.{weight, GoesOn, StepsMakeLighter, NothingIsCalled, StatesGoOn}
+use Rattle.ada_meaning.specs.Ending.{GoesOn, StatesGoOn}
+use Rattle.ada_meaning.specs.Pace.{OperationsDeclareNoParts, full_weight, StepsMakeFullyLighter}
 use Rattle.ada_interpreter.specs.declared.machine.Machine.{Machine}
 use Rattle.ada_interpreter.specs.CommonSteps.{GoesQuietly, stays, goes_on as goes_quietly_on}
 use Rattle.ada_interpreter.specs.Machine.{Answers, Makes, EndsRun, program_of, state_in}
@@ -151,15 +151,14 @@ by_step goes program trace numbers limit start statements s within later before 
 -- Each step of a program that begins no statement makes the state lighter.
 abbrev pub Lightens : Program → Type 0
 Lightens program =
-    (s : State) (choice : Choice) (event : Event) (after : State) → begins s ≡ false → Step program s choice event after → weight program.types.items after < weight program.types.items s
+    (s : State) (choice : Choice) (event : Event) (after : State) → begins s ≡ false → Step program s choice event after → full_weight program after < full_weight program s
 
--- So it is where no type overrides an operation: then none is called.
-pub steps_lighten : StepsMakeLighter → NothingIsCalled → (program : Program) → OverridesNothing program.types.items → Lightens program
-steps_lighten lighter nothing program inherits s choice event after b step =
-    lighter program s choice event after b (nothing program.types.items s inherits) step
+-- So it is where operations create no controlled parts in their declarations.
+pub steps_lighten : StepsMakeFullyLighter → (program : Program) → OperationsDeclareNoParts program.types.items (body_forms program) → Lightens program
+steps_lighten lighter program none s choice event after b step = lighter program s choice event after none b step
 
 -- So it goes on from each state if it does from each that begins a statement, since the steps before it make the state lighter.
-up_to_statement : StatesGoOn → (program : Program) → Lightens program → (trace : Bool) (numbers : List ℤ) (limit : ℕ) (start : Runner) (statements : ℕ) → statements ≤ limit → ((s : State) → begins s ≡ true → GoesOnFrom program trace numbers limit start statements s) → (n : ℕ) (s : State) (starts : Bool) → begins s ≡ starts → weight program.types.items s < n → GoesOnFrom program trace numbers limit start statements s
+up_to_statement : StatesGoOn → (program : Program) → Lightens program → (trace : Bool) (numbers : List ℤ) (limit : ℕ) (start : Runner) (statements : ℕ) → statements ≤ limit → ((s : State) → begins s ≡ true → GoesOnFrom program trace numbers limit start statements s) → (n : ℕ) (s : State) (starts : Bool) → begins s ≡ starts → full_weight program s < n → GoesOnFrom program trace numbers limit start statements s
 up_to_statement goes program lightens trace numbers limit start statements within at_statement n s true b lighter = at_statement s b
 up_to_statement goes program lightens trace numbers limit start statements within at_statement zero s false b lighter = absurd (omega (arith, lighter))
 up_to_statement goes program lightens trace numbers limit start statements within at_statement (suc n) s false b lighter =
@@ -171,11 +170,11 @@ goes_on_from : StatesGoOn → (program : Program) → Lightens program → (trac
 goes_on_from goes program lightens trace numbers limit start statements zero count s =
     up_to_statement goes program lightens trace numbers limit start statements (omega (arith, count)) (λ s b before runner run.
     let all : statements ≡ limit = omega (arith, count) in
-    record { tail = stopped_text limit; status = Stopped; is = stopped before runner s (subst (λ (n : ℕ). RunnerRun program start (first_state program numbers) n before runner s) all run) b refl refl }) (suc (weight program.types.items s)) s (begins s) refl (omega arith)
+    record { tail = stopped_text limit; status = Stopped; is = stopped before runner s (subst (λ (n : ℕ). RunnerRun program start (first_state program numbers) n before runner s) all run) b refl refl }) (suc (full_weight program s)) s (begins s) refl (omega arith)
 goes_on_from goes program lightens trace numbers limit start statements (suc left) count s =
     up_to_statement goes program lightens trace numbers limit start statements (omega (arith, count)) (λ s b.
     by_step goes program trace numbers limit start statements s (omega (arith, count)) (λ choice event mid step.
-    rw b (goes_on_from goes program lightens trace numbers limit start (statements + 1) left (omega (arith, count)) mid))) (suc (weight program.types.items s)) s (begins s) refl (omega arith)
+    rw b (goes_on_from goes program lightens trace numbers limit start (statements + 1) left (omega (arith, count)) mid))) (suc (full_weight program s)) s (begins s) refl (omega arith)
 
 -- Where a front of the lines of a run is written, a front of its whole text is.
 begins_run : StatesGoOn → (program : Program) → Lightens program → (trace : Bool) (numbers : List ℤ) (limit : ℕ) (start : Runner) (statements : ℕ) (runner : Runner) (s : State) (events : List Event) (front rest : List ℕ) (old new : Option (List ℕ)) → statements ≤ limit → RunnerRun program start (first_state program numbers) statements events runner s → lines_of program trace events ≡ front ++ rest → Appends old new front → Begins (HasRun program trace numbers limit start) old new

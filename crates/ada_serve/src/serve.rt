@@ -4,10 +4,11 @@ ghost use Rattle.std.specs.Prelude.{◌≡◌, ◌≢◌, ◌++◌, ◌-◌, tak
 ghost use Rattle.ada_interpreter.specs.Machine.{state_in, program_of, choices_of, halt_of};
 ghost use Rattle.ada_meaning.specs.declared.event.Halt.TheVariants.{Memory};
 ghost use Rattle.ada_meaning.specs.Event.{event_of};
+ghost use Rattle.ada_meaning.specs.Pace.{OperationsDeclareNoParts};
 ghost use Rattle.ada_meaning.specs.Safe.{Safe};
 ghost use Rattle.ada_meaning.specs.Run.{first_state};
 ghost use Rattle.ada_pools.specs.View.{runner_of};
-ghost use Rattle.ada_program.specs.Controlled.{OverridesNothing};
+ghost use Rattle.ada_program.specs.ProgramForm.{body_forms};
 ghost use Rattle.ada_serve.specs.Answer.{IsRefusal, IsProgramAnswer, GivesNumbers};
 ghost use Rattle.ada_serve.specs.Calls.{IsRead, IsKept, FaultReads, OnlyWrites, WriterEnds};
 ghost use Rattle.ada_serve.specs.Runner.{runner_before, end_text, status_of, event_text, TurnsOn, HasRun};
@@ -21,7 +22,7 @@ use crate::streams::{ByteReader, ByteWriter, Failed};
 use crate::texts::{put_event, put_refusal, put_stopped, put_unhandled};
 use ada_input::{InputFault, numbers};
 use ada_interpreter::Machine;
-use ada_meaning::laws::{states_go_on, steps_make_lighter};
+use ada_meaning::laws::{operations_grow_fewer, states_go_on};
 use ada_meaning::{Event, Halt};
 use ada_pools::{PoolChoices, name_pools};
 use ada_program::Program;
@@ -241,8 +242,9 @@ fn refuse<W: ByteWriter>(
     Ok(Status::Refused)
 }
 
-/// Runs a program whose types override no operation on these numbers, and writes its lines and how it ended. Its pools have
-/// the sizes that are asked for, one request for storage is refused, or none, and so many statements may begin.
+/// Runs a program on these numbers, and writes its lines and how it ended. The operations of its controlled types create no
+/// controlled parts before their first statements. Its pools have the sizes that are asked for, one request for storage is
+/// refused, or none, and so many statements may begin.
 fn run<W: ByteWriter>(
     alloc: Global,
     program: &Program,
@@ -250,7 +252,7 @@ fn run<W: ByteWriter>(
     options: &Options,
     out: &mut W,
 ) -> Result<Status, ServeFault>
-    requires inherits { OverridesNothing program.now.types.items }
+    requires operations { OperationsDeclareNoParts program.now.types.items (body_forms program.now) }
     ensures text { SaysFront (HasRun program.now options.now.trace numbers.items options.now.steps
         (runner_before program.now options.now)) (W.contents out.old) (W.contents out.new) result }
     ensures writer { OnlyWrites W.writes out.old out.new result }
@@ -278,12 +280,12 @@ fn take_turns<W: ByteWriter>(
     requires first { state_in machine.old ≡ first_state program.now (state_in machine.old).input }
     requires runs { halt_of machine.old ≡ None }
     requires same { program_of machine.old ≡ program.now }
-    requires inherits { OverridesNothing program.now.types.items }
+    requires operations { OperationsDeclareNoParts program.now.types.items (body_forms program.now) }
     ensures text { SaysFront (HasRun program.now options.now.trace (state_in machine.old).input options.now.steps
         (runner_of (choices_of machine.old))) (W.contents out.old) (W.contents out.new) result }
     ensures writer { OnlyWrites W.writes out.old out.new result }
 {
-    steps_make_lighter();
+    operations_grow_fewer();
     states_go_on();
     let mut left = options.steps;
     'statements: loop {

@@ -1,5 +1,6 @@
 -- A source has one program at most, one first fault at most, and never both.
-use Rattle.std.proofs.Common.{◌≡◌, ◌≢◌, ℕ, List, Option, None, Result, Ok, Err, IfErr, IsErrAnd, refl, sym, ap, subst, ◌∙◌}
+use Rattle.std.proofs.Common.{◌≡◌, ◌≢◌, ℕ, ◌||◌, ◌&&◌, ◌==◌, Bool, true, false, List, Option, Some, None, Result, Ok, Err, IfErr, IsErrAnd, arith, refl, sym, ap, subst, ◌∙◌}
+use Rattle.std.specs.Prelude.{nat_lt}
 use Rattle.ada_text.specs.declared.spot.Spot.{Spot}
 use Rattle.ada_text.specs.declared.fault.TextFault.{TextFault}
 use Rattle.ada_text.specs.declared.fault.TextFault.TheVariants as text
@@ -14,15 +15,22 @@ use Rattle.ada_flow.specs.Told.{judgement}
 use Rattle.ada_parser.specs.declared.fault.SyntaxFault.{SyntaxFault}
 use Rattle.ada_parser.specs.declared.fault.SyntaxFault.TheVariants as syntax
 use Rattle.ada_parser.specs.FirstFault.{IsFirstFault as IsFirstSyntaxFault}
+use Rattle.ada_operations.specs.declared.fault.OperationFault.{OperationFault}
+use Rattle.ada_operations.specs.declared.fault.OperationFault.TheVariants as operations
+use Rattle.ada_operations.specs.declared.rule.OperationRule.{OperationRule}
+use Rattle.ada_operations.specs.declared.rule.OperationRule.TheVariants.{FinalizeOrder, MayPropagate, FinalizeAllocates}
+use Rattle.ada_operations.specs.Operations.{HasFault, IsFirstFault as IsFirstOf, is_before, rule_number}
+use Rattle.ada_quiet.specs.First.{HasUnquiet, IsFirstUnquiet, stands_before}
 use Rattle.ada_resolve.specs.declared.fault.NameFault.{NameFault}
 use Rattle.ada_resolve.specs.declared.fault.NameFault.TheVariants as names
 use Rattle.ada_resolve.specs.declared.fault.NameRule.{NameRule}
 use Rattle.ada_resolve.specs.Resolution.{Told as NamesTold, broken, gives, resolution}
 use Rattle.ada_flow.specs.declared.fault.FlowFault.TheVariants as flow
+use Rattle.ada_verdict.specs.declared.fault.UnusedFault.TheVariants as unused
 use Rattle.ada_verdict.specs.declared.fault.Verdict.{Verdict}
 use Rattle.ada_verdict.specs.declared.fault.Verdict.TheVariants as verdict
-use Rattle.ada_verdict.specs.First.{IsSourceOf, IsProgramOf, IsAccepted, IsFirst, RefusesRightly, HasFaultOrProgram}
-use Rattle.ada_verdict.specs.Refusal.{Told, told, rule_text, refusal_of}
+use Rattle.ada_verdict.specs.First.{IsSourceOf, IsProgramOf, IsAccepted, IsFirstOfOperations, IsFirst, RefusesRightly, HasFaultOrProgram}
+use Rattle.ada_verdict.specs.Refusal.{Told, told, rule_text, operation_text, refusal_of}
 
 -- The laws of the crates below.
 abbrev pub OneTokens : Type 0
@@ -127,14 +135,115 @@ no_names : {X : Type 0} → OneTokens → OneTree → (source : List ℕ) (spot 
 no_names tokens tree source spot rule p a b =
     gives_none spot rule (program_form p) (sym a.2 ∙ one_resolution tokens tree source a.0 b.tree a.1 b.text ∙ b.resolved)
 
+-- Which verdicts come of phases behind the program of a source.
+abbrev is_late : Verdict → Bool
+is_late (verdict.Text f) = false
+is_late (verdict.Syntax f) = false
+is_late (verdict.Names f) = false
+is_late (verdict.Operations f) = true
+is_late (verdict.Unused f) = true
+is_late (verdict.Flow f) = true
+
+-- Where there is a program, no earlier phase has a fault.
+no_early : OneTokens → NoTextFault → OneTree → NoSyntaxFault → (source : List ℕ) (v : Verdict) → is_late v ≡ false → IsFirst source v → (p : Program) → IsProgramOf source p → refusal_of v ≡ None
+no_early tokens text tree syntax source (verdict.Text f) early b p a = no_text f (text source a.text.tokens f a.text.spelled b)
+no_early tokens text tree syntax source (verdict.Syntax f) early b p a = no_syntax f (no_fault tokens syntax source a.tree f a.text b)
+no_early tokens text tree syntax source (verdict.Names (names.Broken spot rule)) early b p a = no_names tokens tree source spot rule p b a
+no_early tokens text tree syntax source (verdict.Names names.NoMemory) early b p a = refl
+no_early tokens text tree syntax source (verdict.Operations f) early b p a = absurd (cc early)
+no_early tokens text tree syntax source (verdict.Unused f) early b p a = absurd (cc early)
+no_early tokens text tree syntax source (verdict.Flow f) early b p a = absurd (cc early)
+
+-- A later phase begins with a program.
+late_program : (source : List ℕ) (v : Verdict) → is_late v ≡ true → IsFirst source v → (p : Program) × IsProgramOf source p
+late_program source (verdict.Text f) late a = absurd (cc late)
+late_program source (verdict.Syntax f) late a = absurd (cc late)
+late_program source (verdict.Names f) late a = absurd (cc late)
+late_program source (verdict.Operations f) late a = (a.0, a.1)
+late_program source (verdict.Unused f) late a = (a.0, a.1)
+late_program source (verdict.Flow f) late a = (a.0, a.1)
+
+-- Operations that are fine have no fault.
+no_broken : {X : Type 0} (p q : ProgramForm) (spot : Spot) (rule : OperationRule) → p ≡ q → IsFirstOf p (Some (spot, rule)) → IsFirstOf q None → X
+no_broken p q spot rule same breaks fine = absurd (fine (spot, rule) (subst (λ (form : ProgramForm). HasFault form (spot, rule)) same breaks.0))
+
+no_unused : {X : Type 0} (p q : ProgramForm) (spot : Spot) → p ≡ q → IsFirstUnquiet p (Some spot) → IsFirstUnquiet q None → X
+no_unused p q spot same left fine = absurd (fine spot (subst (λ (form : ProgramForm). HasUnquiet form spot) same left.0))
+
+neither : (a b : Bool) → (a || b) ≡ false → (a ≡ false) × (b ≡ false)
+neither false b h = (refl, h)
+neither true b h = absurd (cc h)
+
+same_number : (a b : ℕ) → nat_lt a b ≡ false → nat_lt b a ≡ false → a ≡ b
+same_number a b h g = grind (arith, h, g)
+
+same_then : (a b : ℕ) (x : Bool) → a ≡ b → ((a == b) && x) ≡ false → x ≡ false
+same_then a b true e h = grind (arith, e, h)
+same_then a b false e h = refl
+
+-- Places that do not stand before each other are one place.
+same_place : (l m c d : ℕ) → (nat_lt l m || ((l == m) && nat_lt c d)) ≡ false → (nat_lt m l || ((m == l) && nat_lt d c)) ≡ false → (l ≡ m) × (c ≡ d)
+same_place l m c d before behind =
+    let one = neither (nat_lt l m) ((l == m) && nat_lt c d) before in
+    let two = neither (nat_lt m l) ((m == l) && nat_lt d c) behind in
+    let line = same_number l m one.0 two.0 in
+    (line, same_number c d (same_then l m (nat_lt c d) line one.1) (same_then m l (nat_lt d c) (sym line) two.1))
+
+-- So it is with rules at places.
+same_rule : (l m c d r s : ℕ) → (nat_lt l m || ((l == m) && (nat_lt c d || ((c == d) && nat_lt r s)))) ≡ false
+    → (nat_lt m l || ((m == l) && (nat_lt d c || ((d == c) && nat_lt s r)))) ≡ false → (l ≡ m) × (c ≡ d) × (r ≡ s)
+same_rule l m c d r s before behind =
+    let one = neither (nat_lt l m) ((l == m) && (nat_lt c d || ((c == d) && nat_lt r s))) before in
+    let two = neither (nat_lt m l) ((m == l) && (nat_lt d c || ((d == c) && nat_lt s r))) behind in
+    let line = same_number l m one.0 two.0 in
+    let column = same_place c d r s
+    (same_then l m (nat_lt c d || ((c == d) && nat_lt r s)) line one.1) (same_then m l (nat_lt d c || ((d == c) && nat_lt s r)) (sym line) two.1) in
+    (line, column.0, column.1)
+
+-- A rule is known by its number.
+one_rule : (rule another : OperationRule) → rule_number rule ≡ rule_number another → rule ≡ another
+one_rule FinalizeOrder FinalizeOrder e = refl
+one_rule MayPropagate MayPropagate e = refl
+one_rule FinalizeAllocates FinalizeAllocates e = refl
+one_rule FinalizeOrder MayPropagate e = absurd (omega (arith, e))
+one_rule FinalizeOrder FinalizeAllocates e = absurd (omega (arith, e))
+one_rule MayPropagate FinalizeOrder e = absurd (omega (arith, e))
+one_rule MayPropagate FinalizeAllocates e = absurd (omega (arith, e))
+one_rule FinalizeAllocates FinalizeOrder e = absurd (omega (arith, e))
+one_rule FinalizeAllocates MayPropagate e = absurd (omega (arith, e))
+
+-- One first fault of operations.
+one_operation : (p q : ProgramForm) (spot other : Spot) (rule another : OperationRule) → p ≡ q → IsFirstOf p (Some (spot, rule)) → IsFirstOf q (Some (other, another))
+    → refusal_of (verdict.Operations (operations.Broken spot rule)) ≡ refusal_of (verdict.Operations (operations.Broken other another))
+one_operation p q spot other rule another same a b =
+    let moved : HasFault p (other, another) = subst (λ (form : ProgramForm). HasFault form (other, another)) (sym same) b.0 in
+    let back : HasFault q (spot, rule) = subst (λ (form : ProgramForm). HasFault form (spot, rule)) same a.0 in
+    let one = same_rule other.line spot.line other.column spot.column (rule_number another) (rule_number rule) (a.1 (other, another) moved) (b.1 (spot, rule) back) in
+    let is = one_rule another rule one.2 in
+    rw (one.0, one.1, is) refl
+
+-- One first operation that is not in use.
+one_unused : (p q : ProgramForm) (spot other : Spot) → p ≡ q → IsFirstUnquiet p (Some spot) → IsFirstUnquiet q (Some other)
+    → refusal_of (verdict.Unused (unused.Operation spot)) ≡ refusal_of (verdict.Unused (unused.Operation other))
+one_unused p q spot other same a b =
+    let moved : HasUnquiet p other = subst (λ (form : ProgramForm). HasUnquiet form other) (sym same) b.0 in
+    let back : HasUnquiet q spot = subst (λ (form : ProgramForm). HasUnquiet form spot) same a.0 in
+    let one = same_place other.line spot.line other.column spot.column (a.1 other moved) (b.1 spot back) in
+    rw (one.0, one.1) refl
+
 -- Where the rules are obeyed, there is no fault.
 pub no_first : OneTokens → NoTextFault → OneTree → NoSyntaxFault → (source : List ℕ) (v : Verdict) → IsFirst source v → (p : Program) → IsAccepted source p → refusal_of v ≡ None
-no_first tokens text tree syntax source (verdict.Text f) b p a = no_text f (text source a.0.text.tokens f a.0.text.spelled b)
-no_first tokens text tree syntax source (verdict.Syntax f) b p a = no_syntax f (no_fault tokens syntax source a.0.tree f a.0.text b)
-no_first tokens text tree syntax source (verdict.Names (names.Broken spot rule)) b p a = no_names tokens tree source spot rule p b a.0
-no_first tokens text tree syntax source (verdict.Names names.NoMemory) b p a = refl
+no_first tokens text tree syntax source (verdict.Text f) b p a = no_early tokens text tree syntax source (verdict.Text f) refl b p a.0
+no_first tokens text tree syntax source (verdict.Syntax f) b p a = no_early tokens text tree syntax source (verdict.Syntax f) refl b p a.0
+no_first tokens text tree syntax source (verdict.Names f) b p a = no_early tokens text tree syntax source (verdict.Names f) refl b p a.0
+no_first tokens text tree syntax source (verdict.Operations (operations.Broken spot rule)) b p a =
+    no_broken (program_form b.0) (program_form p) spot rule (one_program tokens tree source b.0 p b.1 a.0) b.2 a.1.0
+no_first tokens text tree syntax source (verdict.Operations operations.NoMemory) b p a = refl
+no_first tokens text tree syntax source (verdict.Unused (unused.Operation spot)) b p a =
+    no_unused (program_form b.0) (program_form p) spot (one_program tokens tree source b.0 p b.1 a.0) b.3 a.1.1
+no_first tokens text tree syntax source (verdict.Unused unused.NoMemory) b p a = refl
 no_first tokens text tree syntax source (verdict.Flow (flow.Broken spot rule)) b p a =
-    obeys_none p spot rule (same_judgement p b.0 (one_program tokens tree source p b.0 a.0 b.1) ∙ b.2) a.1
+    obeys_none p spot rule (same_judgement p b.0 (one_program tokens tree source p b.0 a.0 b.1) ∙ b.3) a.2
 no_first tokens text tree syntax source (verdict.Flow flow.NoMemory) b p a = refl
 
 -- One first fault: what each phase's fault says of the later phases.
@@ -145,31 +254,83 @@ text_first text source ts f s a n = absurd (n (no_text f (text source ts f s a))
 syntax_first : {X : Type 0} → OneTokens → NoSyntaxFault → (source : List ℕ) (t : UnitTree) (f : SyntaxFault) → IsSourceOf source t → IsFirstOfSyntax source f → refusal_of (verdict.Syntax f) ≢ None → X
 syntax_first tokens syntax source t f a b n = absurd (n (no_syntax f (no_fault tokens syntax source t f a b)))
 
-pub one_first : OneTokens → OneTextFault → NoTextFault → OneTree → OneSyntaxFault → NoSyntaxFault → (source : List ℕ) (v w : Verdict) → IsFirst source v → IsFirst source w → refusal_of v ≢ None → refusal_of w ≢ None → refusal_of v ≡ refusal_of w
-one_first tokens text no_text_fault tree syntax no_syntax_fault source (verdict.Text f) (verdict.Text g) a b n m =
+-- Two of them tell one.
+abbrev TellOne : Verdict → Verdict → Type 0
+TellOne v w = refusal_of v ≢ None → refusal_of w ≢ None → refusal_of v ≡ refusal_of w
+
+-- Up to the program.
+early_one : OneTokens → OneTextFault → NoTextFault → OneTree → OneSyntaxFault → NoSyntaxFault → (source : List ℕ) (v w : Verdict) → is_late v ≡ false → is_late w ≡ false → IsFirst source v → IsFirst source w → TellOne v w
+early_one tokens text no_text_fault tree syntax no_syntax_fault source (verdict.Text f) (verdict.Text g) x y a b n m =
     ap (λ (h : TextFault). refusal_of (verdict.Text h)) (text source f g a b (λ e. n (no_text f e)) (λ e. m (no_text g e)))
-one_first tokens text no_text_fault tree syntax no_syntax_fault source (verdict.Text f) (verdict.Syntax g) a b n m = text_first no_text_fault source b.0 f b.1 a n
-one_first tokens text no_text_fault tree syntax no_syntax_fault source (verdict.Text f) (verdict.Names (names.Broken spot rule)) a b n m = text_first no_text_fault source b.1.tokens f b.1.spelled a n
-one_first tokens text no_text_fault tree syntax no_syntax_fault source (verdict.Text f) (verdict.Flow (flow.Broken spot rule)) a b n m = text_first no_text_fault source b.1.text.tokens f b.1.text.spelled a n
-one_first tokens text no_text_fault tree syntax no_syntax_fault source (verdict.Syntax f) (verdict.Text g) a b n m = text_first no_text_fault source a.0 g a.1 b m
-one_first tokens text no_text_fault tree syntax no_syntax_fault source (verdict.Syntax f) (verdict.Syntax g) a b n m =
+early_one tokens text no_text_fault tree syntax no_syntax_fault source (verdict.Text f) (verdict.Syntax g) x y a b n m = text_first no_text_fault source b.0 f b.1 a n
+early_one tokens text no_text_fault tree syntax no_syntax_fault source (verdict.Text f) (verdict.Names (names.Broken spot rule)) x y a b n m = text_first no_text_fault source b.1.tokens f b.1.spelled a n
+early_one tokens text no_text_fault tree syntax no_syntax_fault source (verdict.Syntax f) (verdict.Text g) x y a b n m = text_first no_text_fault source a.0 g a.1 b m
+early_one tokens text no_text_fault tree syntax no_syntax_fault source (verdict.Syntax f) (verdict.Syntax g) x y a b n m =
     ap (λ (h : SyntaxFault). refusal_of (verdict.Syntax h)) (syntax b.0 f g (subst (λ (ts : List Lexeme). IsFirstSyntaxFault ts f) (tokens source a.0 b.0 a.1 b.1) a.2) b.2 (λ e. n (no_syntax f e)) (λ e. m (no_syntax g e)))
-one_first tokens text no_text_fault tree syntax no_syntax_fault source (verdict.Syntax f) (verdict.Names (names.Broken spot rule)) a b n m = syntax_first tokens no_syntax_fault source b.0 f b.1 a n
-one_first tokens text no_text_fault tree syntax no_syntax_fault source (verdict.Syntax f) (verdict.Flow (flow.Broken spot rule)) a b n m = syntax_first tokens no_syntax_fault source b.1.tree f b.1.text a n
-one_first tokens text no_text_fault tree syntax no_syntax_fault source (verdict.Names (names.Broken spot rule)) (verdict.Text g) a b n m = text_first no_text_fault source a.1.tokens g a.1.spelled b m
-one_first tokens text no_text_fault tree syntax no_syntax_fault source (verdict.Names (names.Broken spot rule)) (verdict.Syntax g) a b n m = syntax_first tokens no_syntax_fault source a.0 g a.1 b m
-one_first tokens text no_text_fault tree syntax no_syntax_fault source (verdict.Names (names.Broken spot rule)) (verdict.Names (names.Broken other another)) a b n m =
+early_one tokens text no_text_fault tree syntax no_syntax_fault source (verdict.Syntax f) (verdict.Names (names.Broken spot rule)) x y a b n m = syntax_first tokens no_syntax_fault source b.0 f b.1 a n
+early_one tokens text no_text_fault tree syntax no_syntax_fault source (verdict.Names (names.Broken spot rule)) (verdict.Text g) x y a b n m = text_first no_text_fault source a.1.tokens g a.1.spelled b m
+early_one tokens text no_text_fault tree syntax no_syntax_fault source (verdict.Names (names.Broken spot rule)) (verdict.Syntax g) x y a b n m = syntax_first tokens no_syntax_fault source a.0 g a.1 b m
+early_one tokens text no_text_fault tree syntax no_syntax_fault source (verdict.Names (names.Broken spot rule)) (verdict.Names (names.Broken other another)) x y a b n m =
     broken_one spot other rule another (sym a.2 ∙ one_resolution tokens tree source a.0 b.0 a.1 b.1 ∙ b.2)
-one_first tokens text no_text_fault tree syntax no_syntax_fault source (verdict.Names (names.Broken spot rule)) (verdict.Flow (flow.Broken other another)) a b n m = no_names tokens tree source spot rule b.0 a b.1
-one_first tokens text no_text_fault tree syntax no_syntax_fault source (verdict.Flow (flow.Broken spot rule)) (verdict.Text g) a b n m = text_first no_text_fault source a.1.text.tokens g a.1.text.spelled b m
-one_first tokens text no_text_fault tree syntax no_syntax_fault source (verdict.Flow (flow.Broken spot rule)) (verdict.Syntax g) a b n m = syntax_first tokens no_syntax_fault source a.1.tree g a.1.text b m
-one_first tokens text no_text_fault tree syntax no_syntax_fault source (verdict.Flow (flow.Broken spot rule)) (verdict.Names (names.Broken other another)) a b n m = no_names tokens tree source other another a.0 b a.1
-one_first tokens text no_text_fault tree syntax no_syntax_fault source (verdict.Flow (flow.Broken spot rule)) (verdict.Flow (flow.Broken other another)) a b n m =
-    breach_one spot other rule another (sym a.2 ∙ same_judgement a.0 b.0 (one_program tokens tree source a.0 b.0 a.1 b.1) ∙ b.2)
-one_first tokens text no_text_fault tree syntax no_syntax_fault source v (verdict.Names names.NoMemory) a b n m = absurd (m refl)
-one_first tokens text no_text_fault tree syntax no_syntax_fault source v (verdict.Flow flow.NoMemory) a b n m = absurd (m refl)
-one_first tokens text no_text_fault tree syntax no_syntax_fault source (verdict.Names names.NoMemory) w a b n m = absurd (n refl)
-one_first tokens text no_text_fault tree syntax no_syntax_fault source (verdict.Flow flow.NoMemory) w a b n m = absurd (n refl)
+early_one tokens text no_text_fault tree syntax no_syntax_fault source v (verdict.Names names.NoMemory) x y a b n m = absurd (m refl)
+early_one tokens text no_text_fault tree syntax no_syntax_fault source (verdict.Names names.NoMemory) w x y a b n m = absurd (n refl)
+early_one tokens text no_text_fault tree syntax no_syntax_fault source (verdict.Operations f) w x y a b n m = absurd (cc x)
+early_one tokens text no_text_fault tree syntax no_syntax_fault source (verdict.Unused f) w x y a b n m = absurd (cc x)
+early_one tokens text no_text_fault tree syntax no_syntax_fault source (verdict.Flow f) w x y a b n m = absurd (cc x)
+early_one tokens text no_text_fault tree syntax no_syntax_fault source v (verdict.Operations f) x y a b n m = absurd (cc y)
+early_one tokens text no_text_fault tree syntax no_syntax_fault source v (verdict.Unused f) x y a b n m = absurd (cc y)
+early_one tokens text no_text_fault tree syntax no_syntax_fault source v (verdict.Flow f) x y a b n m = absurd (cc y)
+
+-- Behind it, of two programs with one form.
+late_one : OneTokens → OneTree → (source : List ℕ) (v w : Verdict) → is_late v ≡ true → is_late w ≡ true → IsFirst source v → IsFirst source w → TellOne v w
+late_one tokens tree source (verdict.Operations (operations.Broken spot rule)) (verdict.Operations (operations.Broken other another)) x y a b n m =
+    one_operation (program_form a.0) (program_form b.0) spot other rule another (one_program tokens tree source a.0 b.0 a.1 b.1) a.2 b.2
+late_one tokens tree source (verdict.Operations (operations.Broken spot rule)) (verdict.Unused g) x y a b n m =
+    no_broken (program_form a.0) (program_form b.0) spot rule (one_program tokens tree source a.0 b.0 a.1 b.1) a.2 b.2
+late_one tokens tree source (verdict.Operations (operations.Broken spot rule)) (verdict.Flow g) x y a b n m =
+    no_broken (program_form a.0) (program_form b.0) spot rule (one_program tokens tree source a.0 b.0 a.1 b.1) a.2 b.2.0
+late_one tokens tree source (verdict.Unused f) (verdict.Operations (operations.Broken spot rule)) x y a b n m =
+    no_broken (program_form b.0) (program_form a.0) spot rule (one_program tokens tree source b.0 a.0 b.1 a.1) b.2 a.2
+late_one tokens tree source (verdict.Unused (unused.Operation spot)) (verdict.Unused (unused.Operation other)) x y a b n m =
+    one_unused (program_form a.0) (program_form b.0) spot other (one_program tokens tree source a.0 b.0 a.1 b.1) a.3 b.3
+late_one tokens tree source (verdict.Unused (unused.Operation spot)) (verdict.Flow g) x y a b n m =
+    no_unused (program_form a.0) (program_form b.0) spot (one_program tokens tree source a.0 b.0 a.1 b.1) a.3 b.2.1
+late_one tokens tree source (verdict.Flow f) (verdict.Operations (operations.Broken spot rule)) x y a b n m =
+    no_broken (program_form b.0) (program_form a.0) spot rule (one_program tokens tree source b.0 a.0 b.1 a.1) b.2 a.2.0
+late_one tokens tree source (verdict.Flow f) (verdict.Unused (unused.Operation spot)) x y a b n m =
+    no_unused (program_form b.0) (program_form a.0) spot (one_program tokens tree source b.0 a.0 b.1 a.1) b.3 a.2.1
+late_one tokens tree source (verdict.Flow (flow.Broken spot rule)) (verdict.Flow (flow.Broken other another)) x y a b n m =
+    breach_one spot other rule another (sym a.3 ∙ same_judgement a.0 b.0 (one_program tokens tree source a.0 b.0 a.1 b.1) ∙ b.3)
+late_one tokens tree source v (verdict.Operations operations.NoMemory) x y a b n m = absurd (m refl)
+late_one tokens tree source (verdict.Operations operations.NoMemory) w x y a b n m = absurd (n refl)
+late_one tokens tree source v (verdict.Unused unused.NoMemory) x y a b n m = absurd (m refl)
+late_one tokens tree source (verdict.Unused unused.NoMemory) w x y a b n m = absurd (n refl)
+late_one tokens tree source v (verdict.Flow flow.NoMemory) x y a b n m = absurd (m refl)
+late_one tokens tree source (verdict.Flow flow.NoMemory) w x y a b n m = absurd (n refl)
+late_one tokens tree source (verdict.Text f) w x y a b n m = absurd (cc x)
+late_one tokens tree source (verdict.Syntax f) w x y a b n m = absurd (cc x)
+late_one tokens tree source (verdict.Names f) w x y a b n m = absurd (cc x)
+late_one tokens tree source v (verdict.Text f) x y a b n m = absurd (cc y)
+late_one tokens tree source v (verdict.Syntax f) x y a b n m = absurd (cc y)
+late_one tokens tree source v (verdict.Names f) x y a b n m = absurd (cc y)
+
+pub one_first : OneTokens → OneTextFault → NoTextFault → OneTree → OneSyntaxFault → NoSyntaxFault → (source : List ℕ) (v w : Verdict) → IsFirst source v → IsFirst source w → TellOne v w
+one_first tokens text no_text_fault tree syntax no_syntax_fault source v w a b n m = go (is_late v) (is_late w) refl refl
+  where
+    go : (x y : Bool) → is_late v ≡ x → is_late w ≡ y → refusal_of v ≡ refusal_of w
+    go false false early other = early_one tokens text no_text_fault tree syntax no_syntax_fault source v w early other a b n m
+    go false true early late = let p = late_program source w late b in absurd (n (no_early tokens no_text_fault tree no_syntax_fault source v early a p.0 p.1))
+    go true false late early = let p = late_program source v late a in absurd (m (no_early tokens no_text_fault tree no_syntax_fault source w early b p.0 p.1))
+    go true true late other = late_one tokens tree source v w late other a b n m
+
+-- The first fault of the operations of the program of a source is the source's.
+pub operations_first : (source : List ℕ) (p : Program) (v : Verdict) → IsProgramOf source p → IsFirstOfOperations p v → IsFirst source v
+operations_first source p (verdict.Text f) meant first = absurd first
+operations_first source p (verdict.Syntax f) meant first = absurd first
+operations_first source p (verdict.Names f) meant first = absurd first
+operations_first source p (verdict.Operations f) meant first = (p, meant, first)
+operations_first source p (verdict.Unused f) meant first = (p, meant, first.0, first.1)
+operations_first source p (verdict.Flow f) meant first = absurd first
 
 -- A fault that is passed on is the first one of the source where it was the first one of its phase.
 pub first_told : {A : Type 0} (source : List ℕ) (v : Verdict) (r : Result A Verdict) → IsFirst source v → IsErrAnd r (λ w. w ≡ v) → IfErr r (λ w. IsFirst source w)

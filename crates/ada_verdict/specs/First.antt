@@ -1,16 +1,22 @@
--- The program of a source, and its first fault: the phases are text, syntax, names and flow.
+-- The program of a source, and its first fault: the phases are text, syntax, names, operations of controlled types and flow.
 
-use Rattle.std.specs.Prelude.{◌≡◌, ◌≢◌, ℕ, List, None}
+use Rattle.std.specs.Prelude.{◌≡◌, ◌≢◌, ℕ, List, Some, None}
 use Rattle.ada_text.specs.Token.{Lexeme}
 use Rattle.ada_text.specs.Reading.{Spells, IsFirstFault as IsFirstTextFault}
 use Rattle.ada_tree.specs.Statements.{UnitTree, IsTextOf}
 use Rattle.ada_parser.specs.FirstFault.{IsFirstFault as IsFirstSyntaxFault}
 use Rattle.ada_program.specs.declared.program.Program.{Program}
 use Rattle.ada_program.specs.ProgramForm.{program_form}
+use Rattle.ada_operations.specs.declared.fault.OperationFault.{OperationFault}
+use Rattle.ada_operations.specs.declared.fault.OperationFault.TheVariants as operations
+use Rattle.ada_operations.specs.Operations.{IsFirstFault as IsFirstOf}
+use Rattle.ada_quiet.specs.First.{IsFirstUnquiet}
 use Rattle.ada_resolve.specs.Resolution.{Resolves}
 use Rattle.ada_resolve.specs.View.{Faults}
 use Rattle.ada_flow.specs.Flow.{ObeysRules}
 use Rattle.ada_flow.specs.Told.{IsFirstFault as IsFirstFlowFault}
+use Rattle.ada_verdict.specs.declared.fault.UnusedFault.{UnusedFault}
+use Rattle.ada_verdict.specs.declared.fault.UnusedFault.TheVariants as unused
 use Rattle.ada_verdict.specs.declared.fault.Verdict.{Verdict}
 use Rattle.ada_verdict.specs.declared.fault.Verdict.TheVariants as verdict
 use Rattle.ada_verdict.specs.Refusal.{refusal_of}
@@ -27,16 +33,49 @@ pub record IsProgramOf (source : List ℕ) (program : Program) : Type 0 where
   pub text : IsSourceOf source tree
   pub resolved : Resolves tree (program_form program)
 
--- The program is that of the source, and obeys the rules.
+-- No operation of a controlled type breaks a rule on what it may do (7.6.1).
+abbrev pub OperationsObey : Program → Type 0
+OperationsObey program = IsFirstOf (program_form program) None
+
+-- Each operation is in use: none begins that is not quiet.
+abbrev pub OperationsAreInUse : Program → Type 0
+OperationsAreInUse program = IsFirstUnquiet (program_form program) None
+
+-- Nothing is wrong with the operations of a program.
+abbrev pub HasFineOperations : Program → Type 0
+HasFineOperations program = OperationsObey program × OperationsAreInUse program
+
+-- The program is that of the source, its operations are fine, and it obeys the rules of flow.
 abbrev pub IsAccepted : List ℕ → Program → Type 0
-IsAccepted source program = IsProgramOf source program × ObeysRules program
+IsAccepted source program = IsProgramOf source program × HasFineOperations program × ObeysRules program
+
+-- The first fault of the operations of a program.
+abbrev pub IsFirstBroken : Program → OperationFault → Type 0
+IsFirstBroken program (operations.Broken spot rule) = IsFirstOf (program_form program) (Some (spot, rule))
+IsFirstBroken program operations.NoMemory = Unit {0}
+
+-- The first operation that is not in use.
+abbrev pub IsFirstUnused : Program → UnusedFault → Type 0
+IsFirstUnused program (unused.Operation spot) = IsFirstUnquiet (program_form program) (Some spot)
+IsFirstUnused program unused.NoMemory = Unit {0}
+
+-- The first fault of the phase of operations: that of a rule, and where none is broken an operation that is not in use.
+abbrev pub IsFirstOfOperations : Program → Verdict → Type 0
+IsFirstOfOperations program (verdict.Text fault) = ⊥
+IsFirstOfOperations program (verdict.Syntax fault) = ⊥
+IsFirstOfOperations program (verdict.Names fault) = ⊥
+IsFirstOfOperations program (verdict.Operations fault) = IsFirstBroken program fault
+IsFirstOfOperations program (verdict.Unused fault) = OperationsObey program × IsFirstUnused program fault
+IsFirstOfOperations program (verdict.Flow fault) = ⊥
 
 -- The first fault of a source: that of the first phase that has one, of what that phase begins with. Want of memory is no fault of a source.
 abbrev pub IsFirst : List ℕ → Verdict → Type 0
 IsFirst source (verdict.Text fault) = IsFirstTextFault source fault
 IsFirst source (verdict.Syntax fault) = (tokens : List Lexeme) × Spells source tokens × IsFirstSyntaxFault tokens fault
 IsFirst source (verdict.Names fault) = (tree : UnitTree) × IsSourceOf source tree × Faults fault tree
-IsFirst source (verdict.Flow fault) = (program : Program) × IsProgramOf source program × IsFirstFlowFault program fault
+IsFirst source (verdict.Operations fault) = (program : Program) × IsProgramOf source program × IsFirstBroken program fault
+IsFirst source (verdict.Unused fault) = (program : Program) × IsProgramOf source program × OperationsObey program × IsFirstUnused program fault
+IsFirst source (verdict.Flow fault) = (program : Program) × IsProgramOf source program × HasFineOperations program × IsFirstFlowFault program fault
 
 -- The source could not be accepted, or memory ran out.
 abbrev pub RefusesRightly : List ℕ → Verdict → Type 0

@@ -7,11 +7,16 @@ use Rattle.ada_text.specs.declared.spot.Spot.{Spot}
 use Rattle.ada_flow.specs.declared.rule.Rule.{Rule}
 use Rattle.ada_flow.specs.declared.rule.Rule.TheVariants as rule
 use Rattle.ada_flow.specs.declared.fault.FlowFault.TheVariants as flow
+use Rattle.ada_operations.specs.declared.fault.OperationFault.{OperationFault}
+use Rattle.ada_operations.specs.declared.fault.OperationFault.TheVariants as operations
+use Rattle.ada_operations.specs.declared.rule.OperationRule.{OperationRule}
+use Rattle.ada_operations.specs.declared.rule.OperationRule.TheVariants as operation
 use Rattle.ada_resolve.specs.declared.fault.NameFault.TheVariants as names
 use Rattle.ada_resolve.specs.declared.fault.NameRule.{NameRule}
 use Rattle.ada_resolve.specs.declared.fault.NameRule.TheVariants as name
 use Rattle.ada_parser.specs.declared.fault.SyntaxFault.{SyntaxFault}
 use Rattle.ada_parser.specs.declared.fault.SyntaxFault.TheVariants as syntax
+use Rattle.ada_verdict.specs.declared.fault.UnusedFault.TheVariants as unused
 use Rattle.ada_verdict.specs.declared.fault.Verdict.{Verdict}
 use Rattle.ada_verdict.specs.declared.fault.Verdict.TheVariants as verdict
 use Rattle.ada_verdict.specs.declared.rules.TheConstants as rules
@@ -53,6 +58,17 @@ name_text name.NoInitialValue = rules.NO_INITIAL_VALUE.now
 name_text name.BodyMissing = rules.BODY_MISSING.now
 name_text name.Limit = rules.LIMIT.now
 
+-- The rules on operations of controlled types.
+abbrev pub operation_text : OperationRule → List ℕ
+operation_text operation.FinalizeOrder = rules.FINALIZE_ORDER.now
+operation_text operation.MayPropagate = rules.MAY_PROPAGATE.now
+operation_text operation.FinalizeAllocates = rules.FINALIZE_ALLOCATES.now
+
+-- A fault of them.
+abbrev pub operation_told : OperationFault → Option Told
+operation_told (operations.Broken spot broken) = told spot (operation_text broken)
+operation_told operations.NoMemory = None
+
 -- The rules of the flow of values.
 abbrev pub rule_text : Rule → List ℕ
 rule_text rule.LostValue = rules.LOST_VALUE.now
@@ -69,5 +85,8 @@ refusal_of (verdict.Text fault) = text_told fault
 refusal_of (verdict.Syntax fault) = syntax_told fault
 refusal_of (verdict.Names (names.Broken spot broken)) = told spot (name_text broken)
 refusal_of (verdict.Names names.NoMemory) = None
+refusal_of (verdict.Operations fault) = operation_told fault
+refusal_of (verdict.Unused (unused.Operation spot)) = told spot rules.NOT_IN_PROFILE.now
+refusal_of (verdict.Unused unused.NoMemory) = None
 refusal_of (verdict.Flow (flow.Broken spot broken)) = told spot (rule_text broken)
 refusal_of (verdict.Flow flow.NoMemory) = None

@@ -6,16 +6,19 @@ ghost use Rattle.ada_meaning.specs.Safe.{Safe};
 ghost use Rattle.ada_program.specs.Freed.{FreesItsOwn};
 ghost use Rattle.ada_program.specs.Nested.{CollectionsNest};
 ghost use Rattle.ada_program.specs.ProgramForm.{program_form};
-ghost use Rattle.ada_program.specs.WellFormed.{IsWellFormed, overrides_none};
+ghost use Rattle.ada_program.specs.WellFormed.{IsWellFormed};
+ghost use Rattle.ada_quiet.specs.Quiet.{operations_are_quiet};
 ghost use Rattle.ada_sound.specs.Always.{IsChecked};
 ghost use Rattle.ada_tree.specs.StatementView.{unit_of};
-ghost use Rattle.ada_verdict.specs.First.{IsAccepted, IsFirst, IsProgramOf, IsSourceOf, RefusesRightly};
+ghost use Rattle.ada_verdict.specs.First.{HasFineOperations, IsAccepted, IsFirst, IsProgramOf, IsSourceOf, IsFirstOfOperations, IsFirstUnused, OperationsAreInUse, RefusesRightly};
 
-use crate::fault::Verdict;
+use crate::fault::{UnusedFault, Verdict};
 use crate::laws::accepted_sources_have_no_fault;
 use ada_flow::flow;
+use ada_operations::operations;
 use ada_parser::parse;
 use ada_program::Program;
+use ada_quiet::first_unquiet;
 use ada_resolve::resolve;
 use ada_sound::laws::rules_imply_safety;
 use ada_tree::unit::Unit;
@@ -50,7 +53,7 @@ impl Accepted {
     pub fn program(&self) -> &Program
         ensures program { result.now ≡ self.now }
         ensures formed { IsWellFormed (program_form self.now) }
-        ensures inherits { overrides_none (program_form self.now) ≡ true }
+        ensures quiet { operations_are_quiet (program_form self.now) ≡ true }
         ensures rules { ObeysRules self.now }
         ensures safe { Safe self.now }
     {
@@ -60,8 +63,8 @@ impl Accepted {
 }
 
 /// Checks a source: it is accepted exactly where it is a program that obeys the rules, out of memory aside, and then
-/// the program is safe; else this is its first fault. The phases are text, syntax, names and flow; a fault is that of
-/// the first phase that has one.
+/// the program is safe; else this is its first fault. The phases are text, syntax, names, operations of controlled types
+/// and flow; a fault is that of the first phase that has one.
 ///
 /// # Errors
 /// The first fault, or want of memory.
@@ -87,8 +90,39 @@ fn checked(alloc: Global, source: &[u8]) -> Result<Accepted, Verdict>
     ensures refused { IfErr result (λ verdict. IsFirst source.now verdict) }
 {
     let program = program_of(alloc, source)?;
+    operated(alloc, &program)?;
     flow(alloc, &program)?;
     Ok(Accepted { program })
+}
+
+/// The phase of operations: they obey the rules on what they may do, and each one is in use.
+///
+/// # Errors
+/// The first fault, or want of memory.
+fn operated(alloc: Global, program: &Program) -> Result<(), Verdict>
+    requires { IsWellFormed (program_form program.now) }
+    ensures fine { IfOk result (λ _. HasFineOperations program.now) }
+    ensures quiet { IfOk result (λ _. operations_are_quiet (program_form program.now) ≡ true) }
+    ensures refused { IfErr result (λ verdict. IsFirstOfOperations program.now verdict) }
+{
+    operations(alloc, program)?;
+    used(alloc, program)?;
+    Ok(())
+}
+
+/// Each operation is in use: it is quiet.
+///
+/// # Errors
+/// The first one that is not, or want of memory.
+fn used(alloc: Global, program: &Program) -> Result<(), UnusedFault>
+    ensures used { IfOk result (λ _. OperationsAreInUse program.now) }
+    ensures quiet { IfOk result (λ _. operations_are_quiet (program_form program.now) ≡ true) }
+    ensures refused { IfErr result (λ fault. IsFirstUnused program.now fault) }
+{
+    match first_unquiet(alloc, program)? {
+        Some(spot) => Err(UnusedFault::Operation(spot)),
+        None => Ok(()),
+    }
 }
 
 /// The program of a source.
@@ -98,7 +132,6 @@ fn checked(alloc: Global, source: &[u8]) -> Result<Accepted, Verdict>
 fn program_of(alloc: Global, source: &[u8]) -> Result<Program, Verdict>
     ensures meant { IfOk result (λ program. IsProgramOf source.now program) }
     ensures formed { IfOk result (λ program. IsWellFormed (program_form program)) }
-    ensures inherits { IfOk result (λ program. overrides_none (program_form program) ≡ true) }
     ensures nests { IfOk result (λ program. CollectionsNest (program_form program)) }
     ensures frees_own { IfOk result (λ program. FreesItsOwn (program_form program)) }
     ensures refused { IfErr result (λ verdict. IsFirst source.now verdict) }
@@ -116,7 +149,6 @@ fn meaning(alloc: Global, source: &[u8], unit: &Unit<'_>) -> Result<Program, Ver
     requires { IsSourceOf source.now (unit_of unit.now) }
     ensures meant { IfOk result (λ program. IsProgramOf source.now program) }
     ensures formed { IfOk result (λ program. IsWellFormed (program_form program)) }
-    ensures inherits { IfOk result (λ program. overrides_none (program_form program) ≡ true) }
     ensures nests { IfOk result (λ program. CollectionsNest (program_form program)) }
     ensures frees_own { IfOk result (λ program. FreesItsOwn (program_form program)) }
     ensures refused { IfErr result (λ verdict. IsFirst source.now verdict) }

@@ -3,9 +3,12 @@
 ghost use Rattle.std.specs.Prelude.{◌≡◌};
 
 use ada_flow::FlowFault;
+use ada_operations::OperationFault;
 use ada_parser::SyntaxFault;
+use ada_program::Spot;
 use ada_resolve::NameFault;
 use ada_text::TextFault;
+use std::alloc::{AllocError, AllocFailed};
 
 /// Why a source is not accepted: a fault of a phase, or that memory ran out.
 #[derive(Drop)]
@@ -13,7 +16,27 @@ pub enum Verdict {
     Text(TextFault),
     Syntax(SyntaxFault),
     Names(NameFault),
+    Operations(OperationFault),
+    Unused(UnusedFault),
     Flow(FlowFault),
+}
+
+/// An operation of a controlled type that is not in use yet, or that memory ran out.
+#[derive(Drop)]
+pub enum UnusedFault {
+    /// Its body begins here.
+    Operation(Spot),
+    NoMemory,
+}
+
+impl From<AllocError> for UnusedFault {
+    ghost use Rattle.ada_verdict.specs.declared.fault.UnusedFault.TheVariants as unused;
+
+    ghost from_gives = { λ _ fault. fault ≡ unused.NoMemory };
+
+    fn from(_error: AllocError) -> UnusedFault {
+        UnusedFault::NoMemory
+    }
 }
 
 impl From<TextFault> for Verdict {
@@ -43,6 +66,26 @@ impl From<NameFault> for Verdict {
 
     fn from(fault: NameFault) -> Verdict {
         Verdict::Names(fault)
+    }
+}
+
+impl From<OperationFault> for Verdict {
+    ghost use Rattle.ada_verdict.specs.declared.fault.Verdict.TheVariants.{Operations};
+
+    ghost from_gives = { λ fault verdict. verdict ≡ Operations fault };
+
+    fn from(fault: OperationFault) -> Verdict {
+        Verdict::Operations(fault)
+    }
+}
+
+impl From<UnusedFault> for Verdict {
+    ghost use Rattle.ada_verdict.specs.declared.fault.Verdict.TheVariants.{Unused};
+
+    ghost from_gives = { λ fault verdict. verdict ≡ Unused fault };
+
+    fn from(fault: UnusedFault) -> Verdict {
+        Verdict::Unused(fault)
     }
 }
 

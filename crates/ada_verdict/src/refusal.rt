@@ -4,9 +4,10 @@ ghost use Rattle.std.specs.Prelude.{◌≡◌};
 ghost use Rattle.ada_verdict.specs.Refusal as printed;
 ghost use Rattle.ada_verdict.specs.Shown.{shown_if};
 
-use crate::fault::Verdict;
+use crate::fault::{UnusedFault, Verdict};
 use crate::rules;
 use ada_flow::{FlowFault, Rule};
+use ada_operations::{OperationFault, OperationRule};
 use ada_parser::SyntaxFault;
 use ada_program::Spot;
 use ada_resolve::{NameFault, NameRule};
@@ -31,8 +32,12 @@ impl Verdict {
             Verdict::Text(fault) => text_refusal(fault),
             Verdict::Syntax(fault) => syntax_refusal(fault),
             Verdict::Names(NameFault::Broken { spot, rule }) => refused(*spot, name_text(*rule)),
+            Verdict::Operations(fault) => operation_refusal(fault),
+            Verdict::Unused(UnusedFault::Operation(spot)) => refused(*spot, rules::NOT_IN_PROFILE),
             Verdict::Flow(FlowFault::Broken { spot, rule }) => refused(*spot, rule_text(*rule)),
-            Verdict::Names(NameFault::NoMemory) | Verdict::Flow(FlowFault::NoMemory) => None,
+            Verdict::Names(NameFault::NoMemory)
+            | Verdict::Unused(UnusedFault::NoMemory)
+            | Verdict::Flow(FlowFault::NoMemory) => None,
         }
     }
 }
@@ -67,6 +72,27 @@ fn syntax_refusal(fault: &SyntaxFault) -> Option<Refusal>
         SyntaxFault::TooDeep(spot) => refused(*spot, rules::TOO_DEEP),
         SyntaxFault::EndOfSource(spot) => refused(*spot, rules::END_OF_SOURCE),
         SyntaxFault::NoMemory => None,
+    }
+}
+
+/// The refusal for a fault of the operations of controlled types.
+fn operation_refusal(fault: &OperationFault) -> Option<Refusal>
+    ensures { shown_if result ≡ printed.operation_told fault.now }
+{
+    match fault {
+        OperationFault::Broken { spot, rule } => refused(*spot, operation_text(*rule)),
+        OperationFault::NoMemory => None,
+    }
+}
+
+/// The number and the name of a rule on operations of controlled types.
+fn operation_text(rule: OperationRule) -> &'static str
+    ensures { result.now ≡ printed.operation_text rule }
+{
+    match rule {
+        OperationRule::FinalizeOrder => rules::FINALIZE_ORDER,
+        OperationRule::MayPropagate => rules::MAY_PROPAGATE,
+        OperationRule::FinalizeAllocates => rules::FINALIZE_ALLOCATES,
     }
 }
 

@@ -67,5 +67,14 @@ pub const UNSAFE_PATH: &str = "S6 unsafe-path";
 /// At a normal end of a body a formal parameter of mode `in out` may hold a value that it doesn't own.
 pub const FORMAL_NOT_OWNED: &str = "S7 formal-not-owned";
 
+/// Adjust or Finalize uses an access type whose collection may have ended.
+pub const FINALIZE_ORDER: &str = "S8 finalize-order";
+
+/// An exception may come out of Adjust or Finalize.
+pub const MAY_PROPAGATE: &str = "S9 may-propagate";
+
+/// Finalize creates an object.
+pub const FINALIZE_ALLOCATES: &str = "S10 finalize-allocates";
+
 /// A record is copied that has a component of an access type, or an aggregate with such a component stands outside an allocator.
 pub const RECORD_COPIED: &str = "S11 record-copied";

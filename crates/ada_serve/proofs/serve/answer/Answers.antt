@@ -1,10 +1,11 @@
 use Rattle.std.proofs.Common.{sym, subst}
 use Rattle.std.proofs.lemmas.Result.{err_from_is_err_and}
 use Rattle.ada_program.specs.declared.program.Program.{Program}
-use Rattle.ada_program.specs.Controlled.{OverridesNothing}
-use Rattle.ada_program.proofs.Overridden.{nothing_overridden}
+use Rattle.ada_program.specs.ProgramForm.{body_forms}
+use Rattle.ada_meaning.specs.Pace.{OperationsDeclareNoParts}
 use Rattle.ada_serve.specs.Calls.{IsRead}
 use Rattle.ada_serve.proofs.Answering.{input_unwritten, answers_run}
+use Rattle.ada_serve.proofs.Quiet.{quiet_declare_none}
 use Rattle.ada_serve.proofs.serve.answer.Goals as goal
 
 pub returns-in_err-numbers-clause-writer : goal.returns-in_err-numbers-clause-writer
@@ -18,7 +19,7 @@ returns-then-options-clause-text g c =
 
 pub run-requires : goal.run-requires
 run-requires g c = record {
-  inherits =
-      subst (λ (p : Program). OverridesNothing p.types.items) (sym c.program-program.ensures.program)
-      (nothing_overridden c.args.accepted.now c.program-program.ensures.inherits);
+  operations =
+      subst (λ (p : Program). OperationsDeclareNoParts p.types.items (body_forms p)) (sym c.program-program.ensures.program)
+      (quiet_declare_none c.args.accepted.now c.program-program.ensures.quiet);
 }

@@ -21,7 +21,7 @@ pub returns-in_err-status-clause-text : goal.returns-in_err-status-clause-text
 returns-in_err-status-clause-text g c =
     let starts : begins (state_in c.steps.machine) ≡ false = sym (c.begins.ensures.runs c.steps.invariant.runs) ∙ c.steps-test.true in
     let p = err_from_is_err_and c.from_residual.result c.from_residual.ensures.1 in
-    rw (p.1) (inr (step_broken c.states_go_on.ensures c.args.program.now (steps_lighten c.steps_make_lighter.ensures.lighter c.steps_make_lighter.ensures.nothing_called c.args.program.now c.requires.inherits) c.args.options.now.trace (state_in c.args.machine.now).input c.args.options.now.steps (runner_of (choices_of c.args.machine.now)) c.statements.left (runner_of (choices_of c.steps.machine)) (state_in c.steps.machine) (g.W.ByteWriter.contents c.args.out.now) (g.W.ByteWriter.contents c.steps.out) (g.W.ByteWriter.contents c.take_turn.new.out) c.steps.invariant.reaches starts c.in_err-status.ensures.text))
+    rw (p.1) (inr (step_broken c.states_go_on.ensures c.args.program.now (steps_lighten c.operations_grow_fewer.ensures.lighter c.args.program.now c.requires.operations) c.args.options.now.trace (state_in c.args.machine.now).input c.args.options.now.steps (runner_of (choices_of c.args.machine.now)) c.statements.left (runner_of (choices_of c.steps.machine)) (state_in c.steps.machine) (g.W.ByteWriter.contents c.args.out.now) (g.W.ByteWriter.contents c.steps.out) (g.W.ByteWriter.contents c.take_turn.new.out) c.steps.invariant.reaches starts c.in_err-status.ensures.text))
 
 pub returns-in_err-status-clause-writer : goal.returns-in_err-status-clause-writer
 returns-in_err-status-clause-writer g c =
@@ -54,7 +54,7 @@ steps-smaller g c =
     let starts : begins (state_in c.steps.machine) ≡ false = sym (c.begins.ensures.runs c.steps.invariant.runs) ∙ c.steps-test.true in
     let made : StepsOn c.args.program.now c.args.options.now.trace (runner_of (choices_of c.steps.machine)) (runner_of (choices_of c.take_turn.new.machine)) (state_in c.steps.machine) (state_in c.take_turn.new.machine) (g.W.ByteWriter.contents c.steps.out) (g.W.ByteWriter.contents c.take_turn.new.out) =
     rw c.in_default.is at c.in_ok-status.ensures.text in
-    steps_lighten c.steps_make_lighter.ensures.lighter c.steps_make_lighter.ensures.nothing_called c.args.program.now c.requires.inherits (state_in c.steps.machine) made.choice made.event (state_in c.take_turn.new.machine) starts made.step
+    steps_lighten c.operations_grow_fewer.ensures.lighter c.args.program.now c.requires.operations (state_in c.steps.machine) made.choice made.event (state_in c.take_turn.new.machine) starts made.step
 
 pub returns-then-left-eq0-clause-text : goal.returns-then-left-eq0-clause-text
 returns-then-left-eq0-clause-text g c =
@@ -69,7 +69,7 @@ returns-in_err-status-2-clause-text g c =
     let starts : begins (state_in c.steps.machine) ≡ true = sym (c.begins.ensures.runs c.steps.invariant.runs) ∙ c.steps-test.false in
     let some : 0 < c.statements.left = omega arith in
     let p = err_from_is_err_and c.from_residual-in_err-status-2.result c.from_residual-in_err-status-2.ensures.1 in
-    rw (p.1) (inr (statement_broken c.states_go_on.ensures c.args.program.now (steps_lighten c.steps_make_lighter.ensures.lighter c.steps_make_lighter.ensures.nothing_called c.args.program.now c.requires.inherits) c.args.options.now.trace (state_in c.args.machine.now).input c.args.options.now.steps (runner_of (choices_of c.args.machine.now)) c.statements.left (runner_of (choices_of c.steps.machine)) (state_in c.steps.machine) (g.W.ByteWriter.contents c.args.out.now) (g.W.ByteWriter.contents c.steps.out) (g.W.ByteWriter.contents c.take_turn-in-statements.new.out) c.steps.invariant.reaches starts some c.in_err-status-2.ensures.text))
+    rw (p.1) (inr (statement_broken c.states_go_on.ensures c.args.program.now (steps_lighten c.operations_grow_fewer.ensures.lighter c.args.program.now c.requires.operations) c.args.options.now.trace (state_in c.args.machine.now).input c.args.options.now.steps (runner_of (choices_of c.args.machine.now)) c.statements.left (runner_of (choices_of c.steps.machine)) (state_in c.steps.machine) (g.W.ByteWriter.contents c.args.out.now) (g.W.ByteWriter.contents c.steps.out) (g.W.ByteWriter.contents c.take_turn-in-statements.new.out) c.steps.invariant.reaches starts some c.in_err-status-2.ensures.text))
 
 pub returns-in_err-status-2-clause-writer : goal.returns-in_err-status-2-clause-writer
 returns-in_err-status-2-clause-writer g c =
@@ -113,7 +113,7 @@ returns-in_err-left-clause-text g c =
     let begun : Reaches c.args.program.now c.args.options.now.trace (state_in c.args.machine.now).input c.args.options.now.steps (runner_of (choices_of c.args.machine.now)) (c.statements.left - 1) (runner_of (choices_of c.take_turn-in-statements.new.machine)) (state_in c.take_turn-in-statements.new.machine) (g.W.ByteWriter.contents c.args.out.now) (g.W.ByteWriter.contents c.take_turn-in-statements.new.out) =
     reaches_statement c.args.program.now c.args.options.now.trace (state_in c.args.machine.now).input c.args.options.now.steps (runner_of (choices_of c.args.machine.now)) c.statements.left (runner_of (choices_of c.steps.machine)) (runner_of (choices_of c.take_turn-in-statements.new.machine)) (state_in c.steps.machine) (state_in c.take_turn-in-statements.new.machine) (g.W.ByteWriter.contents c.args.out.now) (g.W.ByteWriter.contents c.steps.out) (g.W.ByteWriter.contents c.take_turn-in-statements.new.out) c.steps.invariant.reaches starts some made in
     let p = err_from_is_err_and c.from_residual-in_err-left.result c.from_residual-in_err-left.ensures.1 in
-    rw (p.1) (inr (reaches_fault c.states_go_on.ensures c.args.program.now (steps_lighten c.steps_make_lighter.ensures.lighter c.steps_make_lighter.ensures.nothing_called c.args.program.now c.requires.inherits) c.args.options.now.trace (state_in c.args.machine.now).input c.args.options.now.steps (runner_of (choices_of c.args.machine.now)) (c.statements.left - 1) (runner_of (choices_of c.take_turn-in-statements.new.machine)) (state_in c.take_turn-in-statements.new.machine) (g.W.ByteWriter.contents c.args.out.now) (g.W.ByteWriter.contents c.take_turn-in-statements.new.out) begun))
+    rw (p.1) (inr (reaches_fault c.states_go_on.ensures c.args.program.now (steps_lighten c.operations_grow_fewer.ensures.lighter c.args.program.now c.requires.operations) c.args.options.now.trace (state_in c.args.machine.now).input c.args.options.now.steps (runner_of (choices_of c.args.machine.now)) (c.statements.left - 1) (runner_of (choices_of c.take_turn-in-statements.new.machine)) (state_in c.take_turn-in-statements.new.machine) (g.W.ByteWriter.contents c.args.out.now) (g.W.ByteWriter.contents c.take_turn-in-statements.new.out) begun))
 
 pub returns-in_err-left-clause-writer : goal.returns-in_err-left-clause-writer
 returns-in_err-left-clause-writer g c =

@@ -1,6 +1,6 @@
 use Rattle.std.proofs.Common.{◌≡◌, None}
 use Rattle.ada_interpreter.specs.Machine.{state_in, program_of, choices_of, halt_of}
-use Rattle.ada_meaning.specs.Ending.{weight}
+use Rattle.ada_meaning.specs.Pace.{full_weight}
 use Rattle.ada_pools.specs.View.{runner_of}
 use Rattle.ada_serve.specs.Calls.{Works}
 use Rattle.ada_serve.proofs.Steps.{Reaches}
@@ -29,4 +29,4 @@ decreases-statements g l = l.left
 
 -- each step up to the next statement makes the state lighter
 abbrev pub decreases-steps : goal.decreases-steps
-decreases-steps g l = weight l.program.types.items (state_in l.machine)
+decreases-steps g l = full_weight l.program (state_in l.machine)

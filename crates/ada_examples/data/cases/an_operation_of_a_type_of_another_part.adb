@@ -1,0 +1,9 @@
+with Ada.Finalization;
+procedure Main is
+type Box is new Ada.Finalization.Controlled with null record;
+begin
+declare
+overriding procedure Finalize (Object : in out Box);
+procedure Finalize (Object : in out Box) is begin null; end Finalize;
+begin null; end;
+end Main;

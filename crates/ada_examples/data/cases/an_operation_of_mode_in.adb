@@ -1,0 +1,6 @@
+with Ada.Finalization;
+procedure Main is
+type Box is new Ada.Finalization.Controlled with null record;
+procedure Finalize (Object : in Box);
+procedure Finalize (Object : in Box) is begin null; end Finalize;
+begin null; end Main;

@@ -1,0 +1,9 @@
+with Ada.Finalization;
+procedure Main is
+type Box is new Ada.Finalization.Controlled with null record;
+procedure Finalize (Object : in out Box);
+procedure Finalize (Object : in out Box) is begin null; end Finalize;
+B : Box;
+begin
+Finalize (B);
+end Main;
