@@ -8,5 +8,11 @@ pub mod Edges
 pub mod Calling
 -- the marks of all deeds of a program
 pub mod Exact
+-- a set that grows round by round
+pub mod Rounds
+-- what is known within so many calls of calls
+pub mod Within
+-- the table of what implicit calls may do
+pub mod Table
 -- the example
 pub mod Example

@@ -66,7 +66,10 @@ right_stays : (types : List TypeForm) (variables : List VariableForm) (d : Deed)
 right_stays types variables d p q w nothing h = cc
 right_stays types variables d p q w (value_of path) h = h
 right_stays types variables d p q w (allocates access items) h =
-    behind (allocation_does d) (items_do types variables p d items) (items_do types variables q d items) (items_stay types variables d p q w items) h
+    let t = designated_type types access in
+    either (allocation_does d || items_do types variables p d items) (creation_does p t) (allocation_does d || items_do types variables q d items) (creation_does q t)
+    (behind (allocation_does d) (items_do types variables p d items) (items_do types variables q d items) (items_stay types variables d p q w items))
+    (creation_stays p q w t) h
 right_stays types variables d p q w (allocates_default access) h =
     let t = designated_type types access in
     behind (allocation_does d) (creation_does p t) (creation_does q t) (creation_stays p q w t) h

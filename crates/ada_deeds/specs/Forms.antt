@@ -118,11 +118,12 @@ abbrev pub items_do : List TypeForm → List VariableForm → (known : Callee �
 items_do types variables known d [] = false
 items_do types variables known d (i ∷ is) = item_does types variables known d i || items_do types variables known d is
 
--- What is assigned: an allocator without items creates an object without an initial value (4.8).
+-- What is assigned: an allocator creates an object (4.8). One with items has no controlled parts in any source, and then nothing is called.
 abbrev pub right_does : List TypeForm → List VariableForm → (known : Callee → Bool) → Deed → RightForm → Bool
 right_does types variables known d nothing = false
 right_does types variables known d (value_of path) = path_does types variables d path
-right_does types variables known d (allocates access items) = allocation_does d || items_do types variables known d items
+right_does types variables known d (allocates access items) =
+    (allocation_does d || items_do types variables known d items) || creation_does known (designated_type types access)
 right_does types variables known d (allocates_default access) = allocation_does d || creation_does known (designated_type types access)
 right_does types variables known d (computes e) = expression_does types variables d e
 

@@ -6,6 +6,10 @@ pub mod Follows
 pub mod Forms
 -- what does a deed
 pub mod Does
+-- what does one within so many calls of calls
+pub mod Within
+-- what implicit calls may do
+pub mod Implicit
 -- laws of what does a deed
 pub mod Laws
 -- two procedures that call one another, and a third one
@@ -16,3 +20,5 @@ pub mod View
 pub mod Graph
 -- what the code keeps of the deeds of a program
 pub mod Rows
+-- the table of what implicit calls may do
+pub mod Table

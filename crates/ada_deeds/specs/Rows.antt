@@ -1,6 +1,6 @@
 -- What the code keeps of the deeds of a program: for each deed the marks of the callees that do it.
 
-use Rattle.std.specs.Prelude.{◌≡◌, ℕ, Bool, true, false, List, [], length, map, slice_index_or, Option, Some, None}
+use Rattle.std.specs.Prelude.{◌≡◌, ◌↔◌, ℕ, Bool, true, false, List, [], length, map, slice_index_or, Option, Some, None}
 use Rattle.std.specs.Global.{Vec}
 use Rattle.ada_deeds.specs.declared.deed.Callee.{Callee}
 use Rattle.ada_deeds.specs.declared.deed.Deed.{Deed}
@@ -8,6 +8,7 @@ use Rattle.ada_deeds.specs.declared.deed.Deed.TheVariants as deed
 use Rattle.ada_deeds.specs.declared.deeds.Deeds.{Deeds}
 use Rattle.ada_deeds.specs.declared.deeds.Kind.{Kind}
 use Rattle.ada_deeds.specs.declared.deeds.Kind.TheVariants as kind
+use Rattle.ada_deeds.specs.Does.{Does}
 use Rattle.ada_deeds.specs.Graph.{node_of}
 use Rattle.ada_program.specs.declared.program.Exception.{Exception}
 use Rattle.ada_program.specs.declared.program.Exception.TheVariants.{ConstraintError, ProgramError, StorageError, EndError, Declared}
@@ -52,6 +53,10 @@ is_marked marks (Some n) = slice_index_or marks n false
 -- Does a callee do a deed, as the code keeps it?
 unfoldable pub does_in : Deeds → Deed → Callee → Bool
 does_in deeds d c = is_marked (row_of deeds d) (node_of deeds.nodes.procedures deeds.nodes.types c)
+
+-- Are these the deeds of a program?
+abbrev pub KnowsDeeds : Deeds → ProgramForm → Type 0
+KnowsDeeds deeds p = (d : Deed) (c : Callee) → (does_in deeds d c ≡ true) ↔ Does p d c
 
 -- Does some exception come out of a callee, as the code keeps it?
 abbrev pub RaisesSome : Deeds → Callee → Type 0

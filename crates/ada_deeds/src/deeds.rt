@@ -81,20 +81,16 @@ fn row_at(rows: &[Vec<bool>], number: usize) -> &[bool]
 }
 
 impl Deeds {
-    ghost use Rattle.std.specs.Prelude.{◌↔◌, true};
-    ghost use Rattle.ada_deeds.specs.Does.{Does};
-    ghost use Rattle.ada_deeds.specs.Rows.{does_in, row_of, exception_row, RaisesSome, RaisesNone, RaisesNoDeclared};
-    ghost use Rattle.ada_deeds.specs.declared.deed.Callee.{Callee};
+    ghost use Rattle.std.specs.Prelude.{true};
+    ghost use Rattle.ada_deeds.specs.Rows.{does_in, row_of, exception_row, KnowsDeeds, RaisesSome, RaisesNone, RaisesNoDeclared};
     ghost use Rattle.ada_deeds.specs.declared.deed.Callee.TheVariants as callee;
-    ghost use Rattle.ada_deeds.specs.declared.deed.Deed.{Deed};
 
     /// Finds which callees of a program do which deeds. For each deed the program is read once.
     ///
     /// # Errors
     /// `AllocError` where memory was refused.
     pub fn new(alloc: Global, program: &Program) -> Result<Deeds, AllocError>
-        ensures { IfOk result (λ deeds. (d : Deed) (c : Callee) →
-            (does_in deeds d c ≡ true) ↔ Does (program_form program.now) d c) }
+        ensures { IfOk result (λ deeds. KnowsDeeds deeds (program_form program.now)) }
     {
         let nodes = Nodes::of(program)?;
         let exceptions = program.exceptions.len();

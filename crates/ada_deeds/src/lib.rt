@@ -2,6 +2,7 @@
 //!
 //! A deed is done by a procedure where its body does it itself, or calls what does it: by a statement, or implicitly, where
 //! objects of controlled types are created, copied, assigned to or ended. What does a deed is the least set for which this holds.
+//! `Deeds::implicit` gathers from it, for each type, what the operations may do that are called implicitly.
 #![tactic(auto)]
 
 mod callees;
@@ -12,6 +13,7 @@ mod doers;
 mod evaluations;
 mod follows;
 mod found;
+mod implicit;
 pub mod laws;
 mod nodes;
 mod statements;

@@ -117,9 +117,10 @@ fn find_in_right(
             found.note(path_does(types, variables, deed, path));
             Ok(())
         }
-        Right::Allocator { access: _, items } => {
+        Right::Allocator { access, items } => {
             found.note(allocation_does(deed));
-            find_in_items(types, variables, deed, items, found)
+            find_in_items(types, variables, deed, items, found)?;
+            found.create(designated_type(types, access.0))
         }
         Right::Default(access) => {
             found.note(allocation_does(deed));

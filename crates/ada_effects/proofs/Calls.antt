@@ -5,7 +5,7 @@ use Rattle.std.proofs.lemmas.Bool.{or_cases, or_left, or_right}
 use Rattle.std.specs.List.{list_any, slice_get}
 use Rattle.ada_effects.specs.declared.effect.Effect.{Effect as HeldEffect}
 use Rattle.ada_effects.specs.Effects.{Effect, call_raises}
-use Rattle.ada_effects.specs.Found.{effects_in}
+use Rattle.ada_effects.specs.Found.{calls_in}
 use Rattle.ada_effects.proofs.Sameness.{is_itself}
 use Rattle.ada_program.specs.declared.program.Exception.{Exception}
 use Rattle.ada_program.specs.Handling.{is_same}
@@ -60,16 +60,16 @@ call_has_one [] all n p h = cc
 call_has_one (e ∷ es) all zero p h = all.first.one p h
 call_has_one (e ∷ es) all (suc n) p h = call_has_one es all.rest n p h
 
--- The effects that the code holds do.
+-- A list of exceptions does, as that of what an initialization may raise, and so do the effects that the code holds.
 
-some_stays : (xs : List Exception) → Stays (λ among. list_any among xs)
+pub some_stays : (xs : List Exception) → Stays (λ among. list_any among xs)
 some_stays [] p q w h = cc
 some_stays (x ∷ xs) p q w h = either (p x) (list_any p xs) (q x) (list_any q xs) (w x) (some_stays xs p q w) h
 
-some_has_one : (xs : List Exception) (p : Exception → Bool) → list_any p xs ≡ true → One p (λ among. list_any among xs)
+pub some_has_one : (xs : List Exception) (p : Exception → Bool) → list_any p xs ≡ true → One p (λ among. list_any among xs)
 some_has_one [] p h = cc
 some_has_one (x ∷ xs) p h = one_of p (λ r. r x) (λ r. list_any r xs) (itself p x) (some_has_one xs p) h
 
-pub held_each : (es : List HeldEffect) → AllEach (effects_in es)
+pub held_each : (es : List HeldEffect) → AllEach (calls_in es)
 held_each [] = tt
 held_each (e ∷ es) = record { first = record { stays = some_stays e.raises.items; one = some_has_one e.raises.items }; rest = held_each es }

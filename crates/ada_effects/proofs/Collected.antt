@@ -10,10 +10,10 @@ use Rattle.std.proofs.lemmas.Option.{slice_get-map, slice_get-get_or}
 use Rattle.std.specs.Prelude.{Result, Ok, Err, MatchResult, Some, option_map}
 use Rattle.ada_effects.specs.declared.effect.Effect.{Effect as HeldEffect}
 use Rattle.ada_effects.specs.Effects.{Effect}
-use Rattle.ada_effects.specs.Found.{effect_in, effects_in, has_number, left_of}
+use Rattle.ada_effects.specs.Found.{calls_in, effect_in, has_number, left_of}
 use Rattle.ada_effects.specs.Taken.{with_one, is_among}
 use Rattle.ada_effects.proofs.Sameness.{are_equal}
-use Rattle.ada_effects.proofs.Sets.{among_more, left_of_all}
+use Rattle.ada_effects.proofs.Sets.{among_more}
 use Rattle.ada_program.specs.declared.program.Exception.{Exception}
 use Rattle.ada_program.specs.declared.program.TypeNo.{TypeNo}
 use Rattle.ada_program.specs.Handling.{is_same}
@@ -113,12 +113,10 @@ something_found (e ∷ es) h = refl
 
 -- What is known of the calls of a procedure is that of its number.
 pub known_calls : (effects : List HeldEffect) (n : ℕ) (e : HeldEffect) → n < length effects → e ≡ get_or effects n e →
-    slice_get (effects_in effects) n ≡ Some (effect_in e)
+    slice_get (calls_in effects) n ≡ Some (effect_in e)
 known_calls effects n e within is =
     slice_get-map effect_in effects n ∙ ap (option_map effect_in) (slice_get-get_or effects n e within) ∙ ap (λ x. Some (effect_in x)) (sym is)
 
 pub ruleset adding = (is_left, not_left, stays_left, found_already, found_besides, stays_listed, is_listed)
 
 pub ruleset numbering = (number_already, number_besides)
-
-pub ruleset body_steps = (left_of_all)

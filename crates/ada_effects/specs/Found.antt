@@ -1,12 +1,15 @@
 -- What the code finds in a form: exceptions that it may raise, and access types of which it may free objects; and effects as the code holds them.
 
-use Rattle.std.specs.Prelude.{◌≡◌, ℕ, Bool, ◌&&◌, ◌||◌, not, ◌==◌, List, map, Result, OnOk}
-use Rattle.std.specs.List.{list_any}
+use Rattle.std.specs.Prelude.{◌≡◌, ℕ, Bool, false, ◌&&◌, ◌||◌, not, ◌==◌, List, [], map, Option, Some, None, Result, OnOk}
+use Rattle.std.specs.List.{list_any, slice_get}
 use Rattle.std.specs.declared.alloc.AllocError.{AllocError}
 use Rattle.ada_effects.specs.declared.effect.Effect.{Effect as HeldEffect}
 use Rattle.ada_effects.specs.declared.found.Found.{Found}
 use Rattle.ada_effects.specs.declared.freed.Freed.{Freed}
-use Rattle.ada_effects.specs.Effects.{Effect}
+use Rattle.ada_effects.specs.declared.implicit.AccessTypes.{AccessTypes}
+use Rattle.ada_effects.specs.declared.implicit.Effects.{Effects as HeldEffects}
+use Rattle.ada_effects.specs.declared.implicit.Implicit.{Implicit as HeldImplicit}
+use Rattle.ada_effects.specs.Effects.{Effect, Implicit, Effects, known_of}
 use Rattle.ada_program.specs.declared.program.Exception.{Exception}
 use Rattle.ada_program.specs.declared.program.TypeNo.{TypeNo}
 
@@ -14,13 +17,41 @@ use Rattle.ada_program.specs.declared.program.TypeNo.{TypeNo}
 abbrev pub has_number : List TypeNo → ℕ → Bool
 has_number types t = list_any (λ x. x.0 == t) types
 
+-- The exceptions that calls may raise, and whether they may free objects of an access type, as the code holds them; no calls, past the end of a list.
+abbrev pub raised_by : Option HeldEffect → List Exception
+raised_by None = []
+raised_by (Some e) = e.raises.items
+
+abbrev pub freed_by : Option HeldEffect → (access : ℕ) → Bool
+freed_by None t = false
+freed_by (Some e) t = has_number e.frees.items t
+
+-- Is an access type among these, if they are there?
+abbrev pub is_listed : Option AccessTypes → (access : ℕ) → Bool
+is_listed None t = false
+is_listed (Some types) t = has_number types.list.items t
+
+-- What is known of implicit calls, as the code holds it.
+abbrev pub implicit_in : HeldImplicit → Implicit
+implicit_in i = record {
+  start_raises = λ u. raised_by (slice_get i.starts.items u);
+  start_frees = λ u t. freed_by (slice_get i.starts.items u) t;
+  adjust_frees = λ u t. is_listed (slice_get i.adjusts.items u) t;
+  end_frees = λ u t. is_listed (slice_get i.ends.items u) t;
+  end_reaches = λ u t. is_listed (slice_get i.reached.items u) t;
+}
+
 -- What is known of the calls of a procedure, as the code holds it.
 abbrev pub effect_in : HeldEffect → Effect
 effect_in e = record { raises = λ among. list_any among e.raises.items; frees = has_number e.frees.items }
 
 -- The same of procedures, by their numbers.
-abbrev pub effects_in : List HeldEffect → List Effect
-effects_in effects = map effect_in effects
+abbrev pub calls_in : List HeldEffect → List Effect
+calls_in effects = map effect_in effects
+
+-- What is known of procedures and of implicit calls.
+abbrev pub effects_in : HeldEffects → Effects
+effects_in effects = known_of (implicit_in effects.implicit.now) (calls_in effects.calls.now)
 
 -- Is one of these exceptions found?
 abbrev pub is_found : Found → (among : Exception → Bool) → Bool

@@ -10,7 +10,8 @@ ghost use Rattle.ada_program.specs.ProgramForm.{body_form};
 
 use crate::found::Found;
 use crate::freed::Freed;
-use crate::frees::{free_in_handlers, free_in_statements};
+use crate::frees::{free_around, free_in_handlers, free_in_statements};
+use crate::implicit::Effects;
 use crate::raised::{find_handled, find_in_declarations, find_in_handlers};
 use crate::taken::Taken;
 use ada_program::TypeNo;
@@ -36,11 +37,11 @@ pub struct Effect {
 pub fn effect_of(
     alloc: Global,
     types: &[TypeDefinition],
-    effects: &[Effect],
+    effects: Effects<'_>,
     procedure: &Procedure,
 ) -> Result<Effect, AllocError>
     ensures { IfOk result (λ known. effect_in known
-        ≡ rules.effect_of (types_in types.now) (effects_in effects.now) (body_form procedure.now)) }
+        ≡ rules.effect_of (types_in types.now) (effects_in effects.entry) (body_form procedure.now)) }
 {
     let raises = raised_by(alloc, effects, procedure)?;
     let frees = freed_by(alloc, types, effects, procedure)?;
@@ -48,18 +49,22 @@ pub fn effect_of(
 }
 
 /// The exceptions that a body may raise, each once.
-#[tactic(auto, using(std::proofs::lemmas::Grind::common_steps, crate::proofs::Collected::body_steps))]
 fn raised_by(
     alloc: Global,
-    effects: &[Effect],
+    effects: Effects<'_>,
     procedure: &Procedure,
 ) -> Result<Vec<Exception>, AllocError>
     ensures { IfOk result (λ raised. (among : Exception → Bool) → list_any among raised.items
-        ≡ rules.body_raises (effects_in effects.now) (body_form procedure.now) among) }
+        ≡ rules.body_raises (effects_in effects.entry) (body_form procedure.now) among) }
 {
     let mut taken = Taken::new(alloc);
     let mut found = Found::nothing(alloc);
-    find_in_declarations(&procedure.declarations, &taken, &mut found)?;
+    find_in_declarations(
+        effects.implicit,
+        &procedure.declarations,
+        &taken,
+        &mut found,
+    )?;
     find_handled(
         alloc,
         effects,
@@ -76,15 +81,16 @@ fn raised_by(
 fn freed_by(
     alloc: Global,
     types: &[TypeDefinition],
-    effects: &[Effect],
+    effects: Effects<'_>,
     procedure: &Procedure,
 ) -> Result<Vec<TypeNo>, AllocError>
     ensures { IfOk result (λ freed. (t : ℕ) → has_number freed.items t
-        ≡ rules.body_frees (types_in types.now) (effects_in effects.now) (body_form procedure.now) t) }
+        ≡ rules.body_frees (types_in types.now) (effects_in effects.entry) (body_form procedure.now) t) }
 {
     let variables: &[Variable] = &procedure.variables;
     let mut freed = Freed::nothing(alloc);
     free_in_statements(types, variables, effects, &procedure.statements, &mut freed)?;
     free_in_handlers(types, variables, effects, &procedure.handlers, &mut freed)?;
+    free_around(effects.implicit, &procedure.declarations, &mut freed)?;
     Ok(freed.into_list())
 }

@@ -1,19 +1,19 @@
 //! Which exceptions statements may raise that no handler takes.
 
 ghost use Rattle.std.specs.Prelude.{◌≡◌, ◌||◌, Bool, map, OnOk, IfOk};
-ghost use Rattle.std.specs.List.{slice_get};
+ghost use Rattle.std.specs.List.{list_any, slice_get};
 ghost use Rattle.ada_effects.specs.Effects as rules;
-ghost use Rattle.ada_effects.specs.Found.{Finds, effects_in, is_found, left_of};
+ghost use Rattle.ada_effects.specs.Found.{Finds, effects_in, implicit_in, is_found, left_of};
 ghost use Rattle.ada_effects.specs.Taken.{set_of};
 ghost use Rattle.ada_program.specs.declared.program.Exception.{Exception};
 ghost use Rattle.ada_program.specs.Form.{StmtsForm, right_form, declaration_form, stmt_form, stmts_form, branches_form, handlers_form};
 
-use crate::effect::Effect;
 use crate::expressions::{
     actuals_raise, condition_raises, expression_raises, items_raise, path_raises,
     record_path_raises,
 };
 use crate::found::Found;
+use crate::implicit::{Effects, Implicit};
 use crate::taken::{Taken, have_others};
 use ada_program::program::{Branch, Declaration, Exception, Handler, Right};
 use ada_program::{ProcedureNo, Stmt};
@@ -27,12 +27,12 @@ use std::alloc::{AllocError, Global};
 #[tactic(auto, using(std::proofs::lemmas::Grind::common_steps, crate::proofs::Raising::passes_steps))]
 pub fn passes(
     alloc: Global,
-    effects: &[Effect],
+    effects: Effects<'_>,
     statements: &[Stmt],
     handlers: &[Handler],
 ) -> Result<bool, AllocError>
     ensures { IfOk result (λ answer. answer
-        ≡ rules.passes (effects_in effects.now) (stmts_form statements.now) (handlers_form handlers.now)) }
+        ≡ rules.passes (effects_in effects.entry) (stmts_form statements.now) (handlers_form handlers.now)) }
 {
     let mut taken = Taken::new(alloc);
     let mut found = Found::nothing(alloc);
@@ -61,55 +61,99 @@ fn find_in_right(right: &Right, taken: &Taken, found: &mut Found) -> Result<(), 
     }
 }
 
+/// The initialization of a new object of a type may (7.6).
+fn find_in_start(
+    implicit: &Implicit,
+    type_number: usize,
+    taken: &Taken,
+    found: &mut Found,
+) -> Result<(), AllocError>
+    ensures { Finds result (set_of taken.now) found.old found.new
+        (λ among. list_any among ((implicit_in implicit.now).start_raises type_number)) }
+{
+    match implicit.starts.get(type_number) {
+        None => Ok(()),
+        Some(effect) => found.add_all(taken, &effect.raises),
+    }
+}
+
+/// So may that of a new object.
+fn find_in_new(
+    implicit: &Implicit,
+    right: &Right,
+    taken: &Taken,
+    found: &mut Found,
+) -> Result<(), AllocError>
+    ensures { Finds result (set_of taken.now) found.old found.new
+        (λ among. rules.right_starts (implicit_in implicit.now) among (right_form right.now)) }
+{
+    match right {
+        Right::Allocator { access, items: _ } | Right::Default(access) => {
+            find_in_start(implicit, access.0, taken, found)
+        }
+        Right::Null | Right::Path(_) | Right::Value(_) => Ok(()),
+    }
+}
+
 /// A declaration may.
 fn find_in_declaration(
+    implicit: &Implicit,
     declaration: &Declaration,
     taken: &Taken,
     found: &mut Found,
 ) -> Result<(), AllocError>
     ensures { Finds result (set_of taken.now) found.old found.new
-        (λ among. rules.declaration_raises among (declaration_form declaration.now)) }
+        (λ among. rules.declaration_raises (implicit_in implicit.now) among (declaration_form declaration.now)) }
 {
     match declaration {
         Declaration::Variable {
             variable: _,
             initial: Some(right),
-        } => find_in_right(right, taken, found),
+        } => {
+            find_in_right(right, taken, found)?;
+            find_in_new(implicit, right, taken, found)
+        }
         Declaration::Record {
             variable: _,
             object: _,
             initial: Some(items),
         } => found.add_if(taken, Exception::ConstraintError, items_raise(items)),
+        Declaration::Record {
+            variable: _,
+            object,
+            initial: None,
+        } => find_in_start(implicit, object.0, taken, found),
         _ => Ok(()),
     }
 }
 
 /// Declarations may.
 pub(crate) fn find_in_declarations(
+    implicit: &Implicit,
     declarations: &[Declaration],
     taken: &Taken,
     found: &mut Found,
 ) -> Result<(), AllocError>
     ensures { Finds result (set_of taken.now) found.old found.new
-        (λ among. rules.declarations_raise among (map declaration_form declarations.now)) }
+        (λ among. rules.declarations_raise (implicit_in implicit.now) among (map declaration_form declarations.now)) }
 {
     'declarations: for declaration in declarations {
-        find_in_declaration(declaration, taken, found)?;
+        find_in_declaration(implicit, declaration, taken, found)?;
     }
     Ok(())
 }
 
 /// A call may raise what is known of it (6.4).
 fn find_in_call(
-    effects: &[Effect],
+    effects: Effects<'_>,
     procedure: ProcedureNo,
     taken: &Taken,
     found: &mut Found,
 ) -> Result<(), AllocError>
     ensures { Finds result (set_of taken.now) found.old found.new
-        (rules.call_raises (slice_get (effects_in effects.now) procedure.0)) }
+        (rules.call_raises (slice_get (effects_in effects.entry).calls procedure.0)) }
 {
-    match effects.get(procedure.0) {
+    match effects.calls.get(procedure.0) {
         None => Ok(()),
         Some(effect) => found.add_all(taken, &effect.raises),
     }
@@ -120,13 +164,13 @@ fn find_in_call(
 #[tactic(auto, using(std::proofs::lemmas::Grind::common_steps, ada_program::specs::Form::statement_rules))]
 fn find_in_statement(
     alloc: Global,
-    effects: &[Effect],
+    effects: Effects<'_>,
     statement: &Stmt,
     taken: &mut Taken,
     found: &mut Found,
 ) -> Result<(), AllocError>
     ensures found { Finds result (set_of taken.old) found.old found.new
-        (λ among. rules.stmt_raises (effects_in effects.now) among (stmt_form statement.now)) }
+        (λ among. rules.stmt_raises (effects_in effects.entry) among (stmt_form statement.now)) }
     ensures kept { OnOk result (set_of taken.new ≡ set_of taken.old) }
 {
     match statement {
@@ -136,7 +180,8 @@ fn find_in_statement(
         }
         Stmt::Assign { target, value } => {
             found.add_if(taken, Exception::ConstraintError, path_raises(target))?;
-            find_in_right(value, taken, found)
+            find_in_right(value, taken, found)?;
+            find_in_new(effects.implicit, value, taken, found)
         }
         Stmt::AssignRecord { target, items } => found.add_if(
             taken,
@@ -200,7 +245,7 @@ fn find_in_statement(
             statements,
             handlers,
         } => {
-            find_in_declarations(declarations, taken, found)?;
+            find_in_declarations(effects.implicit, declarations, taken, found)?;
             find_handled(alloc, effects, statements, handlers, taken, found)?;
             find_in_handlers(alloc, effects, handlers, taken, found)
         }
@@ -211,13 +256,13 @@ fn find_in_statement(
 #[cycle(raising)]
 fn find_in_statements(
     alloc: Global,
-    effects: &[Effect],
+    effects: Effects<'_>,
     statements: &[Stmt],
     taken: &mut Taken,
     found: &mut Found,
 ) -> Result<(), AllocError>
     ensures found { Finds result (set_of taken.old) found.old found.new
-        (λ among. rules.stmts_raise (effects_in effects.now) among (stmts_form statements.now)) }
+        (λ among. rules.stmts_raise (effects_in effects.entry) among (stmts_form statements.now)) }
     ensures kept { OnOk result (set_of taken.new ≡ set_of taken.old) }
 {
     'statements: for statement in statements {
@@ -230,14 +275,14 @@ fn find_in_statements(
 #[cycle(raising)]
 fn find_in_branches(
     alloc: Global,
-    effects: &[Effect],
+    effects: Effects<'_>,
     branches: &[Branch],
     taken: &mut Taken,
     found: &mut Found,
 ) -> Result<(), AllocError>
     ensures found { OnOk result ((others : StmtsForm) (among : Exception → Bool) →
-        (is_found found.old among || rules.branches_raise (effects_in effects.now) (left_of (set_of taken.old) among) (branches_form branches.now others))
-        ≡ (is_found found.new among || rules.stmts_raise (effects_in effects.now) (left_of (set_of taken.old) among) others)) }
+        (is_found found.old among || rules.branches_raise (effects_in effects.entry) (left_of (set_of taken.old) among) (branches_form branches.now others))
+        ≡ (is_found found.new among || rules.stmts_raise (effects_in effects.entry) (left_of (set_of taken.old) among) others)) }
     ensures kept { OnOk result (set_of taken.new ≡ set_of taken.old) }
 {
     'branches: for branch in branches {
@@ -255,13 +300,13 @@ fn find_in_branches(
 #[cycle(raising)]
 pub(crate) fn find_in_handlers(
     alloc: Global,
-    effects: &[Effect],
+    effects: Effects<'_>,
     handlers: &[Handler],
     taken: &mut Taken,
     found: &mut Found,
 ) -> Result<(), AllocError>
     ensures found { Finds result (set_of taken.old) found.old found.new
-        (λ among. rules.handlers_raise (effects_in effects.now) among (handlers_form handlers.now)) }
+        (λ among. rules.handlers_raise (effects_in effects.entry) among (handlers_form handlers.now)) }
     ensures kept { OnOk result (set_of taken.new ≡ set_of taken.old) }
 {
     'handlers: for handler in handlers {
@@ -275,14 +320,14 @@ pub(crate) fn find_in_handlers(
 #[tactic(auto, using(std::proofs::lemmas::Grind::common_steps, crate::proofs::Raising::handled_steps))]
 pub(crate) fn find_handled(
     alloc: Global,
-    effects: &[Effect],
+    effects: Effects<'_>,
     statements: &[Stmt],
     handlers: &[Handler],
     taken: &mut Taken,
     found: &mut Found,
 ) -> Result<(), AllocError>
     ensures found { Finds result (set_of taken.old) found.old found.new
-        (λ among. rules.stmts_raise (effects_in effects.now) (rules.untaken (handlers_form handlers.now) among) (stmts_form statements.now)) }
+        (λ among. rules.stmts_raise (effects_in effects.entry) (rules.untaken (handlers_form handlers.now) among) (stmts_form statements.now)) }
     ensures kept { OnOk result (set_of taken.new ≡ set_of taken.old) }
 {
     if have_others(handlers) {

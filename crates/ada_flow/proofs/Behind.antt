@@ -9,6 +9,7 @@ use Rattle.ada_program.specs.declared.program.Variable.{Variable}
 use Rattle.ada_program.specs.Form.{ExpressionForm}
 use Rattle.ada_program.specs.ProgramForm.{VariableForm, variable_form}
 use Rattle.ada_program.specs.WellFormed.{access_of}
+use Rattle.ada_effects.specs.Effects.{Implicit}
 use Rattle.ada_flow.specs.declared.marks.Marks.{Marks}
 use Rattle.ada_flow.specs.declared.rule.Hold.{Hold}
 use Rattle.ada_flow.specs.declared.rule.Rule.TheVariants.{LoopState}
@@ -62,16 +63,16 @@ left_next vs marks hs i v h a b = rw (add-one, drop-cons vs i v, drop-cons hs i 
 pub ruleset losing_steps = (left_short, left_nothing, left_next)
 
 -- an exit with no less than is known at the loop's start does what its condition does
-pub exit_stays : (vs : List VariableForm) (start : Option Holds) (inside : Gone) (condition : Option ExpressionForm) (spot : Spot) (hs : Holds) →
-    exit_keeps vs start inside hs ≡ true → exit_flow vs start inside condition spot hs ≡ exit_of condition hs
-exit_stays vs None inside condition spot hs keeps = refl
-exit_stays vs (Some start) inside condition spot hs keeps = ap (λ (b : Bool). if b then exit_of condition hs else faults spot LoopState) keeps
+pub exit_stays : (vs : List VariableForm) (implicit : Implicit) (start : Option Holds) (inside : Gone) (condition : Option ExpressionForm) (spot : Spot) (hs : Holds) →
+    exit_keeps vs implicit start inside hs ≡ true → exit_flow vs implicit start inside condition spot hs ≡ exit_of condition hs
+exit_stays vs implicit None inside condition spot hs keeps = refl
+exit_stays vs implicit (Some start) inside condition spot hs keeps = ap (λ (b : Bool). if b then exit_of condition hs else faults spot LoopState) keeps
 
 -- and one with less breaks a rule
-pub exit_breaks : (vs : List VariableForm) (start : Option Holds) (inside : Gone) (condition : Option ExpressionForm) (spot : Spot) (hs : Holds) →
-    exit_keeps vs start inside hs ≡ false → exit_flow vs start inside condition spot hs ≡ faults spot LoopState
-exit_breaks vs None inside condition spot hs keeps = cc
-exit_breaks vs (Some start) inside condition spot hs keeps = ap (λ (b : Bool). if b then exit_of condition hs else faults spot LoopState) keeps
+pub exit_breaks : (vs : List VariableForm) (implicit : Implicit) (start : Option Holds) (inside : Gone) (condition : Option ExpressionForm) (spot : Spot) (hs : Holds) →
+    exit_keeps vs implicit start inside hs ≡ false → exit_flow vs implicit start inside condition spot hs ≡ faults spot LoopState
+exit_breaks vs implicit None inside condition spot hs keeps = cc
+exit_breaks vs implicit (Some start) inside condition spot hs keeps = ap (λ (b : Bool). if b then exit_of condition hs else faults spot LoopState) keeps
 
 pub ruleset exit_steps = (exit_stays, exit_breaks)
 

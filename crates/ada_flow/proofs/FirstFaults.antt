@@ -3,7 +3,7 @@
 use Rattle.std.proofs.Common.{◌≡◌, ℕ, ◌+◌, ◌<◌, length, get_or, drop, map, Bool, true, false, List, [], ◌∷◌, ◌++◌, Option, Some, None, refl, sym, ap, ◌∙◌}
 use Rattle.std.proofs.lemmas.List.{at_drop_more}
 use Rattle.std.specs.Prelude.{Ok, Err, if◌then◌else◌}
-use Rattle.ada_effects.specs.Effects.{Effect, effect_of}
+use Rattle.ada_effects.specs.Effects.{Effect, Implicit, effect_of, known_of}
 use Rattle.ada_program.specs.declared.program.FormalMode.{FormalMode}
 use Rattle.ada_program.specs.declared.program.Procedure.{Procedure}
 use Rattle.ada_program.specs.ProgramForm.{TypeForm, VariableForm, BodyForm, body_form}
@@ -25,30 +25,33 @@ fault_in_both (faults s r) (goes normal raising) = refl
 fault_in_both (faults s r) (faults t q) = chosen (is_left_of t s) t s q r
 
 -- body by body
-pub fault_in_more : (so_far : Option Breach) (types : List TypeForm) (es : List Effect) (ks : List Keeping) (b : BodyForm) (bs : List BodyForm) (main : BodyForm) →
-    leftmost so_far (fault_in (bodies_flow types es ks (b ∷ bs) main))
-    ≡ leftmost (leftmost so_far (fault_in (body_flow types es ks b))) (fault_in (bodies_flow types (es ++ effect_of types es b ∷ []) (ks ++ body_keeps types es ks b ∷ []) bs main))
-fault_in_more so_far types es ks b bs main =
-    let first = body_flow types es ks b in
-    let others = bodies_flow types (es ++ effect_of types es b ∷ []) (ks ++ body_keeps types es ks b ∷ []) bs main in
+pub fault_in_more : (so_far : Option Breach) (types : List TypeForm) (implicit : Implicit) (es : List Effect) (ks : List Keeping) (b : BodyForm) (bs : List BodyForm) (main : BodyForm) →
+    leftmost so_far (fault_in (bodies_flow types implicit es ks (b ∷ bs) main))
+    ≡ leftmost (leftmost so_far (fault_in (body_flow types (known_of implicit es) ks b)))
+    (fault_in (bodies_flow types implicit (es ++ effect_of types (known_of implicit es) b ∷ []) (ks ++ body_keeps types (known_of implicit es) ks b ∷ []) bs main))
+fault_in_more so_far types implicit es ks b bs main =
+    let first = body_flow types (known_of implicit es) ks b in
+    let others = bodies_flow types implicit (es ++ effect_of types (known_of implicit es) b ∷ []) (ks ++ body_keeps types (known_of implicit es) ks b ∷ []) bs main in
     ap (leftmost so_far) (fault_in_both first others) ∙ sym (leftmost_of_three so_far (fault_in first) (fault_in others))
 
 -- one procedure more
-pub procedure_step : (so_far found joined all : Option Breach) (types : List TypeForm) (es es' : List Effect) (ks ks' : List Keeping) (procedures : List Procedure) (i : ℕ) (one : Procedure) (main : BodyForm) →
-    i < length procedures → one ≡ get_or procedures i one → found ≡ fault_in (body_flow types es ks (body_form one)) →
-    es' ≡ es ++ effect_of types es (body_form one) ∷ [] → ks' ≡ ks ++ body_keeps types es ks (body_form one) ∷ [] → joined ≡ leftmost so_far found →
-    leftmost so_far (fault_in (bodies_flow types es ks (map body_form (drop i procedures)) main)) ≡ all →
-    leftmost joined (fault_in (bodies_flow types es' ks' (map body_form (drop (i + 1) procedures)) main)) ≡ all
-procedure_step so_far found joined all types es es' ks ks' procedures i one main inside item found_is es_is ks_is joins before =
+pub procedure_step : (so_far found joined all : Option Breach) (types : List TypeForm) (implicit : Implicit) (es es' : List Effect) (ks ks' : List Keeping) (procedures : List Procedure) (i : ℕ) (one : Procedure) (main : BodyForm) →
+    i < length procedures → one ≡ get_or procedures i one → found ≡ fault_in (body_flow types (known_of implicit es) ks (body_form one)) →
+    es' ≡ es ++ effect_of types (known_of implicit es) (body_form one) ∷ [] → ks' ≡ ks ++ body_keeps types (known_of implicit es) ks (body_form one) ∷ [] →
+    joined ≡ leftmost so_far found →
+    leftmost so_far (fault_in (bodies_flow types implicit es ks (map body_form (drop i procedures)) main)) ≡ all →
+    leftmost joined (fault_in (bodies_flow types implicit es' ks' (map body_form (drop (i + 1) procedures)) main)) ≡ all
+procedure_step so_far found joined all types implicit es es' ks ks' procedures i one main inside item found_is es_is ks_is joins before =
     let rest = map body_form (drop (i + 1) procedures) in
-    let first = fault_in (body_flow types es ks (body_form one)) in
+    let known = known_of implicit es in
+    let first = fault_in (body_flow types known ks (body_form one)) in
     let step : map body_form (drop i procedures) ≡ body_form one ∷ rest =
     at_drop_more (map body_form) procedures i one inside ∙ ap (λ (p : Procedure). body_form p ∷ rest) (sym item) in
-    ap (λ (j : Option Breach). leftmost j (fault_in (bodies_flow types es' ks' rest main))) (joins ∙ ap (leftmost so_far) found_is)
-    ∙ ap (λ (e : List Effect). leftmost (leftmost so_far first) (fault_in (bodies_flow types e ks' rest main))) es_is
-    ∙ ap (λ (k : List Keeping). leftmost (leftmost so_far first) (fault_in (bodies_flow types (es ++ effect_of types es (body_form one) ∷ []) k rest main))) ks_is
-    ∙ sym (fault_in_more so_far types es ks (body_form one) rest main)
-    ∙ sym (ap (λ (bs : List BodyForm). leftmost so_far (fault_in (bodies_flow types es ks bs main))) step)
+    ap (λ (j : Option Breach). leftmost j (fault_in (bodies_flow types implicit es' ks' rest main))) (joins ∙ ap (leftmost so_far) found_is)
+    ∙ ap (λ (e : List Effect). leftmost (leftmost so_far first) (fault_in (bodies_flow types implicit e ks' rest main))) es_is
+    ∙ ap (λ (k : List Keeping). leftmost (leftmost so_far first) (fault_in (bodies_flow types implicit (es ++ effect_of types known (body_form one) ∷ []) k rest main))) ks_is
+    ∙ sym (fault_in_more so_far types implicit es ks (body_form one) rest main)
+    ∙ sym (ap (λ (bs : List BodyForm). leftmost so_far (fault_in (bodies_flow types implicit es ks bs main))) step)
     ∙ before
 
 -- where there is no fault, the rules are obeyed; and else the fault is told

@@ -16,7 +16,11 @@ pub mod Freed
 pub mod Actuals
 -- formal parameters where a body begins and ends
 pub mod Formals
--- what is left behind a call
+-- what is lost where objects may be gone
+pub mod Unaliased
+-- what is known behind a call
 pub mod Called
+-- what is lost as operations are called
+pub mod Initialized
 -- the first fault of bodies
 pub mod FirstFaults

@@ -3,13 +3,13 @@
 use Rattle.std.proofs.Common.{◌≡◌, Bool, true, false, List, [], ◌∷◌, ◌≤◌, length, arith, Option, Some, None, refl, sym, ap, ◌∙◌}
 use Rattle.std.specs.Prelude.{Result, Ok, Err, if◌then◌else◌}
 use Rattle.ada_text.specs.declared.spot.Spot.{Spot}
-use Rattle.ada_effects.specs.Effects.{passes}
+use Rattle.ada_effects.specs.Effects.{Implicit, passes}
 use Rattle.ada_program.specs.declared.program.Choice.{Choice}
 use Rattle.ada_program.specs.declared.program.Handler.{Handler}
 use Rattle.ada_flow.specs.declared.rule.Rule.{Rule}
 use Rattle.ada_flow.specs.declared.rule.Rule.TheVariants.{LoopState}
-use Rattle.ada_flow.specs.Flow.{Holds, Outcome, faults, goes, Gone, Around, begins_pair, join_option, left_option, either_of, also_raises, then_flow, computed, stmt_flow, stmts_flow, branches_flow, handlers_flow, handled, leaves_block, raising_if, left_with, ends_turn, unless_worse, are_as_good, condition_flow, loop_flow, in_loop, in_block, gone_with, declaration_flow, declarations_flow}
-use Rattle.ada_flow.specs.Told.{Noted, unwanted, wanted, also_noted, noted_behind, emptied, ending, end_handled, joined_end, noted_for}
+use Rattle.ada_flow.specs.Flow.{Holds, Outcome, faults, goes, Gone, Around, begins_pair, join_option, either_of, also_raises, then_flow, computed, stmt_flow, stmts_flow, branches_flow, handlers_flow, handled, leaves_finalized, raising_if, left_with, ends_turn, unless_worse, are_as_good, condition_flow, loop_flow, in_loop, in_block, gone_with, declaration_flow, declarations_flow}
+use Rattle.ada_flow.specs.Told.{Noted, unwanted, wanted, also_noted, finalized_option, noted_behind, emptied, ending, end_handled, joined_end, noted_for}
 use Rattle.ada_flow.proofs.Joined.{join_option_of_three, join_option_none}
 use Rattle.ada_program.specs.Form.{StmtForm, StmtsForm, a_stmt, BranchesForm, a_branch, ExpressionForm, HandlersForm, no_handlers, a_handler, DeclarationForm, encloses, handlers_form}
 use Rattle.ada_program.specs.ProgramForm.{TypeForm, VariableForm}
@@ -129,16 +129,16 @@ handlers_break so_far n types variables around choices fs hs raising breach brea
     ∙ ap (λ o. either_end o (λ m. ending m (handlers_flow types variables around hs raising))) breaks)
 
 -- a block that is left, with which this goes
-abbrev pub left_end : Noted → List VariableForm → (gone : Gone) → End → End
-left_end n variables gone (Err breach) = Err breach
-left_end n variables gone (Ok end) = Ok (left_option variables gone end.0, noted_behind n variables gone end.1)
+abbrev pub left_end : Noted → List VariableForm → Implicit → (gone : Gone) → End → End
+left_end n variables implicit gone (Err breach) = Err breach
+left_end n variables implicit gone (Ok end) = Ok (finalized_option variables implicit gone end.0, noted_behind n variables implicit gone end.1)
 
-pub block_ends : (n : Noted) (variables : List VariableForm) (gone : Gone) (o : Outcome) →
-    ending n (leaves_block variables gone o) ≡ left_end n variables gone (ending (emptied n) o)
-block_ends unwanted variables gone (faults spot rule) = refl
-block_ends unwanted variables gone (goes normal raising) = refl
-block_ends (wanted before) variables gone (faults spot rule) = refl
-block_ends (wanted before) variables gone (goes normal raising) = refl
+pub block_ends : (n : Noted) (variables : List VariableForm) (implicit : Implicit) (gone : Gone) (o : Outcome) →
+    ending n (leaves_finalized variables implicit gone o) ≡ left_end n variables implicit gone (ending (emptied n) o)
+block_ends unwanted variables implicit gone (faults spot rule) = refl
+block_ends unwanted variables implicit gone (goes normal raising) = refl
+block_ends (wanted before) variables implicit gone (faults spot rule) = refl
+block_ends (wanted before) variables implicit gone (goes normal raising) = refl
 
 -- a loop that is left, or is not
 abbrev pub left_over : Bool → Holds → End → End
@@ -215,16 +215,17 @@ handled_behind types variables around passes fs hs (Ok (Some at, n)) = handled_e
 
 -- declarations, then statements with their handlers
 pub body_ends : (n : Noted) (types : List TypeForm) (variables : List VariableForm) (around : Around) (passes : Bool) (ds : List DeclarationForm) (fs : StmtsForm) (hs : HandlersForm) (holds : Holds) →
-    ending n (then_flow (declarations_flow types variables ds holds) (λ at. handled passes (handlers_flow types variables around hs) (stmts_flow types variables around fs at)))
-    ≡ then_handled types variables around passes fs hs (ending n (declarations_flow types variables ds holds))
+    ending n (then_flow (declarations_flow types variables around.effects.implicit ds holds) (λ at. handled passes (handlers_flow types variables around hs) (stmts_flow types variables around fs at)))
+    ≡ then_handled types variables around passes fs hs (ending n (declarations_flow types variables around.effects.implicit ds holds))
 body_ends n types variables around passes ds fs hs holds =
-    then_ends n (declarations_flow types variables ds holds) (λ at. handled passes (handlers_flow types variables around hs) (stmts_flow types variables around fs at))
-    ∙ handled_behind types variables around passes fs hs (ending n (declarations_flow types variables ds holds))
+    then_ends n (declarations_flow types variables around.effects.implicit ds holds) (λ at. handled passes (handlers_flow types variables around hs) (stmts_flow types variables around fs at))
+    ∙ handled_behind types variables around passes fs hs (ending n (declarations_flow types variables around.effects.implicit ds holds))
 
 -- declarations end as the first, or else as the others
-pub declarations_end : (n : Noted) (types : List TypeForm) (variables : List VariableForm) (d : DeclarationForm) (ds : List DeclarationForm) (holds : Holds) →
-    ending n (declarations_flow types variables (d ∷ ds) holds) ≡ then_end (ending n (declaration_flow types variables d holds)) (declarations_flow types variables ds)
-declarations_end n types variables d ds holds = then_ends n (declaration_flow types variables d holds) (declarations_flow types variables ds)
+pub declarations_end : (n : Noted) (types : List TypeForm) (variables : List VariableForm) (implicit : Implicit) (d : DeclarationForm) (ds : List DeclarationForm) (holds : Holds) →
+    ending n (declarations_flow types variables implicit (d ∷ ds) holds)
+    ≡ then_end (ending n (declaration_flow types variables implicit d holds)) (declarations_flow types variables implicit ds)
+declarations_end n types variables implicit d ds holds = then_ends n (declaration_flow types variables implicit d holds) (declarations_flow types variables implicit ds)
 
 -- one turn of a loop, where it leads back
 pub turn_returns : (leaves : Bool) (n m k : Noted) (condition : Option ExpressionForm) (spot : Spot) (types : List TypeForm) (variables : List VariableForm) (around : Around) (fs : StmtsForm) (start after : Holds) →
@@ -252,48 +253,48 @@ turn_stops leaves n m k condition spot types variables around fs start tests tur
 -- a block ends as its statements do with their handlers, behind its declarations
 enclosed_ends : (n : Noted) (types : List TypeForm) (variables : List VariableForm) (around : Around) (cleared : Bool) (ds : List DeclarationForm) (fs : StmtsForm) (hs : HandlersForm) (holds : Holds) →
     ending n (stmt_flow types variables around cleared (encloses ds fs hs) holds)
-    ≡ left_end n variables (gone_with ds)
-    (then_handled types variables (in_block (gone_with ds) around) (passes around.effects fs hs) fs hs (ending (emptied n) (declarations_flow types variables ds holds)))
+    ≡ left_end n variables around.effects.implicit (gone_with ds)
+    (then_handled types variables (in_block (gone_with ds) around) (passes around.effects fs hs) fs hs (ending (emptied n) (declarations_flow types variables around.effects.implicit ds holds)))
 enclosed_ends n types variables around cleared ds fs hs holds =
-    block_ends n variables (gone_with ds) (then_flow (declarations_flow types variables ds holds) (λ at. handled (passes around.effects fs hs) (handlers_flow types variables (in_block (gone_with ds) around) hs) (stmts_flow types variables (in_block (gone_with ds) around) fs at)))
-    ∙ ap (left_end n variables (gone_with ds)) (body_ends (emptied n) types variables (in_block (gone_with ds) around) (passes around.effects fs hs) ds fs hs holds)
+    block_ends n variables around.effects.implicit (gone_with ds) (then_flow (declarations_flow types variables around.effects.implicit ds holds) (λ at. handled (passes around.effects fs hs) (handlers_flow types variables (in_block (gone_with ds) around) hs) (stmts_flow types variables (in_block (gone_with ds) around) fs at)))
+    ∙ ap (left_end n variables around.effects.implicit (gone_with ds)) (body_ends (emptied n) types variables (in_block (gone_with ds) around) (passes around.effects fs hs) ds fs hs holds)
 
 -- its declarations break a rule
 pub block_declares_badly : (n : Noted) (types : List TypeForm) (variables : List VariableForm) (around : Around) (cleared : Bool) (ds : List DeclarationForm) (fs : StmtsForm) (hs : HandlersForm) (holds : Holds) (breach : Spot × Rule) →
-    ending (emptied n) (declarations_flow types variables ds holds) ≡ Err breach →
+    ending (emptied n) (declarations_flow types variables around.effects.implicit ds holds) ≡ Err breach →
     ending n (stmt_flow types variables around cleared (encloses ds fs hs) holds) ≡ Err breach
 block_declares_badly n types variables around cleared ds fs hs holds breach declares =
     enclosed_ends n types variables around cleared ds fs hs holds
-    ∙ ap (λ e. left_end n variables (gone_with ds) (then_handled types variables (in_block (gone_with ds) around) (passes around.effects fs hs) fs hs e)) declares
+    ∙ ap (λ e. left_end n variables around.effects.implicit (gone_with ds) (then_handled types variables (in_block (gone_with ds) around) (passes around.effects fs hs) fs hs e)) declares
 
 -- its statements do
 pub block_breaks : (n m : Noted) (types : List TypeForm) (variables : List VariableForm) (around : Around) (cleared : Bool) (gone : Gone) (ds : List DeclarationForm) (fs : StmtsForm) (hs : HandlersForm) (holds at : Holds) (breach : Spot × Rule) →
-    gone ≡ gone_with ds → ending (emptied n) (declarations_flow types variables ds holds) ≡ Ok (Some at, m) →
+    gone ≡ gone_with ds → ending (emptied n) (declarations_flow types variables around.effects.implicit ds holds) ≡ Ok (Some at, m) →
     ending (noted_for m hs) (stmts_flow types variables (in_block gone around) fs at) ≡ Err breach →
     ending n (stmt_flow types variables around cleared (encloses ds fs hs) holds) ≡ Err breach
 block_breaks n m types variables around cleared gone ds fs hs holds at breach same declares breaks =
     enclosed_ends n types variables around cleared ds fs hs holds
-    ∙ ap (λ e. left_end n variables (gone_with ds) (then_handled types variables (in_block (gone_with ds) around) (passes around.effects fs hs) fs hs e)) declares
-    ∙ ap (λ g. left_end n variables (gone_with ds) (handled_end m (passes around.effects fs hs) (handlers_flow types variables (in_block (gone_with ds) around) hs) (ending (noted_for m hs) (stmts_flow types variables (in_block g around) fs at)))) (sym same)
-    ∙ ap (λ e. left_end n variables (gone_with ds) (handled_end m (passes around.effects fs hs) (handlers_flow types variables (in_block (gone_with ds) around) hs) e)) breaks
+    ∙ ap (λ e. left_end n variables around.effects.implicit (gone_with ds) (then_handled types variables (in_block (gone_with ds) around) (passes around.effects fs hs) fs hs e)) declares
+    ∙ ap (λ g. left_end n variables around.effects.implicit (gone_with ds) (handled_end m (passes around.effects fs hs) (handlers_flow types variables (in_block (gone_with ds) around) hs) (ending (noted_for m hs) (stmts_flow types variables (in_block g around) fs at)))) (sym same)
+    ∙ ap (λ e. left_end n variables around.effects.implicit (gone_with ds) (handled_end m (passes around.effects fs hs) (handlers_flow types variables (in_block (gone_with ds) around) hs) e)) breaks
 
 -- its statements end, and its handlers do, or break a rule
 pub block_handles : (n m k : Noted) (types : List TypeForm) (variables : List VariableForm) (around : Around) (cleared : Bool) (gone : Gone) (ds : List DeclarationForm) (fs : StmtsForm) (hs : HandlersForm) (holds at : Holds) (normal : Option Holds) (end : End) →
-    gone ≡ gone_with ds → ending (emptied n) (declarations_flow types variables ds holds) ≡ Ok (Some at, m) →
+    gone ≡ gone_with ds → ending (emptied n) (declarations_flow types variables around.effects.implicit ds holds) ≡ Ok (Some at, m) →
     ending (noted_for m hs) (stmts_flow types variables (in_block gone around) fs at) ≡ Ok (normal, k) →
     end_handled m (passes around.effects fs hs) (handlers_flow types variables (in_block gone around) hs) normal k ≡ end →
-    ending n (stmt_flow types variables around cleared (encloses ds fs hs) holds) ≡ left_end n variables gone end
+    ending n (stmt_flow types variables around cleared (encloses ds fs hs) holds) ≡ left_end n variables around.effects.implicit gone end
 block_handles n m k types variables around cleared gone ds fs hs holds at normal end same declares ends handles =
     enclosed_ends n types variables around cleared ds fs hs holds
-    ∙ ap (λ e. left_end n variables (gone_with ds) (then_handled types variables (in_block (gone_with ds) around) (passes around.effects fs hs) fs hs e)) declares
-    ∙ ap (λ g. left_end n variables g (handled_end m (passes around.effects fs hs) (handlers_flow types variables (in_block g around) hs) (ending (noted_for m hs) (stmts_flow types variables (in_block g around) fs at)))) (sym same)
-    ∙ ap (λ e. left_end n variables gone (handled_end m (passes around.effects fs hs) (handlers_flow types variables (in_block gone around) hs) e)) ends
-    ∙ ap (left_end n variables gone) handles
+    ∙ ap (λ e. left_end n variables around.effects.implicit (gone_with ds) (then_handled types variables (in_block (gone_with ds) around) (passes around.effects fs hs) fs hs e)) declares
+    ∙ ap (λ g. left_end n variables around.effects.implicit g (handled_end m (passes around.effects fs hs) (handlers_flow types variables (in_block g around) hs) (ending (noted_for m hs) (stmts_flow types variables (in_block g around) fs at)))) (sym same)
+    ∙ ap (λ e. left_end n variables around.effects.implicit gone (handled_end m (passes around.effects fs hs) (handlers_flow types variables (in_block gone around) hs) e)) ends
+    ∙ ap (left_end n variables around.effects.implicit gone) handles
 
 -- a body whose declarations and statements come to an end ends as its handlers do
 pub parts_end : (n m k : Noted) (types : List TypeForm) (variables : List VariableForm) (around : Around) (passes : Bool) (ds : List DeclarationForm) (fs : StmtsForm) (hs : HandlersForm) (holds at : Holds) (normal : Option Holds) →
-    ending n (declarations_flow types variables ds holds) ≡ Ok (Some at, m) → ending (noted_for m hs) (stmts_flow types variables around fs at) ≡ Ok (normal, k) →
-    ending n (then_flow (declarations_flow types variables ds holds) (λ at. handled passes (handlers_flow types variables around hs) (stmts_flow types variables around fs at)))
+    ending n (declarations_flow types variables around.effects.implicit ds holds) ≡ Ok (Some at, m) → ending (noted_for m hs) (stmts_flow types variables around fs at) ≡ Ok (normal, k) →
+    ending n (then_flow (declarations_flow types variables around.effects.implicit ds holds) (λ at. handled passes (handlers_flow types variables around hs) (stmts_flow types variables around fs at)))
     ≡ end_handled m passes (handlers_flow types variables around hs) normal k
 parts_end n m k types variables around passes ds fs hs holds at normal declares ends =
     body_ends n types variables around passes ds fs hs holds

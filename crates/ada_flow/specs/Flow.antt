@@ -13,7 +13,8 @@ use Rattle.ada_program.specs.declared.program.VariableKind.TheVariants as variab
 use Rattle.ada_program.specs.Form.{ActualForm, in_value, in_null, in_access, in_record, in_out_path, in_out_access, in_out_component, in_out_record, PathForm, RecordPathForm, ExpressionForm, integer, boolean, reads, is_null, applied_to, chained, LinksForm, no_more_links, a_link, ItemForm, null_item, item_of_path, item_of_value, item_of_record, RightForm, nothing, value_of, allocates, allocates_default, computes, StmtForm, skips, assigns, assigns_record, frees, gets, writes, writes_text, chooses, repeats, counts, exits, calls, returns, raises, encloses, StmtsForm, no_stmts, a_stmt, BranchesForm, otherwise, a_branch, HandlersForm, no_handlers, a_handler, DeclarationForm, creates_pool, collects, declares, declares_record}
 use Rattle.ada_program.specs.ProgramForm.{TypeForm, type_form, VariableForm, variable_form, BodyForm, nowhere, ProgramForm, main_body, program_form}
 use Rattle.ada_program.specs.WellFormed.{record_components, reached_components, access_of, variable_kind, selected_kind, path_access, is_this, is_borrower, names_borrower}
-use Rattle.ada_effects.specs.Effects.{expression_raises, path_raises, record_path_raises, actuals_raise, items_raise, initial_raises, Effect, call_raises, call_frees, passes, effect_of}
+use Rattle.ada_effects.specs.Effects.{expression_raises, path_raises, record_path_raises, actuals_raise, items_raise, initial_raises, initial_starts, initial_frees, assignment_frees, endings_free, Effect, Implicit, Effects, call_raises, call_frees, passes, effect_of, known_of}
+use Rattle.ada_deeds.specs.Implicit.{implicit_of}
 use Rattle.ada_flow.specs.declared.rule.Hold.{Hold}
 use Rattle.ada_flow.specs.declared.rule.Hold.TheVariants.{Null, Kept, Own, Alias, Lost}
 use Rattle.ada_flow.specs.declared.rule.Region.TheVariants.{Whole}
@@ -457,12 +458,6 @@ gives_component types cleared path right holds =
     using_paths (uses_in_target path ++ uses_in_right types path.spot false cleared (Some path) right) holds
     (ends_with (path_raises path || evaluation_raises right) holds (without_values (moved_by_right false right) holds))
 
--- After a record gets the values of items (5.2), whose object is found first: no variable changes.
-abbrev pub gives_record : List TypeForm → RecordPathForm → List ItemForm → Holds → Outcome
-gives_record types target items holds =
-    using_paths (reaches_it target.object ∷ uses_in_record types target.object.spot target.record_type items) holds
-    (ends_with (record_path_raises target || items_raise items) holds holds)
-
 -- Statements (5.1).
 
 -- What is left of a hold, if an object may be gone that an alias names.
@@ -537,27 +532,6 @@ abbrev pub passes_own : List TypeForm → List VariableForm → PathForm → Opt
 passes_own types variables path None = false
 passes_own types variables path (Some t) = passes_type types (variable_kind variables path.root) path.selectors t
 
--- What Free (P.C) breaks, by what the path's variable holds: what is lost is not followed, and the path does not pass its own type.
-abbrev pub freed_behind : (passes : Bool) → Hold → Spot → Option Breach
-freed_behind false hold spot = lost_by hold spot
-freed_behind true Null spot = Some (spot, UnsafePath)
-freed_behind true (Kept r) spot = Some (spot, UnsafePath)
-freed_behind true (Own r) spot = Some (spot, UnsafePath)
-freed_behind true (Alias r) spot = Some (spot, UnsafePath)
-freed_behind true Lost spot = Some (spot, LostValue)
-
--- After Free (P.C) (13.11.2), for whose own access type this is: the component holds null, and whoever borrowed an object of the type may have
--- borrowed this one. So it is where a value on the path is null, and Constraint_Error is raised.
-abbrev pub released_behind : List TypeForm → List VariableForm → PathForm → Holds → Option ℕ → Outcome
-released_behind types variables path holds access =
-    unless_broken (freed_behind (passes_own types variables path access) (hold_at holds path.root) path.spot)
-    (ends_with (path_raises path) (behind_end variables access holds) (behind_end variables access holds))
-
--- After Free of a variable, or of a component.
-abbrev pub frees_path : List TypeForm → List VariableForm → List ℕ → PathForm → Holds → Outcome
-frees_path types variables [] path holds = released variables path.root path.spot holds (hold_at holds path.root)
-frees_path types variables (c ∷ cs) path holds = released_behind types variables path holds (path_access types variables path)
-
 -- Calls (6.4).
 
 -- Is a type one of which an object may be freed, if there is one?
@@ -618,6 +592,93 @@ component_passes types variables may path = passes_freed types may (variable_kin
 abbrev pub record_passes : List TypeForm → List VariableForm → (may : ℕ → Bool) → RecordPathForm → Bool
 record_passes types variables may p =
     component_passes types variables may p.object || is_freed may (path_access types variables p.object)
+
+-- Operations of controlled types (7.6).
+
+-- What is left where objects of some access types may be gone, on a way that may not be gone.
+abbrev pub without_freed_option : List VariableForm → (may : ℕ → Bool) → Option Holds → Option Holds
+without_freed_option variables may None = None
+without_freed_option variables may (Some holds) = Some (without_freed variables may holds)
+
+-- A form in the midst of which operations may free objects of some access types: behind it, and where it raises an exception, every alias of these types is
+-- lost.
+abbrev pub loses : List VariableForm → (may : ℕ → Bool) → Outcome → Outcome
+loses variables may (faults spot rule) = faults spot rule
+loses variables may (goes normal raising) = goes (without_freed_option variables may normal) (without_freed_option variables may raising)
+
+-- A new object without items is initialized (4.8).
+abbrev pub initializes : List VariableForm → Implicit → RightForm → Outcome → Outcome
+initializes variables implicit nothing outcome = outcome
+initializes variables implicit (value_of path) outcome = outcome
+initializes variables implicit (allocates access items) outcome = outcome
+initializes variables implicit (allocates_default access) outcome = loses variables (implicit.start_frees access) outcome
+initializes variables implicit (computes e) outcome = outcome
+
+-- The component that gets a new object is found before: so the path to it follows no value of an access type of which the initialization may free objects. A
+-- variable as a target follows none.
+abbrev pub waits_for : List TypeForm → List VariableForm → (may : ℕ → Bool) → List ℕ → PathForm → List Use
+waits_for types variables may [] path = []
+waits_for types variables may (c ∷ cs) path = passes_it (component_passes types variables may path) path ∷ []
+
+-- How a target is used while what is assigned to it is initialized.
+abbrev pub uses_in_start : List TypeForm → List VariableForm → Implicit → PathForm → RightForm → List Use
+uses_in_start types variables implicit target nothing = []
+uses_in_start types variables implicit target (value_of path) = []
+uses_in_start types variables implicit target (allocates access items) = []
+uses_in_start types variables implicit target (allocates_default access) = waits_for types variables (implicit.start_frees access) target.selectors target
+uses_in_start types variables implicit target (computes e) = []
+
+-- What a record is copied from is found before the target is finalized and adjusted, and needed until then.
+abbrev pub uses_in_copy : List TypeForm → List VariableForm → (may : ℕ → Bool) → List ItemForm → List Use
+uses_in_copy types variables may (item_of_record p ∷ []) = passes_it (record_passes types variables may p) p.object ∷ []
+uses_in_copy types variables may items = []
+
+-- The paths that an assignment to a record uses, in whose midst its operations may free objects of some access types: neither the path to its target nor that
+-- to what is copied follows a value of one of these.
+abbrev pub uses_in_assignment : List TypeForm → List VariableForm → (may : ℕ → Bool) → RecordPathForm → List ItemForm → List Use
+uses_in_assignment types variables may target items =
+    passes_it (record_passes types variables may target) target.object
+    ∷ (uses_in_record types target.object.spot target.record_type items ++ uses_in_copy types variables may items)
+
+-- After a record gets the values of items (5.2), whose object is found first: no variable changes but those whose aliases are lost.
+abbrev pub gives_record : List TypeForm → List VariableForm → (may : ℕ → Bool) → RecordPathForm → List ItemForm → Holds → Outcome
+gives_record types variables may target items holds =
+    loses variables may
+    (using_paths (uses_in_assignment types variables may target items) holds
+    (ends_with (record_path_raises target || items_raise items) holds holds))
+
+-- An object of an access type ends, if there is such a type, and is finalized before (7.6.1, 13.11.2).
+abbrev pub finalizes : List VariableForm → Implicit → Option ℕ → Outcome → Outcome
+finalizes variables implicit None outcome = outcome
+finalizes variables implicit (Some t) outcome = loses variables (implicit.end_frees t) outcome
+
+-- Does a component's path follow a value of an access type that the finalization of what it names reaches?
+abbrev pub passes_reached : List TypeForm → List VariableForm → Implicit → PathForm → Option ℕ → Bool
+passes_reached types variables implicit path None = false
+passes_reached types variables implicit path (Some t) = component_passes types variables (implicit.end_reaches t) path
+
+-- What Free (P.C) breaks, by what the path's variable holds: what is lost is not followed, and the path passes neither its own type nor one that the
+-- finalization reaches.
+abbrev pub freed_behind : (passes : Bool) → Hold → Spot → Option Breach
+freed_behind false hold spot = lost_by hold spot
+freed_behind true Null spot = Some (spot, UnsafePath)
+freed_behind true (Kept r) spot = Some (spot, UnsafePath)
+freed_behind true (Own r) spot = Some (spot, UnsafePath)
+freed_behind true (Alias r) spot = Some (spot, UnsafePath)
+freed_behind true Lost spot = Some (spot, LostValue)
+
+-- After Free (P.C) (13.11.2), for whose own access type this is: the component holds null, and whoever borrowed an object of the type may have
+-- borrowed this one. So it is where a value on the path is null, and Constraint_Error is raised.
+abbrev pub released_behind : List TypeForm → List VariableForm → Implicit → PathForm → Holds → Option ℕ → Outcome
+released_behind types variables implicit path holds access =
+    unless_broken
+    (freed_behind (passes_own types variables path access || passes_reached types variables implicit path access) (hold_at holds path.root) path.spot)
+    (ends_with (path_raises path) (behind_end variables access holds) (behind_end variables access holds))
+
+-- After Free of a variable, or of a component.
+abbrev pub frees_path : List TypeForm → List VariableForm → Implicit → List ℕ → PathForm → Holds → Outcome
+frees_path types variables implicit [] path holds = released variables path.root path.spot holds (hold_at holds path.root)
+frees_path types variables implicit (c ∷ cs) path holds = released_behind types variables implicit path holds (path_access types variables path)
 
 -- Has a path a value of an access type?
 abbrev pub names_value : Option ℕ → Bool
@@ -951,6 +1012,10 @@ abbrev pub leaves_block : List VariableForm → Gone → Outcome → Outcome
 leaves_block variables gone (faults spot rule) = faults spot rule
 leaves_block variables gone (goes normal raising) = goes (left_option variables gone normal) (left_option variables gone raising)
 
+-- So it is of a block whose objects are finalized as it is left (7.6.1).
+abbrev pub leaves_finalized : List VariableForm → Implicit → Gone → Outcome → Outcome
+leaves_finalized variables implicit gone outcome = leaves_block variables gone (loses variables (endings_free implicit gone.types) outcome)
+
 -- Statements with their handlers (11.4): each handler begins with what is known wherever the statements may raise an exception. What no
 -- handler takes is raised by the whole. Where nothing raises, no handler is examined.
 abbrev pub handled : (passes : Bool) → (handlers : Holds → Outcome) → Outcome → Outcome
@@ -962,7 +1027,7 @@ handled passes handlers (goes normal (Some raising)) = either_of (goes normal (r
 -- something or null at each normal end of it; the start of the innermost loop around the statement, if there is one; and what goes with the blocks
 -- between that loop and the statement, and with the body and all blocks around the statement.
 pub record Around : Type 0 where
-  pub effects : List Effect
+  pub effects : Effects
   pub kept : List Keeping
   pub owed : List ℕ
   pub start : Option Holds
@@ -982,10 +1047,15 @@ abbrev pub exit_of : Option ExpressionForm → Holds → Outcome
 exit_of None holds = goes None None
 exit_of (Some e) holds = computed e holds
 
+-- What is left behind blocks whose objects are finalized as they are left (7.6.1).
+abbrev pub left_finalized : List VariableForm → Implicit → Gone → Holds → Holds
+left_finalized variables implicit gone holds = left variables gone (without_freed variables (endings_free implicit gone.types) holds)
+
 -- Inside a loop with this start it leaves blocks first, with which this goes.
-abbrev pub exit_flow : List VariableForm → Option Holds → (inside : Gone) → Option ExpressionForm → Spot → Holds → Outcome
-exit_flow variables None inside condition spot holds = exit_of condition holds
-exit_flow variables (Some start) inside condition spot holds = unless_worse start (left variables inside holds) spot (exit_of condition holds)
+abbrev pub exit_flow : List VariableForm → Implicit → Option Holds → (inside : Gone) → Option ExpressionForm → Spot → Holds → Outcome
+exit_flow variables implicit None inside condition spot holds = exit_of condition holds
+exit_flow variables implicit (Some start) inside condition spot holds =
+    unless_worse start (left_finalized variables implicit inside holds) spot (exit_of condition holds)
 
 -- Where the name of a variable is declared: nowhere, if there is none.
 abbrev pub spot_in : Option VariableForm → Spot
@@ -1005,19 +1075,22 @@ abbrev pub uses_in_initial : List TypeForm → (spot : Spot) → (object_type : 
 uses_in_initial types spot t None = []
 uses_in_initial types spot t (Some items) = copies_to (owns_at_first types t) spot ∷ uses_in_items types spot None [] items
 
--- Declarations, in order (3.11). A record object owns itself as long as it is there.
-abbrev pub declaration_flow : List TypeForm → List VariableForm → DeclarationForm → Holds → Outcome
-declaration_flow types variables (creates_pool pool) holds = ends_with false holds holds
-declaration_flow types variables (collects access) holds = ends_with false holds holds
-declaration_flow types variables (declares x right) holds = gives types variables (declared_at variables x) false x right holds
-declaration_flow types variables (declares_record x object initial) holds =
-    using_paths (uses_in_initial types (declared_at variables x) object initial) holds
-    (ends_with (initial_raises initial) holds (slice_set holds x (Own Whole)))
+-- Declarations, in order (3.11). A record object owns itself as long as it is there; its initialization may raise an exception.
+abbrev pub declaration_flow : List TypeForm → List VariableForm → Implicit → DeclarationForm → Holds → Outcome
+declaration_flow types variables implicit (creates_pool pool) holds = ends_with false holds holds
+declaration_flow types variables implicit (collects access) holds = ends_with false holds holds
+declaration_flow types variables implicit (declares x right) holds =
+    initializes variables implicit right (gives types variables (declared_at variables x) false x right holds)
+declaration_flow types variables implicit (declares_record x object initial) holds =
+    loses variables (λ t. initial_frees implicit t object initial)
+    (using_paths (uses_in_initial types (declared_at variables x) object initial) holds
+    (ends_with (initial_raises initial || initial_starts implicit (λ e. true) object initial) holds (slice_set holds x (Own Whole))))
 
 -- The flow of declarations, in order (3.11).
-abbrev pub declarations_flow : List TypeForm → List VariableForm → List DeclarationForm → Holds → Outcome
-declarations_flow types variables [] holds = ends_with false holds holds
-declarations_flow types variables (d ∷ ds) holds = then_flow (declaration_flow types variables d holds) (declarations_flow types variables ds)
+abbrev pub declarations_flow : List TypeForm → List VariableForm → Implicit → List DeclarationForm → Holds → Outcome
+declarations_flow types variables implicit [] holds = ends_with false holds holds
+declarations_flow types variables implicit (d ∷ ds) holds =
+    then_flow (declaration_flow types variables implicit d holds) (declarations_flow types variables implicit ds)
 
 -- The bounds of a `for` loop are computed once, before it begins (5.5).
 abbrev pub bounds_flow : (low high : ExpressionForm) → Holds → Outcome
@@ -1060,9 +1133,14 @@ abbrev mutual
   -- After a statement, which is the first one of a take pair, or is not.
   pub stmt_flow : List TypeForm → List VariableForm → Around → (cleared : Bool) → StmtForm → Holds → Outcome
   stmt_flow types variables around cleared skips holds = ends_with false holds holds
-  stmt_flow types variables around cleared (assigns target right) holds = gives_path types variables cleared target.selectors target right holds
-  stmt_flow types variables around cleared (assigns_record target items) holds = gives_record types target items holds
-  stmt_flow types variables around cleared (frees access path) holds = frees_path types variables path.selectors path holds
+  stmt_flow types variables around cleared (assigns target right) holds =
+      using_paths (uses_in_start types variables around.effects.implicit target right) holds
+      (initializes variables around.effects.implicit right (gives_path types variables cleared target.selectors target right holds))
+  stmt_flow types variables around cleared (assigns_record target items) holds =
+      gives_record types variables (λ t. assignment_frees around.effects.implicit t target.record_type) target items holds
+  stmt_flow types variables around cleared (frees access path) holds =
+      finalizes variables around.effects.implicit (path_access types variables path)
+      (frees_path types variables around.effects.implicit path.selectors path holds)
   stmt_flow types variables around cleared (gets target) holds = gets_path target.selectors target holds
   stmt_flow types variables around cleared (writes e) holds = computed e holds
   stmt_flow types variables around cleared (writes_text text) holds = ends_with false holds holds
@@ -1072,14 +1150,15 @@ abbrev mutual
   stmt_flow types variables around cleared (counts x low high fs end_spot) holds =
       then_flow (bounds_flow low high holds)
       (λ hs. loop_flow None true end_spot (λ start hs. stmts_flow types variables (in_loop start around) fs hs) (counting_start variables x fs hs))
-  stmt_flow types variables around cleared (exits condition spot) holds = exit_flow variables around.start around.inside condition spot holds
+  stmt_flow types variables around cleared (exits condition spot) holds =
+      exit_flow variables around.effects.implicit around.start around.inside condition spot holds
   stmt_flow types variables around cleared (calls procedure actuals) holds =
-      called types variables (slice_get around.effects procedure) (kept_at around.kept procedure) actuals holds
+      called types variables (slice_get around.effects.calls procedure) (kept_at around.kept procedure) actuals holds
   stmt_flow types variables around cleared (returns spot) holds = return_flow variables around.owed around.within spot holds
   stmt_flow types variables around cleared (raises e) holds = goes None (Some holds)
   stmt_flow types variables around cleared (encloses ds fs hs) holds =
-      leaves_block variables (gone_with ds)
-      (then_flow (declarations_flow types variables ds holds)
+      leaves_finalized variables around.effects.implicit (gone_with ds)
+      (then_flow (declarations_flow types variables around.effects.implicit ds holds)
       (λ at. handled (passes around.effects fs hs) (handlers_flow types variables (in_block (gone_with ds) around) hs)
       (stmts_flow types variables (in_block (gone_with ds) around) fs at)))
 
@@ -1129,7 +1208,7 @@ owed_from x (m ∷ ms) [] = []
 owed_from x (m ∷ ms) (v ∷ vs) = owed_by m v.kind x ++ owed_from (x + 1) ms vs
 
 -- Around the statements of a body: in no loop, and in no block but the body.
-abbrev pub body_around : List Effect → List Keeping → BodyForm → Around
+abbrev pub body_around : Effects → List Keeping → BodyForm → Around
 body_around effects kept b = record {
   effects = effects;
   kept = kept;
@@ -1140,11 +1219,11 @@ body_around effects kept b = record {
 }
 
 -- After the declarations, the statements and the handlers of a body (6.3), where this is known of the calls of procedures.
-abbrev pub body_flow : List TypeForm → List Effect → List Keeping → BodyForm → Outcome
+abbrev pub body_flow : List TypeForm → Effects → List Keeping → BodyForm → Outcome
 body_flow types effects kept b =
     ends_body (owed_from 0 b.formals b.variables) b.end_spot
     (leaves_block b.variables (gone_with b.declarations)
-    (then_flow (declarations_flow types b.variables b.declarations (first_holds b.formals b.variables))
+    (then_flow (declarations_flow types b.variables effects.implicit b.declarations (first_holds b.formals b.variables))
     (λ at. handled (passes effects b.statements b.handlers)
     (handlers_flow types b.variables (body_around effects kept b) b.handlers)
     (stmts_flow types b.variables (body_around effects kept b) b.statements at))))
@@ -1173,18 +1252,19 @@ kept_by (faults spot rule) ms = []
 kept_by (goes normal raising) ms = kept_from raising 0 ms
 
 -- What the body of a procedure keeps.
-abbrev pub body_keeps : List TypeForm → List Effect → List Keeping → BodyForm → Keeping
+abbrev pub body_keeps : List TypeForm → Effects → List Keeping → BodyForm → Keeping
 body_keeps types effects kept b = kept_by (body_flow types effects kept b) b.formals
 
 -- What these procedures keep, behind others: each calls those before it.
-abbrev pub keeping_from : List TypeForm → List Effect → List Keeping → List BodyForm → List Keeping
-keeping_from types effects kept [] = kept
-keeping_from types effects kept (b ∷ bs) =
-    keeping_from types (effects ++ effect_of types effects b ∷ []) (kept ++ body_keeps types effects kept b ∷ []) bs
+abbrev pub keeping_from : List TypeForm → Implicit → (known : List Effect) → List Keeping → List BodyForm → List Keeping
+keeping_from types implicit known kept [] = kept
+keeping_from types implicit known kept (b ∷ bs) =
+    keeping_from types implicit (known ++ effect_of types (known_of implicit known) b ∷ [])
+    (kept ++ body_keeps types (known_of implicit known) kept b ∷ []) bs
 
--- What the procedures of a program keep, by their numbers.
-abbrev pub keeping_of : ProgramForm → List Keeping
-keeping_of p = keeping_from p.types [] [] p.bodies
+-- What the procedures of a program keep, by their numbers, where this is known of the operations of controlled types.
+abbrev pub keeping_of : Implicit → ProgramForm → List Keeping
+keeping_of implicit p = keeping_from p.types implicit [] [] p.bodies
 
 -- Each body is examined on its own: the first fault in the text is told.
 abbrev pub first_fault : Outcome → Outcome → Outcome
@@ -1193,11 +1273,12 @@ first_fault (faults spot rule) (goes normal raising) = faults spot rule
 first_fault (faults spot rule) (faults other_spot other_rule) = if is_left_of other_spot spot then faults other_spot other_rule else faults spot rule
 
 -- After the main body, where none of these procedures breaks a rule, of which each calls those before it.
-abbrev pub bodies_flow : List TypeForm → List Effect → List Keeping → List BodyForm → (main : BodyForm) → Outcome
-bodies_flow types effects kept [] main = body_flow types effects kept main
-bodies_flow types effects kept (b ∷ bs) main =
-    first_fault (body_flow types effects kept b)
-    (bodies_flow types (effects ++ effect_of types effects b ∷ []) (kept ++ body_keeps types effects kept b ∷ []) bs main)
+abbrev pub bodies_flow : List TypeForm → Implicit → (known : List Effect) → List Keeping → List BodyForm → (main : BodyForm) → Outcome
+bodies_flow types implicit known kept [] main = body_flow types (known_of implicit known) kept main
+bodies_flow types implicit known kept (b ∷ bs) main =
+    first_fault (body_flow types (known_of implicit known) kept b)
+    (bodies_flow types implicit (known ++ effect_of types (known_of implicit known) b ∷ [])
+    (kept ++ body_keeps types (known_of implicit known) kept b ∷ []) bs main)
 
 -- The types of a program, as plain data.
 abbrev pub types_of : Program → List TypeForm
@@ -1207,13 +1288,13 @@ types_of program = map type_form program.types.items
 abbrev pub variables_of : Program → List VariableForm
 variables_of program = map variable_form program.variables.items
 
--- The flow through all bodies of a program.
-abbrev pub flow_of : ProgramForm → Outcome
-flow_of p = bodies_flow p.types [] [] p.bodies (main_body p)
+-- The flow through all bodies of a program, where this is known of the operations of controlled types.
+abbrev pub flow_of : Implicit → ProgramForm → Outcome
+flow_of implicit p = bodies_flow p.types implicit [] [] p.bodies (main_body p)
 
 -- The same of a program as it is kept.
 abbrev pub program_flow : Program → Outcome
-program_flow program = flow_of (program_form program)
+program_flow program = flow_of (implicit_of (program_form program)) (program_form program)
 
 -- No rule is broken.
 abbrev pub ObeysRules : Program → Type 0

@@ -4,5 +4,7 @@
 pub mod Flow
 -- whether a variable holds an alias
 pub mod Aliases
+-- what is left as operations are called implicitly
+pub mod Implicit
 -- what flow tells
 pub mod Told

@@ -35,9 +35,9 @@ use Rattle.ada_program.specs.declared.program.VariableNo.{VariableNo}
 use Rattle.ada_program.specs.Form.{PathForm, ItemForm, ExpressionForm, StmtsForm, branches_form, HandlersForm, no_handlers, a_handler, condition_form, declaration_form, handlers_form, path_form, right_form, stmts_form}
 use Rattle.ada_program.specs.ProgramForm.{TypeForm, type_form, VariableForm, variable_form, BodyForm, nowhere}
 use Rattle.ada_program.specs.WellFormed.{access_of}
-use Rattle.ada_effects.specs.Effects.{Effect, passes}
+use Rattle.ada_effects.specs.Effects.{Implicit, Effects, endings_free, passes}
 use Rattle.ada_effects.specs.Found.{effects_in as effects_held}
-use Rattle.ada_flow.specs.Flow.{Outcome, faults, goes, Holds, Gone, Around, Keeping, are_as_good, formal_hold, handled, if_own, is_among, is_left, join_option, kept_from, left, left_option, in_loop, loop_flow, named_by_item, opened_by_all, counting_start, exit_flow, gives_path, raising_if, return_flow, then_flow, declarations_flow, handlers_flow, stmts_flow, branches_flow, program_flow}
+use Rattle.ada_flow.specs.Flow.{Outcome, faults, goes, Holds, Gone, Around, Keeping, are_as_good, formal_hold, handled, if_own, is_among, is_left, join_option, initializes, kept_from, left_finalized, left_option, uses_in_start, using_paths, in_loop, loop_flow, named_by_item, opened_by_all, without_freed_option, counting_start, exit_flow, gives_path, raising_if, return_flow, then_flow, declarations_flow, handlers_flow, stmts_flow, branches_flow, program_flow}
 
 -- The judgement of a whole program: no rule is broken, or this is the first one, and where.
 abbrev pub judgement : Outcome → Result (Unit {0}) (Spot × Rule)
@@ -92,8 +92,12 @@ abbrev pub variables_in : HeldAround → List VariableForm
 variables_in around = map variable_form around.setting.variables.now
 
 -- What is known of the calls of procedures.
-abbrev pub effects_in : HeldAround → List Effect
-effects_in around = effects_held around.setting.effects.now
+abbrev pub effects_in : HeldAround → Effects
+effects_in around = effects_held around.setting.effects
+
+-- What is known of implicit calls.
+abbrev pub implicit_around : HeldAround → Implicit
+implicit_around around = (effects_in around).implicit
 
 -- What a procedure keeps.
 abbrev pub keeping_in : HeldKeeping → Keeping
@@ -153,10 +157,14 @@ abbrev pub also_noted : Noted → Option Holds → Noted
 also_noted unwanted raising = unwanted
 also_noted (wanted before) raising = wanted (join_option before raising)
 
+-- What is left behind a block whose objects are finalized as it is left, on a way that may not be gone.
+abbrev pub finalized_option : List VariableForm → Implicit → Gone → Option Holds → Option Holds
+finalized_option variables implicit gone holds = left_option variables gone (without_freed_option variables (endings_free implicit gone.types) holds)
+
 -- What is noted of a raising point in a block that is left, with which this goes.
-abbrev pub noted_behind : Noted → List VariableForm → Gone → Noted → Noted
-noted_behind before variables gone unwanted = before
-noted_behind before variables gone (wanted raising) = also_noted before (left_option variables gone raising)
+abbrev pub noted_behind : Noted → List VariableForm → Implicit → Gone → Noted → Noted
+noted_behind before variables implicit gone unwanted = before
+noted_behind before variables implicit gone (wanted raising) = also_noted before (finalized_option variables implicit gone raising)
 
 -- Nothing is noted yet, where as much is wanted.
 abbrev pub emptied : Noted → Noted
@@ -235,15 +243,15 @@ Follows (Ok x) broken = broken ≡ None
 Follows (Err breach) broken = broken ≡ Some (breach.spot, breach.rule)
 
 -- Does an exit lead out of a loop, and out of blocks, with no less than is known at the loop's start? It does where there is no loop.
-abbrev pub exit_keeps : List VariableForm → Option Holds → (inside : Gone) → Holds → Bool
-exit_keeps variables None inside holds = true
-exit_keeps variables (Some start) inside holds = are_as_good (left variables inside holds) start
+abbrev pub exit_keeps : List VariableForm → Implicit → Option Holds → (inside : Gone) → Holds → Bool
+exit_keeps variables implicit None inside holds = true
+exit_keeps variables implicit (Some start) inside holds = are_as_good (left_finalized variables implicit inside holds) start
 
 -- The outcomes of forms, as the code keeps them.
 
 -- An exit that stands here.
 abbrev pub exit_in : HeldAround → Option ExpressionForm → Spot → Holds → Outcome
-exit_in around condition spot holds = exit_flow (variables_in around) (start_in around) (gone_of around.inside.now) condition spot holds
+exit_in around condition spot holds = exit_flow (variables_in around) (implicit_around around) (start_in around) (gone_of around.inside.now) condition spot holds
 
 -- A return that stands here.
 abbrev pub return_in : HeldAround → Spot → Holds → Outcome
@@ -279,7 +287,9 @@ for_of around parameter body end holds =
 -- An assignment, which is the first one of a take pair, or is not.
 abbrev pub assignment_of : HeldAround → (cleared : Bool) → Path → Right → Holds → Outcome
 assignment_of around cleared target value holds =
-    gives_path (types_in around) (variables_in around) cleared (path_form target).selectors (path_form target) (right_form value) holds
+    using_paths (uses_in_start (types_in around) (variables_in around) (implicit_around around) (path_form target) (right_form value)) holds
+    (initializes (variables_in around) (implicit_around around) (right_form value)
+    (gives_path (types_in around) (variables_in around) cleared (path_form target).selectors (path_form target) (right_form value) holds))
 
 -- The component that an assignment goes to, if it goes to one.
 abbrev pub target_of : Option (Bor Path) → Option PathForm
@@ -293,7 +303,7 @@ named_by_items (i ∷ is) = named_by_item i ++ named_by_items is
 
 -- Declarations, in order.
 abbrev pub declarations_of : HeldAround → List Declaration → Holds → Outcome
-declarations_of around declarations holds = declarations_flow (types_in around) (variables_in around) (map declaration_form declarations) holds
+declarations_of around declarations holds = declarations_flow (types_in around) (variables_in around) (implicit_around around) (map declaration_form declarations) holds
 
 -- What a variable of a kind is relied on for where its body begins, if it is a formal parameter of a mode, or if it is none.
 abbrev pub first_hold : Option FormalMode → VariableKind → Hold

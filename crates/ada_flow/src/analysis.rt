@@ -1,24 +1,31 @@
 //! The flow of values through initial values and assignments.
 
-ghost use Rattle.ada_flow.specs.Flow.{gives, gives_component, gets_path, declaration_flow};
-ghost use Rattle.ada_flow.specs.Told.{Leads, assignment_of, declarations_of, types_in, variables_in};
+ghost use Rattle.std.specs.Prelude.{◌≡◌};
+ghost use Rattle.ada_flow.specs.Flow.{broken_among, gives, gives_component, gets_path, declaration_flow, initializes, uses_in_start, waits_for};
+ghost use Rattle.ada_flow.specs.Told.{Follows, Leads, assignment_of, broken, declarations_of, implicit_around, types_in, variables_in};
+ghost use Rattle.ada_effects.specs.Found.{has_number};
 ghost use Rattle.ada_program.specs.Form.{path_form, right_form, declaration_form};
 
 use crate::around::Around;
-use crate::fault::FlowFault;
-use crate::follow::follow_target;
+use crate::fault::{Breach, FlowFault};
+use crate::follow::{follow_target, leftmost, unless_broken};
+use crate::holds::hold_of;
+use crate::implicit::start;
 use crate::known::Known;
+use crate::losing::freed_at_start;
 use crate::moves::{evaluation_raises, lose_moved, right_hold, use_assignment, use_right};
+use crate::passing::{component_passes, passed_by};
 use crate::raised::Raised;
 use crate::records::create_record;
 use crate::rule::Hold;
 use ada_effects::path_raises;
 use ada_program::borrowers::is_borrower;
 use ada_program::program::{Declaration, Right};
-use ada_program::{Path, Spot, VariableNo};
+use ada_program::{Path, Spot, TypeNo, VariableNo};
 use std::alloc::Global;
 
-/// A variable that stands at the spot gets a value: it is evaluated first, and what is moved goes there.
+/// A variable that stands at the spot gets a value: it is evaluated first, a new object is initialized, and what is moved goes there.
+#[tactic(auto, using(std::proofs::lemmas::Grind::common_steps, crate::proofs::Initialized::giving_steps))]
 fn give(
     alloc: Global,
     around: &Around<'_>,
@@ -30,7 +37,8 @@ fn give(
     value: &Right,
 ) -> Result<(), FlowFault>
     ensures { Leads result known.new.holds.items raised.old raised.new
-        (gives (types_in around.now) (variables_in around.now) spot cleared target.0 (right_form value.now) known.old.holds.items) }
+        (initializes (variables_in around.now) (implicit_around around.now) (right_form value.now)
+        (gives (types_in around.now) (variables_in around.now) spot cleared target.0 (right_form value.now) known.old.holds.items)) }
 {
     let borrows = is_borrower(around.setting.variables, target.0);
     use_right(
@@ -41,6 +49,7 @@ fn give(
         cleared,
         value,
     )?;
+    start(alloc, around, known, value)?;
     raised.note_if(evaluation_raises(value), alloc, known)?;
     let hold = right_hold(known.holds(), borrows, value);
     lose_moved(known, borrows, value);
@@ -48,7 +57,9 @@ fn give(
     Ok(())
 }
 
-/// A component gets a value, and its object is found first; no variable changes but those that are moved.
+/// A component gets a value, and its object is found first; no variable changes but those that are moved, and those whose aliases
+/// are lost as a new object is initialized.
+#[tactic(auto, using(std::proofs::lemmas::Grind::common_steps, crate::proofs::Initialized::giving_steps))]
 fn give_component(
     alloc: Global,
     around: &Around<'_>,
@@ -59,9 +70,11 @@ fn give_component(
     value: &Right,
 ) -> Result<(), FlowFault>
     ensures { Leads result known.new.holds.items raised.old raised.new
-        (gives_component (types_in around.now) cleared (path_form target.now) (right_form value.now) known.old.holds.items) }
+        (initializes (variables_in around.now) (implicit_around around.now) (right_form value.now)
+        (gives_component (types_in around.now) cleared (path_form target.now) (right_form value.now) known.old.holds.items)) }
 {
     use_assignment(around.setting.types, known.holds(), cleared, target, value)?;
+    start(alloc, around, known, value)?;
     raised.note_if(
         path_raises(target) || evaluation_raises(value),
         alloc,
@@ -69,6 +82,55 @@ fn give_component(
     )?;
     lose_moved(known, false, value);
     Ok(())
+}
+
+/// The rule that the path to a component breaks which is found before a new object is initialized: that may free nothing that the
+/// path follows, where it may free objects of these access types. Costs the length of the path, for each of them.
+fn broken_in_wait(
+    around: &Around<'_>,
+    freed: &[TypeNo],
+    holds: &[Hold],
+    target: &Path,
+) -> Option<Breach>
+    ensures { let path = path_form target.now in
+        let uses = waits_for (types_in around.now) (variables_in around.now) (has_number freed.now) path.selectors path in
+        broken result ≡ broken_among holds.now uses }
+{
+    if target.selectors.is_empty() {
+        return None;
+    }
+    let passes = component_passes(
+        around.setting.types,
+        around.setting.variables,
+        freed,
+        target,
+    );
+    leftmost(
+        passed_by(passes, hold_of(holds, target.root), target.spot),
+        None,
+    )
+}
+
+/// Uses the path of a target while what is assigned to it is initialized.
+///
+/// # Errors
+/// The rule that it breaks.
+fn use_start(
+    around: &Around<'_>,
+    holds: &[Hold],
+    target: &Path,
+    value: &Right,
+) -> Result<(), Breach>
+    ensures { let uses = uses_in_start (types_in around.now) (variables_in around.now) (implicit_around around.now) (path_form target.now) (right_form value.now) in
+        Follows result (broken_among holds.now uses) }
+{
+    match value {
+        Right::Default(access) => {
+            let freed = freed_at_start(around.setting.effects.implicit, access.0);
+            unless_broken(broken_in_wait(around, freed, holds, target))
+        }
+        Right::Null | Right::Path(_) | Right::Allocator { .. } | Right::Value(_) => Ok(()),
+    }
 }
 
 /// An assignment: its target is a variable or a component.
@@ -84,6 +146,7 @@ pub(crate) fn assign(
     ensures { Leads result known.new.holds.items raised.old raised.new
         (assignment_of around.now cleared target.now value.now known.old.holds.items) }
 {
+    use_start(around, known.holds(), target, value)?;
     if target.selectors.is_empty() {
         give(
             alloc,
@@ -129,7 +192,7 @@ fn declaration(
     declaration: &Declaration,
 ) -> Result<(), FlowFault>
     ensures { Leads result known.new.holds.items raised.old raised.new
-        (declaration_flow (types_in around.now) (variables_in around.now) (declaration_form declaration.now) known.old.holds.items) }
+        (declaration_flow (types_in around.now) (variables_in around.now) (implicit_around around.now) (declaration_form declaration.now) known.old.holds.items) }
 {
     match declaration {
         Declaration::Pool(_) | Declaration::Collection(_) => Ok(()),

@@ -9,7 +9,7 @@ ghost use Rattle.ada_program.specs.ProgramForm.{type_form, variable_form};
 use crate::gone::Gone;
 use crate::keeping::Keeping;
 use crate::rule::Hold;
-use ada_effects::Effect;
+use ada_effects::Effects;
 use ada_program::program::{TypeDefinition, Variable};
 use ada_program::{Spot, VariableNo};
 
@@ -20,8 +20,8 @@ pub(crate) struct Setting<'a> {
     pub(crate) types: &'a [TypeDefinition],
     /// The variables of the body.
     pub(crate) variables: &'a [Variable],
-    /// What is known of the calls of the procedures before it.
-    pub(crate) effects: &'a [Effect],
+    /// What is known of the calls of the procedures before it, and of those of operations of controlled types.
+    pub(crate) effects: Effects<'a>,
     /// What these procedures keep.
     pub(crate) kept: &'a [Keeping],
     /// The formal parameters that give something back at each normal end of the body.
@@ -47,7 +47,7 @@ impl<'a> Around<'a> {
         ensures types { types_in result ≡ map type_form setting.entry.types.now }
         ensures variables { variables_in result ≡ map variable_form setting.entry.variables.now }
         ensures place { around_of result ≡ record {
-          effects = effects_in setting.entry.effects.now;
+          effects = effects_in setting.entry.effects;
           kept = keepings_in setting.entry.kept.now;
           owed = map variable_number setting.entry.owed.now;
           start = None;
@@ -73,7 +73,7 @@ impl<'a> Around<'a> {
         ensures types { types_in result ≡ map type_form setting.entry.types.now }
         ensures variables { variables_in result ≡ map variable_form setting.entry.variables.now }
         ensures place { around_of result ≡ record {
-          effects = effects_in setting.entry.effects.now;
+          effects = effects_in setting.entry.effects;
           kept = keepings_in setting.entry.kept.now;
           owed = map variable_number setting.entry.owed.now;
           start = Some start.now;

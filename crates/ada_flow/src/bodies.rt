@@ -3,8 +3,9 @@
 
 ghost use Rattle.std.specs.Prelude.{◌≡◌, ◌++◌, ◌∷◌, [], Option, None, IfOk, MatchResult, OnOk, map};
 ghost use Rattle.ada_effects.specs.Effects as rules;
-ghost use Rattle.ada_effects.specs.Found.{effects_in};
-ghost use Rattle.ada_flow.specs.Flow.{Holds, bodies_flow, body_flow, body_keeps, ends_body, faults, goes, kept_by, leftmost, program_flow};
+ghost use Rattle.ada_effects.specs.Effects.{known_of};
+ghost use Rattle.ada_effects.specs.Found.{calls_in, effects_in, implicit_in};
+ghost use Rattle.ada_flow.specs.Flow.{Holds, bodies_flow, body_flow, body_keeps, ends_body, faults, flow_of, goes, kept_by, leftmost};
 ghost use Rattle.ada_flow.specs.Told.{Ends, body_in, breach_of, broken, fault_in, held, judgement, keeping_in, keepings_in, kept_judgement, parts_of, variable_number};
 ghost use Rattle.ada_program.specs.ProgramForm.{body_form, main_body, program_form, type_form};
 ghost use Rattle.ada_text.specs.Exactly.{Exactly};
@@ -21,7 +22,7 @@ use crate::known::Known;
 use crate::raised::Raised;
 use crate::rule::Rule;
 use crate::statements::statements;
-use ada_effects::{Effect, effect_of};
+use ada_effects::{Effect, Effects, Implicit, effect_of};
 use ada_program::program::{Declaration, FormalMode, Handler, Procedure, TypeDefinition, Variable};
 use ada_program::{Program, Spot, Stmt, VariableNo};
 use std::alloc::{AllocError, Global};
@@ -72,7 +73,7 @@ fn give_all_back(owed: &[VariableNo], end: &Option<Known>, spot: Spot) -> Result
 fn body(
     alloc: Global,
     types: &[TypeDefinition],
-    effects: &[Effect],
+    effects: Effects<'_>,
     kept: &[Keeping],
     formals: &[FormalMode],
     variables: &[Variable],
@@ -83,7 +84,7 @@ fn body(
 ) -> Result<Keeping, FlowFault>
     ensures { let whole = body_in formals.now variables.now declarations.now statements.now handlers.now end in
         Exactly keeping_in breach_of result
-        (kept_judgement (body_flow (map type_form types.now) (effects_in effects.now) (keepings_in kept.now) whole) formals.now) }
+        (kept_judgement (body_flow (map type_form types.now) (effects_in effects.entry) (keepings_in kept.now) whole) formals.now) }
 {
     let owed = owed_by(alloc, formals, variables)?;
     let gone = Gone::with(alloc, declarations)?;
@@ -121,7 +122,7 @@ fn body(
 fn body_fault(
     alloc: Global,
     types: &[TypeDefinition],
-    effects: &[Effect],
+    effects: Effects<'_>,
     kept: &[Keeping],
     formals: &[FormalMode],
     variables: &[Variable],
@@ -131,10 +132,10 @@ fn body_fault(
     end: Spot,
 ) -> Result<(Option<Breach>, Keeping), FlowFault>
     ensures found { let whole = body_in formals.now variables.now declarations.now statements.now handlers.now end in
-        let flow = body_flow (map type_form types.now) (effects_in effects.now) (keepings_in kept.now) whole in
+        let flow = body_flow (map type_form types.now) (effects_in effects.entry) (keepings_in kept.now) whole in
         MatchResult result (λ told. broken told.0 ≡ fault_in flow) (λ fault. breach_of fault ≡ None) }
     ensures keeps { let whole = body_in formals.now variables.now declarations.now statements.now handlers.now end in
-        let flow = body_flow (map type_form types.now) (effects_in effects.now) (keepings_in kept.now) whole in
+        let flow = body_flow (map type_form types.now) (effects_in effects.entry) (keepings_in kept.now) whole in
         IfOk result (λ told. keeping_in told.1 ≡ kept_by flow formals.now) }
 {
     match body(
@@ -164,14 +165,16 @@ fn body_fault(
 fn learn(
     alloc: Global,
     types: &[TypeDefinition],
-    effects: &mut Vec<Effect>,
+    implicit: &Implicit,
+    calls: &mut Vec<Effect>,
     procedure: &Procedure,
 ) -> Result<(), AllocError>
-    ensures { OnOk result (effects_in effects.new.items ≡ effects_in effects.old.items
-        ++ rules.effect_of (map type_form types.now) (effects_in effects.old.items) (body_form procedure.now) ∷ []) }
+    ensures { let known = known_of (implicit_in implicit.now) (calls_in calls.old.items) in
+        OnOk result (calls_in calls.new.items ≡ calls_in calls.old.items
+        ++ rules.effect_of (map type_form types.now) known (body_form procedure.now) ∷ []) }
 {
-    let effect = effect_of(alloc, types, effects, procedure)?;
-    effects.push(effect)?;
+    let effect = effect_of(alloc, types, Effects { implicit, calls }, procedure)?;
+    calls.push(effect)?;
     Ok(())
 }
 
@@ -192,23 +195,27 @@ fn keep(kept: &mut Vec<Keeping>, keeping: Keeping) -> Result<(), AllocError>
 fn procedure_fault(
     alloc: Global,
     types: &[TypeDefinition],
-    effects: &mut Vec<Effect>,
+    implicit: &Implicit,
+    calls: &mut Vec<Effect>,
     kept: &mut Vec<Keeping>,
     procedure: &Procedure,
 ) -> Result<Option<Breach>, FlowFault>
-    ensures found { MatchResult result
+    ensures found { let known = known_of (implicit_in implicit.now) (calls_in calls.old.items) in
+        MatchResult result
         (λ found. broken found
-        ≡ fault_in (body_flow (map type_form types.now) (effects_in effects.old.items) (keepings_in kept.old.items) (body_form procedure.now)))
+        ≡ fault_in (body_flow (map type_form types.now) known (keepings_in kept.old.items) (body_form procedure.now)))
         (λ fault. breach_of fault ≡ None) }
-    ensures known { OnOk result (effects_in effects.new.items ≡ effects_in effects.old.items
-        ++ rules.effect_of (map type_form types.now) (effects_in effects.old.items) (body_form procedure.now) ∷ []) }
-    ensures keeps { OnOk result (keepings_in kept.new.items ≡ keepings_in kept.old.items
-        ++ body_keeps (map type_form types.now) (effects_in effects.old.items) (keepings_in kept.old.items) (body_form procedure.now) ∷ []) }
+    ensures known { let known = known_of (implicit_in implicit.now) (calls_in calls.old.items) in
+        OnOk result (calls_in calls.new.items ≡ calls_in calls.old.items
+        ++ rules.effect_of (map type_form types.now) known (body_form procedure.now) ∷ []) }
+    ensures keeps { let known = known_of (implicit_in implicit.now) (calls_in calls.old.items) in
+        OnOk result (keepings_in kept.new.items ≡ keepings_in kept.old.items
+        ++ body_keeps (map type_form types.now) known (keepings_in kept.old.items) (body_form procedure.now) ∷ []) }
 {
     let (found, keeping) = body_fault(
         alloc,
         types,
-        effects,
+        Effects { implicit, calls },
         kept,
         &procedure.formals,
         &procedure.variables,
@@ -217,7 +224,7 @@ fn procedure_fault(
         &procedure.handlers,
         procedure.end,
     )?;
-    learn(alloc, types, effects, procedure)?;
+    learn(alloc, types, implicit, calls, procedure)?;
     keep(kept, keeping)?;
     Ok(found)
 }
@@ -231,40 +238,47 @@ fn procedure_fault(
 fn procedures_fault(
     alloc: Global,
     program: &Program,
-    effects: &mut Vec<Effect>,
+    implicit: &Implicit,
+    calls: &mut Vec<Effect>,
     kept: &mut Vec<Keeping>,
 ) -> Result<Option<Breach>, FlowFault>
     ensures { let main = main_body (program_form program.now) in
         let types = map type_form program.now.types.items in
         let bodies = map body_form program.now.procedures.items in
+        let implicit_calls = implicit_in implicit.now in
         MatchResult result
-        (λ found. leftmost (broken found) (fault_in (body_flow types (effects_in effects.new.items) (keepings_in kept.new.items) main))
-        ≡ fault_in (bodies_flow types (effects_in effects.old.items) (keepings_in kept.old.items) bodies main))
+        (λ found. leftmost (broken found)
+        (fault_in (body_flow types (known_of implicit_calls (calls_in calls.new.items)) (keepings_in kept.new.items) main))
+        ≡ fault_in (bodies_flow types implicit_calls (calls_in calls.old.items) (keepings_in kept.old.items) bodies main))
         (λ fault. breach_of fault ≡ None) }
 {
     let mut first = None;
     'procedures: for procedure in &program.procedures {
-        let found = procedure_fault(alloc, &program.types, effects, kept, procedure)?;
+        let found = procedure_fault(alloc, &program.types, implicit, calls, kept, procedure)?;
         first = leftmost(first, found);
     }
     Ok(first)
 }
 
-/// Whether the program obeys the rules of the flow of values. Of the faults of its bodies, the first one in the text is told.
+/// Whether the program obeys the rules of the flow of values, where this is known of the operations of controlled types that are
+/// called implicitly (7.6). Of the faults of its bodies, the first one in the text is told.
 ///
 /// # Errors
 /// The first rule that is broken, with its spot, or want of memory.
 #[tactic(auto, using(std::proofs::lemmas::Grind::common_steps, crate::proofs::FirstFaults::program_steps))]
-pub fn flow(alloc: Global, program: &Program) -> Result<(), FlowFault>
-    ensures { Exactly (λ _. tt) breach_of result (judgement (program_flow program.now)) }
+pub fn flow(alloc: Global, program: &Program, implicit: &Implicit) -> Result<(), FlowFault>
+    ensures { Exactly (λ _. tt) breach_of result (judgement (flow_of (implicit_in implicit.now) (program_form program.now))) }
 {
-    let mut effects = Vec::new(alloc);
+    let mut calls = Vec::new(alloc);
     let mut kept = Vec::new(alloc);
-    let first = procedures_fault(alloc, program, &mut effects, &mut kept)?;
+    let first = procedures_fault(alloc, program, implicit, &mut calls, &mut kept)?;
     let (last, _) = body_fault(
         alloc,
         &program.types,
-        &effects,
+        Effects {
+            implicit,
+            calls: &calls,
+        },
         &kept,
         &[],
         &program.variables,

@@ -5,84 +5,37 @@ ghost use Rattle.std.specs.List.{slice_get, slice_index_or};
 ghost use Rattle.ada_effects.specs.Effects as effects;
 ghost use Rattle.ada_effects.specs.Found.{effect_in, has_number};
 ghost use Rattle.ada_flow.specs.Flow as rules;
-ghost use Rattle.ada_flow.specs.Told.{Leads, also_noted, around_of, effects_in, is_marked, marked_types, noted, types_in, variables_in};
+ghost use Rattle.ada_flow.specs.Told.{Leads, also_noted, around_of, effects_in, noted, types_in, variables_in};
 ghost use Rattle.ada_program.specs.Form.{ActualForm, actual_form};
-ghost use Rattle.ada_program.specs.ProgramForm.{variable_form};
-ghost use Rattle.ada_program.specs.WellFormed.{access_of};
 
 use crate::around::Around;
 use crate::fault::FlowFault;
 use crate::follow::unless_broken;
-use crate::holds::have_alias;
 use crate::keeping::kept_at;
 use crate::known::Known;
-use crate::marks::Marks;
+use crate::losing::forget_freed;
 use crate::moves::lose_value;
 use crate::passing::broken_in_actuals;
 use crate::raised::Raised;
 use crate::rule::{Hold, Region};
 use ada_effects::{Effect, actuals_raise};
-use ada_program::program::{Actual, Variable, VariableKind};
+use ada_program::program::Actual;
 use ada_program::{ProcedureNo, TypeNo};
 use std::alloc::{AllocError, Global};
-
-/// What is known of one variable where objects of the marked access types may be gone: an alias of one is lost.
-fn without_alias(marks: &Marks, kind: VariableKind, hold: Hold) -> Hold
-    ensures { result ≡ rules.without_alias (is_marked marks.now (access_of (Some kind))) hold }
-{
-    match hold {
-        Hold::Alias(_) if marks.has(kind) => Hold::Lost,
-        hold => hold,
-    }
-}
-
-/// Where objects of the marked access types may be gone, every alias of these types is lost.
-#[tactic(auto, using(std::proofs::lemmas::Grind::common_steps, crate::proofs::Called::losing_steps))]
-fn lose_freed(variables: &[Variable], holds: &mut Vec<Hold>, marks: &Marks)
-    ensures { holds.new.items
-        ≡ rules.without_freed (map variable_form variables.now) (marked_types marks.now) holds.old.items }
-{
-    holds.truncate(variables.len());
-    for number in 0..holds.len() {
-        holds[number] = without_alias(marks, variables[number].kind, holds[number]);
-    }
-}
-
-/// The same of what is known, where objects of these access types may be gone. Where a variable may hold an alias it costs the
-/// number of variables and of types, and nothing where none does.
-#[tactic(auto, using(std::proofs::lemmas::Grind::common_steps, crate::proofs::Called::freeing_steps))]
-fn forget_freed(
-    alloc: Global,
-    variables: &[Variable],
-    known: &mut Known,
-    freed: &[TypeNo],
-) -> Result<(), AllocError>
-    ensures { OnOk result (known.new.holds.items
-        ≡ rules.without_freed (map variable_form variables.now) (has_number freed.now) known.old.holds.items) }
-{
-    if known.aliased {
-        let marks = Marks::of(alloc, freed)?;
-        lose_freed(variables, &mut known.holds, &marks);
-        known.aliased = have_alias(known.holds());
-    } else {
-        known.holds.truncate(variables.len());
-    }
-    Ok(())
-}
 
 /// The access types of which a call of a procedure may free objects: none, where nothing is known of it.
 fn freed_by<'a>(around: &Around<'a>, procedure: ProcedureNo) -> &'a [TypeNo]
     ensures { has_number result.now
-        ≡ effects.call_frees (slice_get (effects_in around.now) procedure.0) }
+        ≡ effects.call_frees (slice_get (effects_in around.now).calls procedure.0) }
 {
-    match around.setting.effects.get(procedure.0) {
+    match around.setting.effects.calls.get(procedure.0) {
         None => &[],
         Some(effect) => &effect.frees,
     }
 }
 
 /// Whether a call of which this is known may raise an exception.
-fn raises_some(effect: &Effect) -> bool
+pub(crate) fn raises_some(effect: &Effect) -> bool
     ensures { result ≡ effects.call_raises (Some (effect_in effect.now)) (λ e. true) }
 {
     match effect.raises.as_slice() {
@@ -99,12 +52,12 @@ fn enter(
     known: &mut Known,
     procedure: ProcedureNo,
 ) -> Result<bool, AllocError>
-    ensures left { let effect = slice_get (effects_in around.now) procedure.0 in
+    ensures left { let effect = slice_get (effects_in around.now).calls procedure.0 in
         OnOk result (known.new.holds.items ≡ rules.left_by_call (variables_in around.now) effect known.old.holds.items) }
-    ensures raises { let effect = slice_get (effects_in around.now) procedure.0 in
+    ensures raises { let effect = slice_get (effects_in around.now).calls procedure.0 in
         IfOk result (λ raises. raises ≡ effects.call_raises effect (λ e. true)) }
 {
-    match around.setting.effects.get(procedure.0) {
+    match around.setting.effects.calls.get(procedure.0) {
         None => Ok(false),
         Some(effect) => {
             forget_freed(alloc, around.setting.variables, known, &effect.frees)?;
@@ -215,7 +168,7 @@ pub(crate) fn call(
     procedure: ProcedureNo,
     actuals: &[Actual],
 ) -> Result<(), FlowFault>
-    ensures { let effect = slice_get (effects_in around.now) procedure.0 in
+    ensures { let effect = slice_get (effects_in around.now).calls procedure.0 in
         let kept = rules.kept_at (around_of around.now).kept procedure.0 in
         Leads result known.new.holds.items raised.old raised.new
         (rules.called (types_in around.now) (variables_in around.now) effect kept (map actual_form actuals.now) known.old.holds.items) }

@@ -1,16 +1,20 @@
 //! The flow of values through `Free`: what is lost behind the end of an object.
 
-ghost use Rattle.std.specs.Prelude.{◌≡◌, Some, map};
+ghost use Rattle.std.specs.Prelude.{◌≡◌, ◌||◌, Some, map};
 ghost use Rattle.ada_flow.specs.Flow as rules;
-ghost use Rattle.ada_flow.specs.Told.{Leads, Tells, broken};
+ghost use Rattle.ada_flow.specs.Told.{Leads, Tells, broken, implicit_around, types_in, variables_in};
 ghost use Rattle.ada_program.specs.Form.{path_form};
 ghost use Rattle.ada_program.specs.ProgramForm.{type_form, variable_form};
 ghost use Rattle.ada_program.specs.WellFormed as fits;
 
+use crate::around::Around;
 use crate::fault::{Breach, FlowFault};
 use crate::follow::{lost_by, unless_broken};
 use crate::holds::{have_alias, hold_of};
+use crate::implicit::finalize;
 use crate::known::Known;
+use crate::losing::reached_at_end;
+use crate::passing::component_passes;
 use crate::raised::Raised;
 use crate::rule::{Hold, Rule};
 use ada_effects::path_raises;
@@ -130,7 +134,39 @@ fn passes_own(
     }
 }
 
-/// The rule that freeing a component breaks: what is lost is not followed, and its path does not pass its own type.
+/// Whether a path follows a value of an access type that the finalization of what it names reaches, if that has an access type.
+/// Costs the length of the path, for each of these types.
+fn passes_reached(around: &Around<'_>, path: &Path, access: Option<usize>) -> bool
+    ensures { result ≡ rules.passes_reached
+        (types_in around.now) (variables_in around.now) (implicit_around around.now) (path_form path.now) access }
+{
+    match access {
+        None => false,
+        Some(access) => {
+            let reached = reached_at_end(around.setting.effects.implicit, access);
+            component_passes(
+                around.setting.types,
+                around.setting.variables,
+                reached,
+                path,
+            )
+        }
+    }
+}
+
+/// Whether a path passes the access type of what it names, or one that the finalization of that reaches.
+fn passes_ended(around: &Around<'_>, path: &Path, access: Option<usize>) -> bool
+    ensures { let types = types_in around.now in
+        let all = variables_in around.now in
+        let freed = path_form path.now in
+        result ≡ (rules.passes_own types all freed access || rules.passes_reached types all (implicit_around around.now) freed access) }
+{
+    passes_own(around.setting.types, around.setting.variables, path, access)
+        || passes_reached(around, path, access)
+}
+
+/// The rule that freeing a component breaks: what is lost is not followed, and its path passes neither its own type nor
+/// one that the finalization reaches.
 fn freed_behind(passes: bool, hold: Hold, spot: Spot) -> Option<Breach>
     ensures { broken result ≡ rules.freed_behind passes hold spot }
 {
@@ -143,53 +179,56 @@ fn freed_behind(passes: bool, hold: Hold, spot: Spot) -> Option<Breach>
     }
 }
 
-/// `Free (P.C)`: a component owns its object. Behind it every alias of its access type is lost, and so it is where a
-/// value on the path is null. Costs the length of the path besides.
+/// `Free (P.C)`: a component owns its object, which is finalized. Behind it every alias of its access type is lost, and of those of
+/// which the finalization may free objects, and so it is where a value on the path is null. Costs the length of the path besides.
 ///
 /// # Errors
-/// Where the path follows a lost value, or passes its own type.
+/// Where the path follows a lost value, or passes its own type, or one that the finalization reaches.
+#[tactic(auto, using(std::proofs::lemmas::Grind::common_steps, crate::proofs::Initialized::freeing_steps))]
 fn release_component(
     alloc: Global,
-    types: &[TypeDefinition],
-    variables: &[Variable],
+    around: &Around<'_>,
     known: &mut Known,
     raised: &mut Raised,
     path: &Path,
+    access: Option<usize>,
 ) -> Result<(), FlowFault>
     ensures { let freed = path_form path.now in
-        let all_types = map type_form types.now in
-        let all = map variable_form variables.now in
-        let access = fits.path_access all_types all freed in
         Leads result known.new.holds.items raised.old raised.new
-        (rules.released_behind all_types all freed known.old.holds.items access) }
+        (rules.finalizes (variables_in around.now) (implicit_around around.now) access
+        (rules.released_behind (types_in around.now) (variables_in around.now) (implicit_around around.now) freed known.old.holds.items access)) }
 {
-    let access = path_access(types, variables, path);
-    let passes = passes_own(types, variables, path, access);
+    let passes = passes_ended(around, path, access);
     let hold = hold_of(known.holds(), path.root);
     unless_broken(freed_behind(passes, hold, path.spot))?;
-    end_object(variables, known, access);
+    end_object(around.setting.variables, known, access);
+    finalize(alloc, around, known, access)?;
     raised.note_if(path_raises(path), alloc, known)?;
     Ok(())
 }
 
 /// `Free`, of a variable or of a component.
+#[tactic(auto, using(std::proofs::lemmas::Grind::common_steps, crate::proofs::Initialized::freeing_steps))]
 pub(crate) fn release(
     alloc: Global,
-    types: &[TypeDefinition],
-    variables: &[Variable],
+    around: &Around<'_>,
     known: &mut Known,
     raised: &mut Raised,
     path: &Path,
 ) -> Result<(), FlowFault>
     ensures { let freed = path_form path.now in
-        let all = map variable_form variables.now in
+        let implicit = implicit_around around.now in
+        let access = fits.path_access (types_in around.now) (variables_in around.now) freed in
         Leads result known.new.holds.items raised.old raised.new
-        (rules.frees_path (map type_form types.now) all freed.selectors freed known.old.holds.items) }
+        (rules.finalizes (variables_in around.now) implicit access
+        (rules.frees_path (types_in around.now) (variables_in around.now) implicit freed.selectors freed known.old.holds.items)) }
 {
+    let access = path_access(around.setting.types, around.setting.variables, path);
     if path.selectors.is_empty() {
-        release_variable(variables, known, path)?;
+        release_variable(around.setting.variables, known, path)?;
+        finalize(alloc, around, known, access)?;
         Ok(())
     } else {
-        release_component(alloc, types, variables, known, raised, path)
+        release_component(alloc, around, known, raised, path, access)
     }
 }

@@ -1,15 +1,18 @@
 //! What is known of each variable behind blocks that are left: collections, record objects and variables are gone there.
 
 ghost use Rattle.std.specs.Prelude.{◌≡◌, IfOk, map, not, Some};
+ghost use Rattle.ada_effects.specs.Found.{implicit_in};
 ghost use Rattle.ada_flow.specs.Flow as rules;
-ghost use Rattle.ada_flow.specs.Told.{gone_of, held, is_marked, type_number, variable_number, without_marked};
+ghost use Rattle.ada_flow.specs.Told.{finalized_option, gone_of, held, is_marked, type_number, variable_number, without_marked};
 ghost use Rattle.ada_program.specs.ProgramForm.{variable_form};
 ghost use Rattle.ada_program.specs.WellFormed.{access_of};
 
 use crate::gone::Gone;
 use crate::known::Known;
+use crate::losing::forget_ended;
 use crate::marks::Marks;
 use crate::rule::Hold;
+use ada_effects::Implicit;
 use ada_program::program::{Variable, VariableKind};
 use ada_program::{TypeNo, VariableNo};
 use std::alloc::{AllocError, Global};
@@ -106,5 +109,37 @@ pub(crate) fn leave_end(
     match known {
         None => Ok(None),
         Some(known) => Ok(Some(leave(alloc, variables, gone, known)?)),
+    }
+}
+
+/// What is known behind blocks whose objects are finalized as they are left (7.6.1).
+pub(crate) fn leave_finalized(
+    alloc: Global,
+    variables: &[Variable],
+    implicit: &Implicit,
+    gone: &Gone,
+    mut known: Known,
+) -> Result<Known, AllocError>
+    ensures { IfOk result (λ behind. behind.holds.items
+        ≡ rules.left_finalized (map variable_form variables.now) (implicit_in implicit.now) (gone_of gone.now) known.holds.items) }
+{
+    forget_ended(alloc, variables, &mut known, implicit, &gone.types)?;
+    leave(alloc, variables, gone, known)
+}
+
+/// What is known behind such a block, on a way that may not be gone.
+pub(crate) fn leave_finalized_end(
+    alloc: Global,
+    variables: &[Variable],
+    implicit: &Implicit,
+    gone: &Gone,
+    known: Option<Known>,
+) -> Result<Option<Known>, AllocError>
+    ensures { IfOk result (λ end. held end
+        ≡ finalized_option (map variable_form variables.now) (implicit_in implicit.now) (gone_of gone.now) (held known)) }
+{
+    match known {
+        None => Ok(None),
+        Some(known) => Ok(Some(leave_finalized(alloc, variables, implicit, gone, known)?)),
     }
 }

@@ -11,19 +11,26 @@
 //! less than is known at that start (S5), no component is freed whose path follows a value of the component's own
 //! access type, nor do two actual parameters of a call begin with one variable where one of the two is for mode
 //! `in out`, nor is a record passed, or a component given for mode `in out`, whose path follows a value of an access
-//! type of which the call may free objects (S6), at each normal end of a body its formal parameters of mode `in out`
-//! of access types own what they give back, or are null (S7), and no record with a component of an access type is
-//! copied, nor does an aggregate with one stand outside an allocator (S11). Of the rules that one simple statement
-//! breaks the leftmost is told, and where an actual parameter breaks more than one at its spot, S1 comes before S2
-//! and S3, and these before S6. Behind a block its variables are lost, and so are those of the access types whose
-//! collections it created, and a handler begins with what is known wherever its statements may raise an exception
-//! (11.4).
+//! type of which the call may free objects, nor does a component get a new object, or a record another value, whose
+//! path follows a value of an access type of which the operations that are called for that may free objects, nor is a
+//! component freed whose path follows a value of one that the finalization of its object reaches (S6), at each normal
+//! end of a body its formal parameters of mode `in out` of access types own what they give back, or are null (S7),
+//! and no record with a component of an access type is copied, nor does an aggregate with one stand outside an
+//! allocator (S11). Of the rules that one simple statement breaks the leftmost is told, and where an actual parameter
+//! breaks more than one at its spot, S1 comes before S2 and S3, and these before S6. Behind a block its variables are
+//! lost, and so are those of the access types whose collections it created, and a handler begins with what is known
+//! wherever its statements may raise an exception (11.4).
 //!
 //! A borrower (3.10) holds null or an alias, or is lost: the value of a path is lent to it, and stays where it is. By
 //! S2 nothing is moved out of an alias, and it frees nothing. Where an owner is moved its aliases stay, since the
 //! object does. Behind `Free (X)` every alias of the access type of X is lost, since it may name the object that is
 //! gone. Behind `Free (P.C)` every alias of the component's access type is, and so it is where the statement raises an
 //! exception, since a value on the path is null.
+//!
+//! Operations of controlled types are called (7.6) where a new object without items or a record object is initialized,
+//! where a record object gets its initial value, where a record is assigned, and where an object is freed or a block is
+//! left. `flow` is told of which access types they may free objects: behind the form every alias of these types is
+//! lost, and so it is where the form raises an exception.
 //!
 //! A formal parameter of an access type (6.4.1) begins as an alias where its mode is `in`, and where it is `in out` as
 //! kept: it holds what its call handed over, until it is assigned, moved, freed or handed over. A procedure keeps those
@@ -56,11 +63,14 @@
 //! around it and with the body. A call costs the size of what is known of it, and for each of its actual parameters
 //! that is no expression the number of those before it; for each record, and each component for mode `in out`, the
 //! length of its path as often as there are access types of which the call may free objects; and where a variable
-//! may hold an alias the number of variables and of types besides. A body costs the number of its variables, which
-//! are its own, and what `ada_effects` needs for what is known of its calls. Where a handler around wants to know
-//! it, or in a body that has formal parameters, so that it is known what it keeps, each place that may raise an
-//! exception costs the number of variables, too, and each block around its size once more, to tell what its handlers
-//! let pass; elsewhere nothing is noted.
+//! may hold an alias the number of variables and of types besides. Where operations of controlled types that are
+//! called may free objects, an assignment, a declaration and a `Free` cost the number of variables and of types
+//! besides, if a variable may hold an alias; and an assignment to a component or a record, and a `Free` of a
+//! component, cost the length of the path as often as there are access types of which they may do so. A body costs
+//! the number of its variables, which are its own, and what `ada_effects` needs for what is known of its calls. Where
+//! a handler around wants to know it, or in a body that has formal parameters, so that it is known what it keeps,
+//! each place that may raise an exception costs the number of variables, too, and each block around its size once
+//! more, to tell what its handlers let pass; elsewhere nothing is noted.
 #![tactic(auto)]
 
 mod analysis;
@@ -74,11 +84,13 @@ mod follow;
 mod frees;
 mod gone;
 mod holds;
+mod implicit;
 mod joins;
 mod keeping;
 mod kinds;
 mod known;
 mod loops;
+mod losing;
 mod marks;
 mod moves;
 mod owning;

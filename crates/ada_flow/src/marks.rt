@@ -1,6 +1,8 @@
 //! Types by which objects are known, marked by their numbers: one look tells whether a type is among them.
 
 ghost use Rattle.std.specs.Prelude.{◌≡◌, ◌==◌, ◌||◌, ℕ, false, IfOk, OnOk, Some, map, slice_index_or};
+ghost use Rattle.std.specs.Bool.{IsTrue};
+ghost use Rattle.ada_effects.specs.Found.{has_number};
 ghost use Rattle.ada_flow.specs.Told.{AreMarks, is_marked, type_number};
 ghost use Rattle.ada_program.specs.WellFormed.{access_of};
 
@@ -25,6 +27,33 @@ impl Marks {
             mark(&mut at, *one)?;
         }
         Ok(Marks { at })
+    }
+
+    /// No type is marked.
+    pub(crate) fn nothing(alloc: Global) -> Marks
+        ensures { (t : ℕ) → is_marked result (Some t) ≡ false }
+    {
+        Marks {
+            at: Vec::new(alloc),
+        }
+    }
+
+    /// These types are marked besides.
+    pub(crate) fn add(&mut self, types: &[TypeNo]) -> Result<(), AllocError>
+        ensures { OnOk result ((t : ℕ) → is_marked self.new (Some t)
+            ≡ (is_marked self.old (Some t) || has_number types.now t)) }
+    {
+        'types: for one in types {
+            mark(&mut self.at, *one)?;
+        }
+        Ok(())
+    }
+
+    /// Whether no type is marked. Constant.
+    pub(crate) fn is_empty(&self) -> bool
+        ensures { IsTrue result → (t : ℕ) → is_marked self.now (Some t) ≡ false }
+    {
+        self.at.is_empty()
     }
 
     /// Whether a variable is of one of the marked types. Constant.

@@ -125,7 +125,7 @@ fn broken_in_handing(holds: &[Hold], earlier: &[Actual], path: &Path) -> Option<
 
 /// The rule that the path to a record breaks that is passed by reference for a formal parameter: its variable is not lost, it is
 /// not given again in a way that the two would meet, and the call frees nothing that the path follows (6.2).
-fn broken_in_passing(
+pub(crate) fn broken_in_passing(
     types: &[TypeDefinition],
     variables: &[Variable],
     freed: &[TypeNo],
@@ -190,7 +190,7 @@ fn has_number(types: &[TypeNo], number: usize) -> bool
 
 /// Whether the path to a component follows a value of an access type of which objects may be freed. Costs the length of the
 /// path, for each of these types.
-fn component_passes(
+pub(crate) fn component_passes(
     types: &[TypeDefinition],
     variables: &[Variable],
     freed: &[TypeNo],
@@ -210,7 +210,7 @@ fn component_passes(
 }
 
 /// So does the path to a record, which follows the access value to the object in which the record lies, too.
-fn record_passes(
+pub(crate) fn record_passes(
     types: &[TypeDefinition],
     variables: &[Variable],
     freed: &[TypeNo],
@@ -263,7 +263,7 @@ fn handed_by(again: bool, hold: Hold, spot: Spot) -> Option<Breach>
 }
 
 /// What is passed by reference, or gets something back, is not found behind what is lost, and is safe.
-fn passed_by(is_unsafe: bool, hold: Hold, spot: Spot) -> Option<Breach>
+pub(crate) fn passed_by(is_unsafe: bool, hold: Hold, spot: Spot) -> Option<Breach>
     ensures { broken result ≡ rules.passed_by is_unsafe hold spot }
 {
     match hold {

@@ -1,6 +1,7 @@
 //! What is known wherever an exception may be raised, as far as a handler or a block around wants to know it.
 
 ghost use Rattle.std.specs.Prelude.{◌≡◌, Some, None, OnOk, map};
+ghost use Rattle.ada_effects.specs.Found.{implicit_in};
 ghost use Rattle.ada_flow.specs.Flow.{raising_if};
 ghost use Rattle.ada_flow.specs.Told.{held, noted, also_noted, noted_behind, emptied, gone_of, is_wanted, noted_first, noted_for, raised_by};
 ghost use Rattle.ada_program.specs.Form.{handlers_form};
@@ -8,8 +9,9 @@ ghost use Rattle.ada_program.specs.ProgramForm.{variable_form};
 
 use crate::gone::Gone;
 use crate::joins::{join_ends, join_into};
-use crate::kinds::leave_end;
+use crate::kinds::leave_finalized_end;
 use crate::known::Known;
+use ada_effects::Implicit;
 use ada_program::program::{FormalMode, Handler, Variable};
 use std::alloc::{AllocError, Global};
 
@@ -116,19 +118,24 @@ impl Raised {
         }
     }
 
-    /// What is raised in a block is raised behind it, where what is its own is gone.
+    /// What is raised in a block is raised behind it, where its objects are finalized and what is its own is gone.
     pub(crate) fn add_behind(
         &mut self,
         alloc: Global,
         variables: &[Variable],
+        implicit: &Implicit,
         gone: &Gone,
         raised: Raised,
     ) -> Result<(), AllocError>
-        ensures { OnOk result (noted self.new ≡ noted_behind (noted self.old) (map variable_form variables.now) (gone_of gone.now) (noted raised)) }
+        ensures { OnOk result (noted self.new ≡ noted_behind
+            (noted self.old) (map variable_form variables.now) (implicit_in implicit.now) (gone_of gone.now) (noted raised)) }
     {
         match raised {
             Raised::Unwanted => {}
-            Raised::Wanted(known) => self.add(leave_end(alloc, variables, gone, known)?),
+            Raised::Wanted(known) => {
+                let behind = leave_finalized_end(alloc, variables, implicit, gone, known)?;
+                self.add(behind);
+            }
         }
         Ok(())
     }

@@ -2,13 +2,13 @@
 
 ghost use Rattle.std.specs.Prelude.{◌≡◌, IfOk, Some, None};
 ghost use Rattle.ada_flow.specs.Flow.{goes, unless_worse};
-ghost use Rattle.ada_flow.specs.Told.{Ends, Tells, exit_keeps, for_of, gone_of, loop_of, start_in, turns_of, variables_in};
+ghost use Rattle.ada_flow.specs.Told.{Ends, Tells, exit_keeps, for_of, gone_of, implicit_around, loop_of, start_in, turns_of, variables_in};
 
 use crate::around::Around;
 use crate::compute::compute_condition;
 use crate::fault::{Breach, FlowFault};
 use crate::gone::Gone;
-use crate::kinds::leave;
+use crate::kinds::leave_finalized;
 use crate::known::Known;
 use crate::loops::{are_as_good, have_exit, open_all};
 use crate::raised::Raised;
@@ -33,22 +33,23 @@ fn unless_worse(holds: &[Hold], start: &[Hold], spot: Spot) -> Result<(), Breach
     }
 }
 
-/// Whether an exit leads out of a loop, and out of the blocks in it, with no less than is known at the loop's start.
-/// Costs the number of variables.
+/// Whether an exit leads out of a loop, and out of the blocks in it, whose objects are finalized, with no less than is known at the
+/// loop's start. Costs the number of variables.
 pub(crate) fn keeps_start(
     alloc: Global,
     around: &Around<'_>,
     known: &Known,
 ) -> Result<bool, AllocError>
     ensures { IfOk result (λ keeps. keeps
-        ≡ exit_keeps (variables_in around.now) (start_in around.now) (gone_of around.now.inside.now) known.now.holds.items) }
+        ≡ exit_keeps (variables_in around.now) (implicit_around around.now) (start_in around.now) (gone_of around.now.inside.now) known.now.holds.items) }
 {
     match around.start {
         None => Ok(true),
         Some(start) => {
-            let behind = leave(
+            let behind = leave_finalized(
                 alloc,
                 around.setting.variables,
+                around.setting.effects.implicit,
                 around.inside,
                 known.copy(alloc)?,
             )?;

@@ -36,10 +36,13 @@ pub enum Rule {
     TakePair,
     /// At the end of a loop's body, or at an exit, less is known of a variable than at the loop's start.
     LoopState,
-    /// A component is freed whose path follows a value of the component's own access type: the object that is freed may be one on the way.
+    /// A component is freed whose path follows a value of the component's own access type, or of one of which the finalization of the object
+    /// may free or follow objects: the object that is freed may be one on the way.
     /// Or two actual parameters of a call begin with one variable, and one of them is for mode `in out`: what is done through
     /// one formal parameter would be seen through the other. Or a record is passed, or a component given for mode `in out`, whose
     /// path follows a value of an access type of which the call may free objects: what is passed may be gone before the call ends.
+    /// Or a component gets a new object, or a record another value, whose path follows a value of an access type of which the operations
+    /// that are called for that may free objects: so does the path of what a record is copied from.
     UnsafePath,
     /// At a normal end of a body a formal parameter of mode `in out` owns nothing that it could give back, and is not null.
     FormalNotOwned,

@@ -15,7 +15,7 @@ use crate::frees::release;
 use crate::gone::Gone;
 use crate::joins::join_ends;
 use crate::keeping::all_give_back;
-use crate::kinds::{leave, leave_end};
+use crate::kinds::{leave, leave_finalized_end};
 use crate::known::Known;
 use crate::pairs::begins_pair;
 use crate::raised::Raised;
@@ -117,16 +117,10 @@ fn statement(
             assign(alloc, around, &mut known, raised, cleared, target, value)?;
         }
         Stmt::AssignRecord { target, items } => {
-            give_record(alloc, around, &known, raised, target, items)?;
+            give_record(alloc, around, &mut known, raised, target, items)?;
+            return Ok(Some(known));
         }
-        Stmt::Free { access: _, path } => release(
-            alloc,
-            around.setting.types,
-            around.setting.variables,
-            &mut known,
-            raised,
-            path,
-        )?,
+        Stmt::Free { access: _, path } => release(alloc, around, &mut known, raised, path)?,
         Stmt::Get(target) => get(alloc, &mut known, raised, target)?,
         Stmt::PutImage(expression) => compute(alloc, &known, raised, expression)?,
         Stmt::If {
@@ -186,8 +180,10 @@ fn statement(
             let mut inner = own.with_handlers(handlers);
             let end = self::statements(alloc, &within, known, &mut inner, statements)?;
             let end = handled(alloc, &within, inner, end, &mut own, handlers, statements)?;
-            raised.add_behind(alloc, around.setting.variables, &gone, own)?;
-            return Ok(leave_end(alloc, around.setting.variables, &gone, end)?);
+            let variables = around.setting.variables;
+            let implicit = around.setting.effects.implicit;
+            raised.add_behind(alloc, variables, implicit, &gone, own)?;
+            return Ok(leave_finalized_end(alloc, variables, implicit, &gone, end)?);
         }
     }
     Ok(Some(known))

@@ -2,21 +2,29 @@
 
 use Rattle.std.proofs.Common.{◌≡◌, ℕ, zero, suc, ◌+◌, Bool, true, false, ◌&&◌, ◌||◌, ◌==◌, nat_lt, List, [], ◌∷◌, map, take, length, refl, sym, ap, ◌∙◌, inl, inr, arith}
 use Rattle.std.specs.Prelude.{Option, Some, None}
-use Rattle.std.specs.List.{slice_get}
+use Rattle.std.specs.List.{filter, slice_get}
+use Rattle.std.proofs.Math.Bool.{and-false}
+use Rattle.std.proofs.Math.Path.{fun_ext}
 use Rattle.std.proofs.lemmas.Bool.{and_parts}
-use Rattle.ada_deeds.specs.Does.{Does, does, called_does}
+use Rattle.ada_deeds.specs.Does.{Does, does, called_does, callee_does, is_deed_of, operations_do}
+use Rattle.ada_deeds.specs.Forms.{body_does, components_do, creation_does, overriding, overriding_does, own_does, part_does, parts_do}
+use Rattle.ada_deeds.specs.Implicit.{exceptions_of, implicit_of, record_at}
+use Rattle.ada_deeds.specs.Within.{callee_count, does_by, does_within}
+use Rattle.ada_deeds.specs.declared.deed.Callee.{Callee}
 use Rattle.ada_deeds.specs.Follows.{selectors_follow}
 use Rattle.ada_deeds.specs.declared.deed.Callee.TheVariants as callee
 use Rattle.ada_deeds.specs.declared.deed.Deed.{Deed}
 use Rattle.ada_deeds.specs.declared.deed.Deed.TheVariants as deed
 use Rattle.ada_deeds.specs.declared.deed.Operation.{Operation}
 use Rattle.ada_deeds.specs.declared.deed.Operation.TheVariants.{Initialize, Adjust, Finalize}
+use Rattle.ada_effects.specs.Effects.{Implicit, no_implicit}
 use Rattle.ada_operations.specs.Operations.{overriding_in, IsFirstFault, is_before, rule_number}
 use Rattle.ada_operations.specs.View.{BreaksIn}
 use Rattle.ada_operations.specs.declared.rule.OperationRule.{OperationRule}
 use Rattle.ada_operations.specs.declared.rule.OperationRule.TheVariants.{FinalizeOrder, MayPropagate, FinalizeAllocates}
+use Rattle.ada_program.specs.declared.program.Exception.{Exception}
 use Rattle.ada_operations.proofs.Checking.{fault_from}
-use Rattle.ada_operations.proofs.Silence.{NothingFollowed, does_nothing}
+use Rattle.ada_operations.proofs.Silence.{neither, NothingFollowed, does_nothing}
 use Rattle.ada_program.specs.declared.program.Finalization.{Finalization}
 use Rattle.ada_program.specs.declared.program.FormalMode.{FormalMode}
 use Rattle.ada_program.specs.declared.program.FormalMode.TheVariants.{In, InOut}
@@ -24,7 +32,9 @@ use Rattle.ada_program.specs.declared.program.ProcedureNo.{ProcedureNo}
 use Rattle.ada_program.specs.declared.program.TypeNo.{TypeNo}
 use Rattle.ada_program.specs.declared.program.VariableKind.{VariableKind}
 use Rattle.ada_program.specs.declared.program.VariableKind.TheVariants as variable
-use Rattle.ada_program.specs.ProgramForm.{TypeForm, VariableForm, BodyForm, ProgramForm}
+use Rattle.ada_program.specs.declared.program.PartKind.{PartKind}
+use Rattle.ada_program.specs.declared.program.PartKind.TheVariants as part
+use Rattle.ada_program.specs.ProgramForm.{PartForm, TypeForm, record_of, access_to, object_of, VariableForm, BodyForm, ProgramForm}
 use Rattle.ada_program.specs.WellFormed.{Profile, profile_of, callable_in, stands_for, operates_on, is_operation, overrides_rightly, has_operations, have_operations, IsWellFormed, finalization_in, finalization_of, kind_held, variable_kind}
 use Rattle.ada_quiet.specs.First.{IsAmong}
 use Rattle.ada_quiet.specs.Quiet.{is_near, holds_elementary, is_quiet_body, operations_are_quiet}
@@ -155,6 +165,119 @@ quiet_obey p w all f (q, b, at, begins, breaks) =
         let (g, has, one) = own (finalization_of p.types r) operation q is in
         let (object, kind) = first_record p w r g q b has one at in
         breaks_nothing p q operation r (nothing_done p q b at (near p.types b.variables object kind) (quiet_one p all r g q b has one at)) f.1 h
+
+-- What is called implicitly.
+
+-- The procedures that override operations do not do a deed, by themselves or by what they call; nor do the operations of any parts.
+pub record IsBlank (p : ProgramForm) (known : Callee → Bool) : Type 0 where
+  pub procedures : (r : ℕ) (operation : Operation) (q : ProcedureNo) → overriding_in operation (finalization_of p.types r) ≡ Some q → known (callee.Procedure q) ≡ false
+  pub parts : (operation : Operation) (t : TypeNo) → known (callee.Parts operation t) ≡ false
+
+-- What does not hold is false.
+never : (a : Bool) → ¬ (a ≡ true) → a ≡ false
+never true h = absurd (h refl)
+never false h = refl
+
+-- The body of what overrides an operation does nothing, whatever is known of what it would call.
+overriding_still : (p : ProgramForm) → IsWellFormed p → operations_are_quiet p ≡ true → (known : Callee → Bool) (d : Deed) (r : ℕ) (operation : Operation) (q : ProcedureNo) →
+    overriding_in operation (finalization_of p.types r) ≡ Some q → callee_does p known d (callee.Procedure q) ≡ false
+overriding_still p w all known d r operation q is = go (slice_get p.bodies q.0) refl
+  where
+    go : (o : Option BodyForm) → slice_get p.bodies q.0 ≡ o → callee_does p known d (callee.Procedure q) ≡ false
+    go None away = ap (called_does p.types known d) away
+    go (Some b) at =
+        let (f, has, one) = own (finalization_of p.types r) operation q is in
+        let (object, kind) = first_record p w r f q b has one at in
+        ap (called_does p.types known d) at
+        ∙ never (body_does p.types known d b) (does_nothing p.types b (near p.types b.variables object kind) (quiet_one p all r f q b has one at) known d)
+
+own_still : (p : ProgramForm) (known : Callee → Bool) → IsBlank p known → (operation : Operation) (r : ℕ) (o : Option Finalization) → finalization_of p.types r ≡ o →
+    own_does known operation o ≡ false
+own_still p known blank operation r None is = refl
+own_still p known blank operation r (Some f) is = go (overriding operation f.operations) refl
+  where
+    go : (o : Option ProcedureNo) → overriding operation f.operations ≡ o → overriding_does known o ≡ false
+    go None at = refl
+    go (Some q) at = blank.procedures r operation q (ap (overriding_in operation) is ∙ at)
+
+components_still : (p : ProgramForm) (known : Callee → Bool) → IsBlank p known → (operation : Operation) (parts : List PartForm) → components_do known operation parts ≡ false
+components_still p known blank operation [] = refl
+components_still p known blank operation (c ∷ cs) = neither (part_does known operation c.kind) (components_do known operation cs) (go c.kind) (components_still p known blank operation cs)
+  where
+    go : (kind : PartKind) → part_does known operation kind ≡ false
+    go (part.Elementary kind) = refl
+    go (part.Record t) = blank.parts operation t
+    go part.Parent = refl
+
+-- So it is with the operations of the parts of an object.
+parts_still : (p : ProgramForm) (known : Callee → Bool) → IsBlank p known → (d : Deed) (operation : Operation) (t : TypeNo) →
+    callee_does p known d (callee.Parts operation t) ≡ false
+parts_still p known blank d operation t = go (slice_get p.types t.0) refl
+  where
+    go : (o : Option TypeForm) → slice_get p.types t.0 ≡ o → operations_do known operation (slice_get p.types t.0) ≡ false
+    go None is = ap (operations_do known operation) is
+    go (Some (record_of name parts components finalization)) is =
+        ap (operations_do known operation) is
+        ∙ neither (own_does known operation finalization) (components_do known operation parts)
+        (own_still p known blank operation t.0 finalization (ap finalization_in is)) (components_still p known blank operation parts)
+    go (Some (access_to name designated pool)) is = ap (operations_do known operation) is
+    go (Some (object_of record_type)) is = ap (operations_do known operation) is
+
+-- Within any number of calls of calls.
+within_blank : (p : ProgramForm) → IsWellFormed p → operations_are_quiet p ≡ true → (d : Deed) (n : ℕ) → IsBlank p (does_within p d n)
+within_blank p w all d zero = record { procedures = λ r operation q is. refl; parts = λ operation t. refl }
+within_blank p w all d (suc n) = record {
+  procedures = overriding_still p w all (does_within p d n) d;
+  parts = parts_still p (does_within p d n) (within_blank p w all d n) d;
+}
+
+module _ (p : ProgramForm) (w : IsWellFormed p) (all : operations_are_quiet p ≡ true) where
+  -- No operation of the parts of an object does a deed.
+  none_do : (d : Deed) (operation : Operation) (o : Option ℕ) → parts_do (does_by p d) operation o ≡ false
+  none_do d operation None = refl
+  none_do d operation (Some t) =
+      ap (λ (b : Bool). is_deed_of p d && b) ((within_blank p w all d (callee_count p)).parts operation (record { 0 = t })) ∙ and-false (is_deed_of p d)
+
+  none_create : (d : Deed) (o : Option ℕ) → creation_does (does_by p d) o ≡ false
+  none_create d o = neither (parts_do (does_by p d) Initialize o) (parts_do (does_by p d) Finalize o) (none_do d Initialize o) (none_do d Finalize o)
+
+-- Of some things none passes.
+none_pass : {X : Type 0} (test : X → Bool) → ((x : X) → test x ≡ false) → (xs : List X) → filter test xs ≡ []
+none_pass test none [] = refl
+none_pass test none (x ∷ xs) = rw (none x) (none_pass test none xs)
+
+-- What is known of implicit calls, by what it tells.
+abbrev telling : (ℕ → List Exception) → (start adjust end reach : ℕ → ℕ → Bool) → Implicit
+telling raises start adjust end reach = record {
+  start_raises = raises;
+  start_frees = start;
+  adjust_frees = adjust;
+  end_frees = end;
+  end_reaches = reach;
+}
+
+-- It is known by what it tells of each type.
+same_implicit : (a b : Implicit) → ((u : ℕ) → a.start_raises u ≡ b.start_raises u) → ((u t : ℕ) → a.start_frees u t ≡ b.start_frees u t) →
+    ((u t : ℕ) → a.adjust_frees u t ≡ b.adjust_frees u t) → ((u t : ℕ) → a.end_frees u t ≡ b.end_frees u t) →
+    ((u t : ℕ) → a.end_reaches u t ≡ b.end_reaches u t) → a ≡ b
+same_implicit a b raises start adjust end reach =
+    ap (λ (f : ℕ → List Exception). telling f a.start_frees a.adjust_frees a.end_frees a.end_reaches) (fun_ext raises)
+    ∙ ap (λ (f : ℕ → ℕ → Bool). telling b.start_raises f a.adjust_frees a.end_frees a.end_reaches) (fun_ext (λ u. fun_ext (start u)))
+    ∙ ap (λ (f : ℕ → ℕ → Bool). telling b.start_raises b.start_frees f a.end_frees a.end_reaches) (fun_ext (λ u. fun_ext (adjust u)))
+    ∙ ap (λ (f : ℕ → ℕ → Bool). telling b.start_raises b.start_frees b.adjust_frees f a.end_reaches) (fun_ext (λ u. fun_ext (end u)))
+    ∙ ap (λ (f : ℕ → ℕ → Bool). telling b.start_raises b.start_frees b.adjust_frees b.end_frees f) (fun_ext (λ u. fun_ext (reach u)))
+
+pub nothing_called : (p : ProgramForm) → IsWellFormed p → operations_are_quiet p ≡ true → implicit_of p ≡ no_implicit
+nothing_called p w all =
+    same_implicit (implicit_of p) no_implicit
+    (λ u. none_pass (λ e. creation_does (does_by p (deed.Raises e)) (record_at p.types u)) (λ e. none_create p w all (deed.Raises e) (record_at p.types u)) (exceptions_of p))
+    (λ u t. none_create p w all (deed.Frees (record { 0 = t })) (record_at p.types u))
+    (λ u t. none_do p w all (deed.Frees (record { 0 = t })) Adjust (record_at p.types u))
+    (λ u t. none_do p w all (deed.Frees (record { 0 = t })) Finalize (record_at p.types u))
+    (λ u t. neither (parts_do (does_by p (deed.Frees (record { 0 = t }))) Finalize (record_at p.types u))
+    (parts_do (does_by p (deed.Follows (record { 0 = t }))) Finalize (record_at p.types u))
+    (none_do p w all (deed.Frees (record { 0 = t })) Finalize (record_at p.types u))
+    (none_do p w all (deed.Follows (record { 0 = t })) Finalize (record_at p.types u)))
 
 -- Two first faults are one.
 

@@ -8,7 +8,7 @@ use Rattle.ada_deeds.specs.Forms.{is_raising, evaluation_does, path_does, expres
 use Rattle.ada_deeds.specs.declared.deed.Callee.{Callee}
 use Rattle.ada_deeds.specs.declared.deed.Deed.{Deed}
 use Rattle.ada_deeds.specs.declared.deed.Deed.TheVariants as deed
-use Rattle.ada_effects.specs.Effects.{path_raises, expression_raises, condition_raises, untaken, right_raises, declaration_raises, declarations_raise, stmt_raises, stmts_raise, branches_raise, handlers_raise, body_raises}
+use Rattle.ada_effects.specs.Effects.{path_raises, expression_raises, condition_raises, no_implicit, no_calls, untaken, right_raises, right_starts, declaration_raises, declarations_raise, stmt_raises, stmts_raise, branches_raise, handlers_raise, body_raises}
 use Rattle.ada_effects.proofs.Sameness.{are_equal}
 use Rattle.ada_program.specs.declared.program.Exception.{Exception}
 use Rattle.ada_program.specs.declared.program.Exception.TheVariants.{ConstraintError, EndError}
@@ -25,7 +25,7 @@ either : {X : Type 0} (a b : Bool) → (a || b) ≡ true → (a ≡ true → X) 
 either a b h f g = elim (or_cases a b h) [ inl e ↦ f e | inr e ↦ g e ]
 
 -- Neither holds.
-neither : (a b : Bool) → a ≡ false → b ≡ false → (a || b) ≡ false
+pub neither : (a b : Bool) → a ≡ false → b ≡ false → (a || b) ≡ false
 neither a b h g = ap (λ (x : Bool). x || b) h ∙ g
 
 -- What is done is that an exception comes out, where this is raised besides.
@@ -125,19 +125,20 @@ module _ (types : List TypeForm) (variables : List VariableForm) (near : Nothing
     right_out (computes e) q h among = expression_out e q h among
 
     declaration_out : (c : DeclarationForm) → is_quiet_declaration types variables c ≡ true → declaration_does types variables known d c ≡ true →
-        (among : Exception → Bool) → Out d among (declaration_raises among c)
+        (among : Exception → Bool) → Out d among (declaration_raises no_implicit among c)
     declaration_out (creates_pool pool) q h among = absurd (cc q)
     declaration_out (collects access) q h among = absurd (cc q)
     declaration_out (declares x right) q h among =
-        right_out right (and_parts (holds_elementary (variable_kind variables x)) (is_quiet_right types variables right) q).1 h among
+        out_left d among (right_raises among right) (right_starts no_implicit among right)
+        (right_out right (and_parts (holds_elementary (variable_kind variables x)) (is_quiet_right types variables right) q).1 h among)
     declaration_out (declares_record x object initial) q h among = absurd (cc q)
 
     declarations_out : (cs : List DeclarationForm) → are_quiet_declarations types variables cs ≡ true → declarations_do types variables known d cs ≡ true →
-        (among : Exception → Bool) → Out d among (declarations_raise among cs)
+        (among : Exception → Bool) → Out d among (declarations_raise no_implicit among cs)
     declarations_out [] q h among = absurd (cc h)
     declarations_out (c ∷ cs) q h among =
         let both = and_parts (is_quiet_declaration types variables c) (are_quiet_declarations types variables cs) q in
-        out_both d among (declaration_does types variables known d c) (declarations_do types variables known d cs) (declaration_raises among c) (declarations_raise among cs) h
+        out_both d among (declaration_does types variables known d c) (declarations_do types variables known d cs) (declaration_raises no_implicit among c) (declarations_raise no_implicit among cs) h
         (λ e. declaration_out c both.0 e among) (λ e. declarations_out cs both.1 e among)
 
     -- Nothing that was created is finalized.
@@ -151,31 +152,32 @@ module _ (types : List TypeForm) (variables : List VariableForm) (near : Nothing
 
     -- A block, or a body, by what its statements and its handlers do.
     block_out : (cs : List DeclarationForm) (fs : StmtsForm) (hs : HandlersForm) → are_quiet_declarations types variables cs ≡ true →
-        (stmts_do types variables known d fs ≡ true → (among : Exception → Bool) → Out d among (stmts_raise [] among fs)) →
-        (handlers_do types variables known d hs ≡ true → (among : Exception → Bool) → Out d among (handlers_raise [] among hs)) →
+        (stmts_do types variables known d fs ≡ true → (among : Exception → Bool) → Out d among (stmts_raise no_calls among fs)) →
+        (handlers_do types variables known d hs ≡ true → (among : Exception → Bool) → Out d among (handlers_raise no_calls among hs)) →
         (declarations_do types variables known d cs || (is_left hs d && stmts_do types variables known d fs) || handlers_do types variables known d hs
         || leaving_does types known cs) ≡ true → (among : Exception → Bool) →
-        Out d among (declarations_raise among cs || stmts_raise [] (untaken hs among) fs || handlers_raise [] among hs)
+        Out d among (declarations_raise no_implicit among cs || stmts_raise no_calls (untaken hs among) fs || handlers_raise no_calls among hs)
     block_out cs fs hs q within behind h among =
         either (declarations_do types variables known d cs || (is_left hs d && stmts_do types variables known d fs) || handlers_do types variables known d hs)
         (leaving_does types known cs) h
         (λ all. out_both d among (declarations_do types variables known d cs || (is_left hs d && stmts_do types variables known d fs)) (handlers_do types variables known d hs)
-        (declarations_raise among cs || stmts_raise [] (untaken hs among) fs) (handlers_raise [] among hs) all
-        (λ two. out_both d among (declarations_do types variables known d cs) (is_left hs d && stmts_do types variables known d fs) (declarations_raise among cs)
-        (stmts_raise [] (untaken hs among) fs) two (λ e. declarations_out cs q e among)
+        (declarations_raise no_implicit among cs || stmts_raise no_calls (untaken hs among) fs) (handlers_raise no_calls among hs) all
+        (λ two. out_both d among (declarations_do types variables known d cs) (is_left hs d && stmts_do types variables known d fs) (declarations_raise no_implicit among cs)
+        (stmts_raise no_calls (untaken hs among) fs) two (λ e. declarations_out cs q e among)
         (λ e. let both = and_parts (is_left hs d) (stmts_do types variables known d fs) e in
-        out_untaken d among hs (stmts_raise [] (untaken hs among) fs) both.0 (within both.1 (untaken hs among))))
+        out_untaken d among hs (stmts_raise no_calls (untaken hs among) fs) both.0 (within both.1 (untaken hs among))))
         (λ e. behind e among))
         (λ e. absurd (cc (sym (leaves_nothing cs q) ∙ e)))
 
     mutual
       stmt_out : (f : StmtForm) → is_quiet_stmt types variables f ≡ true → stmt_does types variables known d f ≡ true → (among : Exception → Bool) →
-          Out d among (stmt_raises [] among f)
+          Out d among (stmt_raises no_calls among f)
       stmt_out skips q h among = absurd (cc h)
       stmt_out (assigns target right) q h among =
           let both = and_parts (is_quiet_path types variables target) (is_quiet_right types variables right) q in
-          out_both d among (path_does types variables d target) (right_does types variables known d right) (among ConstraintError && path_raises target)
-          (right_raises among right) h (λ e. path_out target both.0 e among) (λ e. right_out right both.1 e among)
+          out_left d among ((among ConstraintError && path_raises target) || right_raises among right) (right_starts no_implicit among right)
+          (out_both d among (path_does types variables d target) (right_does types variables known d right) (among ConstraintError && path_raises target)
+          (right_raises among right) h (λ e. path_out target both.0 e among) (λ e. right_out right both.1 e among))
       stmt_out (assigns_record target items) q h among = absurd (cc q)
       stmt_out (frees access path) q h among = absurd (cc q)
       stmt_out (gets target) q h among =
@@ -187,14 +189,14 @@ module _ (types : List TypeForm) (variables : List VariableForm) (near : Nothing
       stmt_out (repeats condition fs spot) q h among =
           let both = and_parts (is_quiet_condition types variables condition) (are_quiet types variables fs) q in
           out_both d among (condition_does types variables d condition) (stmts_do types variables known d fs) (among ConstraintError && condition_raises condition)
-          (stmts_raise [] among fs) h (λ e. condition_out condition both.0 e among) (λ e. stmts_out fs both.1 e among)
+          (stmts_raise no_calls among fs) h (λ e. condition_out condition both.0 e among) (λ e. stmts_out fs both.1 e among)
       stmt_out (counts x low high fs spot) q h among =
           let all = and_parts (holds_elementary (variable_kind variables x) && is_quiet_expression types variables low && is_quiet_expression types variables high)
           (are_quiet types variables fs) q in
           let bounds = and_parts (holds_elementary (variable_kind variables x) && is_quiet_expression types variables low) (is_quiet_expression types variables high) all.0 in
           let first = and_parts (holds_elementary (variable_kind variables x)) (is_quiet_expression types variables low) bounds.0 in
           out_both d among (expression_does types variables d low || expression_does types variables d high) (stmts_do types variables known d fs)
-          (among ConstraintError && (expression_raises low || expression_raises high)) (stmts_raise [] among fs) h
+          (among ConstraintError && (expression_raises low || expression_raises high)) (stmts_raise no_calls among fs) h
           (λ e. either (expression_does types variables d low) (expression_does types variables d high) e
           (λ g. out_as d among (among ConstraintError && expression_raises low) (among ConstraintError && (expression_raises low || expression_raises high))
           (λ r. let two = and_parts (among ConstraintError) (expression_raises low) r in
@@ -215,31 +217,31 @@ module _ (types : List TypeForm) (variables : List VariableForm) (near : Nothing
           block_out cs fs hs two.0 (λ e more. stmts_out fs two.1 e more) (λ e more. handlers_out hs all.1 e more) h among
 
       stmts_out : (fs : StmtsForm) → are_quiet types variables fs ≡ true → stmts_do types variables known d fs ≡ true → (among : Exception → Bool) →
-          Out d among (stmts_raise [] among fs)
+          Out d among (stmts_raise no_calls among fs)
       stmts_out no_stmts q h among = absurd (cc h)
       stmts_out (a_stmt f fs) q h among =
           let both = and_parts (is_quiet_stmt types variables f) (are_quiet types variables fs) q in
-          out_both d among (stmt_does types variables known d f) (stmts_do types variables known d fs) (stmt_raises [] among f) (stmts_raise [] among fs) h
+          out_both d among (stmt_does types variables known d f) (stmts_do types variables known d fs) (stmt_raises no_calls among f) (stmts_raise no_calls among fs) h
           (λ e. stmt_out f both.0 e among) (λ e. stmts_out fs both.1 e among)
 
       branches_out : (branches : BranchesForm) → are_quiet_branches types variables branches ≡ true → branches_do types variables known d branches ≡ true →
-          (among : Exception → Bool) → Out d among (branches_raise [] among branches)
+          (among : Exception → Bool) → Out d among (branches_raise no_calls among branches)
       branches_out (otherwise fs) q h among = stmts_out fs q h among
       branches_out (a_branch e fs branches) q h among =
           let all = and_parts (is_quiet_expression types variables e && are_quiet types variables fs) (are_quiet_branches types variables branches) q in
           let two = and_parts (is_quiet_expression types variables e) (are_quiet types variables fs) all.0 in
           out_both d among (expression_does types variables d e || stmts_do types variables known d fs) (branches_do types variables known d branches)
-          ((among ConstraintError && expression_raises e) || stmts_raise [] among fs) (branches_raise [] among branches) h
+          ((among ConstraintError && expression_raises e) || stmts_raise no_calls among fs) (branches_raise no_calls among branches) h
           (λ g. out_both d among (expression_does types variables d e) (stmts_do types variables known d fs) (among ConstraintError && expression_raises e)
-          (stmts_raise [] among fs) g (λ k. expression_out e two.0 k among) (λ k. stmts_out fs two.1 k among))
+          (stmts_raise no_calls among fs) g (λ k. expression_out e two.0 k among) (λ k. stmts_out fs two.1 k among))
           (λ g. branches_out branches all.1 g among)
 
       handlers_out : (hs : HandlersForm) → are_quiet_handlers types variables hs ≡ true → handlers_do types variables known d hs ≡ true → (among : Exception → Bool) →
-          Out d among (handlers_raise [] among hs)
+          Out d among (handlers_raise no_calls among hs)
       handlers_out no_handlers q h among = absurd (cc h)
       handlers_out (a_handler choices fs hs) q h among =
           let both = and_parts (are_quiet types variables fs) (are_quiet_handlers types variables hs) q in
-          out_both d among (stmts_do types variables known d fs) (handlers_do types variables known d hs) (stmts_raise [] among fs) (handlers_raise [] among hs) h
+          out_both d among (stmts_do types variables known d fs) (handlers_do types variables known d hs) (stmts_raise no_calls among fs) (handlers_raise no_calls among hs) h
           (λ e. stmts_out fs both.0 e among) (λ e. handlers_out hs both.1 e among)
 
 -- A body.
@@ -249,7 +251,7 @@ pub record IsSilent (types : List TypeForm) (b : BodyForm) : Type 0 where
   pub declarations : are_quiet_declarations types b.variables b.declarations ≡ true
   pub statements : are_quiet types b.variables b.statements ≡ true
   pub handlers : are_quiet_handlers types b.variables b.handlers ≡ true
-  pub raises : body_raises [] b (λ e. true) ≡ false
+  pub raises : body_raises no_calls b (λ e. true) ≡ false
 
 silent : (types : List TypeForm) (b : BodyForm) → is_quiet_body types b ≡ true → IsSilent types b
 silent types b q =
@@ -257,11 +259,11 @@ silent types b q =
     let declared = are_quiet_declarations types b.variables b.declarations in
     let stated = are_quiet types b.variables b.statements in
     let handled = are_quiet_handlers types b.variables b.handlers in
-    let last = and_parts (elementary && declared && stated && handled) (not (body_raises [] b (λ e. true))) q in
+    let last = and_parts (elementary && declared && stated && handled) (not (body_raises no_calls b (λ e. true))) q in
     let three = and_parts (elementary && declared && stated) handled last.0 in
     let two = and_parts (elementary && declared) stated three.0 in
     let one = and_parts elementary declared two.0 in
-    record { declarations = one.1; statements = two.1; handlers = three.1; raises = not-true (body_raises [] b (λ e. true)) last.1 }
+    record { declarations = one.1; statements = two.1; handlers = three.1; raises = not-true (body_raises no_calls b (λ e. true)) last.1 }
 
 out_none : (d : Deed) (among : Exception → Bool) (raised : Bool) → ((e : Exception) → among e ≡ true) → raised ≡ false → Out d among raised → ⊥
 out_none (deed.Raises e) among raised all none h = absurd (cc (sym none ∙ h (all e)))
@@ -274,7 +276,7 @@ pub does_nothing : (types : List TypeForm) (b : BodyForm) → NothingFollowed ty
 does_nothing types b near q known d h =
     let s = silent types b q in
     let among : Exception → Bool = λ e. true in
-    out_none d among (body_raises [] b among) (λ e. refl) s.raises
+    out_none d among (body_raises no_calls b among) (λ e. refl) s.raises
     (block_out types b.variables near known d b.declarations b.statements b.handlers s.declarations
     (λ e more. stmts_out types b.variables near known d b.statements s.statements e more)
     (λ e more. handlers_out types b.variables near known d b.handlers s.handlers e more) h among)

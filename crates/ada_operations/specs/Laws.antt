@@ -1,6 +1,8 @@
 -- Laws of the rules on operations.
 
 use Rattle.std.specs.Prelude.{◌≡◌, true, Option, None}
+use Rattle.ada_deeds.specs.Implicit.{implicit_of}
+use Rattle.ada_effects.specs.Effects.{no_implicit}
 use Rattle.ada_operations.specs.Operations.{IsFirstFault}
 use Rattle.ada_operations.specs.declared.rule.OperationRule.{OperationRule}
 use Rattle.ada_program.specs.ProgramForm.{ProgramForm}
@@ -15,3 +17,7 @@ OneIsFirst = (p : ProgramForm) (a b : Option (Spot × OperationRule)) → IsFirs
 -- Where all operations are quiet, a well-formed program has no fault.
 abbrev pub QuietOperationsObey : Type 0
 QuietOperationsObey = (p : ProgramForm) → IsWellFormed p → operations_are_quiet p ≡ true → IsFirstFault p None
+
+-- And implicit calls raise, free and follow nothing.
+abbrev pub QuietOperationsDoNothing : Type 0
+QuietOperationsDoNothing = (p : ProgramForm) → IsWellFormed p → operations_are_quiet p ≡ true → implicit_of p ≡ no_implicit

@@ -151,7 +151,7 @@ first_of (Some f) None = Some f
 first_of (Some f) (Some g) = if is_before g f then Some g else Some f
 
 -- The answer for a program is that it has no fault, or its first one. Of want of memory nothing is said.
-abbrev pub Answers : ProgramForm → Result (Unit {0}) OperationFault → Type 0
+abbrev pub Answers : {X : Type 0} → ProgramForm → Result X OperationFault → Type 0
 Answers p (Ok x) = IsFirstFault p None
 Answers p (Err (Broken spot rule)) = IsFirstFault p (Some (spot, rule))
 Answers p (Err NoMemory) = Unit {0}

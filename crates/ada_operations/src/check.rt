@@ -1,6 +1,8 @@
 //! The first rule on operations that a program breaks.
 
-ghost use Rattle.std.specs.Prelude.{◌<◌, length, IfOk};
+ghost use Rattle.std.specs.Prelude.{◌≡◌, ◌<◌, length, IfOk};
+ghost use Rattle.ada_deeds.specs.Implicit.{implicit_of};
+ghost use Rattle.ada_effects.specs.Found.{implicit_in};
 ghost use Rattle.ada_operations.specs.Operations.{HasFault};
 ghost use Rattle.ada_operations.specs.View.{Answers, BreaksIn, HasFaultAt, HasFaultIn, IsFirst, IsFirstRule, Knows, found_form};
 ghost use Rattle.ada_program.specs.ProgramForm.{program_form};
@@ -11,6 +13,7 @@ use crate::fault::{Fault, OperationFault, first_of};
 use crate::late::uses_too_late;
 use crate::rule::OperationRule;
 use ada_deeds::{Deed, Operation};
+use ada_effects::Implicit;
 use ada_program::parts::finalization_of;
 use ada_program::{ProcedureNo, Program};
 use ada_quiet::first_unquiet;
@@ -125,23 +128,25 @@ fn first_fault(alloc: Global, program: &Program, facts: &Facts) -> Result<Option
     Ok(first)
 }
 
-/// Whether the bodies that override Adjust and Finalize of controlled types obey the rules on operations (7.6, 7.6.1). Of the faults
-/// of all bodies, the first one in the text is told, and there the rule with the least number. Linear in the program, if all
-/// operations are quiet: then there is nothing to examine.
+/// Whether the bodies that override Adjust and Finalize of controlled types obey the rules on operations (7.6, 7.6.1), and what is
+/// known then of the operations that are called implicitly. Of the faults of all bodies, the first one in the text is told, and
+/// there the rule with the least number. Linear in the program, if all operations are quiet: then there is nothing to examine, and
+/// what is called implicitly does nothing.
 ///
 /// # Errors
 /// The first rule that is broken, with the first token of the body, or want of memory.
-pub fn operations(alloc: Global, program: &Program) -> Result<(), OperationFault>
+pub fn operations(alloc: Global, program: &Program) -> Result<Implicit, OperationFault>
     requires { IsWellFormed (program_form program.now) }
-    ensures { Answers (program_form program.now) result }
+    ensures obey { Answers (program_form program.now) result }
+    ensures known { IfOk result (λ implicit. implicit_in implicit ≡ implicit_of (program_form program.now)) }
 {
     let unquiet = first_unquiet(alloc, program)?;
     let Some(_) = unquiet else {
-        return Ok(());
+        return Ok(Implicit::nothing(alloc));
     };
     let facts = Facts::of(alloc, program)?;
     match first_fault(alloc, program, &facts)? {
-        None => Ok(()),
+        None => Ok(facts.deeds.implicit(alloc, program)?),
         Some(fault) => Err(OperationFault::from(fault)),
     }
 }

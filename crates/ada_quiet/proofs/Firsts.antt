@@ -1,7 +1,8 @@
 -- The first of some things in an order.
 
-use Rattle.std.proofs.Common.{◌≡◌, Bool, true, false, ◌⊎◌, inl, inr, refl, sym, ◌∙◌}
+use Rattle.std.proofs.Common.{◌≡◌, ℕ, ◌+◌, ◌<◌, Bool, true, false, ◌⊎◌, inl, inr, refl, sym, ◌∙◌, subst, arith}
 use Rattle.std.specs.Prelude.{if◌then◌else◌, Option, Some, None}
+use Rattle.std.proofs.lemmas.Bool.{cases_lt}
 
 -- The first one of two things, where they are there.
 abbrev pub first_by : {X : Type 0} → (before : X → X → Bool) → Option X → Option X → Option X
@@ -41,3 +42,27 @@ pub same_first : {X : Type 0} (before : X → X → Bool) (P Q : X → Type 0) �
     IsFirstBy before P a → IsFirstBy before Q a
 same_first before P Q to from None f = λ x q. f x (from x q)
 same_first before P Q to from (Some a) f = (to a f.0, λ y q. f.1 y (from y q))
+
+-- One of the things at the first numbers.
+abbrev pub AnyBelow : {X : Type 0} → (things : ℕ → X → Type 0) → (count : ℕ) → X → Type 0
+AnyBelow things count x = (n : ℕ) × (n < count) × things n x
+
+pub any_none : {X : Type 0} (before : X → X → Bool) (things : ℕ → X → Type 0) → IsFirstBy before (AnyBelow things 0) None
+any_none before things = λ x h. absurd (omega (arith, h.1))
+
+-- The first one of those at one number more.
+pub any_more : {X : Type 0} (before : X → X → Bool) → IsOrder before → (things : ℕ → X → Type 0) (count : ℕ) (a b : Option X) →
+    IsFirstBy before (AnyBelow things count) a → IsFirstBy before (things count) b → IsFirstBy before (AnyBelow things (count + 1)) (first_by before a b)
+any_more {X = X} before o things count a b f g =
+    same_first before (λ x. AnyBelow things count x ⊎ things count x) (AnyBelow things (count + 1)) to from (first_by before a b)
+    (either_first before o (AnyBelow things count) (things count) a b f g)
+  where
+    to : (x : X) → AnyBelow things count x ⊎ things count x → AnyBelow things (count + 1) x
+    to x (inl h) = (h.0, omega (arith, h.1), h.2)
+    to x (inr h) = (count, omega arith, h)
+
+    from : (x : X) → AnyBelow things (count + 1) x → AnyBelow things count x ⊎ things count x
+    from x h = elim (cases_lt h.0 count) [
+      | inl less ↦ inl (h.0, less, h.2)
+      | inr more ↦ let here : h.0 ≡ count = omega (arith, more, h.1) in inr (subst (λ (n : ℕ). things n x) here h.2)
+    ]

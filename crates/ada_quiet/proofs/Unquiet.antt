@@ -12,7 +12,7 @@ use Rattle.ada_program.specs.ProgramForm.{TypeForm, BodyForm, ProgramForm}
 use Rattle.ada_program.specs.WellFormed.{finalization_in, finalization_of}
 use Rattle.ada_quiet.specs.First.{IsAmong, AdjustsAccess, HasUnquiet, stands_before, IsFirst, first_of, unquiet_body, unquiet_operation, unquiet_in}
 use Rattle.ada_quiet.specs.Quiet.{is_quiet_body, is_quiet_procedure, is_quiet_operation, has_quiet_operations, has_access, operation_body, adjust_body, adjusts_access, operations_are_quiet}
-use Rattle.ada_quiet.proofs.Firsts.{IsOrder, either_first, same_first}
+use Rattle.ada_quiet.proofs.Firsts.{IsOrder, either_first, same_first, AnyBelow, any_none, any_more}
 
 -- Places in the text.
 
@@ -41,7 +41,7 @@ abbrev Unquiet : ProgramForm → (leaves : Bool) → ProcedureNo → Spot → Ty
 Unquiet p leaves procedure spot =
     (b : BodyForm) × (slice_get p.bodies procedure.0 ≡ Some b) × ((is_quiet_body p.types b && not leaves) ≡ false) × (b.start_spot ≡ spot)
 
-some_same : {X : Type 0} {x y : X} → Some x ≡ Some y → x ≡ y
+pub some_same : {X : Type 0} {x y : X} → Some x ≡ Some y → x ≡ y
 some_same h = cc h
 
 body_first : (p : ProgramForm) (leaves : Bool) (procedure : ProcedureNo) (o : Option BodyForm) → slice_get p.bodies procedure.0 ≡ o →
@@ -112,30 +112,18 @@ UnquietAt p t spot = UnquietIn p (has_access (slice_get p.types t)) (finalizatio
 
 -- One of what overrides the operations of the first types.
 abbrev pub Below : ProgramForm → (count : ℕ) → Spot → Type 0
-Below p count spot = (t : ℕ) × (t < count) × UnquietAt p t spot
+Below p count spot = AnyBelow (UnquietAt p) count spot
 
 pub below_none : (p : ProgramForm) → IsFirst (Below p 0) None
-below_none p = λ spot h. absurd (omega (arith, h.1))
+below_none p = any_none stands_before (UnquietAt p)
 
 pub below_more : (p : ProgramForm) (count : ℕ) (a b : Option Spot) → IsFirst (Below p count) a →
     b ≡ unquiet_in p (has_access (slice_get p.types count)) (finalization_of p.types count) → IsFirst (Below p (count + 1)) (first_of a b)
 below_more p count a b f is =
-    let own : Spot → Type 0 = UnquietAt p count in
-    same_first stands_before (λ s. Below p count s ⊎ own s) (Below p (count + 1)) to from (first_of a b)
-    (either_first stands_before text_order (Below p count) own a b f
-    (subst (IsFirst own) (sym is) (type_first p (has_access (slice_get p.types count)) (finalization_of p.types count))))
-  where
-    to : (s : Spot) → Below p count s ⊎ UnquietAt p count s → Below p (count + 1) s
-    to s (inl h) = (h.0, omega (arith, h.1), h.2)
-    to s (inr h) = (count, omega arith, h)
+    any_more stands_before text_order (UnquietAt p) count a b f
+    (subst (IsFirst (UnquietAt p count)) (sym is) (type_first p (has_access (slice_get p.types count)) (finalization_of p.types count)))
 
-    from : (s : Spot) → Below p (count + 1) s → Below p count s ⊎ UnquietAt p count s
-    from s h = elim (cases_lt h.0 count) [
-      | inl less ↦ inl (h.0, less, h.2)
-      | inr more ↦ let here : h.0 ≡ count = omega (arith, more, h.1) in inr (subst (λ (n : ℕ). UnquietAt p n s) here h.2)
-    ]
-
-within : (types : List TypeForm) (t : ℕ) (f : Finalization) → finalization_of types t ≡ Some f → t < length types
+pub within : (types : List TypeForm) (t : ℕ) (f : Finalization) → finalization_of types t ≡ Some f → t < length types
 within types t f is = elim (cases_lt t (length types)) [
   | inl less ↦ less
   | inr more ↦ absurd (cc (sym (ap finalization_in (slice_get_past types t more)) ∙ is))

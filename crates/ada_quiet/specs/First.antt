@@ -2,13 +2,14 @@
 
 use Rattle.std.specs.Prelude.{◌≡◌, ◌⊎◌, ℕ, Bool, true, false, not, ◌&&◌, ◌||◌, ◌==◌, nat_lt, if◌then◌else◌, List, Option, Some, None}
 use Rattle.std.specs.List.{slice_get}
+use Rattle.std.specs.Option.{option_map}
 use Rattle.ada_text.specs.declared.spot.Spot.{Spot}
 use Rattle.ada_program.specs.declared.program.Finalization.{Finalization}
 use Rattle.ada_program.specs.declared.program.Operations.{Operations}
 use Rattle.ada_program.specs.declared.program.ProcedureNo.{ProcedureNo}
 use Rattle.ada_program.specs.ProgramForm.{TypeForm, BodyForm, ProgramForm}
 use Rattle.ada_program.specs.WellFormed.{finalization_of}
-use Rattle.ada_quiet.specs.Quiet.{is_quiet_body, has_access}
+use Rattle.ada_quiet.specs.Quiet.{is_quiet_body, has_access, adjust_body}
 
 -- A procedure is one of those that override the operations of a type (7.6).
 abbrev pub IsAmong : Operations → (procedure : ProcedureNo) → Type 0
@@ -28,6 +29,10 @@ abbrev pub HasUnquiet : ProgramForm → (spot : Spot) → Type 0
 HasUnquiet p spot = (procedure : ProcedureNo) × Overrides p procedure × ((b : BodyForm) × (slice_get p.bodies procedure.0 ≡ Some b)
     × ((is_quiet_body p.types b ≡ false) ⊎ AdjustsAccess p procedure) × (b.start_spot ≡ spot))
 
+-- A body overrides Adjust of such a type, and begins here.
+abbrev pub HasUntracked : ProgramForm → (spot : Spot) → Type 0
+HasUntracked p spot = (procedure : ProcedureNo) × AdjustsAccess p procedure × ((b : BodyForm) × (slice_get p.bodies procedure.0 ≡ Some b) × (b.start_spot ≡ spot))
+
 -- A place stands before another one in the text: by line, then by column.
 abbrev pub stands_before : Spot → Spot → Bool
 stands_before a b = nat_lt a.line b.line || ((a.line == b.line) && nat_lt a.column b.column)
@@ -37,9 +42,13 @@ abbrev pub IsFirst : (places : Spot → Type 0) → Option Spot → Type 0
 IsFirst places None = (spot : Spot) → ¬ (places spot)
 IsFirst places (Some spot) = places spot × ((other : Spot) → places other → stands_before other spot ≡ false)
 
--- Where the first such body in the text begins, or that there is none.
+-- Where the first body in the text begins that is not quiet, or overrides such an Adjust, or that there is none.
 abbrev pub IsFirstUnquiet : ProgramForm → Option Spot → Type 0
 IsFirstUnquiet p = IsFirst (HasUnquiet p)
+
+-- Where the first one begins that overrides such an Adjust, or that there is none.
+abbrev pub IsFirstUntracked : ProgramForm → Option Spot → Type 0
+IsFirstUntracked p = IsFirst (HasUntracked p)
 
 -- What the code finds on its way.
 
@@ -64,3 +73,7 @@ abbrev pub unquiet_in : ProgramForm → (leaves : Bool) → Option Finalization 
 unquiet_in p leaves None = None
 unquiet_in p leaves (Some f) = first_of (unquiet_operation p false f.operations.initialize)
     (first_of (unquiet_operation p leaves f.operations.adjust) (unquiet_operation p false f.operations.finalize))
+
+-- Where the body begins that overrides Adjust of a type with a component of an access type, if there is such a body.
+abbrev pub untracked_in : ProgramForm → (leaves : Bool) → Option Finalization → Option Spot
+untracked_in p leaves o = if leaves then option_map (λ b. b.start_spot) (adjust_body p o) else None

@@ -12,7 +12,7 @@ use Rattle.ada_program.specs.declared.program.VariableKind.{VariableKind}
 use Rattle.ada_program.specs.declared.program.VariableKind.TheVariants as variable
 use Rattle.ada_program.specs.ProgramForm.{TypeForm, record_of, access_to, object_of, VariableForm, BodyForm, ProgramForm}
 use Rattle.ada_program.specs.WellFormed.{finalization_in, selectors_kind, variable_kind}
-use Rattle.ada_effects.specs.Effects.{body_raises}
+use Rattle.ada_effects.specs.Effects.{no_calls, body_raises}
 
 -- A variable holds an Integer or a Boolean (3.5.3, 3.5.4).
 abbrev pub is_elementary : VariableKind → Bool
@@ -119,7 +119,7 @@ module _ (types : List TypeForm) (variables : List VariableForm) where
 abbrev pub is_quiet_body : List TypeForm → BodyForm → Bool
 is_quiet_body types b =
     list_all (λ x. is_elementary x.kind) (drop 1 b.variables) && are_quiet_declarations types b.variables b.declarations
-    && are_quiet types b.variables b.statements && are_quiet_handlers types b.variables b.handlers && not (body_raises [] b (λ e. true))
+    && are_quiet types b.variables b.statements && are_quiet_handlers types b.variables b.handlers && not (body_raises no_calls b (λ e. true))
 
 -- A procedure that was found has such a body.
 abbrev pub is_quiet_procedure : List TypeForm → Option BodyForm → Bool

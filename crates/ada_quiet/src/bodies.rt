@@ -1,15 +1,15 @@
 //! Bodies of procedures, where they are quiet.
 
-ghost use Rattle.std.specs.Prelude.{◌≡◌, [], drop, true, IfOk};
+ghost use Rattle.std.specs.Prelude.{◌≡◌, drop, true, IfOk};
 ghost use Rattle.std.specs.List.{list_all};
-ghost use Rattle.ada_effects.specs.Effects.{body_raises};
+ghost use Rattle.ada_effects.specs.Effects.{body_raises, no_calls};
 ghost use Rattle.ada_program.specs.Kept.{types_in, variables_in};
 ghost use Rattle.ada_program.specs.ProgramForm.{body_form};
 ghost use Rattle.ada_quiet.specs.Quiet as rules;
 
 use crate::statements::{are_quiet, are_quiet_declarations, are_quiet_handlers};
 use crate::values::is_elementary;
-use ada_effects::effect_of;
+use ada_effects::{Effects, Implicit, effect_of};
 use ada_program::program::{Procedure, TypeDefinition, Variable};
 use std::alloc::{AllocError, Global};
 
@@ -41,9 +41,14 @@ fn raises_some(
     types: &[TypeDefinition],
     procedure: &Procedure,
 ) -> Result<bool, AllocError>
-    ensures { IfOk result (λ answer. answer ≡ body_raises [] (body_form procedure.now) (λ e. true)) }
+    ensures { IfOk result (λ answer. answer ≡ body_raises no_calls (body_form procedure.now) (λ e. true)) }
 {
-    let effect = effect_of(alloc, types, &[], procedure)?;
+    let implicit = Implicit::nothing(alloc);
+    let effects = Effects {
+        implicit: &implicit,
+        calls: &[],
+    };
+    let effect = effect_of(alloc, types, effects, procedure)?;
     Ok(!effect.raises.is_empty())
 }
 

@@ -7,7 +7,7 @@ ghost use Rattle.ada_program.specs.Kept.{types_in};
 ghost use Rattle.ada_program.specs.ProgramForm.{body_form, part_form, program_form, type_form};
 ghost use Rattle.ada_program.specs.WellFormed.{finalization_in};
 ghost use Rattle.ada_quiet.specs.First as rules;
-ghost use Rattle.ada_quiet.specs.First.{IsFirstUnquiet};
+ghost use Rattle.ada_quiet.specs.First.{IsFirstUnquiet, IsFirstUntracked};
 ghost use Rattle.ada_quiet.specs.Quiet as quiet;
 ghost use Rattle.ada_quiet.specs.Quiet.{operations_are_quiet};
 
@@ -143,4 +143,31 @@ pub fn first_unquiet(alloc: Global, program: &Program) -> Result<Option<Spot>, A
         first = first_of(first, found);
     }
     Ok(first)
+}
+
+/// Where the body begins that overrides Adjust of a type with a component of an access type, declared in it directly.
+fn untracked_in(program: &Program, leaves: bool, finalization: Option<Finalization>) -> Option<Spot>
+    ensures { result ≡ rules.untracked_in (program_form program.now) leaves finalization }
+{
+    if !leaves {
+        return None;
+    }
+    let number = finalization?.operations.adjust?;
+    let procedure = program.procedures.get(number.0)?;
+    Some(procedure.start)
+}
+
+/// Where the first body in the text begins that overrides Adjust of a type with a component of an access type, declared in it
+/// directly (3.10, 7.6): what such a body does to that component is followed by no rule. Linear in the types and their components.
+#[tactic(auto, using(std::proofs::lemmas::Grind::common_steps, crate::proofs::Untracked::untracked_steps))]
+pub fn first_untracked(program: &Program) -> Option<Spot>
+    ensures { IsFirstUntracked (program_form program.now) result }
+{
+    let mut first = None;
+    'types: for number in 0..program.types.len() {
+        let leaves = has_access(&program.types, number);
+        let found = untracked_in(program, leaves, finalization_of(&program.types, number));
+        first = first_of(first, found);
+    }
+    first
 }

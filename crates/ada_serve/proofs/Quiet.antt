@@ -3,7 +3,7 @@
 use Rattle.std.proofs.Common.{◌≡◌, Bool, true, false, not, ◌&&◌, if◌then◌else◌, List, [], ◌∷◌, map, Option, Some, None, refl}
 use Rattle.std.specs.Prelude.{find, drop}
 use Rattle.std.specs.List.{list_all, slice_get}
-use Rattle.ada_effects.specs.Effects.{body_raises}
+use Rattle.ada_effects.specs.Effects.{no_calls, body_raises}
 use Rattle.ada_program.specs.declared.program.Finalization.{Finalization}
 use Rattle.ada_program.specs.declared.program.Operations.{Operations}
 use Rattle.ada_program.specs.declared.program.ProcedureNo.{ProcedureNo}
@@ -57,7 +57,7 @@ body_quiet known types b quiet =
     let declarations = are_quiet_declarations known b.variables b.declarations in
     let statements = are_quiet known b.variables b.statements in
     let handlers = are_quiet_handlers known b.variables b.handlers in
-    let silent = not (body_raises [] b (λ e. true)) in
+    let silent = not (body_raises no_calls b (λ e. true)) in
     declarations_quiet known b.variables types b.declarations
     (right_of elementary declarations (left_of (elementary && declarations) statements (left_of (elementary && declarations && statements) handlers
     (left_of (elementary && declarations && statements && handlers) silent quiet))))

@@ -38,9 +38,9 @@ use Rattle.ada_sound.proofs.Objects.{get_more}
 use Rattle.ada_sound.proofs.Items.{home_has}
 use Rattle.ada_sound.proofs.Stored.{Stored, stored_new, stored_filled}
 use Rattle.ada_sound.proofs.Alters.{alters_new}
-use Rattle.ada_sound.proofs.Fits.{Fit, Hand, stacked, none_spared, hold_in, place_at, component_access, is_object, plain_place, as_reliance, lose_all, put_owner, create_fit, insert_fit}
+use Rattle.ada_sound.proofs.Fits.{Fit, Hand, stacked, none_spared, hold_in, place_at, component_access, is_object, weaker_fit, plain_place, as_reliance, lose_all, put_owner, create_fit, insert_fit}
 use Rattle.ada_sound.proofs.Begins.{root_follows}
-use Rattle.ada_sound.proofs.Invariant.{begun, along, outers, HasRoom, RoomFor, Known, Control, Rooms, NoneBroken, MayRaise, back_onto, named_of, FilledBy, GoesInto, LeadsTo, Filling, FillsTo, Accepts, StoresTo, IsHolder, NamesTo, RunsOn, Working, Stepped, Fine}
+use Rattle.ada_sound.proofs.Invariant.{begun, along, outers, HasRoom, RoomFor, Known, Control, Rooms, NoneBroken, MayRaise, back_onto, named_of, FilledBy, GoesInto, LeadsTo, Filling, FillsTo, Accepts, StoresTo, IsHolder, NamesTo, To, RunsOn, Working, Stepped, Fine}
 use Rattle.ada_sound.proofs.Ready.{running, at_work, ready_on, jumps_less, treats_ready}
 use Rattle.ada_sound.proofs.Followings.{first_kept}
 use Rattle.ada_sound.proofs.Roots.{root_object, object_there, rest_raises, record_raises, selected_raises}
@@ -210,14 +210,14 @@ module _ (known : Known) (k : Control) (a : Activation Value) (rest : List (Acti
     stored = stored_new cell (home_has access home s.masters is_home) w.stored
 
     -- A variable owns it then, or a component does.
-    owned_by : (x : ℕ) (More : Rooms → Holds → Type 0) → w.rest.target ≡ None → variable_access known.program.variables x ≡ Some access → is_object known.program.variables x ≡ false → More w.rooms (slice_set lost x (hold.Own Whole)) → Working known (create s.heap words cell) (slice_set a.places x (created s.heap words)) s.masters More
+    owned_by : (x : ℕ) (More : Rooms → Holds → Type 0) → w.rest.target ≡ None → variable_access known.program.variables x ≡ Some access → is_object known.program.variables x ≡ false → To (More w.rooms) (slice_set lost x (hold.Own Whole)) → Working known (create s.heap words cell) (slice_set a.places x (created s.heap words)) s.masters More
     owned_by x More none is other runs = record {
       rooms = w.rooms;
-      holds = slice_set lost x (hold.Own Whole);
+      holds = runs.0;
       stored = stored;
       roomed = w.roomed;
-      fit = put_owner x (created s.heap words) Whole (plain_place known.program.types (outers known).referenced known.program.variables a.places x (created s.heap words) other tt) (rw is (made none).1) (made none).0;
-      rest = runs;
+      fit = weaker_fit runs.0 runs.1 (put_owner x (created s.heap words) Whole (plain_place known.program.types (outers known).referenced known.program.variables a.places x (created s.heap words) other tt) (rw is (made none).1) (made none).0);
+      rest = runs.2;
     }
 
     inserted : (o : Id) (object : Object) (c : ℕ) → object_at s.heap o ≡ Some object → object.listed ≡ true → component_access known.program.types object c ≡ Some access → ((path : PathForm) → w.rest.target ≡ Some path → LeadsTo s.heap a.places (Names o) [] c path) → Fit known.program.types known.program.variables (outers known) none_spared (store (create s.heap words cell) (Names o) c (created s.heap words)) a.places lost
@@ -227,7 +227,7 @@ module _ (known : Known) (k : Control) (a : Activation Value) (rest : List (Acti
         let after = hold_of (with_lent o c (as_reliance (outers known) lost)) in
         insert_fit words cell o object c found listed same (in_hand_by after (lends_some (outers known) s.heap a.places w.holds w.rest.target moved o object c found listed leads) count counted kinds) (lose_all moved w.fit)
 
-    stored_in : (o : Value) (c : ℕ) (k' : Control) → ((path : PathForm) → w.rest.target ≡ Some path → LeadsTo s.heap a.places o [] c path) → Accepts known s.heap o c (Some access) → RunsOn known k' w.rooms lost → IsHolder (create s.heap words cell) o × Working known (store (create s.heap words cell) o c (created s.heap words)) a.places s.masters (RunsOn known k')
+    stored_in : (o : Value) (c : ℕ) (k' : Control) → ((path : PathForm) → w.rest.target ≡ Some path → LeadsTo s.heap a.places o [] c path) → Accepts known s.heap o c (Some access) → To (RunsOn known k' w.rooms) lost → IsHolder (create s.heap words cell) o × Working known (store (create s.heap words cell) o c (created s.heap words)) a.places s.masters (RunsOn known k')
     stored_in Null c k' leads into runs = absurd into
     stored_in (Scalar n) c k' leads into runs = absurd into
     stored_in (Part object_id base) c k' leads into runs = absurd into
@@ -238,18 +238,18 @@ module _ (known : Known) (k : Control) (a : Activation Value) (rest : List (Acti
           (into.0, found, into.2),
           record {
             rooms = w.rooms;
-            holds = lost;
+            holds = runs.0;
             stored = kept;
             roomed = w.roomed;
-            fit = inserted o into.0 c into.1 into.2 into.3 leads;
-            rest = runs;
+            fit = weaker_fit runs.0 runs.1 (inserted o into.0 c into.1 into.2 into.3 leads);
+            rest = runs.2;
           },
         )
 
-    granted_names : (k' : Control) (operands : List Value) → RoomFor k' w.rooms → GoesInto s.heap a.places w.rest.target k' → StoresTo k' (λ x k2. ((variable_access known.program.variables x ≡ Some access) × (is_object known.program.variables x ≡ false)) × RunsOn known k2 w.rooms (slice_set lost x (hold.Own Whole))) (λ o c k2. Accepts known s.heap o c (Some access) × RunsOn known k2 w.rooms lost) → NamesTo known k' (create s.heap words cell) a.places (created s.heap words ∷ operands) s.masters
+    granted_names : (k' : Control) (operands : List Value) → RoomFor k' w.rooms → GoesInto s.heap a.places w.rest.target k' → StoresTo k' (λ x k2. ((variable_access known.program.variables x ≡ Some access) × (is_object known.program.variables x ≡ false)) × To (RunsOn known k2 w.rooms) (slice_set lost x (hold.Own Whole))) (λ o c k2. Accepts known s.heap o c (Some access) × To (RunsOn known k2 w.rooms) lost) → NamesTo known k' (create s.heap words cell) a.places (created s.heap words ∷ operands) s.masters
     granted_names [] operands room into to = absurd to
     granted_names (Stores x ∷ k') operands room into to = owned_by x (RunsOn known k') (stores_none s.heap a.places w.rest.target x k' into) to.0.0 to.0.1 to.1
-    granted_names (Declares x ∷ k') operands room into to = owned_by x (λ rooms holds. HasRoom rooms × RunsOn known k' rooms holds) (declares_none s.heap a.places w.rest.target x k' into) to.0.0 to.0.1 (room, to.1)
+    granted_names (Declares x ∷ k') operands room into to = owned_by x (λ rooms holds. HasRoom rooms × RunsOn known k' rooms holds) (declares_none s.heap a.places w.rest.target x k' into) to.0.0 to.0.1 (to.1.0, to.1.1, (room, to.1.2))
     granted_names (StoresIn o c ∷ k') operands room into to = stored_in o c k' (λ path is. rw is at into) to.0 to.1
     granted_names (f ∷ k') operands room into to = absurd to
 

@@ -4,6 +4,7 @@ use Rattle.std.proofs.Common.{◌≡◌, ℕ, zero, suc, ◌≤◌, Bool, true, 
 use Rattle.std.specs.Prelude.{Some, ◌==◌}
 use Rattle.std.specs.List.{slice_get}
 use Rattle.std.proofs.lemmas.Bool.{eqb-true}
+use Rattle.ada_effects.specs.Effects.{Implicit}
 use Rattle.ada_program.specs.ProgramForm.{ProgramForm}
 use Rattle.ada_flow.specs.Flow.{Holds}
 use Rattle.ada_meaning.specs.declared.state.Id.{Id}
@@ -35,17 +36,17 @@ inner_high (i ∷ is) js n c e = go (i.number == n) refl (λ among. inner_high i
     go false same others = others (rw same at e)
 
 -- What a caller relies on lies below the masters of the running body.
-low_at : (heap : List Object) (body : ProgramForm) (callers : List Caller) → AllWait body callers → LieBelow heap callers → (d x : ℕ) (o : Id) (object : Object) → IsRelied (outer_hold (slice_get (outer_in callers) d) x) → outer_value (slice_get (outer_in callers) d) x ≡ Names o → object_at heap o ≡ Some object → suc object.cell.home.item ≤ height (below_callers callers)
-low_at heap body [] waits low d x o object relied names found = absurd relied
-low_at heap body (w ∷ ws) waits low zero x o object relied names found =
+low_at : (heap : List Object) (implicit : Implicit) (body : ProgramForm) (callers : List Caller) → AllWait implicit body callers → LieBelow heap callers → (d x : ℕ) (o : Id) (object : Object) → IsRelied (outer_hold (slice_get (outer_in callers) d) x) → outer_value (slice_get (outer_in callers) d) x ≡ Names o → object_at heap o ≡ Some object → suc object.cell.home.item ≤ height (below_callers callers)
+low_at heap implicit body [] waits low d x o object relied names found = absurd relied
+low_at heap implicit body (w ∷ ws) waits low zero x o object relied names found =
     let lies = low.0 x o relied names in
     let same : lies.0 ≡ object = some_same lies.0 object (sym lies.1 ∙ found) in
     rw (← same) lies.2
   where
     some_same : (x y : Object) → Some x ≡ Some y → x ≡ y
     some_same x y e = cc e
-low_at heap body (w ∷ ws) waits low (suc d) x o object relied names found =
-    let lower = low_at heap w.program ws waits.1 low.2 d x o object relied names found in
+low_at heap implicit body (w ∷ ws) waits low (suc d) x o object relied names found =
+    let lower = low_at heap w.implicit w.program ws waits.1 low.2 d x o object relied names found in
     let high = roomed_high (below_callers ws) w.masters w.rooms waits.0.roomed in
     omega (arith, lower, high)
 
@@ -63,25 +64,25 @@ lower_or_here heap w ws low o t object found roomed before (inr there) =
     let high = roomed_high (below_callers ws) w.masters w.rooms roomed in
     omega (arith, lower, high)
 
-referred_low : (heap : List Object) (body : ProgramForm) (callers : List Caller) → AllWait body callers → LieBelow heap callers → (o : Id) (t : ℕ) (object : Object) → IsReferred (referenced_in callers) o t → object_at heap o ≡ Some object → suc object.cell.home.item ≤ height (below_callers callers)
-referred_low heap body [] waits low o t object is found = absurd is
-referred_low heap body (w ∷ ws) waits low o t object is found =
-    lower_or_here heap w ws low.1 o t object found waits.0.roomed (λ before. referred_low heap w.program ws waits.1 low.2 o t object before found) (referred_either w.referenced (referenced_in ws) o t is)
+referred_low : (heap : List Object) (implicit : Implicit) (body : ProgramForm) (callers : List Caller) → AllWait implicit body callers → LieBelow heap callers → (o : Id) (t : ℕ) (object : Object) → IsReferred (referenced_in callers) o t → object_at heap o ≡ Some object → suc object.cell.home.item ≤ height (below_callers callers)
+referred_low heap implicit body [] waits low o t object is found = absurd is
+referred_low heap implicit body (w ∷ ws) waits low o t object is found =
+    lower_or_here heap w ws low.1 o t object found waits.0.roomed (λ before. referred_low heap w.implicit w.program ws waits.1 low.2 o t object before found) (referred_either w.referenced (referenced_in ws) o t is)
 
 -- So none of it is an item of a master that a body is to leave.
-module _ (known : Known) (heap : List Object) (waits : AllWait known.program known.callers) (low : LieBelow heap known.callers) where
+module _ (known : Known) (heap : List Object) (waits : AllWait known.implicit known.program known.callers) (low : LieBelow heap known.callers) where
   below_by : (mode : Mode) (k : Control) (rooms : Rooms) (holds : Holds) (ms : List Master) → Counted (items_of ms) → Roomed (below known) ms rooms → RunsOn known (Leaves mode ∷ k) rooms holds → NamedBelow (outers known) heap ms
   below_by mode k [] holds ms counted r runs = absurd runs
   below_by mode k (gone ∷ rooms) holds [] counted r runs = absurd r
   below_by mode k (gone ∷ rooms) holds (m ∷ ms) counted r runs = (
     (λ d x o object relied names found inner.
-        let lower = low_at heap known.program known.callers waits low d x o object relied names found in
+        let lower = low_at heap known.implicit known.program known.callers waits low d x o object relied names found in
         let high = roomed_high (below known) ms rooms r.1 in
         let above = inner_high m.items (items_of ms) object.cell.home.item counted inner in
         let count = height_is ms in
         omega (arith, lower, high, above, count)),
     (λ o t object refers found inner.
-        let lower = referred_low heap known.program known.callers waits low o t object refers found in
+        let lower = referred_low heap known.implicit known.program known.callers waits low o t object refers found in
         let high = roomed_high (below known) ms rooms r.1 in
         let above = inner_high m.items (items_of ms) object.cell.home.item counted inner in
         let count = height_is ms in

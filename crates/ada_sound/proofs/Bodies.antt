@@ -4,7 +4,7 @@ use Rattle.std.proofs.Common.{◌≡◌, ℕ, zero, suc, ◌+◌, Bool, true, fa
 use Rattle.std.specs.Prelude.{Option, Some, None, if◌then◌else◌}
 use Rattle.std.specs.List.{slice_get}
 use Rattle.ada_program.specs.ProgramForm.{TypeForm, BodyForm, ProgramForm, main_body, seen_by, seen_in}
-use Rattle.ada_effects.specs.Effects.{Effect, effect_of, effects_from, effects_of}
+use Rattle.ada_effects.specs.Effects.{Effect, Implicit, effect_of, known_of, effects_from, effects_of}
 use Rattle.ada_flow.specs.Flow.{Keeping, keeping_from, keeping_of, body_keeps, Holds, Outcome, faults, goes, body_flow, first_fault, bodies_flow, flow_of, is_left_of}
 use Rattle.ada_sound.proofs.Objects.{get_more, get_new}
 
@@ -21,69 +21,69 @@ taken_before (suc n) [] k x e = absurd (cc e)
 taken_before (suc n) (y ∷ xs) zero x e = refl
 taken_before (suc n) (y ∷ xs) (suc k) x e = ap (λ ys. y ∷ ys) (taken_before n xs k x e)
 
-module _ (types : List TypeForm) where
-  -- What is known of calls stays known where more procedures come.
-  effects_stay : (bs : List BodyForm) (done : List Effect) (i : ℕ) (x : Effect) → slice_get done i ≡ Some x → slice_get (effects_from types done bs) i ≡ Some x
-  effects_stay [] done i x e = e
-  effects_stay (b ∷ bs) done i x e = effects_stay bs (done ++ effect_of types done b ∷ []) i x (get_more done (effect_of types done b) i x e)
+-- Where no rule is broken, none is in either of two bodies.
+abbrev pub IsFine : Outcome → Type 0
+IsFine o = (normal raising : Option Holds) × (o ≡ goes normal raising)
 
-  effect_behind : (bs : List BodyForm) (done : List Effect) (k : ℕ) (b : BodyForm) → slice_get bs k ≡ Some b → slice_get (effects_from types done bs) (length done + k) ≡ Some (effect_of types (effects_from types done (take k bs)) b)
+first_of_two : (a b : Outcome) → IsFine (first_fault a b) → IsFine a
+first_of_two (goes normal raising) b f = (normal, raising, refl)
+first_of_two (faults spot rule) (goes normal raising) f = absurd (cc f.2)
+first_of_two (faults spot rule) (faults other_spot other_rule) f = go (is_left_of other_spot spot) f
+  where
+    go : (left : Bool) → IsFine (if left then faults other_spot other_rule else faults spot rule) → IsFine (faults spot rule)
+    go true f = absurd (cc f.2)
+    go false f = absurd (cc f.2)
+
+second_of_two : (a b : Outcome) → IsFine (first_fault a b) → IsFine b
+second_of_two (goes normal raising) b f = f
+second_of_two (faults spot rule) (goes normal raising) f = absurd (cc f.2)
+second_of_two (faults spot rule) (faults other_spot other_rule) f = go (is_left_of other_spot spot) f
+  where
+    go : (left : Bool) → IsFine (if left then faults other_spot other_rule else faults spot rule) → IsFine (faults other_spot other_rule)
+    go true f = absurd (cc f.2)
+    go false f = absurd (cc f.2)
+
+module _ (types : List TypeForm) (implicit : Implicit) where
+  -- What is known of calls stays known where more procedures come.
+  effects_stay : (bs : List BodyForm) (done : List Effect) (i : ℕ) (x : Effect) → slice_get done i ≡ Some x → slice_get (effects_from types implicit done bs) i ≡ Some x
+  effects_stay [] done i x e = e
+  effects_stay (b ∷ bs) done i x e = effects_stay bs (done ++ effect_of types (known_of implicit done) b ∷ []) i x (get_more done (effect_of types (known_of implicit done) b) i x e)
+
+  effect_behind : (bs : List BodyForm) (done : List Effect) (k : ℕ) (b : BodyForm) → slice_get bs k ≡ Some b → slice_get (effects_from types implicit done bs) (length done + k) ≡ Some (effect_of types (known_of implicit (effects_from types implicit done (take k bs))) b)
   effect_behind [] done k b e = absurd (cc e)
   effect_behind (c ∷ bs) done zero b e =
       let same : Some c ≡ Some b = e in
       let at : length done + zero ≡ length done = omega arith in
-      rw (at, ← some_same c b same) (effects_stay bs (done ++ effect_of types done c ∷ []) (length done) (effect_of types done c) (get_new done (effect_of types done c)))
+      rw (at, ← some_same c b same) (effects_stay bs (done ++ effect_of types (known_of implicit done) c ∷ []) (length done) (effect_of types (known_of implicit done) c) (get_new done (effect_of types (known_of implicit done) c)))
     where
       some_same : (c b : BodyForm) → Some c ≡ Some b → c ≡ b
       some_same c b e = cc e
   effect_behind (c ∷ bs) done (suc k) b e =
-      let at : length (done ++ effect_of types done c ∷ []) + k ≡ length done + suc k = omega (arith, length-append done (effect_of types done c ∷ [])) in
-      rw at at (effect_behind bs (done ++ effect_of types done c ∷ []) k b e)
+      let at : length (done ++ effect_of types (known_of implicit done) c ∷ []) + k ≡ length done + suc k = omega (arith, length-append done (effect_of types (known_of implicit done) c ∷ [])) in
+      rw at at (effect_behind bs (done ++ effect_of types (known_of implicit done) c ∷ []) k b e)
 
   -- What is known of the calls of a procedure, by its body and by those before it.
-  pub effect_at : (bs : List BodyForm) (k : ℕ) (b : BodyForm) → slice_get bs k ≡ Some b → slice_get (effects_from types [] bs) k ≡ Some (effect_of types (effects_from types [] (take k bs)) b)
+  pub effect_at : (bs : List BodyForm) (k : ℕ) (b : BodyForm) → slice_get bs k ≡ Some b → slice_get (effects_from types implicit [] bs) k ≡ Some (effect_of types (known_of implicit (effects_from types implicit [] (take k bs))) b)
   effect_at bs k b e = let at : zero + k ≡ k = omega arith in rw at at (effect_behind bs [] k b e)
 
-  -- Where no rule is broken, none is in either of two bodies.
-  abbrev pub IsFine : Outcome → Type 0
-  IsFine o = (normal raising : Option Holds) × (o ≡ goes normal raising)
-
-  first_of_two : (a b : Outcome) → IsFine (first_fault a b) → IsFine a
-  first_of_two (goes normal raising) b f = (normal, raising, refl)
-  first_of_two (faults spot rule) (goes normal raising) f = absurd (cc f.2)
-  first_of_two (faults spot rule) (faults other_spot other_rule) f = go (is_left_of other_spot spot) f
-    where
-      go : (left : Bool) → IsFine (if left then faults other_spot other_rule else faults spot rule) → IsFine (faults spot rule)
-      go true f = absurd (cc f.2)
-      go false f = absurd (cc f.2)
-
-  second_of_two : (a b : Outcome) → IsFine (first_fault a b) → IsFine b
-  second_of_two (goes normal raising) b f = f
-  second_of_two (faults spot rule) (goes normal raising) f = absurd (cc f.2)
-  second_of_two (faults spot rule) (faults other_spot other_rule) f = go (is_left_of other_spot spot) f
-    where
-      go : (left : Bool) → IsFine (if left then faults other_spot other_rule else faults spot rule) → IsFine (faults other_spot other_rule)
-      go true f = absurd (cc f.2)
-      go false f = absurd (cc f.2)
-
-  main_fine : (bs : List BodyForm) (done : List Effect) (kept : List Keeping) (main : BodyForm) → IsFine (bodies_flow types done kept bs main) → IsFine (body_flow types (effects_from types done bs) (keeping_from types done kept bs) main)
+  main_fine : (bs : List BodyForm) (done : List Effect) (kept : List Keeping) (main : BodyForm) → IsFine (bodies_flow types implicit done kept bs main) → IsFine (body_flow types (known_of implicit (effects_from types implicit done bs)) (keeping_from types implicit done kept bs) main)
   main_fine [] done kept main f = f
   main_fine (b ∷ bs) done kept main f =
-      let more = done ++ effect_of types done b ∷ [] in
-      let keeping = kept ++ body_keeps types done kept b ∷ [] in
-      main_fine bs more keeping main (second_of_two (body_flow types done kept b) (bodies_flow types more keeping bs main) f)
+      let more = done ++ effect_of types (known_of implicit done) b ∷ [] in
+      let keeping = kept ++ body_keeps types (known_of implicit done) kept b ∷ [] in
+      main_fine bs more keeping main (second_of_two (body_flow types (known_of implicit done) kept b) (bodies_flow types implicit more keeping bs main) f)
 
-  body_fine : (bs : List BodyForm) (done : List Effect) (kept : List Keeping) (main : BodyForm) (k : ℕ) (b : BodyForm) → slice_get bs k ≡ Some b → IsFine (bodies_flow types done kept bs main) → IsFine (body_flow types (effects_from types done (take k bs)) (keeping_from types done kept (take k bs)) b)
+  body_fine : (bs : List BodyForm) (done : List Effect) (kept : List Keeping) (main : BodyForm) (k : ℕ) (b : BodyForm) → slice_get bs k ≡ Some b → IsFine (bodies_flow types implicit done kept bs main) → IsFine (body_flow types (known_of implicit (effects_from types implicit done (take k bs))) (keeping_from types implicit done kept (take k bs)) b)
   body_fine [] done kept main k b e f = absurd (cc e)
   body_fine (c ∷ bs) done kept main zero b e f =
-      rw (← some_same c b e) (first_of_two (body_flow types done kept c) (bodies_flow types (done ++ effect_of types done c ∷ []) (kept ++ body_keeps types done kept c ∷ []) bs main) f)
+      rw (← some_same c b e) (first_of_two (body_flow types (known_of implicit done) kept c) (bodies_flow types implicit (done ++ effect_of types (known_of implicit done) c ∷ []) (kept ++ body_keeps types (known_of implicit done) kept c ∷ []) bs main) f)
     where
       some_same : (c b : BodyForm) → Some c ≡ Some b → c ≡ b
       some_same c b e = cc e
   body_fine (c ∷ bs) done kept main (suc k) b e f =
-      let more = done ++ effect_of types done c ∷ [] in
-      let keeping = kept ++ body_keeps types done kept c ∷ [] in
-      body_fine bs more keeping main k b e (second_of_two (body_flow types done kept c) (bodies_flow types more keeping bs main) f)
+      let more = done ++ effect_of types (known_of implicit done) c ∷ [] in
+      let keeping = kept ++ body_keeps types (known_of implicit done) kept c ∷ [] in
+      body_fine bs more keeping main k b e (second_of_two (body_flow types (known_of implicit done) kept c) (bodies_flow types implicit more keeping bs main) f)
 
 -- The body of a program as one of its bodies sees it: the main one, or a procedure's that is there.
 abbrev pub IsBody : ProgramForm → (procedure : Option ℕ) → Type 0
@@ -95,10 +95,10 @@ pub seen_is : (p : ProgramForm) (number : ℕ) (b : BodyForm) → slice_get p.bo
 seen_is p number b e = rw e refl
 
 -- Each body breaks no rule.
-pub obeys_in : (p : ProgramForm) (procedure : Option ℕ) → IsBody p procedure → IsFine p.types (flow_of p) → IsFine p.types (body_flow p.types (effects_of (seen_in procedure p)) (keeping_of (seen_in procedure p)) (main_body (seen_in procedure p)))
-obeys_in p None is f = main_fine p.types p.bodies [] [] (main_body p) f
-obeys_in p (Some number) (b, e) f =
-    rw (seen_is p number b e) (body_fine p.types p.bodies [] [] (main_body p) number b e f)
+pub obeys_in : (implicit : Implicit) (p : ProgramForm) (procedure : Option ℕ) → IsBody p procedure → IsFine (flow_of implicit p) → IsFine (body_flow p.types (effects_of implicit (seen_in procedure p)) (keeping_of implicit (seen_in procedure p)) (main_body (seen_in procedure p)))
+obeys_in implicit p None is f = main_fine p.types implicit p.bodies [] [] (main_body p) f
+obeys_in implicit p (Some number) (b, e) f =
+    rw (seen_is p number b e) (body_fine p.types implicit p.bodies [] [] (main_body p) number b e f)
 
 -- A procedure that a body may call is one of the program, and sees what it sees by that body's view.
 pub callee_get : (p : ProgramForm) (procedure : Option ℕ) (number : ℕ) (b : BodyForm) → IsBody p procedure → slice_get (seen_in procedure p).bodies number ≡ Some b → slice_get p.bodies number ≡ Some b

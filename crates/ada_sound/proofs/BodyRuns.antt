@@ -8,7 +8,7 @@ use Rattle.ada_program.specs.Handling.{is_same}
 use Rattle.ada_program.specs.declared.program.FormalMode.{FormalMode}
 use Rattle.ada_program.specs.Form.{ActualForm, in_value, in_null, in_access, in_record, in_out_path, in_out_access, in_out_component, in_out_record}
 use Rattle.ada_program.specs.ProgramForm.{TypeForm, VariableForm, BodyForm, ProgramForm, main_body}
-use Rattle.ada_effects.specs.Effects.{Effect, untaken, declarations_raise, stmts_raise, handlers_raise, stmts_free, handlers_free, call_frees, body_frees, effects_of, passes}
+use Rattle.ada_effects.specs.Effects.{Effect, Effects, declarations_free, leaving_frees, untaken, declarations_raise, stmts_raise, handlers_raise, stmts_free, handlers_free, call_frees, body_frees, effects_of, passes}
 use Rattle.ada_flow.specs.declared.rule.Hold.{Hold}
 use Rattle.ada_flow.specs.declared.rule.Hold.TheVariants as hold
 use Rattle.ada_flow.specs.Flow.{Holds, hold_at, variable_access, Outcome, then_flow, declarations_flow, stmts_flow, handlers_flow, handled, leaves_block, Keeping, keeping_of, body_keeps, kept_from, is_kept, all_give_back, first_kept, others_kept, unless_kept, left_unkept, left_by_move, without_alias, without_freed, left_by_call, left, gone_with, nothing_gone, collected, have_exit, handlers_have_exit, body_flow, first_holds}
@@ -44,7 +44,7 @@ kept_there holds n (m ∷ ms) (suc x) kept =
     rw at at (kept_there holds (n + 1) ms x kept)
 
 -- Where a body breaks no rule, formal parameters give back what they owe at its end, and are kept where an exception leaves it.
-pub gives_and_keeps : (types : List TypeForm) (effects : List Effect) (kept : List Keeping) (b : BodyForm) → IsFine types (body_flow types effects kept b) → Goes (body_flow types effects kept b) (λ holds. Unit {0}) (KeepsAll (body_keeps types effects kept b))
+pub gives_and_keeps : (types : List TypeForm) (effects : Effects) (kept : List Keeping) (b : BodyForm) → IsFine (body_flow types effects kept b) → Goes (body_flow types effects kept b) (λ holds. Unit {0}) (KeepsAll (body_keeps types effects kept b))
 gives_and_keeps types effects kept b (normal, raising, is) = rw is (goes_anywhere normal, keeps raising)
   where
     keeps : (raising : Option Holds) → GoesBy raising (KeepsAll (kept_from raising 0 b.formals))
@@ -68,7 +68,7 @@ module _ (program : Program) (procedure : Option ℕ) (gs : List Suspension) whe
 
   -- What the body keeps, by its outcome.
   abbrev kept : Keeping
-  kept = body_keeps p.types (effects_of p) (keeping_of p) (main_body p)
+  kept = body_keeps p.types (effects_of known.implicit p) (keeping_of known.implicit p) (main_body p)
 
   -- The body's caller waits for what it keeps.
   abbrev pub KeepsFor : List Suspension → Type 0
@@ -79,7 +79,7 @@ module _ (program : Program) (procedure : Option ℕ) (gs : List Suspension) whe
   ends [] holds gives = tt
   ends (g ∷ gs) holds gives = (refl, refl, refl, gives)
 
-  raises : (gs : List Suspension) → KeepsFor gs → (e : Exception) (holds : Holds) → body_among p e ≡ true → KeepsAll kept holds → (ways (known_in program procedure gs) (rest_of gs) []).raised e holds
+  raises : (gs : List Suspension) → KeepsFor gs → (e : Exception) (holds : Holds) → body_among known.implicit p e ≡ true → KeepsAll kept holds → (ways (known_in program procedure gs) (rest_of gs) []).raised e holds
   raises [] same e holds may keeps = tt
   raises (g ∷ gs) same e holds may keeps = (may, refl, rw same keeps)
 
@@ -93,44 +93,50 @@ module _ (program : Program) (procedure : Option ℕ) (gs : List Suspension) whe
   -- Its part: its declarations, its statements and its handlers, before the body is left.
   abbrev part : Outcome
   part =
-      then_flow (declarations_flow p.types p.variables p.declarations (first_holds p.formals p.variables))
-      (λ at. handled (passes (effects_of p) p.statements p.handlers)
+      then_flow (declarations_flow p.types p.variables known.implicit p.declarations (first_holds p.formals p.variables))
+      (λ at. handled (passes (effects_of known.implicit p) p.statements p.handlers)
       (handlers_flow p.types p.variables (around_at known nowhere_yet) p.handlers)
       (stmts_flow p.types p.variables (around_at known nowhere_yet) p.statements at))
 
   abbrev left_there : Holds → Holds
   left_there holds = left p.variables (gone_with p.declarations) holds
 
-  part_goes : IsFine p.types (body_flow p.types (effects_of p) (keeping_of p) (main_body p)) → Goes part (λ h. all_give_back (owed_in p) (left_there h) ≡ true) (λ h. KeepsAll kept (left_there h))
+  part_goes : IsFine (body_flow p.types (effects_of known.implicit p) (keeping_of known.implicit p) (main_body p)) → Goes part (λ h. all_give_back (owed_in p) (left_there h) ≡ true) (λ h. KeepsAll kept (left_there h))
   part_goes fine =
       block_goes p.variables (gone_with p.declarations) part (λ h. all_give_back (owed_in p) h ≡ true) (KeepsAll kept)
       (body_goes (owed_in p) p.end_spot (leaves_block p.variables (gone_with p.declarations) part) (λ h. Unit {0}) (KeepsAll kept)
-      (gives_and_keeps p.types (effects_of p) (keeping_of p) (main_body p) fine))
+      (gives_and_keeps p.types (effects_of known.implicit p) (keeping_of known.implicit p) (main_body p) fine))
+
+  -- What its statements and its handlers may free, it may.
+  freed_there : (t : ℕ) → (stmts_free p.types p.variables (effects_of known.implicit p) t p.statements || handlers_free p.types p.variables (effects_of known.implicit p) t p.handlers) ≡ true → body_frees p.types (effects_of known.implicit p) (main_body p) t ≡ true
+  freed_there t i =
+      or_left (stmts_free p.types p.variables (effects_of known.implicit p) t p.statements || handlers_free p.types p.variables (effects_of known.implicit p) t p.handlers)
+      (declarations_free known.implicit t p.declarations || leaving_frees known.implicit t p.declarations) i
 
   -- It runs, if it breaks no rule, no exit leads out of it, no suspended activation has an alias of what it may free, and its caller waits for what it
   -- keeps.
-  pub body_runs : IsFine p.types (body_flow p.types (effects_of p) (keeping_of p) (main_body p)) → have_exit p.statements ≡ false → handlers_have_exit p.handlers ≡ false → Spares known (body_frees p.types (effects_of p) (main_body p)) → KeepsFor gs → RunsOn known (Elaborates p.declarations p.statements p.handlers ∷ rest_of gs) (gone_with p.declarations ∷ []) (first_holds p.formals p.variables)
+  pub body_runs : IsFine (body_flow p.types (effects_of known.implicit p) (keeping_of known.implicit p) (main_body p)) → have_exit p.statements ≡ false → handlers_have_exit p.handlers ≡ false → Spares known (body_frees p.types (effects_of known.implicit p) (main_body p)) → KeepsFor gs → RunsOn known (Elaborates p.declarations p.statements p.handlers ∷ rest_of gs) (gone_with p.declarations ∷ []) (first_holds p.formals p.variables)
   body_runs fine none_out none_on spares same = (
     all_among (collected p.declarations),
-    part_from known nowhere_yet (rest_of gs) p.declarations p.statements p.handlers outside (body_among p) (first_holds p.formals p.variables)
+    part_from known nowhere_yet (rest_of gs) p.declarations p.statements p.handlers outside (body_among known.implicit p) (first_holds p.formals p.variables)
         (record {
-          by_declarations = λ e i. or_left (declarations_raise (is_same e) p.declarations || stmts_raise (effects_of p) (untaken p.handlers (is_same e)) p.statements) (handlers_raise (effects_of p) (is_same e) p.handlers) (or_left (declarations_raise (is_same e) p.declarations) (stmts_raise (effects_of p) (untaken p.handlers (is_same e)) p.statements) i);
-          by_statements = λ e i. or_left (declarations_raise (is_same e) p.declarations || stmts_raise (effects_of p) (untaken p.handlers (is_same e)) p.statements) (handlers_raise (effects_of p) (is_same e) p.handlers) (or_right (declarations_raise (is_same e) p.declarations) (stmts_raise (effects_of p) (untaken p.handlers (is_same e)) p.statements) i);
-          by_handlers = λ e i. or_right (declarations_raise (is_same e) p.declarations || stmts_raise (effects_of p) (untaken p.handlers (is_same e)) p.statements) (handlers_raise (effects_of p) (is_same e) p.handlers) i;
+          by_declarations = λ e i. or_left (declarations_raise known.implicit (is_same e) p.declarations || stmts_raise (effects_of known.implicit p) (untaken p.handlers (is_same e)) p.statements) (handlers_raise (effects_of known.implicit p) (is_same e) p.handlers) (or_left (declarations_raise known.implicit (is_same e) p.declarations) (stmts_raise (effects_of known.implicit p) (untaken p.handlers (is_same e)) p.statements) i);
+          by_statements = λ e i. or_left (declarations_raise known.implicit (is_same e) p.declarations || stmts_raise (effects_of known.implicit p) (untaken p.handlers (is_same e)) p.statements) (handlers_raise (effects_of known.implicit p) (is_same e) p.handlers) (or_right (declarations_raise known.implicit (is_same e) p.declarations) (stmts_raise (effects_of known.implicit p) (untaken p.handlers (is_same e)) p.statements) i);
+          by_handlers = λ e i. or_right (declarations_raise known.implicit (is_same e) p.declarations || stmts_raise (effects_of known.implicit p) (untaken p.handlers (is_same e)) p.statements) (handlers_raise (effects_of known.implicit p) (is_same e) p.handlers) i;
         })
         (λ way place at comes. (way, comes))
-        (goes_map part (λ h. all_give_back (owed_in p) (left_there h) ≡ true) (λ h. KeepsAll kept (left_there h)) (To outside.normal) (Raised (body_among p) outside)
+        (goes_map part (λ h. all_give_back (owed_in p) (left_there h) ≡ true) (λ h. KeepsAll kept (left_there h)) (To outside.normal) (Raised (body_among known.implicit p) outside)
         (λ h gives. to_here outside.normal h (to_here behind.normal (left_there h) (ends gs (left_there h) gives)))
         (λ h keeps. λ e i. to_here (outside.raised e) h (to_here (behind.raised e) (left_there h) (raises gs same e (left_there h) i keeps))) (part_goes fine))
         (λ one h may. absurd (cc (one, none_out)))
         (λ one h may. absurd (cc (one, none_on)))
         (λ h gives. to_here behind.returned (left_there h) (returns gs (left_there h) gives))
-        (λ t i. spares t (or_left (stmts_free p.types p.variables (effects_of p) t p.statements) (handlers_free p.types p.variables (effects_of p) t p.handlers) i))
-        (λ t i. spares t (or_right (stmts_free p.types p.variables (effects_of p) t p.statements) (handlers_free p.types p.variables (effects_of p) t p.handlers) i)),
+        (λ t i. spares t (freed_there t (or_left (stmts_free p.types p.variables (effects_of known.implicit p) t p.statements) (handlers_free p.types p.variables (effects_of known.implicit p) t p.handlers) i)))
+        (λ t i. spares t (freed_there t (or_right (stmts_free p.types p.variables (effects_of known.implicit p) t p.statements) (handlers_free p.types p.variables (effects_of known.implicit p) t p.handlers) i))),
   )
 
 -- The main body has no caller, so no suspended activation has an alias.
-pub none_suspended : (program : Program) (procedure : Option ℕ) → let p : ProgramForm = (known_in program procedure []).program in Spares (known_in program procedure []) (body_frees p.types (effects_of p) (main_body p))
+pub none_suspended : (program : Program) (procedure : Option ℕ) → let known : Known = known_in program procedure [] in Spares known (body_frees known.program.types (effects_of known.implicit known.program) (main_body known.program))
 none_suspended program procedure t is = (((λ d x e b. cc e), (λ o refers of. absurd refers)), is)
 
 -- Behind a call no alias is left of what its procedure may free.

@@ -154,7 +154,7 @@ module _ (known : Known) (procedure : ℕ) (actuals : List ActualForm) (fs : Stm
       let left = left_in known procedure holds in
       let failed = left_unkept (kept_in known procedure) actuals left in
       let may = actuals_raise actuals || call_raises effect (λ e. true) in
-      let among : Exception → Bool = λ e. stmt_raises (effects_of known.program) (is_same e) (calls procedure actuals) in
+      let among : Exception → Bool = λ e. stmt_raises (effects_of known.implicit known.program) (is_same e) (calls procedure actuals) in
       let out' = ways known k rooms in
       let u = using_goes (uses_in_actuals known.program.types known.program.variables (call_frees effect) [] actuals) holds (ends_with may failed (handed_back actuals left)) (Doing known fs k out') (Raised among out') g in
       let n = ends_goes may failed (handed_back actuals left) (Doing known fs k out') (Raised among out') u.1 in
@@ -166,7 +166,7 @@ module _ (known : Known) (procedure : ℕ) (actuals : List ActualForm) (fs : Stm
           there,
           n.0,
           (λ e raises. n.1
-              (or_right (actuals_raise actuals) (call_raises effect (λ x. true)) (call_more (effects_of known.program) (program_asks known.program) procedure (is_same e) (λ x. true) (λ x is. refl) raises)) e
+              (or_right (actuals_raise actuals) (call_raises effect (λ x. true)) (call_more (effects_of known.implicit known.program).calls (program_asks known.implicit known.program) procedure (is_same e) (λ x. true) (λ x is. refl) raises)) e
               (or_right (is_same e ConstraintError && actuals_raise actuals) (call_raises effect (is_same e)) raises)),
           spares,
           lost,

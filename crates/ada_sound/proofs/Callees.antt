@@ -192,14 +192,14 @@ moved_alias r hold.Lost none e = cc e
 
 pub call_leaves_no_alias : CallLeavesNoAlias
 call_leaves_no_alias types variables around procedure t actuals holds after ends is x of r e =
-    let effect = slice_get around.effects procedure in
+    let effect = slice_get around.effects.calls procedure in
     let less = left_by_call variables effect holds in
     back_by (λ (h : Hold). h ≢ hold.Alias r) actuals less x (λ e. cc e) (called_aliases variables effect holds x t r of is)
     (rw (ends_as types variables effect (kept_at around.kept procedure) actuals holds after ends.1 ends.2) at e)
 
 pub raised_call_leaves_no_alias : RaisedCallLeavesNoAlias
 raised_call_leaves_no_alias types variables around procedure t actuals holds raised raises is x of r e =
-    let effect = slice_get around.effects procedure in
+    let effect = slice_get around.effects.calls procedure in
     let kept = kept_at around.kept procedure in
     let less = left_by_call variables effect holds in
     left_by (λ (h : Hold). h ≢ hold.Alias r) (moved_alias r) kept actuals less x (called_aliases variables effect holds x t r of is)
@@ -228,7 +228,7 @@ called_owners variables (Some effect) holds x v is owner = freed_owners variable
 
 pub call_moves_nothing : CallMovesNothing
 call_moves_nothing types variables around procedure actuals holds after ends x v is owner =
-    let effect = slice_get around.effects procedure in
+    let effect = slice_get around.effects.calls procedure in
     let less = left_by_call variables effect holds in
     rw (ends_as types variables effect (kept_at around.kept procedure) actuals holds after ends.1 ends.2)
     (back_by (λ (h : Hold). (h ≡ hold_at holds x) ⊎ (h ≡ hold.Own Whole)) actuals less x (inr refl)
@@ -236,7 +236,7 @@ call_moves_nothing types variables around procedure actuals holds after ends x v
 
 pub raised_call_moves_nothing : RaisedCallMovesNothing
 raised_call_moves_nothing types variables around procedure actuals holds raised raises x v is none owner =
-    let effect = slice_get around.effects procedure in
+    let effect = slice_get around.effects.calls procedure in
     let kept = kept_at around.kept procedure in
     rw (raises_as types variables effect kept actuals holds raised raises.1 raises.2)
     (left_others kept actuals (left_by_call variables effect holds) x none ∙ called_owners variables effect holds x v is owner)
@@ -275,7 +275,7 @@ handed_owns types variables effect kept x actuals holds normal raising e (formal
 
 pub only_owners_are_handed_over : OnlyOwnersAreHandedOver
 only_owners_are_handed_over types variables around cleared procedure x actuals holds normal raising e handed =
-    handed_owns types variables (slice_get around.effects procedure) (kept_at around.kept procedure) x actuals holds normal raising e handed
+    handed_owns types variables (slice_get around.effects.calls procedure) (kept_at around.kept procedure) x actuals holds normal raising e handed
 
 -- So it is not lost, and owns what comes back.
 there_is : (h : Hold) → IsOwner h → h ≢ hold.Lost
@@ -312,7 +312,7 @@ back_handed (in_out_access q ∷ rest) holds (suc formal) path at there =
 
 pub call_hands_back : CallHandsBack
 call_hands_back types variables around procedure x v actuals holds after ends is (formal, path, at, root) =
-    let effect = slice_get around.effects procedure in
+    let effect = slice_get around.effects.calls procedure in
     let kept = kept_at around.kept procedure in
     let owner = handed_owns types variables effect kept x actuals holds (Some after) ends.1 ends.2 (formal, path, at, root) in
     let stays = called_owners variables effect holds x v is owner in
@@ -361,7 +361,7 @@ unkept_nothing kept (in_out_access q ∷ rest) holds (suc formal) path at is =
 
 pub unkept_own_nothing : UnkeptOwnNothing
 unkept_own_nothing types variables around procedure x actuals holds raised raises (formal, path, at, root, is) own =
-    let effect = slice_get around.effects procedure in
+    let effect = slice_get around.effects.calls procedure in
     let kept = kept_at around.kept procedure in
     let here = rw (raises_as types variables effect kept actuals holds raised raises.1 raises.2) at own in
     unkept_nothing kept actuals (left_by_call variables effect holds) formal path at is (rw root here)
@@ -381,13 +381,13 @@ called_others variables (Some effect) holds x v is none = freed_others variables
 
 pub call_keeps_others : CallKeepsOthers
 call_keeps_others types variables around procedure actuals holds after ends x v is none other =
-    let effect = slice_get around.effects procedure in
+    let effect = slice_get around.effects.calls procedure in
     rw (ends_as types variables effect (kept_at around.kept procedure) actuals holds after ends.1 ends.2)
     (back_others actuals (left_by_call variables effect holds) x other ∙ called_others variables effect holds x v is none)
 
 pub raised_call_keeps_others : RaisedCallKeepsOthers
 raised_call_keeps_others types variables around procedure actuals holds raised raises x v is none other =
-    let effect = slice_get around.effects procedure in
+    let effect = slice_get around.effects.calls procedure in
     let kept = kept_at around.kept procedure in
     rw (raises_as types variables effect kept actuals holds raised raises.1 raises.2)
     (left_others kept actuals (left_by_call variables effect holds) x other ∙ called_others variables effect holds x v is none)
@@ -842,7 +842,7 @@ module _ (Apart : Type 0) (holds : Holds) where
 
 pub lost_is_no_actual : LostIsNoActual
 lost_is_no_actual types variables around cleared procedure x actuals holds some lost =
-    let effect = slice_get around.effects procedure in
+    let effect = slice_get around.effects.calls procedure in
     let less = left_by_call variables effect holds in
     let may = call_frees effect in
     let apart = AreGivenApart actuals × HandsNoAlias actuals holds × ArePassedSafely types variables may actuals in
@@ -995,7 +995,7 @@ given_apart types variables may holds earlier (a ∷ rest) kept (suc i) (suc j) 
 
 pub none_is_given_twice : NoneIsGivenTwice
 none_is_given_twice types variables around cleared procedure actuals holds normal raising goes_on =
-    let effect = slice_get around.effects procedure in
+    let effect = slice_get around.effects.calls procedure in
     given_apart types variables (call_frees effect) holds [] actuals
     (called_as types variables effect (kept_at around.kept procedure) actuals holds normal raising goes_on).0
 
@@ -1039,6 +1039,6 @@ all_safe types variables may holds earlier (a ∷ rest) kept (suc i) b at =
 
 pub calls_spare_what_they_pass : CallsSpareWhatTheyPass
 calls_spare_what_they_pass types variables around cleared procedure actuals holds normal raising goes_on =
-    let effect = slice_get around.effects procedure in
+    let effect = slice_get around.effects.calls procedure in
     all_safe types variables (call_frees effect) holds [] actuals
     (called_as types variables effect (kept_at around.kept procedure) actuals holds normal raising goes_on).0

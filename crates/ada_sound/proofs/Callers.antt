@@ -5,6 +5,7 @@ use Rattle.std.specs.Prelude.{Option}
 use Rattle.ada_program.specs.declared.program.Program.{Program}
 use Rattle.ada_program.specs.Form.{ActualForm}
 use Rattle.ada_program.specs.ProgramForm.{program_form, seen_in}
+use Rattle.ada_deeds.specs.Implicit.{implicit_of}
 use Rattle.ada_flow.specs.Flow.{Holds, Keeping}
 use Rattle.ada_meaning.specs.declared.state.Value.{Value}
 use Rattle.ada_meaning.specs.Frame.{Returns}
@@ -44,6 +45,7 @@ Reaches program procedure rest place holds = (way : List Turning) × IsFlowAt pr
 -- What is known of these activations.
 abbrev pub caller_of : Program → Suspension → List Suspension → Caller
 caller_of program g gs = record {
+  implicit = implicit_of (program_form program);
   program = seen_in g.procedure (program_form program);
   At = Reaches program g.procedure (rest_of gs);
   actuals = g.actuals;
@@ -65,6 +67,7 @@ callers_of program (g ∷ gs) = caller_of program g gs ∷ callers_of program gs
 -- What is known of a body at work, that these have called.
 abbrev pub known_in : Program → (procedure : Option ℕ) → List Suspension → Known
 known_in program procedure gs = record {
+  implicit = implicit_of (program_form program);
   program = seen_in procedure (program_form program);
   At = Reaches program procedure (rest_of gs);
   callers = callers_of program gs;

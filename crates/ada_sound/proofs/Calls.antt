@@ -252,15 +252,15 @@ module _ (program : Program) (number : ℕ) (b : BodyForm) (given : List ActualF
         callee_fit = subst (λ (p : ProgramForm). Fit p.types p.variables (outers callee) none_spared s.heap begins (first_holds b.formals b.variables)) sees begun_fit
 
         -- What may be raised by the body may be raised by the call.
-        raised_by_call : (e : Exception) → body_among callee.program e ≡ true → call_raises (effect_in caller number) (is_same e) ≡ true
+        raised_by_call : (e : Exception) → body_among callee.implicit callee.program e ≡ true → call_raises (effect_in caller number) (is_same e) ≡ true
         raised_by_call e may =
-            let effect = effect_at caller.program.types caller.program.bodies number b w.rest.0 in
+            let effect = effect_at caller.program.types caller.implicit caller.program.bodies number b w.rest.0 in
             rw effect (rw (← sees) at may)
 
         -- What may be freed by the body may be freed by the call.
-        freed_by_it : (t : ℕ) → CoveredIn callee.program t → call_frees (effect_in caller number) t ≡ true
+        freed_by_it : (t : ℕ) → CoveredIn callee.implicit callee.program t → call_frees (effect_in caller number) t ≡ true
         freed_by_it t may =
-            let effect = effect_at caller.program.types caller.program.bodies number b w.rest.0 in
+            let effect = effect_at caller.program.types caller.implicit caller.program.bodies number b w.rest.0 in
             rw effect (rw (← sees) at may)
 
         -- What is handed over goes to no record parameter.
@@ -281,7 +281,7 @@ module _ (program : Program) (number : ℕ) (b : BodyForm) (given : List ActualF
         }
 
         -- The caller waits.
-        caller_waits : Waits callee.program (caller_of program waiting gs) (callers_of program gs)
+        caller_waits : Waits callee.implicit callee.program (caller_of program waiting gs) (callers_of program gs)
         caller_waits = record {
           goes_on = to_here (RunsOn caller k w.rooms) (handed_back given waiting.before) w.rest.1;
           raises = λ e may. w.rest.2 e (raised_by_call e may);
@@ -339,9 +339,9 @@ module _ (program : Program) (number : ℕ) (b : BodyForm) (given : List ActualF
 
     module _ (stands : Stands program gs (record s { activations = a ∷ rest })) where
       -- What may be freed by the body may be freed by the call.
-      pub freed_by_call : (t : ℕ) → body_frees callee.program.types (effects_of callee.program) (main_body callee.program) t ≡ true → call_frees (slice_get (effects_of caller.program) number) t ≡ true
+      pub freed_by_call : (t : ℕ) → body_frees callee.program.types (effects_of callee.implicit callee.program) (main_body callee.program) t ≡ true → call_frees (slice_get (effects_of caller.implicit caller.program).calls number) t ≡ true
       freed_by_call t may =
-          let effect = effect_at caller.program.types caller.program.bodies number b w.rest.0 in
+          let effect = effect_at caller.program.types caller.implicit caller.program.bodies number b w.rest.0 in
           let sees = callee_sees (program_form program) a.procedure number b stands.body w.rest.0 in
           rw effect (rw (← sees) at may)
 

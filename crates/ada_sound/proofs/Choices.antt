@@ -4,6 +4,7 @@ use Rattle.std.proofs.Common.{◌≡◌, ℕ, ℤ, Bool, true, false, List, [], 
 use Rattle.std.specs.Prelude.{◌&&◌, length, Option, Some, None, nat_lt}
 use Rattle.std.specs.List.{list_all, filter}
 use Rattle.std.proofs.lemmas.Bool.{and_parts, ltb-true}
+use Rattle.ada_deeds.specs.Implicit.{implicit_of}
 use Rattle.ada_text.specs.declared.spot.Spot.{Spot}
 use Rattle.ada_program.specs.declared.program.Program.{Program}
 use Rattle.ada_program.specs.Form.{StmtsForm, HandlersForm, declaration_forms, stmt_forms, handler_forms}
@@ -11,7 +12,7 @@ use Rattle.ada_program.specs.ProgramForm.{BodyForm, ProgramForm, main_body, body
 use Rattle.ada_program.specs.WellFormed.{type_fits, variable_fits, creations, creates_from, collections_first, collection_fits, has_collections, pools_fit, initial_fits, stmts_fit, handlers_fit, bodies_fit, all_creations, callable_in, components_lie, have_operations, IsWellFormed}
 use Rattle.ada_program.specs.Nested.{collected, part_nests, statements_nest, handlers_nest, callees_of, CollectionsNest}
 use Rattle.ada_program.specs.Freed.{statements_free_own, handlers_free_own, body_frees_own, FreesItsOwn}
-use Rattle.ada_effects.specs.Effects.{effects_of}
+use Rattle.ada_effects.specs.Effects.{Implicit, effects_of}
 use Rattle.ada_flow.specs.declared.rule.Rule.{Rule}
 use Rattle.ada_flow.specs.Flow.{Holds, Outcome, Around, goes, faults, stmts_flow, handlers_flow, declarations_flow, keeping_of, body_around, types_of, variables_of, first_holds, flow_of, program_flow}
 use Rattle.ada_meaning.specs.declared.event.Halt.{Halt}
@@ -117,14 +118,20 @@ last program input bodies fs hs cs = last_of (first_with program input fs hs) (c
 abbrev pub form_with : Program → List BodyForm → StmtsForm → HandlersForm → ProgramForm
 form_with program bodies fs hs = record (program_form program) { bodies = bodies; statements = fs; handlers = hs }
 
+-- What is known of its implicit calls.
+abbrev pub implicit_with : Program → List BodyForm → StmtsForm → HandlersForm → Implicit
+implicit_with program bodies fs hs = implicit_of (form_with program bodies fs hs)
+
 -- Where its statements stand.
+abbrev pub around_in : ProgramForm → Around
+around_in p = body_around (effects_of (implicit_of p) p) (keeping_of (implicit_of p) p) (main_body p)
+
 abbrev pub around_with : Program → List BodyForm → StmtsForm → HandlersForm → Around
-around_with program bodies fs hs =
-    body_around (effects_of (form_with program bodies fs hs)) (keeping_of (form_with program bodies fs hs)) (main_body (form_with program bodies fs hs))
+around_with program bodies fs hs = around_in (form_with program bodies fs hs)
 
 -- What flow says of it.
 abbrev pub flow_with : Program → List BodyForm → StmtsForm → HandlersForm → Outcome
-flow_with program bodies fs hs = flow_of (form_with program bodies fs hs)
+flow_with program bodies fs hs = flow_of (implicit_with program bodies fs hs) (form_with program bodies fs hs)
 
 -- The parts of a well-formed program but its operations and where its components lie.
 abbrev is_formed : ProgramForm → Bool
@@ -212,7 +219,7 @@ module _ (program : Program) (bodies : List BodyForm) (fs : StmtsForm) (hs : Han
 
   -- What flow says of it.
   pub flow_in : (o : Outcome) → flow_with program bodies fs hs ≡ o → program_flow program ≡ o
-  flow_in o e = ap flow_of form_is ∙ e
+  flow_in o e = ap (λ p. flow_of (implicit_of p) p) form_is ∙ e
 
   -- It is well formed, its collections nest, and it frees its own.
   fine_in : is_fine (form_with program bodies fs hs) ≡ true → IsWellFormed (program_form program)
@@ -268,11 +275,19 @@ module _ (program : Program) (bodies : List BodyForm) (fs : StmtsForm) (hs : Han
 
   -- Its parts, where its handlers would be fine at the ends of its statements.
   pub fine_at_ends_in : (holds : Holds) (before within normal raising : Option Holds)
-      → declarations_flow (types_of program) (variables_of program) (declaration_forms program) (first_holds [] (variables_of program)) ≡ goes (Some holds) before
+      → declarations_flow (types_of program) (variables_of program) (implicit_with program bodies fs hs) (declaration_forms program) (first_holds [] (variables_of program)) ≡ goes (Some holds) before
       → stmts_flow (types_of program) (variables_of program) (around_with program bodies fs hs) fs holds ≡ goes (Some holds) within
       → handlers_flow (types_of program) (variables_of program) (around_with program bodies fs hs) hs holds ≡ goes normal raising
       → IsFineAtEnds holds program
-  fine_at_ends_in holds before within normal raising d e g = (before, within, normal, raising, d, rw same (rw is e), rw same (rw has g))
+  fine_at_ends_in holds before within normal raising d e g = (
+    before,
+    within,
+    normal,
+    raising,
+    ap (λ p. declarations_flow (types_of program) (variables_of program) (implicit_of p) (declaration_forms program) (first_holds [] (variables_of program))) form_is ∙ d,
+    ap (λ p. stmts_flow (types_of program) (variables_of program) (around_in p) p.statements holds) form_is ∙ e,
+    ap (λ p. handlers_flow (types_of program) (variables_of program) (around_in p) p.handlers holds) form_is ∙ g,
+  )
 
   -- A run by these choices.
   pub run_in : (input : List ℤ) (cs : List Choice) (P : List Event → State → Type 0) → has_come (came program input bodies fs hs cs) ≡ true
@@ -305,15 +320,15 @@ module _ (program : Program) (fs : StmtsForm) (hs : HandlersForm) (is : stmt_for
   whole = form_with program (body_forms program) fs hs
 
   -- It is accepted, or refused for one thing alone.
-  pub accepted_by : (normal raising : Option Holds) → is_fine whole ≡ true → is_kept whole ≡ true → flow_of whole ≡ goes normal raising → IsChecked program
+  pub accepted_by : (normal raising : Option Holds) → is_fine whole ≡ true → is_kept whole ≡ true → flow_of (implicit_of whole) whole ≡ goes normal raising → IsChecked program
   accepted_by normal raising fine kept e = accepted_in program (body_forms program) fs hs refl is has normal raising fine kept e
 
-  pub breaks_by : (rule : Rule) (spot : Spot) → is_fine whole ≡ true → is_kept whole ≡ true → flow_of whole ≡ faults spot rule → Breaks rule program
+  pub breaks_by : (rule : Rule) (spot : Spot) → is_fine whole ≡ true → is_kept whole ≡ true → flow_of (implicit_of whole) whole ≡ faults spot rule → Breaks rule program
   breaks_by rule spot fine kept e = breaks_in program (body_forms program) fs hs refl is has rule spot fine kept e
 
   pub ill_formed_by : (normal raising : Option Holds)
       → stmts_fit whole.types whole.variables whole.texts whole.exceptions (callable_in whole) false fs ≡ false → operations_are_quiet whole ≡ true
-      → is_kept whole ≡ true → flow_of whole ≡ goes normal raising → IsIllFormed program
+      → is_kept whole ≡ true → flow_of (implicit_of whole) whole ≡ goes normal raising → IsIllFormed program
   ill_formed_by normal raising unfit quiet kept e = record {
     ill_formed = λ w.
         let fits : stmts_fit whole.types whole.variables whole.texts whole.exceptions (callable_in whole) false fs ≡ true = rw is at (w.statements_fit) in
@@ -325,7 +340,7 @@ module _ (program : Program) (fs : StmtsForm) (hs : HandlersForm) (is : stmt_for
   }
 
   pub ill_nested_by : (normal raising : Option Holds) → is_fine whole ≡ true → part_nests whole.types [] whole.declarations ≡ false
-      → is_own whole ≡ true → flow_of whole ≡ goes normal raising → IsIllNested program
+      → is_own whole ≡ true → flow_of (implicit_of whole) whole ≡ goes normal raising → IsIllNested program
   ill_nested_by normal raising fine unnested own e = record {
     well_formed = fine_in program (body_forms program) fs hs refl is has fine;
     quiet = quiet_in program (body_forms program) fs hs refl is has fine;
@@ -335,7 +350,7 @@ module _ (program : Program) (fs : StmtsForm) (hs : HandlersForm) (is : stmt_for
   }
 
   pub frees_others_by : (normal raising : Option Holds) → is_fine whole ≡ true → is_nested whole ≡ true
-      → statements_free_own whole.types whole.variables fs ≡ false → flow_of whole ≡ goes normal raising → FreesOthers program
+      → statements_free_own whole.types whole.variables fs ≡ false → flow_of (implicit_of whole) whole ≡ goes normal raising → FreesOthers program
   frees_others_by normal raising fine nested other e = record {
     well_formed = fine_in program (body_forms program) fs hs refl is has fine;
     quiet = quiet_in program (body_forms program) fs hs refl is has fine;
@@ -348,7 +363,7 @@ module _ (program : Program) (fs : StmtsForm) (hs : HandlersForm) (is : stmt_for
 
   -- The same of its parts.
   pub fine_at_ends_by : (holds : Holds) (before within normal raising : Option Holds)
-      → declarations_flow (types_of program) (variables_of program) (declaration_forms program) (first_holds [] (variables_of program)) ≡ goes (Some holds) before
+      → declarations_flow (types_of program) (variables_of program) (implicit_with program (body_forms program) fs hs) (declaration_forms program) (first_holds [] (variables_of program)) ≡ goes (Some holds) before
       → stmts_flow (types_of program) (variables_of program) (around_with program (body_forms program) fs hs) fs holds ≡ goes (Some holds) within
       → handlers_flow (types_of program) (variables_of program) (around_with program (body_forms program) fs hs) hs holds ≡ goes normal raising → IsFineAtEnds holds program
   fine_at_ends_by holds before within normal raising d e g =

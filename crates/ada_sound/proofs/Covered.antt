@@ -8,7 +8,8 @@ use Rattle.ada_program.specs.declared.program.Exception.{Exception}
 use Rattle.ada_program.specs.Handling.{is_same}
 use Rattle.ada_program.specs.Form.{ActualForm}
 use Rattle.ada_program.specs.ProgramForm.{ProgramForm, program_form, seen_in}
-use Rattle.ada_effects.specs.Effects.{call_frees, call_raises, effects_of}
+use Rattle.ada_deeds.specs.Implicit.{implicit_of}
+use Rattle.ada_effects.specs.Effects.{Implicit, call_frees, call_raises}
 use Rattle.ada_flow.specs.Flow.{Holds}
 use Rattle.ada_meaning.specs.declared.event.Cause.TheVariants.{Leaving, Freeing, Assigning, Undoing}
 use Rattle.ada_meaning.specs.declared.state.Mode.{Mode}
@@ -22,6 +23,7 @@ use Rattle.ada_meaning.specs.Run.{Event, first_state}
 use Rattle.ada_meaning.specs.Calls.{EndsBody}
 use Rattle.ada_sound.specs.Agreement.{running_procedure}
 use Rattle.ada_sound.specs.Always.{IsChecked}
+use Rattle.ada_sound.specs.Callees as callees
 use Rattle.ada_sound.specs.Callees.{IsCovered, FreesAreCovered, RaisesAreCovered}
 use Rattle.ada_sound.proofs.Bodies.{IsBody, seen_is, effect_at}
 use Rattle.ada_sound.proofs.Invariant.{Control, Rooms, Working, GoesOn, ReadyIn, Says, CoveredIn, AllWait, body_among}
@@ -33,38 +35,38 @@ use Rattle.ada_sound.proofs.Runs as runs
 
 module _ (program : Program) where
   -- What a body may free, calls of its procedure may; and what it may raise.
-  called_frees : (number t : ℕ) → IsBody (program_form program) (Some number) → CoveredIn (seen_in (Some number) (program_form program)) t → call_frees (slice_get (effects_of (program_form program)) number) t ≡ true
+  called_frees : (number t : ℕ) → IsBody (program_form program) (Some number) → CoveredIn (implicit_of (program_form program)) (seen_in (Some number) (program_form program)) t → call_frees (callees.effect_at program number) t ≡ true
   called_frees number t is may =
       let p = program_form program in
-      let effect = effect_at p.types p.bodies number is.0 is.1 in
+      let effect = effect_at p.types (implicit_of p) p.bodies number is.0 is.1 in
       rw effect (rw (seen_is p number is.0 is.1) at may)
 
-  called_raises : (number : ℕ) (e : Exception) → IsBody (program_form program) (Some number) → body_among (seen_in (Some number) (program_form program)) e ≡ true → call_raises (slice_get (effects_of (program_form program)) number) (is_same e) ≡ true
+  called_raises : (number : ℕ) (e : Exception) → IsBody (program_form program) (Some number) → body_among (implicit_of (program_form program)) (seen_in (Some number) (program_form program)) e ≡ true → call_raises (callees.effect_at program number) (is_same e) ≡ true
   called_raises number e is may =
       let p = program_form program in
-      let effect = effect_at p.types p.bodies number is.0 is.1 in
+      let effect = effect_at p.types (implicit_of p) p.bodies number is.0 is.1 in
       rw effect (rw (seen_is p number is.0 is.1) at may)
 
   -- So it is of the procedures whose bodies wait, by the numbers of their activations.
-  waiting_frees : (body : ProgramForm) (rest : List (Activation Value)) (gs : List Suspension) (t : ℕ) → AreOf program rest gs → AllWait body (callers_of program gs) → CoveredIn body t → (depth : ℕ) (a : Activation Value) (number : ℕ) → slice_get rest depth ≡ Some a → a.procedure ≡ Some number → call_frees (slice_get (effects_of (program_form program)) number) t ≡ true
-  waiting_frees body [] gs t of waits may depth a number at is = absurd (cc at)
-  waiting_frees body (b ∷ rest) [] t of waits may depth a number at is = absurd of
-  waiting_frees body (b ∷ rest) (g ∷ gs) t of waits may zero a number at is =
+  waiting_frees : (implicit : Implicit) (body : ProgramForm) (rest : List (Activation Value)) (gs : List Suspension) (t : ℕ) → AreOf program rest gs → AllWait implicit body (callers_of program gs) → CoveredIn implicit body t → (depth : ℕ) (a : Activation Value) (number : ℕ) → slice_get rest depth ≡ Some a → a.procedure ≡ Some number → call_frees (callees.effect_at program number) t ≡ true
+  waiting_frees implicit body [] gs t of waits may depth a number at is = absurd (cc at)
+  waiting_frees implicit body (b ∷ rest) [] t of waits may depth a number at is = absurd of
+  waiting_frees implicit body (b ∷ rest) (g ∷ gs) t of waits may zero a number at is =
       let own : g.procedure ≡ Some number = cc (at, is, of.0) in
       called_frees number t (rw own at (of.1)) (rw own at (waits.0.covers t may))
-  waiting_frees body (b ∷ rest) (g ∷ gs) t of waits may (suc depth) a number at is =
-      waiting_frees (seen_in g.procedure (program_form program)) rest gs t of.3 waits.1 (waits.0.covers t may) depth a number at is
+  waiting_frees implicit body (b ∷ rest) (g ∷ gs) t of waits may (suc depth) a number at is =
+      waiting_frees (implicit_of (program_form program)) (seen_in g.procedure (program_form program)) rest gs t of.3 waits.1 (waits.0.covers t may) depth a number at is
 
   -- What goes back by a Free is covered in each activation.
-  all_free : (all : List (Activation Value)) (s : State) (gs : List Suspension) (t : ℕ) → s.activations ≡ all → Stands program gs s → CoveredIn (seen_in (running_procedure s) (program_form program)) t → (depth : ℕ) (a : Activation Value) (number : ℕ) → slice_get all depth ≡ Some a → a.procedure ≡ Some number → call_frees (slice_get (effects_of (program_form program)) number) t ≡ true
+  all_free : (all : List (Activation Value)) (s : State) (gs : List Suspension) (t : ℕ) → s.activations ≡ all → Stands program gs s → CoveredIn (implicit_of (program_form program)) (seen_in (running_procedure s) (program_form program)) t → (depth : ℕ) (a : Activation Value) (number : ℕ) → slice_get all depth ≡ Some a → a.procedure ≡ Some number → call_frees (callees.effect_at program number) t ≡ true
   all_free [] s gs t here stands may depth a number at is = absurd (cc at)
   all_free (b ∷ rest) s gs t here stands may zero a number at is =
       let own : running_procedure s ≡ Some number = rw here (let e : b ≡ a = cc at in rw e is) in
       called_frees number t (rw own at (stands.body)) (rw own at may)
   all_free (b ∷ rest) s gs t here stands may (suc depth) a number at is =
-      waiting_frees (seen_in (running_procedure s) (program_form program)) rest gs t (rw here at (stands.bodies)) stands.standing.waiting may depth a number at is
+      waiting_frees (implicit_of (program_form program)) (seen_in (running_procedure s) (program_form program)) rest gs t (rw here at (stands.bodies)) stands.standing.waiting may depth a number at is
 
-  covered_by : (e : Event) (before : List Object) (s : State) (gs : List Suspension) → Stands program gs s → Says (known_in program (running_procedure s) gs).program e before s → (depth : ℕ) (a : Activation Value) (number : ℕ) → slice_get s.activations depth ≡ Some a → a.procedure ≡ Some number → IsCovered program number e
+  covered_by : (e : Event) (before : List Object) (s : State) (gs : List Suspension) → Stands program gs s → Says (implicit_of (program_form program)) (known_in program (running_procedure s) gs).program e before s → (depth : ℕ) (a : Activation Value) (number : ℕ) → slice_get s.activations depth ≡ Some a → a.procedure ≡ Some number → IsCovered program number e
   covered_by (Born object part turn type number by) before s gs stands says depth a n at is = tt
   covered_by (Finalized object part turn type number cause) before s gs stands says depth a n at is = tt
   covered_by (Back object access number pool subpool (Leaving m item)) before s gs stands says depth a n at is = tt
@@ -78,13 +80,13 @@ module _ (program : Program) where
   covered_by Quiet before s gs stands says depth a n at is = tt
 
   -- What leaves a body is among what it may raise.
-  raised_by : (procedure : Option ℕ) (gs : List Suspension) (e : Exception) (actuals : List ActualForm) (references : List Value) (k : Control) (rooms : Rooms) (holds : Holds) → GoesOn (known_in program procedure gs) (Raising e) (Returns actuals references ∷ k) rooms holds → body_among (seen_in procedure (program_form program)) e ≡ true
+  raised_by : (procedure : Option ℕ) (gs : List Suspension) (e : Exception) (actuals : List ActualForm) (references : List Value) (k : Control) (rooms : Rooms) (holds : Holds) → GoesOn (known_in program procedure gs) (Raising e) (Returns actuals references ∷ k) rooms holds → body_among (implicit_of (program_form program)) (seen_in procedure (program_form program)) e ≡ true
   raised_by procedure [] e actuals references k [] holds g = absurd g
   raised_by procedure [] e actuals references k (gone ∷ rooms) holds g = absurd g
   raised_by procedure (g ∷ gs) e actuals references k [] holds goes = goes.0
   raised_by procedure (g ∷ gs) e actuals references k (gone ∷ rooms) holds goes = absurd goes
 
-  leaves_by : (procedure : Option ℕ) (gs : List Suspension) (e : Exception) (actuals : List ActualForm) (references : List Value) (outer k : Control) (mode : Mode) (heap : List Object) (held operands : List Value) (masters : List Master) → ReadyIn (known_in program procedure gs) mode k heap held operands masters → mode ≡ Raising e → k ≡ Returns actuals references ∷ outer → body_among (seen_in procedure (program_form program)) e ≡ true
+  leaves_by : (procedure : Option ℕ) (gs : List Suspension) (e : Exception) (actuals : List ActualForm) (references : List Value) (outer k : Control) (mode : Mode) (heap : List Object) (held operands : List Value) (masters : List Master) → ReadyIn (known_in program procedure gs) mode k heap held operands masters → mode ≡ Raising e → k ≡ Returns actuals references ∷ outer → body_among (implicit_of (program_form program)) (seen_in procedure (program_form program)) e ≡ true
   leaves_by procedure gs e actuals references outer k mode heap held operands masters ready raising ends =
       let w : Working (known_in program procedure gs) heap held masters (GoesOn (known_in program procedure gs) (Raising e) (Returns actuals references ∷ outer)) = rw (raising, ends) at ready in
       raised_by procedure gs e actuals references outer w.rooms w.holds w.rest
@@ -101,7 +103,7 @@ module _ (program : Program) (accepted : IsChecked program) where
       by (inl (c, calm)) = covered_by program e before.heap after c.suspensions c.stands c.stepped.says depth a number at is
       by (inr c) = c.covered number
 
-  raises_in : (s : State) → Ordinary program s ⊎ Operates program s → (procedure : Option ℕ) (number : ℕ) (e : Exception) → running_procedure s ≡ procedure → procedure ≡ Some number → EndsBody s → s.mode ≡ Raising e → call_raises (slice_get (effects_of (program_form program)) number) (is_same e) ≡ true
+  raises_in : (s : State) → Ordinary program s ⊎ Operates program s → (procedure : Option ℕ) (number : ℕ) (e : Exception) → running_procedure s ≡ procedure → procedure ≡ Some number → EndsBody s → s.mode ≡ Raising e → call_raises (callees.effect_at program number) (is_same e) ≡ true
   raises_in s (inl o) procedure number e runs is ends mode =
       let may = leaves_by program (running_procedure s) o.suspensions e ends.actuals ends.references ends.outer s.control s.mode s.heap _ _ s.masters (o.ready.1) mode ends.first in
       called_raises program number e (rw (runs ∙ is) at (o.stands.body)) (rw (runs ∙ is) at may)

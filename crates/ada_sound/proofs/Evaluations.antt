@@ -339,20 +339,20 @@ module _ (known : Known) (k : Control) (a : Activation Value) (rest : List (Acti
       al : Allocated known.program.types known.program.variables kind access items
       al = allocated_goes known.program.types known.program.variables kind access items takes
 
-      to : (x : ℕ) (k' : Control) → variable_access known.program.variables x ≡ access_of (Some kind) → (here : Spot) (cleared : Bool) → Goes (gives known.program.types known.program.variables here cleared x (allocates access items) holds) (RunsOn known k' rooms) (Raised (λ e. right_raises (is_same e) (allocates access items)) (ways known k' rooms)) → NoneBroken holds (uses_in_items known.program.types here None [] items) × (((variable_access known.program.variables x ≡ Some access) × RunsOn known k' rooms (slice_set (without_values (moved_by_items items) holds) x (hold.Own Whole))) × Raised (λ e. right_raises (is_same e) (allocates access items)) (ways known k' rooms) holds)
+      to : (x : ℕ) (k' : Control) → variable_access known.program.variables x ≡ access_of (Some kind) → (here : Spot) (cleared : Bool) → Goes (gives known.program.types known.program.variables here cleared x (allocates access items) holds) (To (RunsOn known k' rooms)) (Raised (λ e. right_raises (is_same e) (allocates access items)) (ways known k' rooms)) → NoneBroken holds (uses_in_items known.program.types here None [] items) × (((variable_access known.program.variables x ≡ Some access) × To (RunsOn known k' rooms) (slice_set (without_values (moved_by_items items) holds) x (hold.Own Whole))) × Raised (λ e. right_raises (is_same e) (allocates access items)) (ways known k' rooms) holds)
       to x k' is here cleared g =
-          let u = using_goes (uses_in_items known.program.types here None [] items) holds (ends_with true holds (slice_set (without_values (moved_by_items items) holds) x (hold.Own Whole))) (RunsOn known k' rooms) (Raised (λ e. right_raises (is_same e) (allocates access items)) (ways known k' rooms)) g in
+          let u = using_goes (uses_in_items known.program.types here None [] items) holds (ends_with true holds (slice_set (without_values (moved_by_items items) holds) x (hold.Own Whole))) (To (RunsOn known k' rooms)) (Raised (λ e. right_raises (is_same e) (allocates access items)) (ways known k' rooms)) g in
           (u.0, ((is ∙ al.goes, u.1.0), u.1.1))
 
-      into : (o : Value) (c : ℕ) (k' : Control) → typed.Fits known.program (cells_of s.heap) (of_kind kind ∷ kinds) (StoresIn o c ∷ k') → IsHolder s.heap o → (g : FillsIn known (allocates access items) (LeadsTo s.heap a.places o [] c) rooms holds k') → NoneBroken holds (uses_in_items known.program.types (spot_of g.0) (Some g.0) [] items) × ((Accepts known s.heap o c (Some access) × RunsOn known k' rooms (without_values (moved_by_items items) holds)) × Raised (component_among (path_raises g.0) (allocates access items)) (ways known k' rooms) holds)
+      into : (o : Value) (c : ℕ) (k' : Control) → typed.Fits known.program (cells_of s.heap) (of_kind kind ∷ kinds) (StoresIn o c ∷ k') → IsHolder s.heap o → (g : FillsIn known (allocates access items) (LeadsTo s.heap a.places o [] c) rooms holds k') → NoneBroken holds (uses_in_items known.program.types (spot_of g.0) (Some g.0) [] items) × ((Accepts known s.heap o c (Some access) × To (RunsOn known k' rooms) (without_values (moved_by_items items) holds)) × Raised (component_among (path_raises g.0) (allocates access items)) (ways known k' rooms) holds)
       into Null c k' fits' there g = absurd there
       into (Names o) c k' fits' there g =
           let items_use = uses_in_items known.program.types (spot_of g.0) (Some g.0) [] items in
           let may = path_raises g.0 || true in
           let after = without_values (moved_by_items items) holds in
           let raised' = Raised (component_among (path_raises g.0) (allocates access items)) (ways known k' rooms) in
-          let u = using_goes (uses_in_target g.0 ++ items_use) holds (ends_with may holds after) (RunsOn known k' rooms) raised' g.2 in
-          let n = ends_goes may holds after (RunsOn known k' rooms) raised' u.1 in
+          let u = using_goes (uses_in_target g.0 ++ items_use) holds (ends_with may holds after) (To (RunsOn known k' rooms)) raised' g.2 in
+          let n = ends_goes may holds after (To (RunsOn known k' rooms)) raised' u.1 in
           ((kept_apart holds (uses_in_target g.0) items_use u.0).1, (((there.0, there.1, there.2, component_goes known.program s.heap kind kinds o there.0 c k' there.1 fits' ∙ al.goes), n.0), n.1 (or_right (path_raises g.0) true refl)))
       into (Scalar n) c k' fits' there g = absurd there
       into (Part object_id base) c k' fits' there g = absurd there
@@ -381,17 +381,17 @@ module _ (known : Known) (k : Control) (a : Activation Value) (rest : List (Acti
   defaulting : (access : ℕ) (kind : VariableKind) (kinds : List OperandKind) (d : DefaultFor known.program.types kind access) → names_object (Some kind) ≡ false → typed.Fits known.program (cells_of s.heap) (of_kind kind ∷ kinds) k → (rooms : Rooms) (holds : Holds) → Takes known s.heap a.places (allocates_default access) k rooms holds → Defaulted_to access d.components k rooms holds
   defaulting access kind kinds d none fits rooms holds = go k fits
     where
-      to : (x : ℕ) (k' : Control) (here : Spot) (cleared : Bool) → Goes (gives known.program.types known.program.variables here cleared x (allocates_default access) holds) (RunsOn known k' rooms) (Raised (λ e. right_raises (is_same e) (allocates_default access)) (ways known k' rooms)) → RunsOn known k' rooms (slice_set holds x (hold.Own Whole)) × Raised (λ e. right_raises (is_same e) (allocates_default access)) (ways known k' rooms) holds
+      to : (x : ℕ) (k' : Control) (here : Spot) (cleared : Bool) → Goes (gives known.program.types known.program.variables here cleared x (allocates_default access) holds) (To (RunsOn known k' rooms)) (Raised (λ e. right_raises (is_same e) (allocates_default access)) (ways known k' rooms)) → To (RunsOn known k' rooms) (slice_set holds x (hold.Own Whole)) × Raised (λ e. right_raises (is_same e) (allocates_default access)) (ways known k' rooms) holds
       to x k' here cleared g =
-          (using_goes [] holds (ends_with true holds (slice_set holds x (hold.Own Whole))) (RunsOn known k' rooms) (Raised (λ e. right_raises (is_same e) (allocates_default access)) (ways known k' rooms)) g).1
+          (using_goes [] holds (ends_with true holds (slice_set holds x (hold.Own Whole))) (To (RunsOn known k' rooms)) (Raised (λ e. right_raises (is_same e) (allocates_default access)) (ways known k' rooms)) g).1
 
-      into : (o : Value) (c : ℕ) (k' : Control) → typed.Fits known.program (cells_of s.heap) (of_kind kind ∷ kinds) (StoresIn o c ∷ k') → IsHolder s.heap o → (g : FillsIn known (allocates_default access) (LeadsTo s.heap a.places o [] c) rooms holds k') → (Accepts known s.heap o c (Some access) × RunsOn known k' rooms holds) × Raised (component_among (path_raises g.0) (allocates_default access)) (ways known k' rooms) holds
+      into : (o : Value) (c : ℕ) (k' : Control) → typed.Fits known.program (cells_of s.heap) (of_kind kind ∷ kinds) (StoresIn o c ∷ k') → IsHolder s.heap o → (g : FillsIn known (allocates_default access) (LeadsTo s.heap a.places o [] c) rooms holds k') → (Accepts known s.heap o c (Some access) × To (RunsOn known k' rooms) holds) × Raised (component_among (path_raises g.0) (allocates_default access)) (ways known k' rooms) holds
       into Null c k' fits' there g = absurd there
       into (Names o) c k' fits' there g =
           let may = path_raises g.0 || true in
           let raised' = Raised (component_among (path_raises g.0) (allocates_default access)) (ways known k' rooms) in
-          let u = using_goes (uses_in_target g.0 ++ []) holds (ends_with may holds holds) (RunsOn known k' rooms) raised' g.2 in
-          let n = ends_goes may holds holds (RunsOn known k' rooms) raised' u.1 in
+          let u = using_goes (uses_in_target g.0 ++ []) holds (ends_with may holds holds) (To (RunsOn known k' rooms)) raised' g.2 in
+          let n = ends_goes may holds holds (To (RunsOn known k' rooms)) raised' u.1 in
           (((there.0, there.1, there.2, component_goes known.program s.heap kind kinds o there.0 c k' there.1 fits' ∙ d.goes), n.0), n.1 (or_right (path_raises g.0) true refl))
       into (Scalar n) c k' fits' there g = absurd there
       into (Part object_id base) c k' fits' there g = absurd there

@@ -162,24 +162,26 @@ node_types =
     ∷ definition.Object (record { 0 = 0 })
     ∷ []
 
--- Head := new Node; Head.Next := new Node; where Finalize does this statement
+-- Head := new Node; Second := new Node; Head.Next := Second; where Finalize does this statement
 abbrev node_program : Stmt → Program
 node_program statement = record {
   types = vec node_types (omega arith);
   pools = vec [] (omega arith);
   procedures = vec (operation 2 (statement ∷ []) (omega arith) [] (omega arith) ∷ []) (omega arith);
-  variables = vec (link ∷ []) (omega arith);
+  variables = vec (link ∷ link ∷ []) (omega arith);
   texts = vec [] (omega arith);
   exceptions = vec [] (omega arith);
-  declarations = vec (declaration.Collection (record { 0 = 1 }) ∷ declaration.Variable (record { 0 = 0 }) None ∷ []) (omega arith);
+  declarations = vec
+      (declaration.Collection (record { 0 = 1 }) ∷ declaration.Variable (record { 0 = 0 }) None ∷ declaration.Variable (record { 0 = 1 }) None ∷ []) (omega arith);
   statements = vec
-      (stmt.Assign (whole 0) (right.Default (record { 0 = 1 })) ∷ stmt.Assign (component 0 1) (right.Default (record { 0 = 1 })) ∷ []) (omega arith);
+      (stmt.Assign (whole 0) (right.Default (record { 0 = 1 })) ∷ stmt.Assign (whole 1) (right.Default (record { 0 = 1 }))
+      ∷ stmt.Assign (component 0 1) (right.Path (whole 1)) ∷ []) (omega arith);
   handlers = vec [] (omega arith);
 }
 
 -- Both nodes are granted, and the second one is picked first at the leaving; this comes behind its Finalize.
 abbrev to_second : List Choice
-to_second = steps 7 ++ grants true ∷ steps 5 ++ grants true ∷ steps 6 ++ takes 0 ∷ []
+to_second = steps 10 ++ grants true ∷ steps 4 ++ grants true ∷ steps 11 ++ takes 0 ∷ []
 
 -- Free (N.Next);
 abbrev pub freeing : Program

@@ -25,3 +25,10 @@ kept_apart holds (u ∷ us) vs e =
     let h = first_kept holds u (us ++ vs) e in
     let g = kept_apart holds us vs h.1 in
     (rw (h.0, g.0) refl, g.1)
+
+-- Neither of two parts breaks a rule.
+pub kept_both : (holds : Holds) (us vs : List Use) → NoneBroken holds us → NoneBroken holds vs → NoneBroken holds (us ++ vs)
+kept_both holds [] vs e f = f
+kept_both holds (u ∷ us) vs e f =
+    let h = first_kept holds u us e in
+    rw (h.0, kept_both holds us vs h.1 f) refl

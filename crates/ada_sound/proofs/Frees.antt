@@ -19,13 +19,13 @@ use Rattle.ada_meaning.specs.Event.{Quiet}
 use Rattle.ada_meaning.specs.State.{Activation, home_of, pool_freed_to}
 use Rattle.ada_meaning.specs.Step.{all_tasks, free_next}
 use Rattle.ada_meaning.specs.Named.{State, named, parted}
-use Rattle.ada_sound.proofs.Fits.{NoOuterAlias, is_object, IsOwn, IsSaid, place_at, null_fit, behind_fit, freed_unnamed, part_fit}
+use Rattle.ada_sound.proofs.Fits.{NoOuterAlias, is_object, IsOwn, IsSaid, place_at, weaker_fit, null_fit, behind_fit, freed_unnamed, part_fit}
 use Rattle.ada_sound.proofs.Objects.{set_here}
 use Rattle.ada_sound.proofs.Homes.{HaveHomes, same_one, freed_home}
 use Rattle.ada_sound.proofs.Stored.{stored_part}
 use Rattle.ada_sound.proofs.Alters.{alters_set}
 use Rattle.ada_sound.proofs.Taken.{root_access}
-use Rattle.ada_sound.proofs.Invariant.{CoveredIn, outers, Known, Control, Rooms, Goes, RunsOn, Working, Ending, Stepped, Fine}
+use Rattle.ada_sound.proofs.Invariant.{CoveredIn, outers, Known, Control, Rooms, Goes, To, RunsOn, Working, Ending, Stepped, Fine}
 use Rattle.ada_sound.proofs.Ready.{running, runs_on, treats_ready}
 
 -- An owner is not lost.
@@ -36,13 +36,13 @@ own_kept (hold.Own r) spot own = refl
 own_kept (hold.Alias r) spot own = absurd own
 own_kept hold.Lost spot own = absurd own
 
-module _ (known : Known) (a : Activation Value) (rest : List (Activation Value)) (s : State) (types : List TypeDefinition) (access x : ℕ) (none : is_object known.program.variables x ≡ false) (spot : Spot) (fs : StmtsForm) (k : Control) (raised : Rooms → Holds → Type 0) (homes : HaveHomes known.program.types s.heap s.masters) (own_type : ℕ) (by_own : own_type ≡ access) (of_type : variable_access known.program.variables x ≡ Some own_type) (is_type : is_access known.program.types own_type ≡ true) (spares : NoOuterAlias known.program.types (outers known) own_type × CoveredIn known.program own_type) (w : Working known s.heap a.places s.masters (λ rooms holds. Goes (released known.program.variables x spot holds (hold_at holds x)) (RunsOn known (Does fs ∷ k) rooms) (raised rooms))) where
+module _ (known : Known) (a : Activation Value) (rest : List (Activation Value)) (s : State) (types : List TypeDefinition) (access x : ℕ) (none : is_object known.program.variables x ≡ false) (spot : Spot) (fs : StmtsForm) (k : Control) (raised : Rooms → Holds → Type 0) (homes : HaveHomes known.program.types s.heap s.masters) (own_type : ℕ) (by_own : own_type ≡ access) (of_type : variable_access known.program.variables x ≡ Some own_type) (is_type : is_access known.program.types own_type ≡ true) (spares : NoOuterAlias known.program.types (outers known) own_type × CoveredIn known.implicit known.program own_type) (w : Working known s.heap a.places s.masters (λ rooms holds. Goes (released known.program.variables x spot holds (hold_at holds x)) (To (RunsOn known (Does fs ∷ k) rooms)) (raised rooms))) where
   -- X is null: nothing happens.
-  free_null : place_at a.places x ≡ Null → RunsOn known (Does fs ∷ k) w.rooms (freed known.program.variables x w.holds) → Stepped known s.heap Quiet (running (Does fs ∷ k) a rest s)
-  free_null is more = runs_on known (Does fs ∷ k) a rest s (record { rooms = w.rooms; holds = freed known.program.variables x w.holds; stored = w.stored; roomed = w.roomed; fit = null_fit x none is (behind_fit (variable_access known.program.variables x) w.fit); rest = more }) Quiet tt
+  free_null : place_at a.places x ≡ Null → To (RunsOn known (Does fs ∷ k) w.rooms) (freed known.program.variables x w.holds) → Stepped known s.heap Quiet (running (Does fs ∷ k) a rest s)
+  free_null is more = runs_on known (Does fs ∷ k) a rest s (record { rooms = w.rooms; holds = more.0; stored = w.stored; roomed = w.roomed; fit = weaker_fit more.0 more.1 (null_fit x none is (behind_fit (variable_access known.program.variables x) w.fit)); rest = more.2 }) Quiet tt
 
   -- X owns an object: that leaves its collection, and nothing relies on it then.
-  free_value : (v : Value) → place_at a.places x ≡ v → IsOwn (hold_at w.holds x) → RunsOn known (Does fs ∷ k) w.rooms (freed known.program.variables x w.holds) → Fine known s.heap s.masters (free_next named types access x v (named.standing s.heap v) (running (Does fs ∷ k) a rest s))
+  free_value : (v : Value) → place_at a.places x ≡ v → IsOwn (hold_at w.holds x) → To (RunsOn known (Does fs ∷ k) w.rooms) (freed known.program.variables x w.holds) → Fine known s.heap s.masters (free_next named types access x v (named.standing s.heap v) (running (Does fs ∷ k) a rest s))
   free_value Null is own more = free_null is more
   free_value (Names o) is own more =
       let after = freed_unnamed x o (λ t same. (let one : own_type ≡ t = cc (of_type, same) in rw (← one) (is_type, spares.0))) none own is w.fit in
@@ -58,16 +58,16 @@ module _ (known : Known) (a : Activation Value) (rest : List (Activation Value))
         exists = exists;
         parted = refl;
         stored = stored_part o there.0 found w.stored;
-        covered = subst (λ (u : ℕ). CoveredIn known.program u) one spares.1;
+        covered = subst (λ (u : ℕ). CoveredIn known.implicit known.program u) one spares.1;
         rest = (
           refl,
           home,
           record {
             rooms = w.rooms;
-            holds = freed known.program.variables x w.holds;
+            holds = more.0;
             roomed = w.roomed;
-            fit = part_fit o there.0 found after.1 after.3 after.0;
-            rest = more;
+            fit = weaker_fit more.0 more.1 (part_fit o there.0 found after.1 after.3 after.0);
+            rest = more.2;
           },
         );
       } in
@@ -82,7 +82,7 @@ module _ (known : Known) (a : Activation Value) (rest : List (Activation Value))
   free_value (Scalar n) is own more = tt
   free_value (Part object_id base) is own more = tt
 
-  free_hold : (h : Hold) → hold_at w.holds x ≡ h → Goes (released known.program.variables x spot w.holds h) (RunsOn known (Does fs ∷ k) w.rooms) (raised w.rooms) → IsSaid (place_at (outers known).given x) h (place_at a.places x) → Fine known s.heap s.masters (free_next named types access x (place_at a.places x) (named.standing s.heap (place_at a.places x)) (running (Does fs ∷ k) a rest s))
+  free_hold : (h : Hold) → hold_at w.holds x ≡ h → Goes (released known.program.variables x spot w.holds h) (To (RunsOn known (Does fs ∷ k) w.rooms)) (raised w.rooms) → IsSaid (place_at (outers known).given x) h (place_at a.places x) → Fine known s.heap s.masters (free_next named types access x (place_at a.places x) (named.standing s.heap (place_at a.places x)) (running (Does fs ∷ k) a rest s))
   free_hold hold.Null own more blank = rw blank (free_null blank more.0)
   free_hold (hold.Kept r) own more blank = free_value (place_at a.places x) refl (rw own tt) more.0
   free_hold (hold.Own r) own more blank = free_value (place_at a.places x) refl (rw own tt) more.0

@@ -5,6 +5,7 @@ use Rattle.std.proofs.Common.{◌≡◌, ◌≢◌, ℕ, zero, suc, ◌+◌, ◌
 use Rattle.std.specs.Prelude.{Option, Some, None}
 use Rattle.std.specs.List.{slice_get, slice_set}
 use Rattle.std.proofs.lemmas.Bool.{and_parts}
+use Rattle.ada_effects.specs.Effects.{Implicit}
 use Rattle.ada_program.specs.declared.program.FormalMode.{FormalMode}
 use Rattle.ada_program.specs.declared.program.FormalMode.TheVariants.{In, InOut}
 use Rattle.ada_program.specs.declared.program.ScalarType.{ScalarType}
@@ -379,7 +380,7 @@ moved_said false given (hold.Own r) v is = tt
 moved_said false given (hold.Alias r) v is = tt
 moved_said false given hold.Lost v is = tt
 
-module _ (body : ProgramForm) (w : Caller) (ws : List Caller) (waits : Waits body w ws) (places : List Value) (holds : Holds) where
+module _ (implicit : Implicit) (body : ProgramForm) (w : Caller) (ws : List Caller) (waits : Waits implicit body w ws) (places : List Value) (holds : Holds) where
   once : (x : ℕ) → IsOnce w.actuals x
   once x i j is at = waits.hands.once i j x is at
 

@@ -15,7 +15,7 @@ use Rattle.ada_program.specs.declared.program.VariableKind.TheVariants as variab
 use Rattle.ada_program.specs.declared.program.TypeNo.{TypeNo}
 use Rattle.ada_program.specs.WellFormed.{is_access, access_of, kind_among, selectors_kind, variable_kind, record_components, reached_components, items_fit, is_record_object, profile_of, suits_profile}
 use Rattle.ada_program.specs.Handling.{is_same, handler_of}
-use Rattle.ada_effects.specs.Effects.{expression_raises, links_raise, items_raise, path_raises, record_path_raises, condition_raises, unary_raises, binary_raises, right_raises, declaration_raises, stmts_raise, branches_raise, handlers_raise, Effect, call_raises, body_raises, stmts_free, branches_free, handlers_free, body_frees, call_frees, effects_of}
+use Rattle.ada_effects.specs.Effects.{expression_raises, links_raise, items_raise, path_raises, record_path_raises, condition_raises, unary_raises, binary_raises, right_raises, declaration_raises, stmts_raise, branches_raise, handlers_raise, Effect, Implicit, call_raises, body_raises, stmts_free, branches_free, handlers_free, body_frees, call_frees, effects_of}
 use Rattle.ada_flow.specs.declared.rule.Hold.TheVariants as hold
 use Rattle.ada_flow.specs.declared.rule.Region.TheVariants.{Whole}
 use Rattle.ada_flow.specs.Flow.{Holds, hold_at, variable_access, lost_by, Outcome, faults, goes, Use, uses_in, uses_in_links, uses_in_item, named_by_item, is_owning, is_owning_record, owns_at_first, broken_among, without_values, moved_by_items, passes_type, behind_end, gives, gives_component, clears, compares_it, uses_in_actuals, Keeping, keeping_of, kept_at, is_kept, handed_back, left_unkept, owed_from, gives_back, all_give_back, are_as_good, have_exit, branches_have_exit, handlers_have_exit, is_left, condition_flow, stmts_flow, branches_flow, handlers_flow, declaration_flow, Gone as GoneWith, collected, is_among, left, left_by_call, nothing_gone, Around}
@@ -73,11 +73,12 @@ Roomed below ms [] = ms ≡ below
 Roomed below [] (gone ∷ rooms) = ⊥
 Roomed below (m ∷ ms) (gone ∷ rooms) = ItemsAmong m.items gone.types × Roomed below ms rooms
 
--- A caller, whose activation is suspended: the program as its body sees it, and what is known where flow comes to a place in it; the actual parameters of
--- its call, their values, what refers to the components that get something back, the objects to which all that refers leads, and what the procedure keeps
+-- A caller, whose activation is suspended: what is known of implicit calls; the program as its body sees it, and what is known where flow comes to a place
+-- in it; the actual parameters of its call, their values, what refers to the components that get something back, the objects to which all that refers leads, and what the procedure keeps
 -- of them; what is left to do once the call has come to its end, the masters that are entered then, and their rooms; what its variables hold, and what is
 -- known of them behind the call, as if nothing were handed over.
 pub record Caller : Type 1 where
+  pub implicit : Implicit
   pub program : ProgramForm
   pub At : Control → Holds → Type 0
   pub actuals : List ActualForm
@@ -95,8 +96,10 @@ pub record Caller : Type 1 where
 abbrev pub waiting_holds : Caller → Holds
 waiting_holds w = left_unkept [] w.actuals w.before
 
--- The program as the running body sees it, what is known where flow comes to a place in it, and its callers, the nearest one first.
+-- What is known of implicit calls, the program as the running body sees it, what is known where flow comes to a place in it, and its callers, the nearest
+-- one first.
 pub record Known : Type 1 where
+  pub implicit : Implicit
   pub program : ProgramForm
   pub At : Control → Holds → Type 0
   pub callers : List Caller
@@ -187,25 +190,25 @@ abbrev pub OnReturn : List VariableForm → Around → (Holds → Type 0) → Ty
 OnReturn variables around returned = (holds : Holds) → MayReturn variables around.owed around.within holds → returned holds
 
 -- A body, or what it calls, may free objects of this access type (13.11.2).
-abbrev pub CoveredIn : ProgramForm → (access : ℕ) → Type 0
-CoveredIn p t = body_frees p.types (effects_of p) (main_body p) t ≡ true
+abbrev pub CoveredIn : Implicit → ProgramForm → (access : ℕ) → Type 0
+CoveredIn implicit p t = body_frees p.types (effects_of implicit p) (main_body p) t ≡ true
 
 -- Where words go back by a Free, it is of such a type.
-abbrev pub IsCovered : ProgramForm → Cause → (access : ℕ) → Type 0
-IsCovered p (Freeing number) t = CoveredIn p t
-IsCovered p (Leaving m item) t = Unit {0}
-IsCovered p (Assigning number) t = Unit {0}
-IsCovered p (Undoing number) t = Unit {0}
+abbrev pub IsCovered : Implicit → ProgramForm → Cause → (access : ℕ) → Type 0
+IsCovered implicit p (Freeing number) t = CoveredIn implicit p t
+IsCovered implicit p (Leaving m item) t = Unit {0}
+IsCovered implicit p (Assigning number) t = Unit {0}
+IsCovered implicit p (Undoing number) t = Unit {0}
 
-abbrev pub WillBeCovered : ProgramForm → (access : ℕ) → Control → Type 0
-WillBeCovered p t [] = Unit {0}
-WillBeCovered p t (GivesBack v cause pool ∷ k) = IsCovered p cause t
-WillBeCovered p t (f ∷ k) = Unit {0}
+abbrev pub WillBeCovered : Implicit → ProgramForm → (access : ℕ) → Control → Type 0
+WillBeCovered implicit p t [] = Unit {0}
+WillBeCovered implicit p t (GivesBack v cause pool ∷ k) = IsCovered implicit p cause t
+WillBeCovered implicit p t (f ∷ k) = Unit {0}
 
 -- Objects may be freed only of access types of which no suspended activation has an alias, and of which no call refers to an object; and only of those
 -- that the running body may free.
 abbrev pub Spares : Known → (may : ℕ → Bool) → Type 0
-Spares known may = (t : ℕ) → may t ≡ true → NoOuterAlias known.program.types (outers known) t × CoveredIn known.program t
+Spares known may = (t : ℕ) → may t ≡ true → NoOuterAlias known.program.types (outers known) t × CoveredIn known.implicit known.program t
 
 -- Where a statement of the running body stands: the start of the innermost loop around it, if there is one, what goes with the blocks since, and with all
 -- blocks around it and the body.
@@ -220,8 +223,8 @@ owed_in p = owed_from 0 p.formals p.variables
 
 abbrev pub around_at : Known → Where → Around
 around_at known at = record {
-  effects = effects_of known.program;
-  kept = keeping_of known.program;
+  effects = effects_of known.implicit known.program;
+  kept = keeping_of known.implicit known.program;
   owed = owed_in known.program;
   start = at.start;
   inside = at.inside;
@@ -236,31 +239,31 @@ in_turn start within = record { start = Some start; inside = nothing_gone; withi
 abbrev pub Doing : Known → StmtsForm → Control → Ways → Holds → Type 0
 Doing known fs k w holds =
     (at : Where) × From known (around_at known at) k fs holds
-    × Goes (stmts_flow known.program.types known.program.variables (around_at known at) fs holds) (To w.normal) (Raised (λ e. stmts_raise (effects_of known.program) (is_same e) fs) w)
+    × Goes (stmts_flow known.program.types known.program.variables (around_at known at) fs holds) (To w.normal) (Raised (λ e. stmts_raise (effects_of known.implicit known.program) (is_same e) fs) w)
     × OnExit known.program.variables (have_exit fs) (around_at known at) w.exited × OnReturn known.program.variables (around_at known at) w.returned
-    × Spares known (λ t. stmts_free known.program.types known.program.variables (effects_of known.program) t fs)
+    × Spares known (λ t. stmts_free known.program.types known.program.variables (effects_of known.implicit known.program) t fs)
 
 -- The same of branches, and of handlers.
 abbrev pub Choosing : Known → BranchesForm → Control → Ways → Holds → Type 0
 Choosing known branches k w holds =
     (at : Where) × FromBy known (around_at known at) k branches holds
-    × Goes (branches_flow known.program.types known.program.variables (around_at known at) branches holds) (To w.normal) (Raised (λ e. branches_raise (effects_of known.program) (is_same e) branches) w)
+    × Goes (branches_flow known.program.types known.program.variables (around_at known at) branches holds) (To w.normal) (Raised (λ e. branches_raise (effects_of known.implicit known.program) (is_same e) branches) w)
     × OnExit known.program.variables (branches_have_exit branches) (around_at known at) w.exited × OnReturn known.program.variables (around_at known at) w.returned
-    × Spares known (λ t. branches_free known.program.types known.program.variables (effects_of known.program) t branches)
+    × Spares known (λ t. branches_free known.program.types known.program.variables (effects_of known.implicit known.program) t branches)
 
 abbrev pub Handling : Known → HandlersForm → Control → Ways → Holds → Type 0
 Handling known hs k w holds =
     (at : Where) × FromTo known (around_at known at) k hs holds
-    × Goes (handlers_flow known.program.types known.program.variables (around_at known at) hs holds) (To w.normal) (Raised (λ e. handlers_raise (effects_of known.program) (is_same e) hs) w)
+    × Goes (handlers_flow known.program.types known.program.variables (around_at known at) hs holds) (To w.normal) (Raised (λ e. handlers_raise (effects_of known.implicit known.program) (is_same e) hs) w)
     × OnExit known.program.variables (handlers_have_exit hs) (around_at known at) w.exited × OnReturn known.program.variables (around_at known at) w.returned
-    × Spares known (λ t. handlers_free known.program.types known.program.variables (effects_of known.program) t hs)
+    × Spares known (λ t. handlers_free known.program.types known.program.variables (effects_of known.implicit known.program) t hs)
 
 -- A turn of a loop: it leads back to the start with no less known.
 abbrev pub TurnsTo : Known → StmtsForm → Control → Ways → (within : GoneWith) → (start mid : Holds) → Type 0
 TurnsTo known body k w within start mid =
     From known (around_at known (in_turn start within)) k body mid
-    × Goes (stmts_flow known.program.types known.program.variables (around_at known (in_turn start within)) body mid) (λ after. AsGood after start) (Raised (λ e. stmts_raise (effects_of known.program) (is_same e) body) w)
-    × Spares known (λ t. stmts_free known.program.types known.program.variables (effects_of known.program) t body)
+    × Goes (stmts_flow known.program.types known.program.variables (around_at known (in_turn start within)) body mid) (λ after. AsGood after start) (Raised (λ e. stmts_raise (effects_of known.implicit known.program) (is_same e) body) w)
+    × Spares known (λ t. stmts_free known.program.types known.program.variables (effects_of known.implicit known.program) t body)
 
 -- The condition of a loop may raise an exception.
 abbrev pub condition_among : Option ExpressionForm → Exception → Bool
@@ -307,7 +310,8 @@ Outside variables gone w = record {
 abbrev pub Elaborating : Known → List DeclarationForm → (more : Holds → Type 0) → Ways → Holds → Type 0
 Elaborating known [] more w holds = more holds
 Elaborating known (d ∷ ds) more w holds =
-    Goes (declaration_flow known.program.types known.program.variables d holds) (Elaborating known ds more w) (Raised (λ e. declaration_raises (is_same e) d) w)
+    Goes (declaration_flow known.program.types known.program.variables known.implicit d holds) (Elaborating known ds more w)
+    (Raised (λ e. declaration_raises known.implicit (is_same e) d) w)
 
 -- By the mode.
 abbrev pub By : Mode → Ways → Holds → Type 0
@@ -333,8 +337,8 @@ at_end [] = anywhere
 at_end (w ∷ ws) = nowhere
 
 -- Which exceptions the running body may raise.
-abbrev pub body_among : ProgramForm → Exception → Bool
-body_among p e = body_raises (effects_of p) (main_body p) (is_same e)
+abbrev pub body_among : Implicit → ProgramForm → Exception → Bool
+body_among implicit p e = body_raises (effects_of implicit p) (main_body p) (is_same e)
 
 -- Is the formal parameter of a number kept?
 abbrev pub is_kept_at : Keeping → (formal : ℕ) → Bool
@@ -346,11 +350,11 @@ KeepsAll kept holds = (x : ℕ) → is_kept_at kept x ≡ true → is_kept (hold
 
 -- The body of a call comes to its end: its caller goes on with what it was to do. At a normal end formal parameters give back what they owe, and where an
 -- exception leaves the body, they hold what is kept.
-abbrev pub returning : ProgramForm → List Caller → List ActualForm → (references : List Value) → Control → Ways
-returning p [] actuals references k = nowhere
-returning p (w ∷ ws) actuals references k = record {
+abbrev pub returning : Implicit → ProgramForm → List Caller → List ActualForm → (references : List Value) → Control → Ways
+returning implicit p [] actuals references k = nowhere
+returning implicit p (w ∷ ws) actuals references k = record {
   normal = λ holds. (actuals ≡ w.actuals) × (references ≡ w.references) × (k ≡ w.control) × (all_give_back (owed_in p) holds ≡ true);
-  raised = λ e holds. (body_among p e ≡ true) × (k ≡ w.control) × KeepsAll w.kept holds;
+  raised = λ e holds. (body_among implicit p e ≡ true) × (k ≡ w.control) × KeepsAll w.kept holds;
   exited = λ holds. ⊥;
   returned = λ holds. (actuals ≡ w.actuals) × (references ≡ w.references) × (k ≡ w.control) × (all_give_back (owed_in p) holds ≡ true);
 }
@@ -359,7 +363,7 @@ returning p (w ∷ ws) actuals references k = record {
 abbrev pub ways : Known → Control → Rooms → Ways
 ways known [] [] = at_end known.callers
 ways known [] (gone ∷ rooms) = nowhere
-ways known (Returns actuals references ∷ k) [] = returning known.program known.callers actuals references k
+ways known (Returns actuals references ∷ k) [] = returning known.implicit known.program known.callers actuals references k
 ways known (Returns actuals references ∷ k) (gone ∷ rooms) = nowhere
 ways known (Elaborates ds fs hs ∷ k) [] = nowhere
 ways known (Elaborates ds fs hs ∷ k) (gone ∷ rooms) = record (Outside known.program.variables gone (ways known k rooms)) {
@@ -437,11 +441,19 @@ IsOne [] = ⊥
 IsOne (c ∷ []) = Unit {0}
 IsOne (c ∷ d ∷ cs) = ⊥
 
+-- What is left goes on once a value is assigned: with less known behind the initialization of a new object, which may free objects (4.8, 7.6).
+abbrev pub RunsAfter : Known → RightForm → Control → Rooms → Holds → Type 0
+RunsAfter known nothing k rooms holds = RunsOn known k rooms holds
+RunsAfter known (value_of path) k rooms holds = RunsOn known k rooms holds
+RunsAfter known (allocates access items) k rooms holds = To (RunsOn known k rooms) holds
+RunsAfter known (allocates_default access) k rooms holds = To (RunsOn known k rooms) holds
+RunsAfter known (computes e) k rooms holds = RunsOn known k rooms holds
+
 -- A variable gets what is assigned.
 abbrev pub GivesTo : Known → RightForm → Rooms → Holds → ℕ → Control → Type 0
 GivesTo known right rooms holds x k =
     (cleared : Bool)
-    × ((spot : Spot) × Goes (gives known.program.types known.program.variables spot cleared x right holds) (RunsOn known k rooms) (Raised (λ e. right_raises (is_same e) right) (ways known k rooms)))
+    × ((spot : Spot) × Goes (gives known.program.types known.program.variables spot cleared x right holds) (RunsAfter known right k rooms) (Raised (λ e. right_raises (is_same e) right) (ways known k rooms)))
     × Pairs cleared right (λ path. x ≢ path.root) k
 
 -- A declaration is no half of a take pair.
@@ -458,7 +470,7 @@ HasRoom (gone ∷ rooms) = Unit {0}
 abbrev pub DeclaresTo : Known → RightForm → Rooms → Holds → ℕ → Control → Type 0
 DeclaresTo known right rooms holds x k =
     HasRoom rooms × (cleared : Bool)
-    × ((spot : Spot) × Goes (gives known.program.types known.program.variables spot cleared x right holds) (RunsOn known k rooms) (Raised (λ e. right_raises (is_same e) right) (ways known k rooms)))
+    × ((spot : Spot) × Goes (gives known.program.types known.program.variables spot cleared x right holds) (RunsAfter known right k rooms) (Raised (λ e. right_raises (is_same e) right) (ways known k rooms)))
     × IsAlone cleared
 
 -- Which exceptions an assignment to a component may raise, whose path may raise one or not.
@@ -481,7 +493,7 @@ LeadsTo heap places w cs c path = (walk heap (begun places path) (front (along p
 abbrev pub FillsIn : Known → RightForm → (leads : PathForm → Type 0) → Rooms → Holds → Control → Type 0
 FillsIn known right leads rooms holds k =
     (path : PathForm) × (cleared : Bool)
-    × Goes (gives_component known.program.types cleared path right holds) (RunsOn known k rooms) (Raised (component_among (path_raises path) right) (ways known k rooms))
+    × Goes (gives_component known.program.types cleared path right holds) (RunsAfter known right k rooms) (Raised (component_among (path_raises path) right) (ways known k rooms))
     × Pairs cleared right (λ taken. IsOne taken.selectors) k × leads path
 
 -- An object that a component lies in is there.
@@ -553,7 +565,7 @@ RoomFor [] rooms = Unit {0}
 RoomFor (Declares x ∷ k) rooms = HasRoom rooms
 RoomFor (f ∷ k) rooms = Unit {0}
 
--- What an allocator with all these items leads to.
+-- What an allocator with all these items leads to: less may be known behind it, where the new object is initialized.
 pub record Allocating (known : Known) (heap : List Object) (access : ℕ) (all : List ItemForm) (k : Control) (rooms : Rooms) (holds : Holds) : Type 0 where
   pub components : List ComponentKind
   pub reached : reached_components known.program.types access ≡ Some components
@@ -563,8 +575,8 @@ pub record Allocating (known : Known) (heap : List Object) (access : ℕ) (all :
   pub room : RoomFor k rooms
   pub to : StoresTo k
       (λ x k'. ((variable_access known.program.variables x ≡ Some access) × (is_object known.program.variables x ≡ false))
-      × RunsOn known k' rooms (slice_set (without_values (moved_by_items all) holds) x (hold.Own Whole)))
-      (λ o c k'. Accepts known heap o c (Some access) × RunsOn known k' rooms (without_values (moved_by_items all) holds))
+      × To (RunsOn known k' rooms) (slice_set (without_values (moved_by_items all) holds) x (hold.Own Whole)))
+      (λ o c k'. Accepts known heap o c (Some access) × To (RunsOn known k' rooms) (without_values (moved_by_items all) holds))
 
 -- Some items are evaluated, and these are left.
 pub record Filling (known : Known) (heap : List Object) (places : List Value) (access count : ℕ) (todo : List ItemForm) (k : Control) (operands : List Value) (rooms : Rooms) (holds : Holds) : Type 0 where
@@ -585,12 +597,12 @@ pub record Giving (known : Known) (todo : List ItemForm) (k : Control) (rooms : 
   pub keeps : ItemsKeep known.program.types spot None holds earlier todo
   pub raises : MayRaise known (items_raise todo) ConstraintError k rooms holds
 
--- What is left goes on, perhaps behind the adjustment of a record that was assigned to (7.6).
+-- What is left goes on, perhaps behind the adjustment of a record that was assigned to (7.6), and with less known, where its operations free objects.
 abbrev pub RunsBehind : Known → Control → Rooms → Holds → Type 0
-RunsBehind known [] rooms holds = RunsOn known [] rooms holds
-RunsBehind known (Treats v (begins by done) tasks ∷ k) rooms holds = RunsOn known k rooms holds
+RunsBehind known [] rooms holds = To (RunsOn known [] rooms) holds
+RunsBehind known (Treats v (begins by done) tasks ∷ k) rooms holds = To (RunsOn known k rooms) holds
 RunsBehind known (Treats v (ends cause) tasks ∷ k) rooms holds = ⊥
-RunsBehind known (f ∷ k) rooms holds = RunsOn known (f ∷ k) rooms holds
+RunsBehind known (f ∷ k) rooms holds = To (RunsOn known (f ∷ k) rooms) holds
 
 -- An object is there, and so many of its components, from one on, are Integers and Booleans.
 abbrev pub IsPlainIn : Known → List Object → Value → (first count : ℕ) → Type 0
@@ -607,11 +619,11 @@ abbrev pub MayOwn : Rooms → (object_type : ℕ) → Type 0
 MayOwn [] t = ⊥
 MayOwn (gone ∷ rooms) t = is_among gone.types (Some t) ≡ true
 
--- A record object of Integers and Booleans is declared, of this type.
+-- A record object of Integers and Booleans is declared, of this type: less may be known behind it, where its operations free objects.
 abbrev pub Recording : Known → (x object_type : ℕ) → Control → Rooms → Holds → Type 0
 Recording known x t k rooms holds =
     (owns_at_first known.program.types t ≡ false) × (is_record_object t (variable_kind known.program.variables x) ≡ true)
-    × MayOwn rooms t × RunsOn known k rooms (slice_set holds x (hold.Own Whole))
+    × MayOwn rooms t × To (RunsOn known k rooms) (slice_set holds x (hold.Own Whole))
 
 abbrev pub FillsTo : Known → List Object → List Value → List ItemForm → Control → (operands : List Value) → Rooms → Holds → Type 0
 FillsTo known heap places todo [] operands rooms holds = ⊥
@@ -636,10 +648,10 @@ CopiesTo known heap places t below (Fills items ∷ k) rooms holds =
 CopiesTo known heap places t below (StoresRecord o first count ∷ k) rooms holds = IsPlainIn known heap o first count × RunsBehind known k rooms holds
 CopiesTo known heap places t below (f ∷ k) rooms holds = ⊥
 
--- A record of this type, of Integers and Booleans, is a target.
+-- A record of this type, of Integers and Booleans, is a target: less may be known behind the assignment, where its operations free objects.
 abbrev pub RecordIn : Known → (record_type : ℕ) → List ItemForm → Control → Rooms → Holds → Type 0
 RecordIn known t items k rooms holds =
-    (is_owning_record known.program.types t ≡ false) × Giving known items k rooms holds × RunsOn known k rooms holds
+    (is_owning_record known.program.types t ≡ false) × Giving known items k rooms holds × To (RunsOn known k rooms) holds
 
 -- A component is a target (5.2): the value before it is null, or gives access to its object.
 abbrev pub Targeting : Known → List Object → List Value → Value → (c : ℕ) → RightForm → Control → Rooms → Holds → Type 0
@@ -660,7 +672,7 @@ PassesNone types kind cs None = Unit {0}
 PassesNone types kind cs (Some t) = passes_type types kind cs t ≡ false
 
 -- A component is to be freed (13.11.2), by the instance for its own access type, to which these selectors lead, and this one behind them: no value on the
--- way is of that type, whose aliases are lost then, and where an exception is raised.
+-- way is of that type, whose aliases are lost then, and where an exception is raised; less may be known behind it, where its finalization frees objects.
 pub record Releasing (known : Known) (heap : List Object) (v : Value) (cs : List ℕ) (instance c : ℕ) (k : Control) (rooms : Rooms) (holds : Holds) : Type 0 where
   pub from : Option VariableKind
   pub access : Option ℕ
@@ -670,9 +682,9 @@ pub record Releasing (known : Known) (heap : List Object) (v : Value) (cs : List
   pub frees_own : access ≡ Some instance
   pub own : (t : ℕ) → access ≡ Some t → is_access known.program.types t ≡ true
   pub spares : (t : ℕ) → access ≡ Some t → NoOuterAlias known.program.types (outers known) t
-  pub covered : (t : ℕ) → access ≡ Some t → CoveredIn known.program t
+  pub covered : (t : ℕ) → access ≡ Some t → CoveredIn known.implicit known.program t
   pub raises : RaisesAt known v cs k rooms (behind_end known.program.variables access holds)
-  pub runs : RunsOn known k rooms (behind_end known.program.variables access holds)
+  pub runs : To (RunsOn known k rooms) (behind_end known.program.variables access holds)
 
 -- A condition is awaited: by branches, by a loop, by an exit.
 abbrev pub Deciding : Known → StmtsForm → BranchesForm → Control → Rooms → Holds → Type 0
@@ -699,10 +711,10 @@ GetLost (in_out_record p ∷ rest) holds = GetLost rest holds
 
 -- What is known of the calls of a procedure of the running body, and what it keeps.
 abbrev pub effect_in : Known → (procedure : ℕ) → Option Effect
-effect_in known procedure = slice_get (effects_of known.program) procedure
+effect_in known procedure = slice_get (effects_of known.implicit known.program).calls procedure
 
 abbrev pub kept_in : Known → (procedure : ℕ) → Keeping
-kept_in known procedure = kept_at (keeping_of known.program) procedure
+kept_in known procedure = kept_at (keeping_of known.implicit known.program) procedure
 
 -- What is left by a call, as if nothing were handed over.
 abbrev pub left_in : Known → (procedure : ℕ) → Holds → Holds
@@ -802,7 +814,7 @@ PassesTo known heap places operands (Opens path ∷ k) rooms holds =
     × ((v r : Value) → OpenedBy heap places path r → PassesTo known heap places (v ∷ r ∷ operands) k rooms holds)
 PassesTo known heap places operands (Calls procedure b actuals ∷ k) rooms holds =
     CallsOn known procedure b actuals k rooms holds × ArePassed heap places (reverse actuals) operands
-PassesTo known heap places operands (Assigns t ∷ k) rooms holds = AreAssigned known heap t operands × RunsOn known k rooms holds
+PassesTo known heap places operands (Assigns t ∷ k) rooms holds = AreAssigned known heap t operands × To (RunsOn known k rooms) holds
 PassesTo known heap places operands (f ∷ k) rooms holds = ⊥
 
 -- What is left of an expression, or of an allocator's items, breaks no rule; and nothing relies on an expression's value. These are the operands
@@ -904,7 +916,7 @@ pub record Ending (known : Known) (o : Id) (k : Control) (heap : List Object) (p
   pub exists : object.stage ≡ Existing
   pub parted : object.listed ≡ false
   pub stored : Stored (Some o) heap masters
-  pub covered : WillBeCovered known.program object.cell.access k
+  pub covered : WillBeCovered known.implicit known.program object.cell.access k
   pub rest : ThenBack known o object.cell.home heap places masters k
 
 abbrev pub EndingBy : Known → Value → Control → List Object → List Value → List Master → Type 0
@@ -921,7 +933,7 @@ pub record Backing (known : Known) (o : Id) (cause : Cause) (pool : Option ℕ) 
   pub out : object.out ≡ true
   pub own : pool ≡ object.cell.home.pool
   pub stored : Stored (Some o) heap masters
-  pub covered : IsCovered known.program cause object.cell.access
+  pub covered : IsCovered known.implicit known.program cause object.cell.access
   pub rest : Behind known cause object.cell.home.item heap places masters k
 
 abbrev pub BackingBy : Known → Value → Cause → Option ℕ → Control → List Object → List Value → List Master → Type 0
@@ -1160,7 +1172,7 @@ Ready known s = IsActive s.activations × ReadyIn known s.mode s.control s.heap 
 
 -- A caller as the body at work.
 abbrev pub known_of : Caller → List Caller → Known
-known_of w ws = record { program = w.program; At = w.At; callers = ws }
+known_of w ws = record { implicit = w.implicit; program = w.program; At = w.At; callers = ws }
 
 -- The variable that an actual parameter hands over to a formal one of mode `in out` of an access type, if it does; and that of a formal parameter, by its
 -- number.
@@ -1201,9 +1213,9 @@ AreOpened types referenced (r ∷ rs) =
 -- rooms; what is called null is null, what is kept holds what was given, and a record object that is not lost is there; nothing relies on the Integers and
 -- Booleans that get something back; what is handed over is what the formal parameters were given; and the components that get something back hold
 -- Integers or Booleans.
-pub record Waits (body : ProgramForm) (w : Caller) (ws : List Caller) : Type 0 where
+pub record Waits (implicit : Implicit) (body : ProgramForm) (w : Caller) (ws : List Caller) : Type 0 where
   pub goes_on : To (RunsOn (known_of w ws) w.control w.rooms) (handed_back w.actuals w.before)
-  pub raises : (e : Exception) → body_among body e ≡ true → To ((ways (known_of w ws) w.control w.rooms).raised e) (left_unkept w.kept w.actuals w.before)
+  pub raises : (e : Exception) → body_among implicit body e ≡ true → To ((ways (known_of w ws) w.control w.rooms).raised e) (left_unkept w.kept w.actuals w.before)
   pub roomed : Roomed (below_callers ws) w.masters w.rooms
   pub said : (x : ℕ) → IsSaid (place_at (given_in ws) x) (hold_at w.before x) (place_at w.places x)
   pub objects : (x : ℕ) → hold_at w.before x ≢ hold.Lost → IsPlace w.program.types (referenced_in ws) (variable_kind w.program.variables x) (place_at w.places x)
@@ -1211,12 +1223,12 @@ pub record Waits (body : ProgramForm) (w : Caller) (ws : List Caller) : Type 0 w
   pub hands : Hands body w.program w.actuals w.before
   pub passes : (i x : ℕ) → handed_at w.actuals i ≡ Some x → place_at w.passed i ≡ place_at w.places x
   pub opened : AreOpened w.program.types w.referenced w.references
-  pub covers : (t : ℕ) → CoveredIn body t → CoveredIn w.program t
+  pub covers : (t : ℕ) → CoveredIn implicit body t → CoveredIn w.implicit w.program t
 
 -- So does each caller, for the body that it called.
-abbrev pub AllWait : ProgramForm → List Caller → Type 0
-AllWait body [] = Unit {0}
-AllWait body (w ∷ ws) = Waits body w ws × AllWait w.program ws
+abbrev pub AllWait : Implicit → ProgramForm → List Caller → Type 0
+AllWait implicit body [] = Unit {0}
+AllWait implicit body (w ∷ ws) = Waits implicit body w ws × AllWait w.implicit w.program ws
 
 -- The suspended activations are those of the callers: no form of them waits for a value.
 abbrev pub AreSuspended : List (Activation Value) → List Caller → Type 0
@@ -1237,11 +1249,11 @@ LieBelow heap (w ∷ ws) =
 -- The callers of a state are as they are known.
 pub record Standing (known : Known) (s : State) : Type 0 where
   pub suspended : AreSuspended (older s.activations) known.callers
-  pub waiting : AllWait known.program known.callers
+  pub waiting : AllWait known.implicit known.program known.callers
   pub low : LieBelow s.heap known.callers
 
 -- The words of an object go back.
-pub record GoesBack (p : ProgramForm) (cause : Cause) (v : Value) (access number : ℕ) (pool subpool : Option ℕ) (before : List Object) (after : State) : Type 0 where
+pub record GoesBack (implicit : Implicit) (p : ProgramForm) (cause : Cause) (v : Value) (access number : ℕ) (pool subpool : Option ℕ) (before : List Object) (after : State) : Type 0 where
   pub id : Id
   pub object : Object
   pub is : v ≡ Names id
@@ -1252,7 +1264,7 @@ pub record GoesBack (p : ProgramForm) (cause : Cause) (v : Value) (access number
   pub to_pool : object.cell.home.pool ≡ pool
   pub to_subpool : object.cell.home.subpool ≡ subpool
   pub home : LeavesHome object.cell.home (leaving_by (Some cause))
-  pub covered : IsCovered p cause access
+  pub covered : IsCovered implicit p cause access
   pub back : BackIn after.heap id
 
 -- An object is followed whose words are out.
@@ -1264,20 +1276,20 @@ pub record IsFollowed (v : Value) (before : List Object) : Type 0 where
   pub out : object.out ≡ true
 
 -- What an event of a body says of the objects before it and of the state after it.
-abbrev pub Says : ProgramForm → Event → List Object → State → Type 0
-Says p (Born object part turn type number by) before after = Unit {0}
-Says p (Finalized object part turn type number cause) before after = Unit {0}
-Says p (Back object access number pool subpool cause) before after = GoesBack p cause object access number pool subpool before after
-Says p (Followed object) before after = IsFollowed object before
-Says p (Left master) before after = Unit {0}
-Says p (Line line) before after = Unit {0}
-Says p Quiet before after = Unit {0}
+abbrev pub Says : Implicit → ProgramForm → Event → List Object → State → Type 0
+Says implicit p (Born object part turn type number by) before after = Unit {0}
+Says implicit p (Finalized object part turn type number cause) before after = Unit {0}
+Says implicit p (Back object access number pool subpool cause) before after = GoesBack implicit p cause object access number pool subpool before after
+Says implicit p (Followed object) before after = IsFollowed object before
+Says implicit p (Left master) before after = Unit {0}
+Says implicit p (Line line) before after = Unit {0}
+Says implicit p Quiet before after = Unit {0}
 
 -- One step: what it keeps, and what it does.
 pub record Stepped (known : Known) (before : List Object) (e : Event) (after : State) : Type 0 where
   pub ready : Ready known after
   pub alters : Alters before e after.heap
-  pub says : Says known.program e before after
+  pub says : Says known.implicit known.program e before after
 
 -- No run ends at an erroneous action, or by an exception that leaves an operation; where one comes to its end, no master is left.
 abbrev pub EndsWell : Halt → List Object → List Master → Type 0

@@ -1,24 +1,24 @@
 -- What the rules let through: what the items of an allocator move.
 
 use Rattle.std.proofs.Common.{◌≡◌, ◌≢◌, ℕ, zero, suc, Bool, true, false, ◌||◌, List, [], ◌∷◌, ◌++◌, refl, sym, ap, ◌⊎◌, inl, inr}
-use Rattle.std.specs.Prelude.{Some, None, ◌==◌, if◌then◌else◌}
+use Rattle.std.specs.Prelude.{Option, Some, None, ◌==◌, if◌then◌else◌}
 use Rattle.std.specs.List.{slice_get}
 use Rattle.std.proofs.lemmas.Bool.{and_parts, eqb-true, eq-eqb}
 use Rattle.ada_text.specs.declared.spot.Spot.{Spot}
-use Rattle.ada_program.specs.ProgramForm.{TypeForm}
-use Rattle.ada_program.specs.Form.{PathForm, ItemForm, item_of_path, allocates, allocates_default}
+use Rattle.ada_program.specs.ProgramForm.{TypeForm, VariableForm}
+use Rattle.ada_program.specs.Form.{PathForm, ItemForm, item_of_path, allocates, allocates_default, assigns}
 use Rattle.ada_program.specs.WellFormed.{names_borrower}
 use Rattle.ada_program.specs.Nested.{is_one_of}
 use Rattle.ada_flow.specs.declared.rule.Hold.TheVariants.{Own, Lost}
 use Rattle.ada_flow.specs.declared.rule.Region.TheVariants.{Whole}
-use Rattle.ada_flow.specs.Flow.{Holds, hold_at, moves_it, moves_again, variable_of, moved_by_item, uses_in_item, uses_in_items, is_named, is_target, named_by_item, moved_behind, broken_in, moved_by_items, same_selectors, same_path}
+use Rattle.ada_flow.specs.Flow.{Holds, hold_at, goes, loses, initializes, uses_in_start, gives_path, Around, stmt_flow, moves_it, moves_again, variable_of, moved_by_item, uses_in_item, uses_in_items, is_named, is_target, named_by_item, moved_behind, broken_in, moved_by_items, same_selectors, same_path}
 use Rattle.ada_sound.specs.Agreement.{IsOwner}
 use Rattle.ada_sound.specs.Owners.{IsVariable, IsElsewhere, IsSamePath, OnlyOwnersAreItems, ItemsMoveApart, ItemsOwnNothing, ItemsStayWhereRaised, DefaultsMoveNothing, DefaultsStayWhereRaised}
 use Rattle.ada_sound.proofs.Invariant.{NoneBroken}
 use Rattle.ada_sound.proofs.Followings.{first_kept, kept_apart}
 use Rattle.ada_sound.proofs.Taken.{cleared_is, selectors_are}
 use Rattle.ada_sound.proofs.Values.{read_other}
-use Rattle.ada_sound.proofs.Moves.{target_at, assigned, assigns_by, moved_owner, ends_nothing}
+use Rattle.ada_sound.proofs.Moves.{target_at, kept_uses, assigned, assigns_by, loses_ended, loses_raised, stays_lost, moved_owner, ends_nothing}
 use Rattle.ada_sound.proofs.Filled.{first_one, later_one}
 
 -- Items: what one moves is a variable, or the component that the assignment goes to; and no item before it names that path.
@@ -145,13 +145,29 @@ default_assigned : (borrows : Bool) (target : PathForm) (cs : List ℕ) (access 
 default_assigned borrows target [] access holds x is other = read_other holds target.root x (Own Whole) Lost (other is)
 default_assigned borrows target (c ∷ cs) access holds x is other = refl
 
+-- It waits for the initialization, which may free objects.
+default_goes : (types : List TypeForm) (variables : List VariableForm) (around : Around) (cleared : Bool) (target : PathForm) (access : ℕ) (holds : Holds) (normal raising : Option Holds) → stmt_flow types variables around cleared (assigns target (allocates_default access)) holds ≡ goes normal raising → loses variables (around.effects.implicit.start_frees access) (gives_path types variables cleared target.selectors target (allocates_default access) holds) ≡ goes normal raising
+default_goes types variables around cleared target access holds normal raising e =
+    let right = allocates_default access in
+    (kept_uses (uses_in_start types variables around.effects.implicit target right) holds
+    (initializes variables around.effects.implicit right (gives_path types variables cleared target.selectors target right holds)) normal raising e).1
+
 pub defaults_move_nothing : DefaultsMoveNothing
-defaults_move_nothing types variables target access holds after ends x other =
+defaults_move_nothing types variables around cleared target access holds after raising e x v is other =
+    let may = around.effects.implicit.start_frees access in
     let borrows = names_borrower variables target in
-    let all = assigns_by types variables borrows ends.1 target (allocates_default access) holds (Some after) ends.2 refl ends.3 in
-    let same : assigned borrows target.selectors target.root (allocates_default access) holds ≡ after = cc (all.ends) in
-    rw (← same) (default_assigned borrows target target.selectors access holds x refl other)
+    let right = allocates_default access in
+    let less = loses_ended variables may (gives_path types variables cleared target.selectors target right holds) after raising (default_goes types variables around cleared target access holds (Some after) raising e) in
+    let all = assigns_by types variables borrows cleared target right holds (Some less.0) less.1 refl less.2 in
+    let same : less.0 ≡ assigned borrows target.selectors target.root right holds = cc (all.ends) in
+    let stays : hold_at less.0 x ≡ hold_at holds x = rw same (default_assigned borrows target target.selectors access holds x refl other) in
+    rw less.3 (rw stays at (stays_lost variables may less.0 x v is))
 
 pub defaults_stay_where_raised : DefaultsStayWhereRaised
-defaults_stay_where_raised types variables target access holds raised raises =
-    (assigns_by types variables (names_borrower variables target) raises.1 target (allocates_default access) holds raises.2 (Some raised) refl raises.3).raises raised refl
+defaults_stay_where_raised types variables around cleared target access holds raised normal e x v is =
+    let may = around.effects.implicit.start_frees access in
+    let right = allocates_default access in
+    let less = loses_raised variables may (gives_path types variables cleared target.selectors target right holds) raised normal (default_goes types variables around cleared target access holds normal (Some raised) e) in
+    let all = assigns_by types variables (names_borrower variables target) cleared target right holds less.1 (Some less.0) refl less.2 in
+    let same : less.0 ≡ holds = all.raises less.0 refl in
+    rw less.3 (rw same (stays_lost variables may holds x v is))

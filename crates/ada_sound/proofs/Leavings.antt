@@ -8,7 +8,8 @@ use Rattle.ada_program.specs.ProgramForm.{TypeForm, VariableForm}
 use Rattle.ada_program.specs.WellFormed.{access_of, is_this}
 use Rattle.ada_flow.specs.declared.rule.Hold.{Hold}
 use Rattle.ada_flow.specs.declared.rule.Hold.TheVariants as hold
-use Rattle.ada_flow.specs.Flow.{Holds, hold_at, variable_access, if_own, is_as_good, is_among, Gone, gone_with_both, without_types, without_variables, left}
+use Rattle.ada_effects.specs.Effects.{Implicit, endings_free}
+use Rattle.ada_flow.specs.Flow.{Holds, hold_at, variable_access, if_own, is_as_good, are_as_good, is_among, Gone, gone_with_both, without_types, without_variables, without_freed, left, left_finalized}
 use Rattle.ada_meaning.specs.declared.state.Id.{Id}
 use Rattle.ada_meaning.specs.declared.state.Value.{Value}
 use Rattle.ada_meaning.specs.declared.state.Value.TheVariants.{Null, Names}
@@ -19,7 +20,8 @@ use Rattle.ada_owners.specs.Places.{Place, variable, component, elsewhere, compo
 use Rattle.ada_owners.specs.Reliance.{IsOf, Says, Owns, Borrows, component_hold}
 use Rattle.ada_owners.proofs.Ends.{IsUnnamed}
 use Rattle.ada_sound.proofs.Fits.{IsReferred, IsUnreferred, Outsiders, Fit, IsRelied, outer_hold, hold_in, stacked, outer_value, outer_value_at, place_at, going, lies_among, hand_is_unnamed}
-use Rattle.ada_sound.proofs.Orderings.{AsGood, good_here, good_lost}
+use Rattle.ada_sound.proofs.Orderings.{AsGood, good_here, good_lost, good_losing, good_to_lost, without_freed_good}
+use Rattle.ada_sound.proofs.Raising.{both}
 use Rattle.ada_sound.proofs.Values.{read_other, same_or_not, lost_here}
 use Rattle.ada_sound.proofs.Invariant.{AllAmong, NamesNone}
 
@@ -116,6 +118,54 @@ left_twice variables inner outer holds =
     ap (without_variables (inner.variables ++ outer.variables)) (types_twice variables inner.types outer.types holds)
     ∙ (variables_twice inner.variables outer.variables (without_types variables outer.types kept)
     ∙ ap (without_variables outer.variables) (sym (apart variables outer.types inner.variables kept)))
+
+-- What is left of less is less: by its type alone a variable is lost, or holds what it did.
+types_keep : (variables : List VariableForm) (types : List ℕ) (x : ℕ) → (b : Bool) × ((holds : Holds) → hold_at (without_types variables types holds) x ≡ if_own b (hold_at holds x))
+types_keep [] types x = (false, λ holds. refl)
+types_keep (v ∷ vs) types zero = (not (is_among types (access_of (Some v.kind))), here)
+  where
+    here : (holds : Holds) → hold_at (without_types (v ∷ vs) types holds) zero ≡ if_own (not (is_among types (access_of (Some v.kind)))) (hold_at holds zero)
+    here [] = sym (own_lost (not (is_among types (access_of (Some v.kind)))))
+    here (h ∷ hs) = refl
+types_keep (v ∷ vs) types (suc x) = later (types_keep vs types x)
+  where
+    later : (b : Bool) × ((holds : Holds) → hold_at (without_types vs types holds) x ≡ if_own b (hold_at holds x)) → (b : Bool) × ((holds : Holds) → hold_at (without_types (v ∷ vs) types holds) (suc x) ≡ if_own b (hold_at holds (suc x)))
+    later (b, kept) = (b, on)
+      where
+        on : (holds : Holds) → hold_at (without_types (v ∷ vs) types holds) (suc x) ≡ if_own b (hold_at holds (suc x))
+        on [] = sym (own_lost b)
+        on (h ∷ hs) = kept hs
+
+own_less : (b : Bool) (g h : Hold) → is_as_good g h ≡ true → is_as_good (if_own b g) (if_own b h) ≡ true
+own_less true g h good = good
+own_less false g h good = refl
+
+types_less : (variables : List VariableForm) (types : List ℕ) (holds less : Holds) → AsGood holds less → AsGood (without_types variables types holds) (without_types variables types less)
+types_less variables types holds less good x =
+    let kept = types_keep variables types x in
+    rw (kept.1 holds, kept.1 less) (own_less kept.0 (hold_at holds x) (hold_at less x) (good x))
+
+variables_less : (xs : List ℕ) (holds less : Holds) → AsGood holds less → AsGood (without_variables xs holds) (without_variables xs less)
+variables_less [] holds less good = good
+variables_less (x ∷ xs) holds less good =
+    variables_less xs (slice_set holds x hold.Lost) (slice_set less x hold.Lost)
+    (good_losing x holds (slice_set less x hold.Lost) (lost_here less x) (good_to_lost x holds less good))
+
+pub left_less : (variables : List VariableForm) (gone : Gone) (holds less : Holds) → AsGood holds less → AsGood (left variables gone holds) (left variables gone less)
+left_less variables gone holds less good =
+    variables_less gone.variables (without_types variables gone.types holds) (without_types variables gone.types less) (types_less variables gone.types holds less good)
+
+-- What is left behind blocks whose objects are finalized is less than what is left behind others.
+pub finalized_less : (variables : List VariableForm) (implicit : Implicit) (gone : Gone) (holds : Holds) → AsGood (left variables gone holds) (left_finalized variables implicit gone holds)
+finalized_less variables implicit gone holds =
+    let may = endings_free implicit gone.types in
+    left_less variables gone holds (without_freed variables may holds) (without_freed_good variables may holds)
+
+-- Flow compares each variable.
+pub good_all : (holds other : Holds) → AsGood holds other → are_as_good holds other ≡ true
+good_all holds [] good = refl
+good_all [] (h ∷ hs) good = both (is_as_good hold.Lost h) (are_as_good [] hs) (good zero) (good_all [] hs (λ x. good (suc x)))
+good_all (g ∷ gs) (h ∷ hs) good = both (is_as_good g h) (are_as_good gs hs) (good zero) (good_all gs hs (λ x. good (suc x)))
 
 -- Types are among themselves.
 among_here : (t : ℕ) (ts : List ℕ) → is_among (t ∷ ts) (Some t) ≡ true

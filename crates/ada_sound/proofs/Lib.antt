@@ -142,6 +142,8 @@ pub mod Freed
 pub mod Plain
 -- what calls leave
 pub mod Callees
+-- what operations leave that are called implicitly
+pub mod ImplicitCalls
 -- runs by their choices
 pub mod Choices
 -- what callers rely on

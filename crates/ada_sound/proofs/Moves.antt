@@ -1,20 +1,21 @@
 -- What the rules let through: which variables are moved, and how a component is.
 
-use Rattle.std.proofs.Common.{◌≡◌, ◌≢◌, ℕ, suc, Bool, true, false, ◌&&◌, ◌||◌, not, List, [], ◌∷◌, ◌++◌, length, refl, sym, subst, ◌∙◌, ◌⊎◌, inl, inr}
+use Rattle.std.proofs.Common.{◌≡◌, ◌≢◌, ℕ, zero, suc, Bool, true, false, ◌&&◌, ◌||◌, not, List, [], ◌∷◌, ◌++◌, length, refl, sym, ap, subst, ◌∙◌, ◌⊎◌, inl, inr}
 use Rattle.std.specs.Prelude.{Option, Some, None, ◌==◌}
-use Rattle.std.specs.List.{slice_set}
+use Rattle.std.specs.List.{slice_get, slice_set}
 use Rattle.std.proofs.lemmas.Bool.{and_parts, eqb-true, eq-eqb}
 use Rattle.ada_text.specs.declared.spot.Spot.{Spot}
 use Rattle.ada_program.specs.Form.{PathForm, RightForm, nothing, value_of, assigns, StmtsForm, a_stmt}
 use Rattle.ada_program.specs.ProgramForm.{TypeForm, VariableForm}
 use Rattle.ada_effects.specs.Effects.{path_raises}
-use Rattle.ada_program.specs.WellFormed.{is_borrower, names_borrower}
+use Rattle.ada_program.specs.WellFormed.{access_of, is_borrower, names_borrower}
 use Rattle.ada_flow.specs.declared.rule.Hold.{Hold}
 use Rattle.ada_flow.specs.declared.rule.Hold.TheVariants as hold
+use Rattle.ada_flow.specs.declared.rule.Region.{Region}
 use Rattle.ada_program.specs.Nested.{is_one_of}
-use Rattle.ada_flow.specs.Flow.{Holds, hold_at, Outcome, faults, goes, then_flow, raising_if, ends_with, Use, moves_it, variable_of, uses_in_right, uses_in_target, Breach, moved_by, moved_behind, broken_among, unless_broken, using_paths, left_by_move, without_value, without_values, moved_by_right, right_hold, evaluation_raises, gives_path, same_selectors, same_path, leaves_path, clears, begins_pair}
+use Rattle.ada_flow.specs.Flow.{Holds, hold_at, Outcome, faults, goes, then_flow, raising_if, ends_with, Use, moves_it, variable_of, uses_in_right, uses_in_target, Breach, moved_by, moved_behind, broken_among, unless_broken, using_paths, left_by_move, without_value, without_values, moved_by_right, right_hold, evaluation_raises, without_alias, is_freed, without_freed, without_freed_option, loses, gives_path, same_selectors, same_path, leaves_path, clears, begins_pair}
 use Rattle.ada_sound.specs.Agreement.{IsOwner}
-use Rattle.ada_sound.specs.Owners.{OwnsNothing, IsElsewhere, OnlyOwnersAreMoved, MovedOwnsNothing, OnlyPairsTake, PairsAreTakePairs}
+use Rattle.ada_sound.specs.Owners.{OwnsNothing, IsElsewhere, Stays, OnlyOwnersAreMoved, MovedOwnsNothing, OnlyPairsTake, PairsAreTakePairs}
 use Rattle.ada_sound.proofs.Filled.{first_one}
 use Rattle.ada_sound.proofs.Values.{read_same, read_other, same_or_not}
 use Rattle.ada_sound.proofs.Invariant.{NoneBroken}
@@ -98,6 +99,44 @@ pub assigns_by : (types : List TypeForm) (variables : List VariableForm) (borrow
 assigns_by types variables borrows cleared target right holds normal raising is e =
     let same : borrows_at variables target.selectors target.root ≡ borrows = sym (borrows_is variables target) ∙ is in
     subst (λ b. Assigns types b cleared target.selectors target right holds normal raising) same (assigns_as types variables cleared target.selectors target right holds normal raising e)
+
+-- What comes of a form in the midst of which operations may free objects: it breaks no rule, and aliases are lost behind it and where it raises an exception.
+way_lost : (variables : List VariableForm) (may : ℕ → Bool) (o : Option Holds) (less : Holds) → without_freed_option variables may o ≡ Some less → (before : Holds) × (o ≡ Some before) × (less ≡ without_freed variables may before)
+way_lost variables may None less e = absurd (cc e)
+way_lost variables may (Some before) less e = (before, refl, cc e)
+
+pub loses_through : (variables : List VariableForm) (may : ℕ → Bool) (o : Outcome) (normal raising : Option Holds) → loses variables may o ≡ goes normal raising → (here raised : Option Holds) × (o ≡ goes here raised)
+loses_through variables may (faults spot rule) normal raising e = absurd (cc e)
+loses_through variables may (goes here raised) normal raising e = (here, raised, refl)
+
+pub loses_ended : (variables : List VariableForm) (may : ℕ → Bool) (o : Outcome) (after : Holds) (raising : Option Holds) → loses variables may o ≡ goes (Some after) raising → (before : Holds) × (raised : Option Holds) × (o ≡ goes (Some before) raised) × (after ≡ without_freed variables may before)
+loses_ended variables may (faults spot rule) after raising e = absurd (cc e)
+loses_ended variables may (goes here raised) after raising e =
+    let same : without_freed_option variables may here ≡ Some after = cc e in
+    let way = way_lost variables may here after same in
+    (way.0, raised, ap (λ (w : Option Holds). goes w raised) way.1, way.2)
+
+pub loses_raised : (variables : List VariableForm) (may : ℕ → Bool) (o : Outcome) (less : Holds) (normal : Option Holds) → loses variables may o ≡ goes normal (Some less) → (before : Holds) × (here : Option Holds) × (o ≡ goes here (Some before)) × (less ≡ without_freed variables may before)
+loses_raised variables may (faults spot rule) less normal e = absurd (cc e)
+loses_raised variables may (goes here raised) less normal e =
+    let same : without_freed_option variables may raised ≡ Some less = cc e in
+    let way = way_lost variables may raised less same in
+    (way.0, here, ap (λ (w : Option Holds). goes here w) way.1, way.2)
+
+-- Each variable stays then, but for such an alias.
+alias_stays : (b : Bool) (h : Hold) → (((r : Region) × (h ≡ hold.Alias r) × (b ≡ true)) → without_alias b h ≡ hold.Lost) × ((((r : Region) × (h ≡ hold.Alias r) × (b ≡ true)) → ⊥) → without_alias b h ≡ h)
+alias_stays false h = (λ is. absurd (cc (is.2)), λ none. refl)
+alias_stays true hold.Null = (λ is. absurd (cc (is.1)), λ none. refl)
+alias_stays true (hold.Kept r) = (λ is. absurd (cc (is.1)), λ none. refl)
+alias_stays true (hold.Own r) = (λ is. absurd (cc (is.1)), λ none. refl)
+alias_stays true (hold.Alias r) = (λ is. refl, λ none. absurd (none (r, refl, refl)))
+alias_stays true hold.Lost = (λ is. refl, λ none. refl)
+
+pub stays_lost : (variables : List VariableForm) (may : ℕ → Bool) (holds : Holds) (x : ℕ) (v : VariableForm) → slice_get variables x ≡ Some v → Stays variables may holds (without_freed variables may holds) x
+stays_lost [] may holds x v is = absurd (cc is)
+stays_lost (w ∷ ws) may [] x v is = (λ alias. refl, λ none. refl)
+stays_lost (w ∷ ws) may (h ∷ hs) zero v is = alias_stays (is_freed may (access_of (Some w.kind))) h
+stays_lost (w ∷ ws) may (h ∷ hs) (suc x) v is = stays_lost ws may hs x v is
 
 -- Only an owner, or null, is moved.
 pub moved_owner : (h : Hold) (spot : Spot) → moved_by h spot ≡ None → IsOwner h

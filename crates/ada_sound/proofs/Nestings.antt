@@ -7,16 +7,16 @@ use Rattle.ada_program.specs.declared.program.Exception.{Exception}
 use Rattle.ada_program.specs.declared.program.Exception.TheVariants.{ConstraintError}
 use Rattle.ada_program.specs.Form.{ExpressionForm, DeclarationForm, StmtForm, chooses, repeats, counts, encloses, StmtsForm, a_stmt, BranchesForm, otherwise, a_branch, HandlersForm, no_handlers, a_handler}
 use Rattle.ada_program.specs.Handling.{is_same, some_takes, handler_of}
-use Rattle.ada_effects.specs.Effects.{Effect, effects_of, stmt_frees, stmts_free, branches_free, handlers_free, expression_raises, untaken, declaration_raises, declarations_raise, stmt_raises, stmts_raise, branches_raise, handlers_raise, passes}
-use Rattle.ada_flow.specs.Flow.{Holds, Outcome, loop_flow, uses_in, computed as computed_flow, bounds_flow, either_of, opened_by_all, counting_start, has_exit, have_exit, branches_have_exit, handlers_have_exit, is_left, condition_flow, ends_turn, exit_of, exit_flow, declaration_flow, declarations_flow, Gone, nothing_gone, gone_with, gone_with_both, left, in_loop, begins_pair, stmt_flow, stmts_flow, branches_flow, handlers_flow, handled, then_flow, goes}
+use Rattle.ada_effects.specs.Effects.{Effects, effects_of, endings_free, declarations_free, leaving_frees, stmt_frees, stmts_free, branches_free, handlers_free, expression_raises, untaken, declaration_raises, declarations_raise, stmt_raises, stmts_raise, branches_raise, handlers_raise, passes}
+use Rattle.ada_flow.specs.Flow.{Holds, Outcome, loop_flow, uses_in, computed as computed_flow, bounds_flow, either_of, opened_by_all, counting_start, has_exit, have_exit, branches_have_exit, handlers_have_exit, is_left, condition_flow, ends_turn, exit_of, exit_flow, declaration_flow, declarations_flow, Gone, nothing_gone, gone_with, gone_with_both, loses, left, left_finalized, in_loop, begins_pair, stmt_flow, stmts_flow, branches_flow, handlers_flow, handled, then_flow, goes}
 use Rattle.ada_meaning.specs.Frame.{Does, Repeats, Counts, Handles, Closes}
 use Rattle.ada_sound.specs.Agreement.{Turning, past, into, counting, behind, in_branches, in_body, in_count, in_enclosed, in_others, in_this, in_next, to_this, to_next, ComesInside, in_statements, in_handlers}
 use Rattle.ada_sound.proofs.Orderings.{AsGood, as_good_then, good_each, all_good, good_to_lost}
 use Rattle.ada_sound.proofs.Values.{lost_here}
 use Rattle.ada_sound.proofs.Invariant.{Known, Where, around_at, in_turn, Spares, Control, Goes, To, Ways, Raised, From, MayExit, OnExit, MayReturn, OnReturn, owed_in, Doing, Choosing, Handling, TurnsTo, condition_among, Repeating, Counting, TakenBy, Handled, Outside, Elaborating, NoneBroken}
-use Rattle.ada_sound.proofs.Outcomes.{goes_map, goes_with, to_here, to_before, raised_before, raised_less, then_goes, either_goes, computed_goes, worse_goes, turn_goes, left_goes, block_goes, handled_goes}
+use Rattle.ada_sound.proofs.Outcomes.{goes_map, goes_with, to_here, to_before, raised_before, raised_less, then_goes, either_goes, computed_goes, worse_goes, turn_goes, left_goes, loses_goes, block_goes, handled_goes}
 use Rattle.ada_sound.proofs.Raising.{or_left, or_right, raises_untaken, raises_past}
-use Rattle.ada_sound.proofs.Leavings.{left_good, left_twice}
+use Rattle.ada_sound.proofs.Leavings.{left_good, left_twice, finalized_less, good_all}
 
 -- A loop that an exit leaves is left.
 exit_leaves : (condition : Option ExpressionForm) (body : StmtsForm) → have_exit body ≡ true → is_left condition body ≡ true
@@ -24,8 +24,8 @@ exit_leaves None body e = e
 exit_leaves (Some c) body e = refl
 
 module _ (known : Known) where
-  abbrev effects : List Effect
-  effects = effects_of known.program
+  abbrev effects : Effects
+  effects = effects_of known.implicit known.program
 
   -- May these free an object of an access type?
   abbrev stmt_may : (access : ℕ) → StmtForm → Bool
@@ -39,6 +39,10 @@ module _ (known : Known) where
 
   abbrev handlers_may : (access : ℕ) → HandlersForm → Bool
   handlers_may t hs = handlers_free known.program.types known.program.variables effects t hs
+
+  -- May the operations that declarations call, and the end of what these create (7.6, 7.6.1)?
+  abbrev parts_may : (access : ℕ) → List DeclarationForm → Bool
+  parts_may t ds = declarations_free known.implicit t ds || leaving_frees known.implicit t ds
 
   -- What is known where a statement begins, and others are behind it.
   abbrev pub Then : StmtsForm → Control → Ways → Ways
@@ -211,11 +215,13 @@ module _ (known : Known) where
   )
 
   -- An exit goes behind the loop, or on (5.7).
-  pub exit_parts : (start : Option Holds) (inside : Gone) (condition : Option ExpressionForm) (spot : Spot) (holds : Holds) (more raised exited : Holds → Type 0) → Goes (exit_flow known.program.variables start inside condition spot holds) more raised → ((h : Holds) → MayExit known.program.variables start inside h → exited h) → Goes (exit_of condition holds) more raised × exited holds
+  pub exit_parts : (start : Option Holds) (inside : Gone) (condition : Option ExpressionForm) (spot : Spot) (holds : Holds) (more raised exited : Holds → Type 0) → Goes (exit_flow known.program.variables known.implicit start inside condition spot holds) more raised → ((h : Holds) → MayExit known.program.variables start inside h → exited h) → Goes (exit_of condition holds) more raised × exited holds
   exit_parts None inside condition spot holds more raised exited g out = (g, out holds tt)
   exit_parts (Some start) inside condition spot holds more raised exited g out =
-      let h = worse_goes start (left known.program.variables inside holds) spot (exit_of condition holds) more raised g in
-      (h.1, out holds h.0)
+      let finalized = left_finalized known.program.variables known.implicit inside holds in
+      let h = worse_goes start finalized spot (exit_of condition holds) more raised g in
+      let plain = left known.program.variables inside holds in
+      (h.1, out holds (good_all plain start (as_good_then plain finalized start (finalized_less known.program.variables known.implicit inside holds) (good_each finalized start h.0))))
 
   -- A handler takes an exception, or it passes all of them (11.4).
   pub taken_from : (e : Exception) (hs : HandlersForm) (k : Control) (w : Ways) (holds : Holds) → Handling known hs k w holds → (handler_of e hs ≡ None → To (w.raised e) holds) → TakenBy known k w e (handler_of e hs) holds
@@ -247,24 +253,24 @@ module _ (known : Known) where
       pick false here more past' = more past'
 
   -- Declarations come one after another.
-  elaborates_from : (ds : List DeclarationForm) (holds : Holds) (more : Holds → Type 0) (among : Exception → Bool) (w : Ways) → ((e : Exception) → declarations_raise (is_same e) ds ≡ true → among e ≡ true) → Goes (declarations_flow known.program.types known.program.variables ds holds) more (Raised among w) → Elaborating known ds more w holds
+  elaborates_from : (ds : List DeclarationForm) (holds : Holds) (more : Holds → Type 0) (among : Exception → Bool) (w : Ways) → ((e : Exception) → declarations_raise known.implicit (is_same e) ds ≡ true → among e ≡ true) → Goes (declarations_flow known.program.types known.program.variables known.implicit ds holds) more (Raised among w) → Elaborating known ds more w holds
   elaborates_from [] holds more among w m g = g.0
   elaborates_from (d ∷ ds) holds more among w m g =
-      goes_map (declaration_flow known.program.types known.program.variables d holds) (λ h. Goes (declarations_flow known.program.types known.program.variables ds h) more (Raised among w)) (Raised among w) (Elaborating known ds more w) (Raised (λ e. declaration_raises (is_same e) d) w)
-      (λ h n. elaborates_from ds h more among w (λ e i. m e (or_right (declaration_raises (is_same e) d) (declarations_raise (is_same e) ds) i)) n)
-      (λ h r. raised_less among (λ e. declaration_raises (is_same e) d) w (λ e i. m e (or_left (declaration_raises (is_same e) d) (declarations_raise (is_same e) ds) i)) h r)
-      (then_goes (declaration_flow known.program.types known.program.variables d holds) (declarations_flow known.program.types known.program.variables ds) more (Raised among w) (raised_before among w) g)
+      goes_map (declaration_flow known.program.types known.program.variables known.implicit d holds) (λ h. Goes (declarations_flow known.program.types known.program.variables known.implicit ds h) more (Raised among w)) (Raised among w) (Elaborating known ds more w) (Raised (λ e. declaration_raises known.implicit (is_same e) d) w)
+      (λ h n. elaborates_from ds h more among w (λ e i. m e (or_right (declaration_raises known.implicit (is_same e) d) (declarations_raise known.implicit (is_same e) ds) i)) n)
+      (λ h r. raised_less among (λ e. declaration_raises known.implicit (is_same e) d) w (λ e i. m e (or_left (declaration_raises known.implicit (is_same e) d) (declarations_raise known.implicit (is_same e) ds) i)) h r)
+      (then_goes (declaration_flow known.program.types known.program.variables known.implicit d holds) (declarations_flow known.program.types known.program.variables known.implicit ds) more (Raised among w) (raised_before among w) g)
 
   -- What a part may raise: its declarations, its statements past their handlers, its handlers.
   pub record PartRaises (ds : List DeclarationForm) (fs : StmtsForm) (hs : HandlersForm) (among : Exception → Bool) : Type 0 where
-    pub by_declarations : (e : Exception) → declarations_raise (is_same e) ds ≡ true → among e ≡ true
+    pub by_declarations : (e : Exception) → declarations_raise known.implicit (is_same e) ds ≡ true → among e ≡ true
     pub by_statements : (e : Exception) → stmts_raise effects (untaken hs (is_same e)) fs ≡ true → among e ≡ true
     pub by_handlers : (e : Exception) → handlers_raise effects (is_same e) hs ≡ true → among e ≡ true
 
   -- Declarations, the statements behind them, and their handlers, before a master is left.
   pub part_from : (inner : Where) (k : Control) (ds : List DeclarationForm) (fs : StmtsForm) (hs : HandlersForm) (o : Ways) (among : Exception → Bool) (holds : Holds) → PartRaises ds fs hs among
       → ((way : List Turning) (place : Control) (at : Holds) → ComesInside known.program.types known.program.variables (around_at known inner) k ds fs hs holds way place at → known.At place at)
-      → Goes (then_flow (declarations_flow known.program.types known.program.variables ds holds) (λ at. handled (passes effects fs hs) (handlers_flow known.program.types known.program.variables (around_at known inner) hs) (stmts_flow known.program.types known.program.variables (around_at known inner) fs at))) (To o.normal) (Raised among o)
+      → Goes (then_flow (declarations_flow known.program.types known.program.variables known.implicit ds holds) (λ at. handled (passes effects fs hs) (handlers_flow known.program.types known.program.variables (around_at known inner) hs) (stmts_flow known.program.types known.program.variables (around_at known inner) fs at))) (To o.normal) (Raised among o)
       → OnExit known.program.variables (have_exit fs) (around_at known inner) o.exited → OnExit known.program.variables (handlers_have_exit hs) (around_at known inner) o.exited → OnReturn known.program.variables (around_at known inner) o.returned
       → Spares known (λ t. stmts_may t fs) → Spares known (λ t. handlers_may t hs)
       → Elaborating known ds (Doing known fs (Handles hs ∷ Closes ∷ k) (Handled known hs (Closes ∷ k) o)) o holds
@@ -272,7 +278,7 @@ module _ (known : Known) where
       let v = known.program.variables in
       let part : Holds → Outcome = λ at. handled (passes effects fs hs) (handlers_flow known.program.types v (around_at known inner) hs) (stmts_flow known.program.types v (around_at known inner) fs at) in
       elaborates_from ds holds (Doing known fs (Handles hs ∷ Closes ∷ k) (Handled known hs (Closes ∷ k) o)) among o p.by_declarations
-      (goes_with (declarations_flow known.program.types v ds holds) (λ at. Goes (part at) (To o.normal) (Raised among o)) (Raised among o) (Doing known fs (Handles hs ∷ Closes ∷ k) (Handled known hs (Closes ∷ k) o)) (Raised among o)
+      (goes_with (declarations_flow known.program.types v known.implicit ds holds) (λ at. Goes (part at) (To o.normal) (Raised among o)) (Raised among o) (Doing known fs (Handles hs ∷ Closes ∷ k) (Handled known hs (Closes ∷ k) o)) (Raised among o)
       (λ at raising declared m. (
         inner,
         (λ way place at' c. from (into ∷ way) place at' (in_statements at declared c)),
@@ -285,14 +291,14 @@ module _ (known : Known) where
               exits'',
               returns',
               spares'',
-            ) (λ none. n.0 (raises_past known.program fs hs e none i) e (p.by_statements e (raises_untaken known.program fs hs e none i)))))
+            ) (λ none. n.0 (raises_past known.implicit known.program fs hs e none i) e (p.by_statements e (raises_untaken known.implicit known.program fs hs e none i)))))
             (handled_goes (passes effects fs hs) (handlers_flow known.program.types v (around_at known inner) hs) (stmts_flow known.program.types v (around_at known inner) fs at) (To o.normal) (Raised among o) (to_before o.normal) (raised_before among o) m),
         exits',
         returns',
         spares',
       ))
       (λ normal h is r. r)
-      (then_goes (declarations_flow known.program.types v ds holds) part (To o.normal) (Raised among o) (raised_before among o) g))
+      (then_goes (declarations_flow known.program.types v known.implicit ds holds) part (To o.normal) (Raised among o) (raised_before among o) g))
 
   -- What leaves a block on its way behind a loop.
   exits_block : (gone inside : Gone) (start : Option Holds) (holds : Holds) → MayExit known.program.variables start (gone_with_both gone inside) holds → MayExit known.program.variables start inside (left known.program.variables gone holds)
@@ -309,22 +315,25 @@ module _ (known : Known) where
   encloses_from here ds body hs fs k w holds (from, g, out, returns', spares) =
       let v = known.program.variables in
       let gone = gone_with ds in
+      let may = endings_free known.implicit (gone_with ds).types in
       let inner : Where = record { start = here.start; inside = gone_with_both (gone_with ds) here.inside; within = gone_with_both (gone_with ds) here.within } in
       let o : Ways = Outside v (gone_with ds) (Then fs k w) in
       let among : Exception → Bool = λ e. stmt_raises effects (is_same e) (encloses ds body hs) in
-      let flow : Outcome = then_flow (declarations_flow known.program.types v ds holds) (λ at. handled (passes effects body hs) (handlers_flow known.program.types v (around_at known inner) hs) (stmts_flow known.program.types v (around_at known inner) body at)) in
+      let flow : Outcome = then_flow (declarations_flow known.program.types v known.implicit ds holds) (λ at. handled (passes effects body hs) (handlers_flow known.program.types v (around_at known inner) hs) (stmts_flow known.program.types v (around_at known inner) body at)) in
       part_from inner (Does fs ∷ k) ds body hs o among holds
       (record {
-        by_declarations = λ e i. or_left (declarations_raise (is_same e) ds || stmts_raise effects (untaken hs (is_same e)) body) (handlers_raise effects (is_same e) hs) (or_left (declarations_raise (is_same e) ds) (stmts_raise effects (untaken hs (is_same e)) body) i);
-        by_statements = λ e i. or_left (declarations_raise (is_same e) ds || stmts_raise effects (untaken hs (is_same e)) body) (handlers_raise effects (is_same e) hs) (or_right (declarations_raise (is_same e) ds) (stmts_raise effects (untaken hs (is_same e)) body) i);
-        by_handlers = λ e i. or_right (declarations_raise (is_same e) ds || stmts_raise effects (untaken hs (is_same e)) body) (handlers_raise effects (is_same e) hs) i;
+        by_declarations = λ e i. or_left (declarations_raise known.implicit (is_same e) ds || stmts_raise effects (untaken hs (is_same e)) body) (handlers_raise effects (is_same e) hs) (or_left (declarations_raise known.implicit (is_same e) ds) (stmts_raise effects (untaken hs (is_same e)) body) i);
+        by_statements = λ e i. or_left (declarations_raise known.implicit (is_same e) ds || stmts_raise effects (untaken hs (is_same e)) body) (handlers_raise effects (is_same e) hs) (or_right (declarations_raise known.implicit (is_same e) ds) (stmts_raise effects (untaken hs (is_same e)) body) i);
+        by_handlers = λ e i. or_right (declarations_raise known.implicit (is_same e) ds || stmts_raise effects (untaken hs (is_same e)) body) (handlers_raise effects (is_same e) hs) i;
       })
       (λ way place at c. from (into ∷ way) place at (in_enclosed c))
-      (goes_map flow (λ h. Doing known fs k w (left v gone h)) (λ h. Raised among w (left v gone h)) (To o.normal) (Raised among o)
-      (λ h n. to_here o.normal h (to_here (Then fs k w).normal (left v gone h) n)) (λ h r. λ e i. to_here (o.raised e) h (r e i))
-      (block_goes v gone flow (Doing known fs k w) (Raised among w) g))
+      (goes_map flow (λ h. Doing known fs k w (left_finalized v known.implicit gone h)) (λ h. Raised among w (left_finalized v known.implicit gone h)) (To o.normal) (Raised among o)
+      (λ h n. to_here o.normal h (left_finalized v known.implicit gone h, finalized_less v known.implicit gone h, n))
+      (λ h r. λ e i. to_here (o.raised e) h (to_before (w.raised e) (left v gone h) (left_finalized v known.implicit gone h) (finalized_less v known.implicit gone h) (r e i)))
+      (loses_goes v may flow (λ h. Doing known fs k w (left v gone h)) (λ h. Raised among w (left v gone h))
+      (block_goes v gone (loses v may flow) (Doing known fs k w) (Raised among w) g)))
       (λ one h may. to_here w.exited (left v gone h) (out (or_left (have_exit body) (handlers_have_exit hs) one) (left v gone h) (exits_block gone here.inside here.start h may)))
       (λ one h may. to_here w.exited (left v gone h) (out (or_right (have_exit body) (handlers_have_exit hs) one) (left v gone h) (exits_block gone here.inside here.start h may)))
       (λ h may. to_here w.returned (left v gone h) (returns' (left v gone h) (returns_block gone here.within (owed_in known.program) h may)))
-      (λ t i. spares t (or_left (stmts_may t body) (handlers_may t hs) i))
-      (λ t i. spares t (or_right (stmts_may t body) (handlers_may t hs) i))
+      (λ t i. spares t (or_left (stmts_may t body || handlers_may t hs) (parts_may t ds) (or_left (stmts_may t body) (handlers_may t hs) i)))
+      (λ t i. spares t (or_left (stmts_may t body || handlers_may t hs) (parts_may t ds) (or_right (stmts_may t body) (handlers_may t hs) i)))

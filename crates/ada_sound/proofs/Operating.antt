@@ -12,7 +12,7 @@ use Rattle.ada_program.specs.Handling.{is_same, is_taken}
 use Rattle.ada_program.specs.declared.program.VariableKind.{VariableKind}
 use Rattle.ada_program.specs.declared.program.VariableKind.TheVariants as variable
 use Rattle.ada_program.specs.WellFormed.{reached_components, kind_among, variable_kind}
-use Rattle.ada_effects.specs.Effects.{body_raises, unary_raises, binary_raises, expression_raises, links_raise, condition_raises, declarations_raise, stmts_raise, branches_raise, handlers_raise}
+use Rattle.ada_effects.specs.Effects.{no_calls, no_implicit, body_raises, unary_raises, binary_raises, expression_raises, links_raise, condition_raises, declarations_raise, stmts_raise, branches_raise, handlers_raise}
 use Rattle.ada_flow.specs.Flow.{have_exit, branches_have_exit, handlers_have_exit}
 use Rattle.ada_meaning.specs.declared.state.Id.{Id}
 use Rattle.ada_meaning.specs.declared.state.Value.{Value}
@@ -131,17 +131,17 @@ module _ (sight : Sight) where
   -- Statements are quiet, and so on.
   abbrev pub RunsIn : StmtsForm → Control → Type 0
   RunsIn fs k =
-      (are_quiet types variables fs ≡ true) × ((e : Exception) → stmts_raise [] (is_same e) fs ≡ true → StaysIn e k)
+      (are_quiet types variables fs ≡ true) × ((e : Exception) → stmts_raise no_calls (is_same e) fs ≡ true → StaysIn e k)
       × (have_exit fs ≡ true → IsInLoop k)
 
   abbrev pub ChoosesIn : BranchesForm → Control → Type 0
   ChoosesIn branches k =
-      (are_quiet_branches types variables branches ≡ true) × ((e : Exception) → branches_raise [] (is_same e) branches ≡ true → StaysIn e k)
+      (are_quiet_branches types variables branches ≡ true) × ((e : Exception) → branches_raise no_calls (is_same e) branches ≡ true → StaysIn e k)
       × (branches_have_exit branches ≡ true → IsInLoop k)
 
   abbrev pub HandlesIn : HandlersForm → Control → Type 0
   HandlesIn hs k =
-      (are_quiet_handlers types variables hs ≡ true) × ((e : Exception) → handlers_raise [] (is_same e) hs ≡ true → StaysIn e k)
+      (are_quiet_handlers types variables hs ≡ true) × ((e : Exception) → handlers_raise no_calls (is_same e) hs ≡ true → StaysIn e k)
       × (handlers_have_exit hs ≡ true → IsInLoop k)
 
   abbrev pub ComputesIn : ExpressionForm → Control → Type 0
@@ -165,7 +165,7 @@ module _ (sight : Sight) where
   Leads behind [] ms = ⊥
   Leads behind (Elaborates ds fs hs ∷ k) [] = ⊥
   Leads behind (Elaborates ds fs hs ∷ k) (m ∷ ms) =
-      ((are_quiet_declarations types variables ds ≡ true) × ((e : Exception) → declarations_raise (is_same e) ds ≡ true → StaysIn e k)
+      ((are_quiet_declarations types variables ds ≡ true) × ((e : Exception) → declarations_raise no_implicit (is_same e) ds ≡ true → StaysIn e k)
       × RunsIn fs (Handles hs ∷ Closes ∷ k) × HandlesIn hs (Closes ∷ k)) × Leads behind k ms
   Leads behind (Does fs ∷ k) ms = RunsIn fs k × Leads behind k ms
   Leads behind (Decides fs branches ∷ k) ms = (RunsIn fs k × ChoosesIn branches k) × Leads behind k ms
@@ -264,6 +264,6 @@ pub record QuietBody (types : List TypeForm) (b : BodyForm) : Type 0 where
   pub declarations : are_quiet_declarations types b.variables b.declarations ≡ true
   pub statements : are_quiet types b.variables b.statements ≡ true
   pub handlers : are_quiet_handlers types b.variables b.handlers ≡ true
-  pub raises_nothing : body_raises [] b (λ e. true) ≡ false
+  pub raises_nothing : body_raises no_calls b (λ e. true) ≡ false
   pub none_out : have_exit b.statements ≡ false
   pub none_on : handlers_have_exit b.handlers ≡ false

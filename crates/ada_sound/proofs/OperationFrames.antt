@@ -13,7 +13,7 @@ use Rattle.ada_program.specs.Form.{ExpressionForm, LinksForm, no_more_links, a_l
 use Rattle.ada_program.specs.ProgramForm.{BodyForm}
 use Rattle.ada_program.specs.Handling.{is_same}
 use Rattle.ada_program.specs.WellFormed.{variable_kind}
-use Rattle.ada_effects.specs.Effects.{binary_raises, expression_raises, links_raise, right_raises, declarations_raise}
+use Rattle.ada_effects.specs.Effects.{no_implicit, declaration_raises, right_starts, binary_raises, expression_raises, links_raise, right_raises, declarations_raise}
 use Rattle.ada_meaning.specs.declared.state.Value.{Value}
 use Rattle.ada_meaning.specs.declared.state.Value.TheVariants.{Null, Names, Scalar, Part}
 use Rattle.ada_meaning.specs.declared.state.Mode.{Mode}
@@ -311,8 +311,8 @@ module _ (sight : Sight) (procedure : ℕ) (rest : List (Activation Value)) (low
       let one = apart (holds_elementary (variable_kind sight.program.variables x)) (is_quiet_right sight.program.types sight.program.variables right) two.0 in
       go sight procedure rest lower behind tds bodies s (m ∷ ms) places k mode whole_control waiting body Quiet _ vs (m ∷ ms) Running (Evaluates right ∷ Declares x ∷ Elaborates ds fs hs ∷ k) tt refl refl refl refl refl body.own all tt (
         declaration_right sight procedure rest lower behind tds bodies s (m ∷ ms) places k mode whole_control waiting body right (Declares x ∷ Elaborates ds fs hs ∷ k) one.1
-            (λ may. stays ConstraintError (or_left (right_raises (is_same ConstraintError) right) (declarations_raise (is_same ConstraintError) ds) may)),
-        (one.0, ((two.1, (λ e may. stays e (or_right (right_raises (is_same e) right) (declarations_raise (is_same e) ds) may)), runs, handles), q)),
+            (λ may. stays ConstraintError (or_left (declaration_raises no_implicit (is_same ConstraintError) (declares x right)) (declarations_raise no_implicit (is_same ConstraintError) ds) (or_left (right_raises (is_same ConstraintError) right) (right_starts no_implicit (is_same ConstraintError) right) may))),
+        (one.0, ((two.1, (λ e may. stays e (or_right (declaration_raises no_implicit (is_same e) (declares x right)) (declarations_raise no_implicit (is_same e) ds) may)), runs, handles), q)),
       )
 
   pub declares_on : (ms : List Master) (x : ℕ) (v : Value) → IsScalar v → (body : Body sight behind ms s.heap places waiting mode whole_control) → Quietly sight behind ms (Declares x ∷ k) → After sight procedure rest lower behind s.heap Quiet (owned (declared x) (put x v (before sight procedure rest lower behind tds bodies s ms places k mode whole_control waiting body vs)))

@@ -7,7 +7,7 @@ use Rattle.ada_program.specs.declared.program.Exception.{Exception}
 use Rattle.ada_program.specs.Form.{RightForm, nothing, value_of, allocates, allocates_default, computes, StmtsForm, no_stmts, a_stmt, HandlersForm, no_handlers, a_handler}
 use Rattle.ada_program.specs.ProgramForm.{BodyForm}
 use Rattle.ada_program.specs.Handling.{is_same, handler_of, is_taken, some_takes}
-use Rattle.ada_effects.specs.Effects.{unary_raises, binary_raises, stmts_raise, handlers_raise}
+use Rattle.ada_effects.specs.Effects.{no_calls, unary_raises, binary_raises, stmts_raise, handlers_raise}
 use Rattle.ada_flow.specs.Flow.{have_exit, handlers_have_exit}
 use Rattle.ada_meaning.specs.declared.state.Value.{Value}
 use Rattle.ada_meaning.specs.declared.state.Value.TheVariants.{Null, Names}
@@ -45,11 +45,11 @@ handler_runs sight (a_handler choices gs hs) k e fs is (quiet, stays, out) = by 
     two = apart (are_quiet sight.program.types sight.program.variables gs) (are_quiet_handlers sight.program.types sight.program.variables hs) quiet
 
     here : RunsIn sight gs k
-    here = (two.0, (λ x may. stays x (or_left (stmts_raise [] (is_same x) gs) (handlers_raise [] (is_same x) hs) may)), λ o. out (or_left (have_exit gs) (handlers_have_exit hs) o))
+    here = (two.0, (λ x may. stays x (or_left (stmts_raise no_calls (is_same x) gs) (handlers_raise no_calls (is_same x) hs) may)), λ o. out (or_left (have_exit gs) (handlers_have_exit hs) o))
 
     by : (b : Bool) → (if b then Some gs else handler_of e hs) ≡ Some fs → (handler_of e hs ≡ Some fs → HandlesIn sight hs k → RunsIn sight fs k) → RunsIn sight fs k
     by true is' more = let same : gs ≡ fs = cc is' in subst (λ (x : StmtsForm). RunsIn sight x k) same here
-    by false is' more = more is' (two.1, (λ x may. stays x (or_right (stmts_raise [] (is_same x) gs) (handlers_raise [] (is_same x) hs) may)), λ o. out (or_right (have_exit gs) (handlers_have_exit hs) o))
+    by false is' more = more is' (two.1, (λ x may. stays x (or_right (stmts_raise no_calls (is_same x) gs) (handlers_raise no_calls (is_same x) hs) may)), λ o. out (or_right (have_exit gs) (handlers_have_exit hs) o))
 
 module _ (sight : Sight) (procedure : ℕ) (rest : List (Activation Value)) (lower : List Master) (behind : Control) (tds : List TypeDefinition) (bodies : List BodyForm) (s : State) (ms : List Master) (places : List Value) (k : Control) (whole_control : Control) where
   abbrev popped_state : List Value → State

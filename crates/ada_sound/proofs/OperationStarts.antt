@@ -10,7 +10,7 @@ use Rattle.ada_program.specs.declared.program.VariableKind.TheVariants as variab
 use Rattle.ada_program.specs.Handling.{is_same, is_taken}
 use Rattle.ada_program.specs.ProgramForm.{TypeForm, VariableForm, BodyForm, program_form, body_forms, seen_by}
 use Rattle.ada_program.specs.WellFormed.{variable_kind}
-use Rattle.ada_effects.specs.Effects.{untaken, declarations_raise, stmts_raise, handlers_raise, body_raises}
+use Rattle.ada_effects.specs.Effects.{no_calls, no_implicit, untaken, declarations_raise, stmts_raise, handlers_raise, body_raises}
 use Rattle.ada_meaning.specs.declared.state.Id.{Id}
 use Rattle.ada_meaning.specs.declared.state.Value.{Value}
 use Rattle.ada_meaning.specs.declared.state.Value.TheVariants.{Names}
@@ -58,29 +58,29 @@ module _ (types : List TypeForm) (b : BodyForm) (quiet : QuietBody types b) wher
   all : Exception → Bool
   all e = true
 
-  raises_none : body_raises [] b (λ e. true) ≡ true → ⊥
+  raises_none : body_raises no_calls b (λ e. true) ≡ true → ⊥
   raises_none e = let none = quiet.raises_nothing in cc (none, e)
 
-  no_declaration : (e : Exception) → declarations_raise (is_same e) b.declarations ≡ true → ⊥
+  no_declaration : (e : Exception) → declarations_raise no_implicit (is_same e) b.declarations ≡ true → ⊥
   no_declaration e may =
-      let more = declarations_more (is_same e) (λ f. true) (λ f is. refl) b.declarations may in
-      raises_none (or_left (declarations_raise (λ f. true) b.declarations || stmts_raise [] (untaken b.handlers (λ f. true)) b.statements) (handlers_raise [] (λ f. true) b.handlers)
-      (or_left (declarations_raise (λ f. true) b.declarations) (stmts_raise [] (untaken b.handlers (λ f. true)) b.statements) more))
+      let more = declarations_more no_implicit (is_same e) (λ f. true) (λ f is. refl) b.declarations may in
+      raises_none (or_left (declarations_raise no_implicit (λ f. true) b.declarations || stmts_raise no_calls (untaken b.handlers (λ f. true)) b.statements) (handlers_raise no_calls (λ f. true) b.handlers)
+      (or_left (declarations_raise no_implicit (λ f. true) b.declarations) (stmts_raise no_calls (untaken b.handlers (λ f. true)) b.statements) more))
 
-  no_handler : (e : Exception) → handlers_raise [] (is_same e) b.handlers ≡ true → ⊥
+  no_handler : (e : Exception) → handlers_raise no_calls (is_same e) b.handlers ≡ true → ⊥
   no_handler e may =
-      let more = handlers_more [] tt b.handlers (is_same e) (λ f. true) (λ f is. refl) may in
-      raises_none (or_right (declarations_raise (λ f. true) b.declarations || stmts_raise [] (untaken b.handlers (λ f. true)) b.statements) (handlers_raise [] (λ f. true) b.handlers) more)
+      let more = handlers_more no_calls tt b.handlers (is_same e) (λ f. true) (λ f is. refl) may in
+      raises_none (or_right (declarations_raise no_implicit (λ f. true) b.declarations || stmts_raise no_calls (untaken b.handlers (λ f. true)) b.statements) (handlers_raise no_calls (λ f. true) b.handlers) more)
 
-  taken : (e : Exception) → stmts_raise [] (is_same e) b.statements ≡ true → is_taken b.handlers e ≡ true
+  taken : (e : Exception) → stmts_raise no_calls (is_same e) b.statements ≡ true → is_taken b.handlers e ≡ true
   taken e may = by (is_taken b.handlers e) refl
     where
       by : (is : Bool) → is_taken b.handlers e ≡ is → is ≡ true
       by true is = refl
       by false is =
-          let more = stmts_more [] tt b.statements (is_same e) (untaken b.handlers (λ f. true)) (λ f same. rw (← same_is e f same, is) refl) may in
-          absurd (raises_none (or_left (declarations_raise (λ f. true) b.declarations || stmts_raise [] (untaken b.handlers (λ f. true)) b.statements) (handlers_raise [] (λ f. true) b.handlers)
-          (or_right (declarations_raise (λ f. true) b.declarations) (stmts_raise [] (untaken b.handlers (λ f. true)) b.statements) more)))
+          let more = stmts_more no_calls tt b.statements (is_same e) (untaken b.handlers (λ f. true)) (λ f same. rw (← same_is e f same, is) refl) may in
+          absurd (raises_none (or_left (declarations_raise no_implicit (λ f. true) b.declarations || stmts_raise no_calls (untaken b.handlers (λ f. true)) b.statements) (handlers_raise no_calls (λ f. true) b.handlers)
+          (or_right (declarations_raise no_implicit (λ f. true) b.declarations) (stmts_raise no_calls (untaken b.handlers (λ f. true)) b.statements) more)))
 
 -- A quiet body begins, in a master of its own.
 starts : (sight : Sight) (b : BodyForm) → sight.program.variables ≡ b.variables → QuietBody sight.program.types b → (behind : Control) (m : Master) → Quietly sight behind (m ∷ []) (Elaborates b.declarations b.statements b.handlers ∷ Returns [] [] ∷ behind)

@@ -12,7 +12,7 @@ use Rattle.ada_program.specs.Form.{ExpressionForm, RightForm, nothing, value_of,
 use Rattle.ada_program.specs.ProgramForm.{BodyForm}
 use Rattle.ada_program.specs.Handling.{is_same, is_taken}
 use Rattle.ada_program.specs.WellFormed.{variable_kind, selectors_kind, selected_kind}
-use Rattle.ada_effects.specs.Effects.{untaken, path_raises, expression_raises, condition_raises, right_raises, declarations_raise, stmt_raises, stmts_raise, branches_raise, handlers_raise}
+use Rattle.ada_effects.specs.Effects.{no_calls, no_implicit, untaken, path_raises, expression_raises, condition_raises, right_raises, right_starts, declarations_raise, stmt_raises, stmts_raise, branches_raise, handlers_raise}
 use Rattle.ada_flow.specs.Flow.{has_exit, have_exit, branches_have_exit, handlers_have_exit}
 use Rattle.ada_meaning.specs.declared.state.Value.{Value}
 use Rattle.ada_meaning.specs.declared.state.Value.TheVariants.{Null, Names}
@@ -56,12 +56,12 @@ put_holds sight places x v e is holds y = go (same_or_not y x)
     go (inr ne) = rw (read_other places x y v Null ne) (holds y)
 
 -- What a block raises its handlers take, or those around it.
-block_stays : (fs : StmtsForm) (hs : HandlersForm) (k : Control) → ((e : Exception) → stmts_raise [] (untaken hs (is_same e)) fs ≡ true → StaysIn e k) → (e : Exception) → stmts_raise [] (is_same e) fs ≡ true → StaysIn e (Handles hs ∷ Closes ∷ k)
+block_stays : (fs : StmtsForm) (hs : HandlersForm) (k : Control) → ((e : Exception) → stmts_raise no_calls (untaken hs (is_same e)) fs ≡ true → StaysIn e k) → (e : Exception) → stmts_raise no_calls (is_same e) fs ≡ true → StaysIn e (Handles hs ∷ Closes ∷ k)
 block_stays fs hs k passes e may = by (is_taken hs e) refl
   where
     by : (is : Bool) → is_taken hs e ≡ is → (is_taken hs e ≡ true) ⊎ StaysIn e k
     by true is = inl is
-    by false is = inr (passes e (stmts_more [] tt fs (is_same e) (untaken hs (is_same e)) (λ f same. both (is_same e f) (not (is_taken hs f)) same (rw (← same_is e f same, is) refl)) may))
+    by false is = inr (passes e (stmts_more no_calls tt fs (is_same e) (untaken hs (is_same e)) (λ f same. both (is_same e f) (not (is_taken hs f)) same (rw (← same_is e f same, is) refl)) may))
 
 module _ (sight : Sight) (procedure : ℕ) (rest : List (Activation Value)) (lower : List Master) (behind : Control) (tds : List TypeDefinition) (bodies : List BodyForm) (s : State) (ms : List Master) (places vs : List Value) (k : Control) (mode : Mode) (whole_control : Control) (waiting : List Value) (body : Body sight behind ms s.heap places waiting mode whole_control) (q : Quietly sight behind ms k) (all : AreScalars vs) where
   abbrev pub now : State
@@ -137,11 +137,11 @@ module _ (sight : Sight) (procedure : ℕ) (rest : List (Activation Value)) (low
       let one = apart (is_quiet_expression sight.program.types sight.program.variables e && are_quiet sight.program.types sight.program.variables fs) (are_quiet_branches sight.program.types sight.program.variables branches) quiet in
       let two = apart (is_quiet_expression sight.program.types sight.program.variables e) (are_quiet sight.program.types sight.program.variables fs) one.0 in
       to Quiet _ vs (Computes e ∷ Decides fs branches ∷ k) tt refl refl refl refl refl all (
-        (two.0, λ may. stays ConstraintError (or_left (expression_raises e || stmts_raise [] (is_same ConstraintError) fs) (branches_raise [] (is_same ConstraintError) branches) (or_left (expression_raises e) (stmts_raise [] (is_same ConstraintError) fs) may))),
+        (two.0, λ may. stays ConstraintError (or_left (expression_raises e || stmts_raise no_calls (is_same ConstraintError) fs) (branches_raise no_calls (is_same ConstraintError) branches) (or_left (expression_raises e) (stmts_raise no_calls (is_same ConstraintError) fs) may))),
         (
           (
-            (two.1, (λ x may. stays x (or_left ((is_same x ConstraintError && expression_raises e) || stmts_raise [] (is_same x) fs) (branches_raise [] (is_same x) branches) (or_right (is_same x ConstraintError && expression_raises e) (stmts_raise [] (is_same x) fs) may))), λ o. out (or_left (have_exit fs) (branches_have_exit branches) o)),
-            (one.1, (λ x may. stays x (or_right ((is_same x ConstraintError && expression_raises e) || stmts_raise [] (is_same x) fs) (branches_raise [] (is_same x) branches) may)), λ o. out (or_right (have_exit fs) (branches_have_exit branches) o)),
+            (two.1, (λ x may. stays x (or_left ((is_same x ConstraintError && expression_raises e) || stmts_raise no_calls (is_same x) fs) (branches_raise no_calls (is_same x) branches) (or_right (is_same x ConstraintError && expression_raises e) (stmts_raise no_calls (is_same x) fs) may))), λ o. out (or_left (have_exit fs) (branches_have_exit branches) o)),
+            (one.1, (λ x may. stays x (or_right ((is_same x ConstraintError && expression_raises e) || stmts_raise no_calls (is_same x) fs) (branches_raise no_calls (is_same x) branches) may)), λ o. out (or_right (have_exit fs) (branches_have_exit branches) o)),
           ),
           q,
         ),
@@ -150,15 +150,15 @@ module _ (sight : Sight) (procedure : ℕ) (rest : List (Activation Value)) (low
 -- What is left of the statements that this one begins.
 abbrev pub IsFirst : Sight → StmtForm → Control → Type 0
 IsFirst sight f k =
-    (is_quiet_stmt sight.program.types sight.program.variables f ≡ true) × ((e : Exception) → stmt_raises [] (is_same e) f ≡ true → StaysIn e k)
+    (is_quiet_stmt sight.program.types sight.program.variables f ≡ true) × ((e : Exception) → stmt_raises no_calls (is_same e) f ≡ true → StaysIn e k)
     × (has_exit f ≡ true → IsInLoop k)
 
 -- A statement, and those behind it.
 pub first_of : (sight : Sight) (f : StmtForm) (fs : StmtsForm) (k : Control) → RunsIn sight (a_stmt f fs) k → IsFirst sight f k × RunsIn sight fs k
 first_of sight f fs k (quiet, stays, out) =
     let two = apart (is_quiet_stmt sight.program.types sight.program.variables f) (are_quiet sight.program.types sight.program.variables fs) quiet in (
-      (two.0, (λ e may. stays e (or_left (stmt_raises [] (is_same e) f) (stmts_raise [] (is_same e) fs) may)), λ o. out (or_left (has_exit f) (have_exit fs) o)),
-      (two.1, (λ e may. stays e (or_right (stmt_raises [] (is_same e) f) (stmts_raise [] (is_same e) fs) may)), λ o. out (or_right (has_exit f) (have_exit fs) o)),
+      (two.0, (λ e may. stays e (or_left (stmt_raises no_calls (is_same e) f) (stmts_raise no_calls (is_same e) fs) may)), λ o. out (or_left (has_exit f) (have_exit fs) o)),
+      (two.1, (λ e may. stays e (or_right (stmt_raises no_calls (is_same e) f) (stmts_raise no_calls (is_same e) fs) may)), λ o. out (or_right (has_exit f) (have_exit fs) o)),
     )
 
 module _ (sight : Sight) (procedure : ℕ) (rest : List (Activation Value)) (lower : List Master) (behind : Control) (tds : List TypeDefinition) (bodies : List BodyForm) (s : State) (ms : List Master) (places vs : List Value) (k : Control) (mode : Mode) (whole_control : Control) (waiting : List Value) (body : Body sight behind ms s.heap places waiting mode whole_control) (q : Quietly sight behind ms k) (all : AreScalars vs) where
@@ -189,7 +189,7 @@ module _ (sight : Sight) (procedure : ℕ) (rest : List (Activation Value)) (low
   stmt_on skips (quiet, stays, out) = runs Quiet _ vs tt refl refl refl (inl (all, tt, q))
   stmt_on (assigns target right) (quiet, stays, out) =
       let two = apart (is_quiet_path sight.program.types sight.program.variables target) (is_quiet_right sight.program.types sight.program.variables right) quiet in
-      let raised : (e : Exception) → right_raises (is_same e) right ≡ true → StaysIn e k = λ e may. stays e (or_right (is_same e ConstraintError && path_raises target) (right_raises (is_same e) right) may) in
+      let raised : (e : Exception) → right_raises (is_same e) right ≡ true → StaysIn e k = λ e may. stays e (or_left ((is_same e ConstraintError && path_raises target) || right_raises (is_same e) right) (right_starts no_implicit (is_same e) right) (or_right (is_same e ConstraintError && path_raises target) (right_raises (is_same e) right) may)) in
       assigns_on sight procedure rest lower behind tds bodies s ms places vs k mode whole_control waiting body q all target.selectors target.root right two.0
       (right_on right k two.1 raised) (right_on right (Stores target.root ∷ k) two.1 raised)
   stmt_on (assigns_record target items) (quiet, stays, out) = absurd (cc quiet)
@@ -205,8 +205,8 @@ module _ (sight : Sight) (procedure : ℕ) (rest : List (Activation Value)) (low
       next_is Quiet _ vs (Repeats condition fs ∷ k) tt refl refl refl refl refl all (
         (
           two.0,
-          (λ may. stays ConstraintError (or_left (condition_raises condition) (stmts_raise [] (is_same ConstraintError) fs) may)),
-          (two.1, (λ e may. stays e (or_right (is_same e ConstraintError && condition_raises condition) (stmts_raise [] (is_same e) fs) may)), λ o. tt),
+          (λ may. stays ConstraintError (or_left (condition_raises condition) (stmts_raise no_calls (is_same ConstraintError) fs) may)),
+          (two.1, (λ e may. stays e (or_right (is_same e ConstraintError && condition_raises condition) (stmts_raise no_calls (is_same e) fs) may)), λ o. tt),
         ),
         q,
       )
@@ -214,12 +214,12 @@ module _ (sight : Sight) (procedure : ℕ) (rest : List (Activation Value)) (low
       let one = apart (holds_elementary (variable_kind sight.program.variables x) && is_quiet_expression sight.program.types sight.program.variables low && is_quiet_expression sight.program.types sight.program.variables high) (are_quiet sight.program.types sight.program.variables fs) quiet in
       let two = apart (holds_elementary (variable_kind sight.program.variables x) && is_quiet_expression sight.program.types sight.program.variables low) (is_quiet_expression sight.program.types sight.program.variables high) one.0 in
       let three = apart (holds_elementary (variable_kind sight.program.variables x)) (is_quiet_expression sight.program.types sight.program.variables low) two.0 in
-      let bounds : (expression_raises low || expression_raises high) ≡ true → StaysIn ConstraintError k = λ may. stays ConstraintError (or_left (expression_raises low || expression_raises high) (stmts_raise [] (is_same ConstraintError) fs) may) in
+      let bounds : (expression_raises low || expression_raises high) ≡ true → StaysIn ConstraintError k = λ may. stays ConstraintError (or_left (expression_raises low || expression_raises high) (stmts_raise no_calls (is_same ConstraintError) fs) may) in
       next_is Quiet _ vs (Computes low ∷ Computes high ∷ Ranges x fs ∷ k) tt refl refl refl refl refl all (
         (three.1, λ may. bounds (or_left (expression_raises low) (expression_raises high) may)),
         (
           (two.1, λ may. bounds (or_right (expression_raises low) (expression_raises high) may)),
-          ((three.0, λ value last. (one.1, (λ e may. stays e (or_right (is_same e ConstraintError && (expression_raises low || expression_raises high)) (stmts_raise [] (is_same e) fs) may)), λ o. tt)), q),
+          ((three.0, λ value last. (one.1, (λ e may. stays e (or_right (is_same e ConstraintError && (expression_raises low || expression_raises high)) (stmts_raise no_calls (is_same e) fs) may)), λ o. tt)), q),
         ),
       )
   stmt_on (exits condition spot) (quiet, stays, out) = exits_on condition quiet (stays ConstraintError) (out refl)
@@ -249,9 +249,9 @@ module _ (sight : Sight) (procedure : ℕ) (rest : List (Activation Value)) (low
             (
               (
                 two.0,
-                (λ e may. stays e (or_left (declarations_raise (is_same e) ds || stmts_raise [] (untaken hs (is_same e)) fs) (handlers_raise [] (is_same e) hs) (or_left (declarations_raise (is_same e) ds) (stmts_raise [] (untaken hs (is_same e)) fs) may))),
-                (two.1, block_stays fs hs k (λ e may. stays e (or_left (declarations_raise (is_same e) ds || stmts_raise [] (untaken hs (is_same e)) fs) (handlers_raise [] (is_same e) hs) (or_right (declarations_raise (is_same e) ds) (stmts_raise [] (untaken hs (is_same e)) fs) may))), λ o. out (or_left (have_exit fs) (handlers_have_exit hs) o)),
-                (one.1, (λ e may. stays e (or_right (declarations_raise (is_same e) ds || stmts_raise [] (untaken hs (is_same e)) fs) (handlers_raise [] (is_same e) hs) may)), λ o. out (or_right (have_exit fs) (handlers_have_exit hs) o)),
+                (λ e may. stays e (or_left (declarations_raise no_implicit (is_same e) ds || stmts_raise no_calls (untaken hs (is_same e)) fs) (handlers_raise no_calls (is_same e) hs) (or_left (declarations_raise no_implicit (is_same e) ds) (stmts_raise no_calls (untaken hs (is_same e)) fs) may))),
+                (two.1, block_stays fs hs k (λ e may. stays e (or_left (declarations_raise no_implicit (is_same e) ds || stmts_raise no_calls (untaken hs (is_same e)) fs) (handlers_raise no_calls (is_same e) hs) (or_right (declarations_raise no_implicit (is_same e) ds) (stmts_raise no_calls (untaken hs (is_same e)) fs) may))), λ o. out (or_left (have_exit fs) (handlers_have_exit hs) o)),
+                (one.1, (λ e may. stays e (or_right (declarations_raise no_implicit (is_same e) ds || stmts_raise no_calls (untaken hs (is_same e)) fs) (handlers_raise no_calls (is_same e) hs) may)), λ o. out (or_right (have_exit fs) (handlers_have_exit hs) o)),
               ),
               q,
             ),

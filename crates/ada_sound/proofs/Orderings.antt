@@ -286,7 +286,7 @@ good_to_lost x holds other good y = go (same_or_not y x)
     go (inl e) = rw (e, lost_here other x) (good_lost (hold_at holds x))
     go (inr ne) = rw (read_other other x y Lost Lost ne) (good y)
 
--- What is known behind a call is no better than before it.
+-- What is known where objects may be gone, as behind a call, is no better than before.
 alias_good : (b : Bool) (h : Hold) → is_as_good h (without_alias b h) ≡ true
 alias_good false h = good_here h
 alias_good true Null = refl
@@ -295,7 +295,7 @@ alias_good true (Own r) = good_here (Own r)
 alias_good true (Alias r) = good_lost (Alias r)
 alias_good true Lost = refl
 
-without_freed_good : (variables : List VariableForm) (may : ℕ → Bool) (holds : Holds) → AsGood holds (without_freed variables may holds)
+pub without_freed_good : (variables : List VariableForm) (may : ℕ → Bool) (holds : Holds) → AsGood holds (without_freed variables may holds)
 without_freed_good [] may holds x = good_lost (hold_at holds x)
 without_freed_good (v ∷ vs) may [] x = refl
 without_freed_good (v ∷ vs) may (h ∷ hs) zero = alias_good (is_freed may (access_of (Some v.kind))) h

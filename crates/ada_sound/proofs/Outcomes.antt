@@ -4,13 +4,13 @@ use Rattle.std.proofs.Common.{◌≡◌, ℕ, Bool, true, false, List, refl}
 use Rattle.std.specs.Prelude.{if◌then◌else◌, Option, Some, None}
 use Rattle.ada_text.specs.declared.spot.Spot.{Spot}
 use Rattle.ada_program.specs.declared.program.Exception.{Exception}
-use Rattle.ada_program.specs.Form.{ExpressionForm}
+use Rattle.ada_program.specs.Form.{ExpressionForm, RightForm, nothing, value_of, allocates, allocates_default, computes}
 use Rattle.ada_program.specs.ProgramForm.{VariableForm}
-use Rattle.ada_effects.specs.Effects.{expression_raises}
+use Rattle.ada_effects.specs.Effects.{expression_raises, endings_free, Implicit}
 use Rattle.ada_flow.specs.declared.rule.Rule.TheVariants.{LoopState, FormalNotOwned}
-use Rattle.ada_flow.specs.Flow.{Holds, Outcome, faults, goes, Breach, join, join_option, also_raises, then_flow, raising_if, ends_with, unless_broken, using_paths, uses_in, broken_among, computed, either_of, are_as_good, unless_worse, ends_turn, left_with, Gone, left, left_option, leaves_block, handled, all_give_back, ends_body, return_flow}
-use Rattle.ada_sound.proofs.Orderings.{AsGood, as_good, as_good_then, good_each, join_left, join_right}
-use Rattle.ada_sound.proofs.Invariant.{GoesBy, Goes, To, Ways, Raised, MayReturn, NoneBroken}
+use Rattle.ada_flow.specs.Flow.{Holds, Outcome, faults, goes, Breach, join, join_option, also_raises, then_flow, raising_if, ends_with, unless_broken, using_paths, uses_in, broken_among, computed, either_of, are_as_good, unless_worse, ends_turn, left_with, without_freed, without_freed_option, loses, initializes, finalizes, Gone, left, left_option, leaves_block, leaves_finalized, left_finalized, handled, all_give_back, ends_body, return_flow}
+use Rattle.ada_sound.proofs.Orderings.{AsGood, as_good, as_good_then, good_each, join_left, join_right, without_freed_good}
+use Rattle.ada_sound.proofs.Invariant.{Known, Control, Rooms, GoesBy, Goes, To, Ways, Raised, MayReturn, NoneBroken, RunsOn, RunsAfter}
 
 -- What holds with less known holds with more.
 abbrev pub Down : (Holds → Type 0) → Type 0
@@ -120,6 +120,55 @@ pub left_goes : (leaves : Bool) (start : Holds) (o : Outcome) (more raised : Hol
 left_goes leaves start (faults spot rule) more raised g = absurd g
 left_goes leaves start (goes normal raising) more raised g = ((any_goes normal, g.1), left_some leaves start more g.0)
 
+-- A form in the midst of which operations may free objects: behind it, and where it raises an exception, their aliases are lost.
+loses_by : (variables : List VariableForm) (may : ℕ → Bool) (o : Option Holds) (more : Holds → Type 0) → GoesBy (without_freed_option variables may o) more → GoesBy o (λ h. more (without_freed variables may h))
+loses_by variables may None more g = g
+loses_by variables may (Some h) more g = g
+
+pub loses_goes : (variables : List VariableForm) (may : ℕ → Bool) (o : Outcome) (more raised : Holds → Type 0) → Goes (loses variables may o) more raised → Goes o (λ h. more (without_freed variables may h)) (λ h. raised (without_freed variables may h))
+loses_goes variables may (faults spot rule) more raised g = g
+loses_goes variables may (goes normal raising) more raised g = (loses_by variables may normal more g.0, loses_by variables may raising raised g.1)
+
+-- What holds with them lost holds with them, too.
+pub before_lost : (variables : List VariableForm) (may : ℕ → Bool) (more : Holds → Type 0) → Down more → (h : Holds) → more (without_freed variables may h) → more h
+before_lost variables may more down h m = down h (without_freed variables may h) (without_freed_good variables may h) m
+
+pub loses_none : (variables : List VariableForm) (may : ℕ → Bool) (o : Outcome) (more raised : Holds → Type 0) → Down more → Down raised → Goes (loses variables may o) more raised → Goes o more raised
+loses_none variables may o more raised down downs g =
+    goes_map o (λ h. more (without_freed variables may h)) (λ h. raised (without_freed variables may h)) more raised
+    (before_lost variables may more down) (before_lost variables may raised downs) (loses_goes variables may o more raised g)
+
+-- Where something is assigned, its initialization may; where an object ends, its finalization may.
+pub initializes_none : (variables : List VariableForm) (implicit : Implicit) (right : RightForm) (o : Outcome) (more raised : Holds → Type 0) → Down more → Down raised → Goes (initializes variables implicit right o) more raised → Goes o more raised
+initializes_none variables implicit nothing o more raised down downs g = g
+initializes_none variables implicit (value_of path) o more raised down downs g = g
+initializes_none variables implicit (allocates access items) o more raised down downs g = g
+initializes_none variables implicit (allocates_default access) o more raised down downs g = loses_none variables (implicit.start_frees access) o more raised down downs g
+initializes_none variables implicit (computes e) o more raised down downs g = g
+
+pub finalizes_none : (variables : List VariableForm) (implicit : Implicit) (access : Option ℕ) (o : Outcome) (more raised : Holds → Type 0) → Down more → Down raised → Goes (finalizes variables implicit access o) more raised → Goes o more raised
+finalizes_none variables implicit None o more raised down downs g = g
+finalizes_none variables implicit (Some t) o more raised down downs g = loses_none variables (implicit.end_frees t) o more raised down downs g
+
+-- Something runs on with what is known behind it.
+pub loses_to : (variables : List VariableForm) (may : ℕ → Bool) (o : Outcome) (more raised : Holds → Type 0) → Down raised → Goes (loses variables may o) more raised → Goes o (To more) raised
+loses_to variables may o more raised downs g =
+    goes_map o (λ h. more (without_freed variables may h)) (λ h. raised (without_freed variables may h)) (To more) raised
+    (λ h m. (without_freed variables may h, without_freed_good variables may h, m)) (before_lost variables may raised downs) (loses_goes variables may o more raised g)
+
+pub initializes_after : (known : Known) (right : RightForm) (o : Outcome) (k : Control) (rooms : Rooms) (raised : Holds → Type 0) → Down raised → Goes (initializes known.program.variables known.implicit right o) (RunsOn known k rooms) raised → Goes o (RunsAfter known right k rooms) raised
+initializes_after known nothing o k rooms raised downs g = g
+initializes_after known (value_of path) o k rooms raised downs g = g
+initializes_after known (allocates access items) o k rooms raised downs g =
+    goes_map o (RunsOn known k rooms) raised (To (RunsOn known k rooms)) raised (to_here (RunsOn known k rooms)) (λ h r. r) g
+initializes_after known (allocates_default access) o k rooms raised downs g =
+    loses_to known.program.variables (known.implicit.start_frees access) o (RunsOn known k rooms) raised downs g
+initializes_after known (computes e) o k rooms raised downs g = g
+
+pub finalizes_to : (variables : List VariableForm) (implicit : Implicit) (access : Option ℕ) (o : Outcome) (more raised : Holds → Type 0) → Down raised → Goes (finalizes variables implicit access o) more raised → Goes o (To more) raised
+finalizes_to variables implicit None o more raised downs g = goes_map o more raised (To more) raised (to_here more) (λ h r. r) g
+finalizes_to variables implicit (Some t) o more raised downs g = loses_to variables (implicit.end_frees t) o more raised downs g
+
 -- A block: it is left both ways.
 block_some : (variables : List VariableForm) (gone : Gone) (o : Option Holds) (more : Holds → Type 0) → GoesBy (left_option variables gone o) more → GoesBy o (λ h. more (left variables gone h))
 block_some variables gone None more g = g
@@ -128,6 +177,13 @@ block_some variables gone (Some h) more g = g
 pub block_goes : (variables : List VariableForm) (gone : Gone) (o : Outcome) (more raised : Holds → Type 0) → Goes (leaves_block variables gone o) more raised → Goes o (λ h. more (left variables gone h)) (λ h. raised (left variables gone h))
 block_goes variables gone (faults spot rule) more raised g = g
 block_goes variables gone (goes normal raising) more raised g = (block_some variables gone normal more g.0, block_some variables gone raising raised g.1)
+
+-- A block whose objects are finalized as it is left.
+pub finalized_goes : (variables : List VariableForm) (implicit : Implicit) (gone : Gone) (o : Outcome) (more raised : Holds → Type 0) → Goes (leaves_finalized variables implicit gone o) more raised → Goes o (λ h. more (left_finalized variables implicit gone h)) (λ h. raised (left_finalized variables implicit gone h))
+finalized_goes variables implicit gone o more raised g =
+    let may = endings_free implicit gone.types in
+    loses_goes variables may o (λ h. more (left variables gone h)) (λ h. raised (left variables gone h))
+    (block_goes variables gone (loses variables may o) more raised g)
 
 -- The end of a body: there formal parameters give back what they owe.
 owed_goes : (owed : List ℕ) (spot : Spot) (holds : Holds) (raising : Option Holds) (more raised : Holds → Type 0) → Goes (ends_body owed spot (goes (Some holds) raising)) more raised → (more holds × (all_give_back owed holds ≡ true)) × GoesBy raising raised

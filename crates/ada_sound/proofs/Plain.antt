@@ -7,18 +7,18 @@ use Rattle.ada_text.specs.declared.spot.Spot.{Spot}
 use Rattle.ada_program.specs.declared.program.ComponentKind.{ComponentKind}
 use Rattle.ada_program.specs.declared.program.ComponentKind.TheVariants as component
 use Rattle.ada_program.specs.declared.program.TypeNo.{TypeNo}
-use Rattle.ada_program.specs.Form.{PathForm, RecordPathForm, ItemForm, item_of_record, allocates}
-use Rattle.ada_program.specs.ProgramForm.{TypeForm}
+use Rattle.ada_program.specs.Form.{PathForm, RecordPathForm, ItemForm, item_of_record, allocates, assigns_record}
+use Rattle.ada_program.specs.ProgramForm.{TypeForm, VariableForm}
 use Rattle.ada_program.specs.WellFormed.{record_components, reached_components, names_borrower}
-use Rattle.ada_effects.specs.Effects.{record_path_raises, items_raise}
+use Rattle.ada_effects.specs.Effects.{record_path_raises, items_raise, initial_starts, initial_frees, assignment_frees}
 use Rattle.ada_flow.specs.declared.rule.Hold.TheVariants as hold
 use Rattle.ada_flow.specs.declared.rule.Region.TheVariants.{Whole}
-use Rattle.ada_flow.specs.Flow.{Holds, goes, ends_with, is_owning, owns_among, is_owning_record, owns_at_first, declared_at, copies_to, reaches_it, named_by_item, uses_in_item, uses_in_items, uses_in_record, gives_record}
-use Rattle.ada_sound.specs.Owners.{HasNoAccess, AssignedRecordsArePlain, DeclaredRecordsArePlain, CopiedItemsArePlain, AssignedItemsArePlain, CopiesMoveNothing, CopiesStayWhereRaised}
+use Rattle.ada_flow.specs.Flow.{Holds, Outcome, goes, ends_with, using_paths, passes_it, record_passes, uses_in_copy, uses_in_assignment, is_owning, owns_among, is_owning_record, owns_at_first, declared_at, copies_to, reaches_it, named_by_item, uses_in_item, uses_in_items, uses_in_record}
+use Rattle.ada_sound.specs.Owners.{IsLetThrough, HasNoAccess, AssignedRecordsArePlain, DeclaredRecordsArePlain, CopiedItemsArePlain, AssignedItemsArePlain, CopiesMoveNothing, CopiesStayWhereRaised}
 use Rattle.ada_sound.proofs.Invariant.{NoneBroken}
 use Rattle.ada_sound.proofs.Followings.{first_kept, kept_apart}
 use Rattle.ada_sound.proofs.Copied.{copied_plain}
-use Rattle.ada_sound.proofs.Moves.{kept_uses, ended, assigns_by, target_at}
+use Rattle.ada_sound.proofs.Moves.{kept_uses, ended, assigns_by, target_at, loses_through, loses_ended, loses_raised, stays_lost}
 
 -- No component that owns is among components of which none does.
 neither : (a b : Bool) → (a || b) ≡ false → (a ≡ false) × (b ≡ false)
@@ -41,26 +41,40 @@ has_no_access (Some kinds) plain components c access is at =
     let same : kinds ≡ components = cc is in
     none_owning kinds c access plain (rw same at)
 
--- What an assignment of a record uses, and what it comes to its end with.
-record Gives (types : List TypeForm) (target : RecordPathForm) (items : List ItemForm) (holds : Holds) (normal raising : Option Holds) : Type 0 where
-  kept : NoneBroken holds (reaches_it target.object ∷ uses_in_record types target.object.spot target.record_type items)
+-- What an assignment of a record uses, and what it comes to its end with, before aliases are lost.
+record Gives (types : List TypeForm) (variables : List VariableForm) (may : ℕ → Bool) (target : RecordPathForm) (items : List ItemForm) (holds : Holds) (normal raising : Option Holds) : Type 0 where
+  kept : NoneBroken holds (uses_in_assignment types variables may target items)
   ends : normal ≡ Some holds
   raises : (raised : Holds) → raising ≡ Some raised → raised ≡ holds
 
-gives_as : (types : List TypeForm) (target : RecordPathForm) (items : List ItemForm) (holds : Holds) (normal raising : Option Holds) → gives_record types target items holds ≡ goes normal raising → Gives types target items holds normal raising
-gives_as types target items holds normal raising e =
-    let may = record_path_raises target || items_raise items in
-    let uses = kept_uses (reaches_it target.object ∷ uses_in_record types target.object.spot target.record_type items) holds (ends_with may holds holds) normal raising e in
-    let ends = ended may holds holds normal raising uses.1 in
+-- That is what operations lose aliases of.
+abbrev before_losing : List TypeForm → List VariableForm → (may : ℕ → Bool) → RecordPathForm → List ItemForm → Holds → Outcome
+before_losing types variables may target items holds =
+    using_paths (uses_in_assignment types variables may target items) holds (ends_with (record_path_raises target || items_raise items) holds holds)
+
+gives_as : (types : List TypeForm) (variables : List VariableForm) (may : ℕ → Bool) (target : RecordPathForm) (items : List ItemForm) (holds : Holds) (normal raising : Option Holds) → before_losing types variables may target items holds ≡ goes normal raising → Gives types variables may target items holds normal raising
+gives_as types variables may target items holds normal raising e =
+    let some = record_path_raises target || items_raise items in
+    let uses = kept_uses (uses_in_assignment types variables may target items) holds (ends_with some holds holds) normal raising e in
+    let ends = ended some holds holds normal raising uses.1 in
     record { kept = uses.0; ends = ends.0; raises = ends.1 }
 
-record_kept : (types : List TypeForm) (target : RecordPathForm) (items : List ItemForm) (holds : Holds) → NoneBroken holds (reaches_it target.object ∷ uses_in_record types target.object.spot target.record_type items) → (is_owning_record types target.record_type ≡ false) × NoneBroken holds (uses_in_items types target.object.spot None [] items)
-record_kept types target items holds kept =
+record_kept : (types : List TypeForm) (variables : List VariableForm) (may : ℕ → Bool) (target : RecordPathForm) (items : List ItemForm) (holds : Holds) → NoneBroken holds (uses_in_assignment types variables may target items) → (is_owning_record types target.record_type ≡ false) × NoneBroken holds (uses_in_items types target.object.spot None [] items)
+record_kept types variables may target items holds kept =
     let spot = target.object.spot in
     let owning = is_owning_record types target.record_type in
-    let later = (first_kept holds (reaches_it target.object) (uses_in_record types spot target.record_type items) kept).1 in
-    let h = first_kept holds (copies_to owning spot) (uses_in_items types spot None [] items) later in
+    let of_record = uses_in_record types spot target.record_type items in
+    let of_copy = uses_in_copy types variables may items in
+    let later = (first_kept holds (passes_it (record_passes types variables may target) target.object) (of_record ++ of_copy) kept).1 in
+    let h = first_kept holds (copies_to owning spot) (uses_in_items types spot None [] items) (kept_apart holds of_record of_copy later).0 in
     (copied_plain owning spot h.0, h.1)
+
+-- A statement that is let through breaks no rule.
+assigned_kept : (types : List TypeForm) (variables : List VariableForm) (target : RecordPathForm) (items : List ItemForm) (holds : Holds) → IsLetThrough types variables (assigns_record target items) holds → (is_owning_record types target.record_type ≡ false) × NoneBroken holds (uses_in_items types target.object.spot None [] items)
+assigned_kept types variables target items holds kept =
+    let may : ℕ → Bool = λ t. assignment_frees kept.0.effects.implicit t target.record_type in
+    let through = loses_through variables may (before_losing types variables may target items holds) kept.2 kept.3 kept.4 in
+    record_kept types variables may target items holds (gives_as types variables may target items holds through.0 through.1 through.2).kept
 
 -- An item that is a record.
 item_plain : (types : List TypeForm) (spot : Spot) (target : Option PathForm) (holds : Holds) (earlier : List PathForm) (items : List ItemForm) (i : ℕ) (p : RecordPathForm) → slice_get items i ≡ Some (item_of_record p) → NoneBroken holds (uses_in_items types spot target earlier items) → is_owning_record types p.record_type ≡ false
@@ -76,12 +90,12 @@ item_plain types spot target holds earlier (item ∷ items) (suc i) p found kept
 
 pub assigned_records_are_plain : AssignedRecordsArePlain
 assigned_records_are_plain types variables target items holds kept =
-    has_no_access (record_components types target.record_type) (record_kept types target items holds (gives_as types target items holds kept.2 kept.3 kept.4).kept).0
+    has_no_access (record_components types target.record_type) (assigned_kept types variables target items holds kept).0
 
 pub assigned_items_are_plain : AssignedItemsArePlain
 assigned_items_are_plain types variables target i items p holds found kept =
     has_no_access (record_components types p.record_type)
-    (item_plain types target.object.spot None holds [] items i p found (record_kept types target items holds (gives_as types target items holds kept.2 kept.3 kept.4).kept).1)
+    (item_plain types target.object.spot None holds [] items i p found (assigned_kept types variables target items holds kept).1)
 
 pub copied_items_are_plain : CopiedItemsArePlain
 copied_items_are_plain types variables target access i items p holds found kept =
@@ -89,19 +103,29 @@ copied_items_are_plain types variables target access i items p holds found kept 
     has_no_access (record_components types p.record_type) (item_plain types target.spot (target_at target.selectors target) holds [] items i p found all.kept)
 
 pub declared_records_are_plain : DeclaredRecordsArePlain
-declared_records_are_plain types variables x t items holds normal raising e =
+declared_records_are_plain types variables implicit x t items holds normal raising e =
     let spot = declared_at variables x in
     let owning = owns_at_first types t in
     let used = uses_in_items types spot None [] items in
-    let uses = kept_uses (copies_to owning spot ∷ used) holds (ends_with (items_raise items) holds (slice_set holds x (hold.Own Whole))) normal raising e in
+    let some = items_raise items || initial_starts implicit (λ e. true) t (Some items) in
+    let uses_all = copies_to owning spot ∷ used in
+    let after = ends_with some holds (slice_set holds x (hold.Own Whole)) in
+    let through = loses_through variables (λ u. initial_frees implicit u t (Some items)) (using_paths uses_all holds after) normal raising e in
+    let uses = kept_uses uses_all holds after through.0 through.1 through.2 in
     has_no_access (reached_components types t) (copied_plain owning spot (first_kept holds (copies_to owning spot) used uses.0).0)
 
 pub copies_move_nothing : CopiesMoveNothing
-copies_move_nothing types variables target items holds after ends =
-    let all = gives_as types target items holds (Some after) ends.2 ends.3 in
-    let same : Some after ≡ Some holds = all.ends in
-    cc same
+copies_move_nothing types variables around cleared target items holds after raising e x v is =
+    let may : ℕ → Bool = λ t. assignment_frees around.effects.implicit t target.record_type in
+    let less = loses_ended variables may (before_losing types variables may target items holds) after raising e in
+    let all = gives_as types variables may target items holds (Some less.0) less.1 less.2 in
+    let same : less.0 ≡ holds = cc (all.ends) in
+    rw less.3 (rw same (stays_lost variables may holds x v is))
 
 pub copies_stay_where_raised : CopiesStayWhereRaised
-copies_stay_where_raised types variables target items holds raised raises =
-    (gives_as types target items holds raises.2 (Some raised) raises.3).raises raised refl
+copies_stay_where_raised types variables around cleared target items holds raised normal e x v is =
+    let may : ℕ → Bool = λ t. assignment_frees around.effects.implicit t target.record_type in
+    let less = loses_raised variables may (before_losing types variables may target items holds) raised normal e in
+    let all = gives_as types variables may target items holds less.1 (Some less.0) less.2 in
+    let same : less.0 ≡ holds = all.raises less.0 refl in
+    rw less.3 (rw same (stays_lost variables may holds x v is))

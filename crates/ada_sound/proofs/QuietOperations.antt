@@ -16,7 +16,7 @@ use Rattle.ada_program.specs.Form.{StmtForm, skips, assigns, assigns_record, fre
 use Rattle.ada_program.specs.Nested.{Callees, collected, record_objects, part_nests, statement_nests, statements_nest, branches_nest, handlers_nest, body_nests, call_nests, callees_from, callees_of}
 use Rattle.ada_program.specs.ProgramForm.{TypeForm, VariableForm, BodyForm, ProgramForm, type_form, program_form, body_forms, seen_in}
 use Rattle.ada_program.specs.WellFormed.{IsWellFormed, profile_of, callable_in, finalization_in, is_operation, overrides_rightly, has_operations, have_operations}
-use Rattle.ada_effects.specs.Effects.{body_raises}
+use Rattle.ada_effects.specs.Effects.{no_calls, body_raises}
 use Rattle.ada_flow.specs.Flow.{have_exit, handlers_have_exit}
 use Rattle.ada_typed.proofs.Bodies.{seen_as, seen_fits}
 use Rattle.ada_scopes.specs.Scopes.{NestsAnywhere, AllNestAnywhere, OperationsNest}
@@ -90,7 +90,7 @@ quiet_is types b quiet out on =
       declarations = two.1;
       statements = three.1;
       handlers = four.1;
-      raises_nothing = no_no (body_raises [] b (λ e. true)) five.1;
+      raises_nothing = no_no (body_raises no_calls b (λ e. true)) five.1;
       none_out = out;
       none_on = on;
     }

@@ -2,8 +2,8 @@
 
 use Rattle.std.proofs.Common.{◌≡◌, ℕ, zero, suc, Bool, true, false, ◌&&◌, ◌||◌, not, List, [], ◌∷◌, ◌++◌, refl, ap}
 use Rattle.std.proofs.lemmas.Bool.{eqb-true, eq-eqb}
-use Rattle.std.specs.Prelude.{ℤ, None, Result, Ok, Err}
-use Rattle.std.specs.List.{slice_get}
+use Rattle.std.specs.Prelude.{ℤ, Option, Some, None, Result, Ok, Err}
+use Rattle.std.specs.List.{list_any, slice_get}
 use Rattle.ada_values.specs.declared.operator.UnaryOperator.{UnaryOperator}
 use Rattle.ada_values.specs.declared.operator.UnaryOperator.TheVariants as unary
 use Rattle.ada_values.specs.declared.operator.BinaryOperator.{BinaryOperator}
@@ -15,10 +15,10 @@ use Rattle.ada_values.specs.declared.fault.OperatorFault.TheVariants.{Overflow, 
 use Rattle.ada_values.specs.Outcome.{outcome_of, outcome_of_integers, outcome_of_booleans, unary_outcome_of}
 use Rattle.ada_program.specs.declared.program.Exception.{Exception}
 use Rattle.ada_program.specs.declared.program.Exception.TheVariants.{ConstraintError, ProgramError, StorageError, EndError, Declared}
-use Rattle.ada_program.specs.Form.{RightForm, nothing, value_of, allocates, allocates_default, computes, DeclarationForm, creates_pool, collects, declares, declares_record, StmtForm, skips, assigns, assigns_record, frees, gets, writes, writes_text, chooses, repeats, counts, exits, calls, returns, raises, encloses, StmtsForm, no_stmts, a_stmt, BranchesForm, otherwise, a_branch, HandlersForm, no_handlers, a_handler}
+use Rattle.ada_program.specs.Form.{ItemForm, RightForm, nothing, value_of, allocates, allocates_default, computes, DeclarationForm, creates_pool, collects, declares, declares_record, StmtForm, skips, assigns, assigns_record, frees, gets, writes, writes_text, chooses, repeats, counts, exits, calls, returns, raises, encloses, StmtsForm, no_stmts, a_stmt, BranchesForm, otherwise, a_branch, HandlersForm, no_handlers, a_handler}
 use Rattle.ada_program.specs.Handling.{is_same, handler_of, is_taken}
 use Rattle.ada_program.specs.ProgramForm.{TypeForm, BodyForm, ProgramForm}
-use Rattle.ada_effects.specs.Effects.{Effect, effect_of, effects_from, effects_of, call_raises, actuals_raise, expression_raises, condition_raises, items_raise, path_raises, record_path_raises, initial_raises, untaken, unary_raises, binary_raises, right_raises, declaration_raises, declarations_raise, stmt_raises, stmts_raise, branches_raise, handlers_raise}
+use Rattle.ada_effects.specs.Effects.{Effect, Implicit, Effects, known_of, right_starts, initial_starts, effect_of, effects_from, effects_of, call_raises, actuals_raise, expression_raises, condition_raises, items_raise, path_raises, record_path_raises, initial_raises, untaken, unary_raises, binary_raises, right_raises, declaration_raises, declarations_raise, stmt_raises, stmts_raise, branches_raise, handlers_raise}
 use Rattle.ada_meaning.specs.declared.state.Value.{Value}
 use Rattle.ada_meaning.specs.declared.state.Value.TheVariants.{Null, Names, Scalar, Part}
 use Rattle.ada_meaning.specs.Named.{as_value, unary_given, binary_given}
@@ -80,16 +80,36 @@ right_more among more m (allocates access items) is =
 right_more among more m (allocates_default access) is = m StorageError is
 right_more among more m (computes e) is = and_first (among ConstraintError) (expression_raises e) (more ConstraintError) (m ConstraintError) is
 
-pub declarations_more : (among more : Exception → Bool) → IsAmong among more → (ds : List DeclarationForm) → declarations_raise among ds ≡ true → declarations_raise more ds ≡ true
-declarations_more among more m [] is = is
-declarations_more among more m (d ∷ ds) is =
-    or_map (declaration_raises among d) (declarations_raise among ds) (declaration_raises more d) (declarations_raise more ds) (one d) (declarations_more among more m ds) is
+-- What is initialized.
+any_more : (among more : Exception → Bool) → IsAmong among more → (es : List Exception) → list_any among es ≡ true → list_any more es ≡ true
+any_more among more m [] is = is
+any_more among more m (e ∷ es) is = or_map (among e) (list_any among es) (more e) (list_any more es) (m e) (any_more among more m es) is
+
+right_starts_more : (implicit : Implicit) (among more : Exception → Bool) → IsAmong among more → (right : RightForm) → right_starts implicit among right ≡ true → right_starts implicit more right ≡ true
+right_starts_more implicit among more m nothing is = is
+right_starts_more implicit among more m (value_of path) is = is
+right_starts_more implicit among more m (allocates access items) is = any_more among more m (implicit.start_raises access) is
+right_starts_more implicit among more m (allocates_default access) is = any_more among more m (implicit.start_raises access) is
+right_starts_more implicit among more m (computes e) is = is
+
+initial_starts_more : (implicit : Implicit) (among more : Exception → Bool) → IsAmong among more → (object : ℕ) (initial : Option (List ItemForm)) → initial_starts implicit among object initial ≡ true → initial_starts implicit more object initial ≡ true
+initial_starts_more implicit among more m object None is = any_more among more m (implicit.start_raises object) is
+initial_starts_more implicit among more m object (Some items) is = is
+
+pub declarations_more : (implicit : Implicit) (among more : Exception → Bool) → IsAmong among more → (ds : List DeclarationForm) → declarations_raise implicit among ds ≡ true → declarations_raise implicit more ds ≡ true
+declarations_more implicit among more m [] is = is
+declarations_more implicit among more m (d ∷ ds) is =
+    or_map (declaration_raises implicit among d) (declarations_raise implicit among ds) (declaration_raises implicit more d) (declarations_raise implicit more ds) (one d) (declarations_more implicit among more m ds) is
   where
-    one : (d : DeclarationForm) → declaration_raises among d ≡ true → declaration_raises more d ≡ true
+    one : (d : DeclarationForm) → declaration_raises implicit among d ≡ true → declaration_raises implicit more d ≡ true
     one (creates_pool pool) i = i
     one (collects access) i = i
-    one (declares x right) i = right_more among more m right i
-    one (declares_record x t initial) i = and_first (among ConstraintError) (initial_raises initial) (more ConstraintError) (m ConstraintError) i
+    one (declares x right) i =
+        or_map (right_raises among right) (right_starts implicit among right) (right_raises more right) (right_starts implicit more right)
+        (right_more among more m right) (right_starts_more implicit among more m right) i
+    one (declares_record x t initial) i =
+        or_map (among ConstraintError && initial_raises initial) (initial_starts implicit among t initial) (more ConstraintError && initial_raises initial) (initial_starts implicit more t initial)
+        (λ j. and_first (among ConstraintError) (initial_raises initial) (more ConstraintError) (m ConstraintError) j) (initial_starts_more implicit among more m t initial) i
 
 -- Whether a call raises one of some exceptions, it does where more are asked for.
 abbrev pub AsksEach : Effect → Type 0
@@ -105,12 +125,14 @@ call_more (e ∷ es) all zero among more m is = all.0 among more m is
 call_more (e ∷ es) all (suc procedure) among more m is = call_more es all.1 procedure among more m is
 
 mutual
-  stmt_more : (effects : List Effect) → AllAsk effects → (f : StmtForm) (among more : Exception → Bool) → IsAmong among more → stmt_raises effects among f ≡ true → stmt_raises effects more f ≡ true
+  stmt_more : (effects : Effects) → AllAsk effects.calls → (f : StmtForm) (among more : Exception → Bool) → IsAmong among more → stmt_raises effects among f ≡ true → stmt_raises effects more f ≡ true
   stmt_more effects all skips among more m is = is
   stmt_more effects all (assigns target right) among more m is =
       let follows = path_raises target in
-      or_map (among ConstraintError && follows) (right_raises among right) (more ConstraintError && follows) (right_raises more right)
-      (λ i. and_first (among ConstraintError) follows (more ConstraintError) (m ConstraintError) i) (right_more among more m right) is
+      or_map ((among ConstraintError && follows) || right_raises among right) (right_starts effects.implicit among right) ((more ConstraintError && follows) || right_raises more right) (right_starts effects.implicit more right)
+      (λ i. or_map (among ConstraintError && follows) (right_raises among right) (more ConstraintError && follows) (right_raises more right)
+      (λ j. and_first (among ConstraintError) follows (more ConstraintError) (m ConstraintError) j) (right_more among more m right) i)
+      (right_starts_more effects.implicit among more m right) is
   stmt_more effects all (assigns_record target items) among more m is =
       and_first (among ConstraintError) (record_path_raises target || items_raise items) (more ConstraintError) (m ConstraintError) is
   stmt_more effects all (frees access path) among more m is = and_first (among ConstraintError) (path_raises path) (more ConstraintError) (m ConstraintError) is
@@ -129,38 +151,38 @@ mutual
       (λ i. and_first (among ConstraintError) (expression_raises low || expression_raises high) (more ConstraintError) (m ConstraintError) i) (stmts_more effects all fs among more m) is
   stmt_more effects all (exits condition spot) among more m is = and_first (among ConstraintError) (condition_raises condition) (more ConstraintError) (m ConstraintError) is
   stmt_more effects all (calls procedure actuals) among more m is =
-      or_map (among ConstraintError && actuals_raise actuals) (call_raises (slice_get effects procedure) among) (more ConstraintError && actuals_raise actuals) (call_raises (slice_get effects procedure) more)
-      (λ i. and_first (among ConstraintError) (actuals_raise actuals) (more ConstraintError) (m ConstraintError) i) (call_more effects all procedure among more m) is
+      or_map (among ConstraintError && actuals_raise actuals) (call_raises (slice_get effects.calls procedure) among) (more ConstraintError && actuals_raise actuals) (call_raises (slice_get effects.calls procedure) more)
+      (λ i. and_first (among ConstraintError) (actuals_raise actuals) (more ConstraintError) (m ConstraintError) i) (call_more effects.calls all procedure among more m) is
   stmt_more effects all (returns spot) among more m is = is
   stmt_more effects all (raises e) among more m is = m e is
   stmt_more effects all (encloses ds fs hs) among more m is =
-      or_map (declarations_raise among ds || stmts_raise effects (untaken hs among) fs) (handlers_raise effects among hs) (declarations_raise more ds || stmts_raise effects (untaken hs more) fs) (handlers_raise effects more hs)
-      (λ i. or_map (declarations_raise among ds) (stmts_raise effects (untaken hs among) fs) (declarations_raise more ds) (stmts_raise effects (untaken hs more) fs) (declarations_more among more m ds) (stmts_more effects all fs (untaken hs among) (untaken hs more) (untaken_more hs among more m)) i)
+      or_map (declarations_raise effects.implicit among ds || stmts_raise effects (untaken hs among) fs) (handlers_raise effects among hs) (declarations_raise effects.implicit more ds || stmts_raise effects (untaken hs more) fs) (handlers_raise effects more hs)
+      (λ i. or_map (declarations_raise effects.implicit among ds) (stmts_raise effects (untaken hs among) fs) (declarations_raise effects.implicit more ds) (stmts_raise effects (untaken hs more) fs) (declarations_more effects.implicit among more m ds) (stmts_more effects all fs (untaken hs among) (untaken hs more) (untaken_more hs among more m)) i)
       (handlers_more effects all hs among more m) is
 
-  pub stmts_more : (effects : List Effect) → AllAsk effects → (fs : StmtsForm) (among more : Exception → Bool) → IsAmong among more → stmts_raise effects among fs ≡ true → stmts_raise effects more fs ≡ true
+  pub stmts_more : (effects : Effects) → AllAsk effects.calls → (fs : StmtsForm) (among more : Exception → Bool) → IsAmong among more → stmts_raise effects among fs ≡ true → stmts_raise effects more fs ≡ true
   stmts_more effects all no_stmts among more m is = is
   stmts_more effects all (a_stmt f fs) among more m is = or_map (stmt_raises effects among f) (stmts_raise effects among fs) (stmt_raises effects more f) (stmts_raise effects more fs) (stmt_more effects all f among more m) (stmts_more effects all fs among more m) is
 
-  branches_more : (effects : List Effect) → AllAsk effects → (branches : BranchesForm) (among more : Exception → Bool) → IsAmong among more → branches_raise effects among branches ≡ true → branches_raise effects more branches ≡ true
+  branches_more : (effects : Effects) → AllAsk effects.calls → (branches : BranchesForm) (among more : Exception → Bool) → IsAmong among more → branches_raise effects among branches ≡ true → branches_raise effects more branches ≡ true
   branches_more effects all (otherwise fs) among more m is = stmts_more effects all fs among more m is
   branches_more effects all (a_branch e fs branches) among more m is =
       or_map ((among ConstraintError && expression_raises e) || stmts_raise effects among fs) (branches_raise effects among branches) ((more ConstraintError && expression_raises e) || stmts_raise effects more fs) (branches_raise effects more branches)
       (λ i. or_map (among ConstraintError && expression_raises e) (stmts_raise effects among fs) (more ConstraintError && expression_raises e) (stmts_raise effects more fs) (λ j. and_first (among ConstraintError) (expression_raises e) (more ConstraintError) (m ConstraintError) j) (stmts_more effects all fs among more m) i)
       (branches_more effects all branches among more m) is
 
-  pub handlers_more : (effects : List Effect) → AllAsk effects → (hs : HandlersForm) (among more : Exception → Bool) → IsAmong among more → handlers_raise effects among hs ≡ true → handlers_raise effects more hs ≡ true
+  pub handlers_more : (effects : Effects) → AllAsk effects.calls → (hs : HandlersForm) (among more : Exception → Bool) → IsAmong among more → handlers_raise effects among hs ≡ true → handlers_raise effects more hs ≡ true
   handlers_more effects all no_handlers among more m is = is
   handlers_more effects all (a_handler choices fs hs) among more m is = or_map (stmts_raise effects among fs) (handlers_raise effects among hs) (stmts_raise effects more fs) (handlers_raise effects more hs) (stmts_more effects all fs among more m) (handlers_more effects all hs among more m) is
 
 -- Of a body, and of all procedures of a program.
-body_more : (effects : List Effect) → AllAsk effects → (types : List TypeForm) (b : BodyForm) → AsksEach (effect_of types effects b)
+body_more : (effects : Effects) → AllAsk effects.calls → (types : List TypeForm) (b : BodyForm) → AsksEach (effect_of types effects b)
 body_more effects all types b among more m is =
-    or_map (declarations_raise among b.declarations || stmts_raise effects (untaken b.handlers among) b.statements) (handlers_raise effects among b.handlers)
-    (declarations_raise more b.declarations || stmts_raise effects (untaken b.handlers more) b.statements) (handlers_raise effects more b.handlers)
-    (λ i. or_map (declarations_raise among b.declarations) (stmts_raise effects (untaken b.handlers among) b.statements)
-    (declarations_raise more b.declarations) (stmts_raise effects (untaken b.handlers more) b.statements)
-    (declarations_more among more m b.declarations)
+    or_map (declarations_raise effects.implicit among b.declarations || stmts_raise effects (untaken b.handlers among) b.statements) (handlers_raise effects among b.handlers)
+    (declarations_raise effects.implicit more b.declarations || stmts_raise effects (untaken b.handlers more) b.statements) (handlers_raise effects more b.handlers)
+    (λ i. or_map (declarations_raise effects.implicit among b.declarations) (stmts_raise effects (untaken b.handlers among) b.statements)
+    (declarations_raise effects.implicit more b.declarations) (stmts_raise effects (untaken b.handlers more) b.statements)
+    (declarations_more effects.implicit among more m b.declarations)
     (stmts_more effects all b.statements (untaken b.handlers among) (untaken b.handlers more) (untaken_more b.handlers among more m)) i)
     (handlers_more effects all b.handlers among more m) is
 
@@ -168,23 +190,24 @@ one_asks_more : (effects : List Effect) (e : Effect) → AllAsk effects → Asks
 one_asks_more [] e all one = (one, tt)
 one_asks_more (f ∷ fs) e all one = (all.0, one_asks_more fs e all.1 one)
 
-from_ask : (types : List TypeForm) (effects : List Effect) (bodies : List BodyForm) → AllAsk effects → AllAsk (effects_from types effects bodies)
-from_ask types effects [] all = all
-from_ask types effects (b ∷ bs) all =
-    from_ask types (effects ++ effect_of types effects b ∷ []) bs (one_asks_more effects (effect_of types effects b) all (body_more effects all types b))
+from_ask : (types : List TypeForm) (implicit : Implicit) (known : List Effect) (bodies : List BodyForm) → AllAsk known → AllAsk (effects_from types implicit known bodies)
+from_ask types implicit known [] all = all
+from_ask types implicit known (b ∷ bs) all =
+    let effect = effect_of types (known_of implicit known) b in
+    from_ask types implicit (known ++ effect ∷ []) bs (one_asks_more known effect all (body_more (known_of implicit known) all types b))
 
-pub program_asks : (p : ProgramForm) → AllAsk (effects_of p)
-program_asks p = from_ask p.types [] p.bodies tt
+pub program_asks : (implicit : Implicit) (p : ProgramForm) → AllAsk (effects_of implicit p).calls
+program_asks implicit p = from_ask p.types implicit [] p.bodies tt
 
 -- An exception that no handler takes.
 pub not_taken : (hs : HandlersForm) (e : Exception) → handler_of e hs ≡ None → (f : Exception) → is_same e f ≡ true → not (is_taken hs f) ≡ true
 not_taken hs e none f is = rw (← same_is e f is, none) refl
 
-pub raises_untaken : (p : ProgramForm) (fs : StmtsForm) (hs : HandlersForm) (e : Exception) → handler_of e hs ≡ None → stmts_raise (effects_of p) (is_same e) fs ≡ true → stmts_raise (effects_of p) (untaken hs (is_same e)) fs ≡ true
-raises_untaken p fs hs e none is = stmts_more (effects_of p) (program_asks p) fs (is_same e) (untaken hs (is_same e)) (λ f same. both (is_same e f) (not (is_taken hs f)) same (not_taken hs e none f same)) is
+pub raises_untaken : (implicit : Implicit) (p : ProgramForm) (fs : StmtsForm) (hs : HandlersForm) (e : Exception) → handler_of e hs ≡ None → stmts_raise (effects_of implicit p) (is_same e) fs ≡ true → stmts_raise (effects_of implicit p) (untaken hs (is_same e)) fs ≡ true
+raises_untaken implicit p fs hs e none is = stmts_more (effects_of implicit p) (program_asks implicit p) fs (is_same e) (untaken hs (is_same e)) (λ f same. both (is_same e f) (not (is_taken hs f)) same (not_taken hs e none f same)) is
 
-pub raises_past : (p : ProgramForm) (fs : StmtsForm) (hs : HandlersForm) (e : Exception) → handler_of e hs ≡ None → stmts_raise (effects_of p) (is_same e) fs ≡ true → stmts_raise (effects_of p) (λ f. not (is_taken hs f)) fs ≡ true
-raises_past p fs hs e none is = stmts_more (effects_of p) (program_asks p) fs (is_same e) (λ f. not (is_taken hs f)) (not_taken hs e none) is
+pub raises_past : (implicit : Implicit) (p : ProgramForm) (fs : StmtsForm) (hs : HandlersForm) (e : Exception) → handler_of e hs ≡ None → stmts_raise (effects_of implicit p) (is_same e) fs ≡ true → stmts_raise (effects_of implicit p) (λ f. not (is_taken hs f)) fs ≡ true
+raises_past implicit p fs hs e none is = stmts_more (effects_of implicit p) (program_asks implicit p) fs (is_same e) (λ f. not (is_taken hs f)) (not_taken hs e none) is
 
 -- An operator raises an exception only where it may.
 abbrev pub RaisesOnly : {X : Type 0} → Bool → Result X OperatorFault → Type 0

@@ -57,7 +57,7 @@ none_left known mode ms (gone ∷ rooms) holds r g = nowhere_goes mode holds g
 
 module _ (known : Known) where
   -- A step that leaves objects as they are.
-  pub stays : (e : Event) (after : State) → Ready known after → Says known.program e after.heap after → Stepped known after.heap e after
+  pub stays : (e : Event) (after : State) → Ready known after → Says known.implicit known.program e after.heap after → Stepped known after.heap e after
   stays e after r says = record { ready = r; alters = alters_same after.heap e; says = says }
 
   -- Where a master is to be left, nothing relies on the components of its objects.
@@ -77,19 +77,19 @@ module _ (known : Known) where
   runs_ready (f ∷ k) heap places operands ms w = absurd (w.rest)
 
   -- What is left goes on also where no record is adjusted.
-  pub runs_behind : (k : Control) (rooms : Rooms) (holds : Holds) → RunsOn known k rooms holds → RunsBehind known k rooms holds
+  pub runs_behind : (k : Control) (rooms : Rooms) (holds : Holds) → To (RunsOn known k rooms) holds → RunsBehind known k rooms holds
   runs_behind [] rooms holds r = r
-  runs_behind (Treats v treatment tasks ∷ k) rooms holds r = absurd r
+  runs_behind (Treats v treatment tasks ∷ k) rooms holds r = absurd (r.2)
   runs_behind (f ∷ k) rooms holds r = r
 
   pub behind_ready : (k : Control) (heap : List Object) (places operands : List Value) (ms : List Master) → Working known heap places ms (RunsBehind known k) → ReadyIn known Running k heap places operands ms
-  behind_ready [] heap places operands ms w = runs_ready [] heap places operands ms w
-  behind_ready (Treats v (begins by done) tasks ∷ k) heap places operands ms w = inl w
+  behind_ready [] heap places operands ms w = runs_ready [] heap places operands ms (at_less w w.rest)
+  behind_ready (Treats v (begins by done) tasks ∷ k) heap places operands ms w = inl (at_less w w.rest)
   behind_ready (Treats v (ends cause) tasks ∷ k) heap places operands ms w = absurd (w.rest)
-  behind_ready (f ∷ k) heap places operands ms w = runs_ready (f ∷ k) heap places operands ms w
+  behind_ready (f ∷ k) heap places operands ms w = runs_ready (f ∷ k) heap places operands ms (at_less w w.rest)
 
   -- It does so behind the adjustment of a record, or at once, where nothing is to be adjusted.
-  pub treating_behind : (v : Value) (by : Birth) (tasks : List Task) (k : Control) (rooms : Rooms) (holds : Holds) → RunsOn known k rooms holds → RunsBehind known (treating v (begins by []) tasks k) rooms holds
+  pub treating_behind : (v : Value) (by : Birth) (tasks : List Task) (k : Control) (rooms : Rooms) (holds : Holds) → To (RunsOn known k rooms) holds → RunsBehind known (treating v (begins by []) tasks k) rooms holds
   treating_behind v by [] k rooms holds r = runs_behind k rooms holds r
   treating_behind v by (task ∷ tasks) k rooms holds r = r
 
@@ -244,10 +244,10 @@ module _ (known : Known) where
     ready_on vs r = stays Quiet (running k (record a { operands = vs }) rest s) (tt, r) tt
 
     -- What is left of the program goes on.
-    pub runs_on : Working known s.heap a.places s.masters (RunsOn known k) → (e : Event) → Says known.program e s.heap (running k a rest s) → Stepped known s.heap e (running k a rest s)
+    pub runs_on : Working known s.heap a.places s.masters (RunsOn known k) → (e : Event) → Says known.implicit known.program e s.heap (running k a rest s) → Stepped known s.heap e (running k a rest s)
     runs_on w e says = stays e (running k a rest s) (tt, runs_ready k s.heap a.places a.operands s.masters w) says
 
-    pub resumes_on : Resumes known s.heap a.places s.masters k → (e : Event) → Says known.program e s.heap (running k a rest s) → Stepped known s.heap e (running k a rest s)
+    pub resumes_on : Resumes known s.heap a.places s.masters k → (e : Event) → Says known.implicit known.program e s.heap (running k a rest s) → Stepped known s.heap e (running k a rest s)
     resumes_on r e says = stays e (running k a rest s) (tt, resumes_ready k s.heap a.places a.operands s.masters r) says
 
     pub goes_in_mode : (mode : Mode) → Working known s.heap a.places s.masters (GoesOn known mode k) → Stepped known s.heap Quiet (in_mode mode k a rest s)

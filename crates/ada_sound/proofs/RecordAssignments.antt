@@ -1,13 +1,14 @@
 -- Records that have controlled parts are assigned to one another (5.2, 7.6): both are found first; then the target is finalized, its components get the values
 -- of the other one's, and it is adjusted. Their components are Integers and Booleans.
 
-use Rattle.std.proofs.Common.{◌≡◌, ℕ, suc, ◌+◌, Bool, true, false, ◌||◌, ◌&&◌, List, [], ◌∷◌, length, take, drop, refl, ◌∙◌, inr}
+use Rattle.std.proofs.Common.{◌≡◌, ℕ, suc, ◌+◌, Bool, true, false, ◌||◌, ◌&&◌, List, [], ◌∷◌, ◌++◌, length, take, drop, refl, ◌∙◌, inr}
 use Rattle.std.proofs.lemmas.Bool.{and_parts}
 use Rattle.std.specs.Prelude.{Option, Some, None}
 use Rattle.std.specs.List.{list_any, list_all}
 use Rattle.ada_parts.specs.declared.tasks.Direction.TheVariants.{PartsFirst, WholeFirst}
 use Rattle.ada_program.specs.declared.program.ComponentKind.{ComponentKind}
 use Rattle.ada_program.specs.declared.program.ComponentKind.TheVariants as component
+use Rattle.ada_program.specs.declared.program.Exception.{Exception}
 use Rattle.ada_program.specs.declared.program.Exception.TheVariants.{ConstraintError}
 use Rattle.ada_program.specs.declared.program.TypeDefinition.{TypeDefinition}
 use Rattle.ada_program.specs.declared.program.VariableKind.{VariableKind}
@@ -16,8 +17,8 @@ use Rattle.ada_program.specs.ProgramForm.{TypeForm, VariableForm}
 use Rattle.ada_program.specs.Handling.{is_same}
 use Rattle.ada_program.specs.Typed.{width_of}
 use Rattle.ada_program.specs.WellFormed.{held_kind, kind_among, record_components, reached_components, is_record_path, item_fits, is_filled, item_owns, copies_whole, finalization_of, record_fits}
-use Rattle.ada_effects.specs.Effects.{effects_of, record_path_raises, item_raises, items_raise, stmt_raises}
-use Rattle.ada_flow.specs.Flow.{Holds, hold_at, lost_by, is_owning, is_owning_record, reaches_it, copies_to, uses_in_items, uses_in_record, gives_record, ends_with}
+use Rattle.ada_effects.specs.Effects.{effects_of, record_path_raises, item_raises, items_raise, stmt_raises, assignment_frees}
+use Rattle.ada_flow.specs.Flow.{Holds, hold_at, lost_by, is_owning, is_owning_record, reaches_it, passes_it, copies_to, uses_in_items, uses_in_record, uses_in_copy, record_passes, gives_record, using_paths, ends_with}
 use Rattle.ada_meaning.specs.declared.event.Birth.TheVariants.{Adjustment}
 use Rattle.ada_meaning.specs.declared.event.Cause.TheVariants.{Assigning}
 use Rattle.ada_meaning.specs.declared.state.Value.{Value}
@@ -32,11 +33,12 @@ use Rattle.ada_owners.proofs.Objects.{listed_at}
 use Rattle.ada_sound.proofs.Begins.{Referred, record_referred, drop_kind}
 use Rattle.ada_sound.proofs.Copied.{copied_plain, record_there}
 use Rattle.ada_sound.proofs.Defaults.{Reaches}
-use Rattle.ada_sound.proofs.Followings.{first_kept}
-use Rattle.ada_sound.proofs.Invariant.{outers, Known, Control, Rooms, Goes, Raised, RunsOn, IsPlainIn, IsHolder, ReferredBy, IsTarget, IsSource, PassesTo, Working, Fine, ways}
-use Rattle.ada_sound.proofs.Outcomes.{using_goes, ends_goes}
+use Rattle.ada_sound.proofs.Followings.{first_kept, kept_apart}
+use Rattle.ada_sound.proofs.Handings.{passed_safe}
+use Rattle.ada_sound.proofs.Invariant.{outers, Known, Control, Rooms, Goes, To, Raised, RunsOn, IsPlainIn, IsHolder, ReferredBy, IsTarget, IsSource, PassesTo, Working, Fine, ways}
+use Rattle.ada_sound.proofs.Outcomes.{raised_before, using_goes, ends_goes, loses_to}
 use Rattle.ada_sound.proofs.Raising.{or_left, or_right}
-use Rattle.ada_sound.proofs.Ready.{running, at_work, stays, ready_on, runs_on, treats_ready, treating_behind}
+use Rattle.ada_sound.proofs.Ready.{running, at_work, at_less, stays, ready_on, runs_on, treats_ready, treating_behind}
 use Rattle.ada_sound.proofs.Wholes.{width_is}
 
 -- Where a record without access values lies in an object, its components there are no access values.
@@ -115,7 +117,7 @@ module _ (known : Known) (a : Activation Value) (rest : List (Activation Value))
         )
 
   -- The target is found, and then the other record.
-  pub copy_begins : (target : RecordPathForm) (items : List ItemForm) (fs : StmtsForm) (k : Control) → is_record_path known.program.types known.program.variables target ≡ true → record_fits known.program.types known.program.variables target.record_type items ≡ true → Working known s.heap a.places s.masters (λ rooms holds. Goes (gives_record known.program.types target items holds) (RunsOn known (Does fs ∷ k) rooms) (Raised (λ e. stmt_raises (effects_of known.program) (is_same e) (assigns_record target items)) (ways known k rooms))) → Fine known s.heap s.masters (copy_next named target items (running (Does fs ∷ k) a rest s))
+  pub copy_begins : (target : RecordPathForm) (items : List ItemForm) (fs : StmtsForm) (k : Control) → is_record_path known.program.types known.program.variables target ≡ true → record_fits known.program.types known.program.variables target.record_type items ≡ true → Working known s.heap a.places s.masters (λ rooms holds. Goes (gives_record known.program.types known.program.variables (λ u. assignment_frees known.implicit u target.record_type) target items holds) (RunsOn known (Does fs ∷ k) rooms) (Raised (λ e. stmt_raises (effects_of known.implicit known.program) (is_same e) (assigns_record target items)) (ways known k rooms))) → Fine known s.heap s.masters (copy_next named target items (running (Does fs ∷ k) a rest s))
   copy_begins target [] fs k lies fits w = tt
   copy_begins target (null_item ∷ is) fs k lies fits w = tt
   copy_begins target (item_of_path path ∷ is) fs k lies fits w = tt
@@ -128,17 +130,26 @@ module _ (known : Known) (a : Activation Value) (rest : List (Activation Value))
       let owning = is_owning_record program.types target.record_type in
       let copied = is_owning_record program.types source.record_type in
       let may = record_path_raises target || items_raise items in
-      let raised' = Raised (λ e. stmt_raises (effects_of known.program) (is_same e) (assigns_record target items)) (ways known k w.rooms) in
-      let u = using_goes (reaches_it path ∷ uses_in_record program.types path.spot target.record_type items) w.holds (ends_with may w.holds w.holds) (RunsOn known (Does fs ∷ k) w.rooms) raised' w.rest in
-      let n = ends_goes may w.holds w.holds (RunsOn known (Does fs ∷ k) w.rooms) raised' u.1 in
-      let first = first_kept w.holds (reaches_it path) (uses_in_record program.types path.spot target.record_type items) u.0 in
-      let plain = first_kept w.holds (copies_to owning path.spot) (uses_in_items program.types path.spot None [] items) first.1 in
+      let among : Exception → Bool = λ e. stmt_raises (effects_of known.implicit known.program) (is_same e) (assigns_record target items) in
+      let out = ways known k w.rooms in
+      let more = To (RunsOn known (Does fs ∷ k) w.rooms) in
+      let frees = λ (u : ℕ). assignment_frees known.implicit u target.record_type in
+      let needed = uses_in_record program.types path.spot target.record_type items in
+      let copies = uses_in_copy program.types program.variables frees items in
+      let reach = passes_it (record_passes program.types program.variables frees target) path in
+      let flow = ends_with may w.holds w.holds in
+      let g = loses_to program.variables frees (using_paths (reach ∷ (needed ++ copies)) w.holds flow) (RunsOn known (Does fs ∷ k) w.rooms) (Raised among out) (raised_before among out) w.rest in
+      let u = using_goes (reach ∷ (needed ++ copies)) w.holds flow more (Raised among out) g in
+      let n = ends_goes may w.holds w.holds more (Raised among out) u.1 in
+      let found = first_kept w.holds reach (needed ++ copies) u.0 in
+      let reached = (passed_safe (record_passes program.types program.variables frees target) (hold_at w.holds path.root) path.spot found.0).1 in
+      let plain = first_kept w.holds (copies_to owning path.spot) (uses_in_items program.types path.spot None [] items) (kept_apart w.holds needed copies found.1).0 in
       let second = first_kept w.holds (copies_to copied path.spot) (reaches_it source.object ∷ []) plain.1 in
       let kept = (first_kept w.holds (reaches_it source.object) [] second.1).0 in
       let there = record_there program.types program.variables target lies in
       ready_on known (Refers target ∷ Refers source ∷ Assigns target.record_type ∷ Does fs ∷ k) a rest s a.operands
       (at_work w (
-        first.0,
+        reached,
         (λ raises. let either = or_left (record_path_raises target) (items_raise items) raises in n.1 either ConstraintError either),
         (λ v by. (
           kept,
@@ -147,7 +158,7 @@ module _ (known : Known) (a : Activation Value) (rest : List (Activation Value))
             (
               there.kinds,
               there.components,
-              target_there w target v there.kinds there.components (copied_plain owning path.spot plain.0) (found_there w target v lies first.0 by),
+              target_there w target v there.kinds there.components (copied_plain owning path.spot plain.0) (found_there w target v lies reached by),
               source_there w source u (found_there w source u (source_lies program.types program.variables target.record_type source fits) kept by'),
             ),
             n.0,
@@ -157,7 +168,7 @@ module _ (known : Known) (a : Activation Value) (rest : List (Activation Value))
 
   -- Both are found: nothing is done, where they are one.
   module _ (types : List TypeDefinition) (reaches : Reaches known types) (k : Control) where
-    begins_assigning : (t : ℕ) (v u : Value) (below : List Value) (kinds : List ComponentKind) → record_components known.program.types t ≡ Some kinds → IsTarget known s.heap (length kinds) v → IsSource s.heap u → Working known s.heap a.places s.masters (RunsOn known k) → Fine known s.heap s.masters (moves Quiet (assigning named types t v u (running k (record a { operands = below }) rest s)))
+    begins_assigning : (t : ℕ) (v u : Value) (below : List Value) (kinds : List ComponentKind) → record_components known.program.types t ≡ Some kinds → IsTarget known s.heap (length kinds) v → IsSource s.heap u → Working known s.heap a.places s.masters (λ rooms holds. To (RunsOn known k rooms) holds) → Fine known s.heap s.masters (moves Quiet (assigning named types t v u (running k (record a { operands = below }) rest s)))
     begins_assigning t v u below kinds is (o, place, to, plain) (p, other, from, there) w =
         let adjusts = treating (whole v) (begins (Adjustment s.next) []) (record_tasks types t PartsFirst (part_base v)) k in
         let stores = StoresRecord (whole v) (base v) (width_of types t) ∷ adjusts in
@@ -175,7 +186,7 @@ module _ (known : Known) (a : Activation Value) (rest : List (Activation Value))
       where
         go : (one : Option Bool) → Fine known s.heap s.masters (assigns_next named types t (first_or Null (older operands)) (first_or Null operands) one (running k (record a { operands = older (older operands) }) rest s))
         go None = tt
-        go (Some true) = runs_on known k (record a { operands = older (older operands) }) rest s (at_work w w.rest.1) Quiet tt
+        go (Some true) = runs_on known k (record a { operands = older (older operands) }) rest s (at_less w w.rest.1) Quiet tt
         go (Some false) =
             let are = w.rest.0 in
             begins_assigning t (first_or Null (older operands)) (first_or Null operands) (older (older operands)) are.0 are.1 are.2 are.3 (at_work w w.rest.1)

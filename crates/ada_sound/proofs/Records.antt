@@ -11,16 +11,17 @@ use Rattle.ada_program.specs.declared.program.TypeDefinition.{TypeDefinition}
 use Rattle.ada_program.specs.declared.program.VariableKind.{VariableKind}
 use Rattle.ada_program.specs.declared.program.VariableKind.TheVariants as variable
 use Rattle.ada_program.specs.Form.{ItemForm, StmtsForm, HandlersForm, DeclarationForm, declares_record}
+use Rattle.ada_program.specs.declared.program.Exception.{Exception}
 use Rattle.ada_program.specs.declared.program.Exception.TheVariants.{ConstraintError}
 use Rattle.ada_program.specs.Handling.{is_same}
 use Rattle.ada_program.specs.ProgramForm.{TypeForm, VariableForm}
-use Rattle.ada_effects.specs.Effects.{items_raise, declaration_raises}
+use Rattle.ada_effects.specs.Effects.{items_raise, initial_raises, initial_starts, initial_frees, declaration_raises}
 use Rattle.ada_program.specs.Typed.{reached_of, count_of, words_of}
 use Rattle.ada_program.specs.WellFormed.{access_of, held_kind, kind_among, reached_components, variable_kind, is_record_object}
 use Rattle.ada_flow.specs.declared.rule.Hold.{Hold}
 use Rattle.ada_flow.specs.declared.rule.Hold.TheVariants as hold
 use Rattle.ada_flow.specs.declared.rule.Region.TheVariants.{Whole}
-use Rattle.ada_flow.specs.Flow.{Holds, variable_access, is_owning, owns_at_first, declared_at, copies_to, uses_in_items, ends_with}
+use Rattle.ada_flow.specs.Flow.{Holds, variable_access, is_owning, owns_at_first, declared_at, copies_to, uses_in_items, using_paths, ends_with}
 use Rattle.ada_meaning.specs.declared.state.Id.{Id}
 use Rattle.ada_meaning.specs.declared.state.Value.{Value}
 use Rattle.ada_meaning.specs.declared.state.Value.TheVariants.{Null, Names}
@@ -40,11 +41,12 @@ use Rattle.ada_sound.proofs.Stored.{stored_new, stored_owning}
 use Rattle.ada_typed.specs.Holding.{Cells, HasKind, HaveKinds, cells_of}
 use Rattle.ada_typed.proofs.Values.{OperandKind, AreComputed, AreHeld, active_placed}
 use Rattle.ada_typed.proofs.Control as typed
-use Rattle.ada_sound.proofs.Fits.{Outsiders, bare, stacked, none_spared, place_at, hold_in, put_owner, create_fit}
+use Rattle.ada_sound.proofs.Fits.{Outsiders, bare, stacked, none_spared, place_at, hold_in, weaker_fit, put_owner, create_fit}
 use Rattle.ada_sound.proofs.Alters.{alters_new}
-use Rattle.ada_sound.proofs.Invariant.{outers, below, Known, Control, Rooms, Roomed, Raised, Doing, Handled, Outside, Elaborating, Giving, MayOwn, Recording, RunsOn, Working, Stepped, Fine, ways}
+use Rattle.ada_sound.proofs.Invariant.{outers, below, Known, Control, Rooms, Roomed, To, Raised, Doing, Handled, Outside, Elaborating, Giving, MayOwn, Recording, RunsOn, Working, Stepped, Fine, ways}
 use Rattle.ada_sound.proofs.Ready.{running, at_work, treats_ready, ready_on}
-use Rattle.ada_sound.proofs.Outcomes.{using_goes, ends_goes}
+use Rattle.ada_sound.proofs.Outcomes.{raised_before, using_goes, ends_goes, loses_to}
+use Rattle.ada_sound.proofs.Raising.{or_left}
 use Rattle.ada_sound.proofs.Followings.{first_kept}
 use Rattle.ada_sound.proofs.Copied.{items_keep, copied_plain}
 use Rattle.ada_sound.proofs.Defaults.{Reaches}
@@ -125,7 +127,7 @@ module _ (known : Known) (rest : List (Activation Value)) (s : State) (types : L
   roomed_more item under (m ∷ ms) (gone ∷ rooms) r e = ((e, r.0), r.1)
 
   -- An object comes to be whose components name nothing, and its variable owns it.
-  pub made_fine : (by : Birth) (a : Activation Value) (k : Control) (values : List Value) (u : Value) → is_record_object t (variable_kind known.program.variables x) ≡ true → slice_get a.places x ≡ Some u → ((holding : Place → Hold) (kind : ℕ → Option ℕ) → AreInHand s.heap (stacked a.places (outers known)) holding kind 0 values) → Working known s.heap a.places s.masters (λ rooms holds. MayOwn rooms t × RunsOn known k rooms (slice_set holds x (hold.Own Whole))) → Stepped known s.heap Quiet (made named types x t by values (running k a rest s))
+  pub made_fine : (by : Birth) (a : Activation Value) (k : Control) (values : List Value) (u : Value) → is_record_object t (variable_kind known.program.variables x) ≡ true → slice_get a.places x ≡ Some u → ((holding : Place → Hold) (kind : ℕ → Option ℕ) → AreInHand s.heap (stacked a.places (outers known)) holding kind 0 values) → Working known s.heap a.places s.masters (λ rooms holds. MayOwn rooms t × To (RunsOn known k rooms) (slice_set holds x (hold.Own Whole))) → Stepped known s.heap Quiet (made named types x t by values (running k a rest s))
   made_fine by a k values u is there in_hand w =
       let cell = record_cell named types t (height s.masters) values in
       let words = words_of types t in
@@ -135,11 +137,11 @@ module _ (known : Known) (rest : List (Activation Value)) (s : State) (types : L
       let placed = put_there a.places x u (created s.heap words) there in
       let after : Working known (create s.heap words cell) (slice_set a.places x (created s.heap words)) (owning (record { number = height s.masters; owned = record_object t }) s.masters) (RunsOn known k) = record {
         rooms = w.rooms;
-        holds = slice_set w.holds x (hold.Own Whole);
+        holds = w.rest.1.0;
         stored = stored_new cell (has_own (below known) s.masters w.rooms w.roomed w.rest.0) (stored_owning (record_object t) w.stored);
         roomed = roomed_more (height s.masters) (below known) s.masters w.rooms w.roomed w.rest.0;
-        fit = put_owner x (created s.heap words) Whole (rw placed tt) (rw own both.1) both.0;
-        rest = w.rest.1;
+        fit = weaker_fit w.rest.1.0 w.rest.1.1 (put_owner x (created s.heap words) Whole (rw placed tt) (rw own both.1) both.0);
+        rest = w.rest.1.2;
       } in
       record {
         ready = (tt, treats_ready known (created s.heap words) (begins by []) (all_tasks types t PartsFirst) k (create s.heap words cell) (slice_set a.places x (created s.heap words)) a.operands (owning (record { number = height s.masters; owned = record_object t }) s.masters) (inl after));
@@ -149,9 +151,16 @@ module _ (known : Known) (rest : List (Activation Value)) (s : State) (types : L
 
 module _ (known : Known) (a : Activation Value) (rest : List (Activation Value)) (s : State) (types : List TypeDefinition) (x t : ℕ) (ds : List DeclarationForm) (fs : StmtsForm) (hs : HandlersForm) (k : Control) where
   -- What is known where a record object comes to be: without an initial value, or behind one.
-  by_default : (holds : Holds) (rooms : Rooms) → RunsOn known (Elaborates (declares_record x t None ∷ ds) fs hs ∷ k) rooms holds → MayOwn rooms t × RunsOn known (Elaborates ds fs hs ∷ k) rooms (slice_set holds x (hold.Own Whole))
+  by_default : (holds : Holds) (rooms : Rooms) → RunsOn known (Elaborates (declares_record x t None ∷ ds) fs hs ∷ k) rooms holds → MayOwn rooms t × To (RunsOn known (Elaborates ds fs hs ∷ k) rooms) (slice_set holds x (hold.Own Whole))
   by_default holds [] e = absurd e
-  by_default holds (gone ∷ rooms) e = (e.0.0, (e.0.1, e.1.0))
+  by_default holds (gone ∷ rooms) e =
+      let program = known.program in
+      let o = Outside program.variables gone (ways known k rooms) in
+      let more = Elaborating known ds (Doing known fs (Handles hs ∷ Closes ∷ k) (Handled known hs (Closes ∷ k) o)) o in
+      let among : Exception → Bool = λ e'. declaration_raises known.implicit (is_same e') (declares_record x t None) in
+      let flow = ends_with (initial_raises None || initial_starts known.implicit (λ e'. true) t None) holds (slice_set holds x (hold.Own Whole)) in
+      let g = loses_to program.variables (λ u. initial_frees known.implicit u t None) flow more (Raised among o) (raised_before among o) e.1 in
+      (e.0.0, (g.0.0, g.0.1, (e.0.1, g.0.2)))
 
   by_items : (items : List ItemForm) (holds : Holds) (rooms : Rooms) → is_record_object t (variable_kind known.program.variables x) ≡ true → RunsOn known (Elaborates (declares_record x t (Some items) ∷ ds) fs hs ∷ k) rooms holds → Giving known items (Elaborates ds fs hs ∷ k) rooms holds × Recording known x t (Elaborates ds fs hs ∷ k) rooms holds
   by_items items holds [] is e = absurd e
@@ -162,18 +171,21 @@ module _ (known : Known) (a : Activation Value) (rest : List (Activation Value))
       let owning = owns_at_first program.types t in
       let used = uses_in_items program.types spot None [] items in
       let more = Elaborating known ds (Doing known fs (Handles hs ∷ Closes ∷ k) (Handled known hs (Closes ∷ k) o)) o in
-      let raised' = Raised (λ e'. declaration_raises (is_same e') (declares_record x t (Some items))) o in
+      let among : Exception → Bool = λ e'. declaration_raises known.implicit (is_same e') (declares_record x t (Some items)) in
       let after = slice_set holds x (hold.Own Whole) in
-      let u = using_goes (copies_to owning spot ∷ used) holds (ends_with (items_raise items) holds after) more raised' e.1 in
-      let n = ends_goes (items_raise items) holds after more raised' u.1 in
+      let may = items_raise items || false in
+      let flow = using_paths (copies_to owning spot ∷ used) holds (ends_with may holds after) in
+      let g = loses_to program.variables (λ u. initial_frees known.implicit u t (Some items)) flow more (Raised among o) (raised_before among o) e.1 in
+      let u = using_goes (copies_to owning spot ∷ used) holds (ends_with may holds after) (To more) (Raised among o) g in
+      let n = ends_goes may holds after (To more) (Raised among o) u.1 in
       let kept = first_kept holds (copies_to owning spot) used u.0 in (
         record {
           spot = spot;
           earlier = [];
           keeps = items_keep program.types spot None holds [] items kept.1;
-          raises = λ may. n.1 may ConstraintError may;
+          raises = λ raises. (let either = or_left (items_raise items) false raises in n.1 either ConstraintError either);
         },
-        (copied_plain owning spot kept.0, is, e.0.0, (e.0.1, n.0)),
+        (copied_plain owning spot kept.0, is, e.0.0, (n.0.0, n.0.1, (e.0.1, n.0.2))),
       )
 
   pub record_fine : (initial : Option (List ItemForm)) (u : Value) → slice_get a.places x ≡ Some u → is_record_object t (variable_kind known.program.variables x) ≡ true → Working known s.heap a.places s.masters (RunsOn known (Elaborates (declares_record x t initial ∷ ds) fs hs ∷ k)) → Fine known s.heap s.masters (record_next named types x t initial (running (Elaborates ds fs hs ∷ k) a rest s))

@@ -11,12 +11,12 @@ use Rattle.ada_program.specs.declared.program.Exception.{Exception}
 use Rattle.ada_program.specs.declared.program.Exception.TheVariants.{ConstraintError}
 use Rattle.ada_program.specs.declared.program.VariableKind.{VariableKind}
 use Rattle.ada_program.specs.Form.{PathForm, StmtsForm}
-use Rattle.ada_effects.specs.Effects.{path_raises}
+use Rattle.ada_effects.specs.Effects.{Implicit, path_raises}
 use Rattle.ada_program.specs.ProgramForm.{TypeForm, VariableForm}
 use Rattle.ada_program.specs.WellFormed.{is_access, access_of, variable_kind, selected_kind, selectors_kind, path_kind, path_access, is_this, is_freed_by}
 use Rattle.ada_flow.specs.declared.rule.Hold.{Hold}
 use Rattle.ada_flow.specs.declared.rule.Hold.TheVariants as hold
-use Rattle.ada_flow.specs.Flow.{Holds, hold_at, Breach, lost_by, unless_broken, ends_with, behind_end, passes_type, passes_own, freed_behind, released_behind, frees_path}
+use Rattle.ada_flow.specs.Flow.{Holds, hold_at, Breach, lost_by, unless_broken, ends_with, behind_end, passes_type, passes_own, passes_reached, freed_behind, released_behind, frees_path}
 use Rattle.ada_meaning.specs.declared.state.Id.{Id}
 use Rattle.ada_meaning.specs.declared.state.Value.{Value}
 use Rattle.ada_meaning.specs.declared.state.Value.TheVariants.{Null, Names, Scalar, Part}
@@ -31,13 +31,13 @@ use Rattle.ada_owners.specs.Keeping.{IsThere}
 use Rattle.ada_owners.specs.Places.{access_at}
 use Rattle.ada_owners.specs.Reliance.{IsOf}
 use Rattle.ada_owners.proofs.Objects.{listed_at}
-use Rattle.ada_sound.proofs.Fits.{Outsiders, IsReferred, NoOuterAlias, MayFollow, place_at, component_access, component_is, behind_fit, component_unnamed, part_fit}
+use Rattle.ada_sound.proofs.Fits.{Outsiders, IsReferred, NoOuterAlias, MayFollow, place_at, component_access, component_is, weaker_fit, behind_fit, component_unnamed, part_fit}
 use Rattle.ada_sound.proofs.Objects.{set_here}
 use Rattle.ada_sound.proofs.Stored.{stored_part}
 use Rattle.ada_sound.proofs.Alters.{alters_set}
 use Rattle.ada_sound.proofs.Assigned.{this_is, freed_at}
 use Rattle.ada_sound.proofs.Homes.{HaveHomes, same_one, freed_home}
-use Rattle.ada_sound.proofs.Invariant.{Spares, CoveredIn, begun, outers, Known, Control, Goes, Raised, RunsOn, PassesNone, Releasing, Working, Ending, Stepped, Fine, ways}
+use Rattle.ada_sound.proofs.Invariant.{Spares, CoveredIn, begun, outers, Known, Control, Goes, To, Raised, RunsOn, PassesNone, Releasing, Working, Ending, Stepped, Fine, ways}
 use Rattle.ada_sound.proofs.Ready.{running, at_work, stays, runs_ready, jumps_less, treats_ready}
 use Rattle.ada_sound.proofs.Outcomes.{ends_goes}
 use Rattle.ada_sound.proofs.Roots.{access_leads, root_object, object_there, front_raises}
@@ -52,16 +52,19 @@ front_last : (c : ℕ) (cs : List ℕ) → before_last c cs ++ last_of c cs ∷ 
 front_last c [] = refl
 front_last c (d ∷ ds) = ap (λ (es : List ℕ). c ∷ es) (front_last d ds)
 
--- What flow says of a component that is freed: its path follows nothing lost, and passes its own type nowhere.
-released_goes : (types : List TypeForm) (variables : List VariableForm) (path : PathForm) (holds : Holds) (access : Option ℕ) (more raised : Holds → Type 0) → Goes (released_behind types variables path holds access) more raised → (freed_behind (passes_own types variables path access) (hold_at holds path.root) path.spot ≡ None) × more (behind_end variables access holds) × (path_raises path ≡ true → raised (behind_end variables access holds))
-released_goes types variables path holds access more raised g = go (freed_behind (passes_own types variables path access) (hold_at holds path.root) path.spot) refl g
+-- What flow says of a component that is freed: its path follows nothing lost, and passes its own type nowhere, nor one that the finalization reaches.
+released_goes : (types : List TypeForm) (variables : List VariableForm) (implicit : Implicit) (path : PathForm) (holds : Holds) (access : Option ℕ) (more raised : Holds → Type 0) → Goes (released_behind types variables implicit path holds access) more raised → (freed_behind (passes_own types variables path access || passes_reached types variables implicit path access) (hold_at holds path.root) path.spot ≡ None) × more (behind_end variables access holds) × (path_raises path ≡ true → raised (behind_end variables access holds))
+released_goes types variables implicit path holds access more raised g = go (freed_behind passes (hold_at holds path.root) path.spot) refl g
   where
+    passes : Bool
+    passes = passes_own types variables path access || passes_reached types variables implicit path access
+
     after : Holds
     after = behind_end variables access holds
 
-    go : (o : Option Breach) → freed_behind (passes_own types variables path access) (hold_at holds path.root) path.spot ≡ o → Goes (unless_broken o (ends_with (path_raises path) (behind_end variables access holds) (behind_end variables access holds))) more raised → (freed_behind (passes_own types variables path access) (hold_at holds path.root) path.spot ≡ None) × more (behind_end variables access holds) × (path_raises path ≡ true → raised (behind_end variables access holds))
+    go : (o : Option Breach) → freed_behind passes (hold_at holds path.root) path.spot ≡ o → Goes (unless_broken o (ends_with (path_raises path) after after)) more raised → (freed_behind passes (hold_at holds path.root) path.spot ≡ None) × more after × (path_raises path ≡ true → raised after)
     go None is m =
-        let n = ends_goes (path_raises path) (behind_end variables access holds) (behind_end variables access holds) more raised m in
+        let n = ends_goes (path_raises path) after after more raised m in
         (is, n.0, n.1)
     go (Some breach) is m = absurd m
 
@@ -72,6 +75,11 @@ freed_kept true (hold.Kept r) spot e = absurd (cc e)
 freed_kept true (hold.Own r) spot e = absurd (cc e)
 freed_kept true (hold.Alias r) spot e = absurd (cc e)
 freed_kept true hold.Lost spot e = absurd (cc e)
+
+-- Where neither of two is true, the first one is not.
+first_false : (a b : Bool) → a || b ≡ false → a ≡ false
+first_false true b e = absurd (cc e)
+first_false false b e = refl
 
 passes_none : (types : List TypeForm) (variables : List VariableForm) (path : PathForm) (cs : List ℕ) (access : Option ℕ) → path.selectors ≡ cs → passes_own types variables path access ≡ false → PassesNone types (variable_kind variables path.root) cs access
 passes_none types variables path cs None is e = tt
@@ -111,15 +119,16 @@ passes_root types outer heap kind v b c cs to (Some t) leads spares passes = by 
 
 module _ (known : Known) (a : Activation Value) (rest : List (Activation Value)) (s : State) where
   -- A Free of a component begins: its object is found first.
-  pub free_begins : (c : ℕ) (cs : List ℕ) (access : ℕ) (path : PathForm) (fs : StmtsForm) (k : Control) (among : Exception → Bool) → (path_raises path ≡ true → among ConstraintError ≡ true) → is_freed_by known.program.types access (path_access known.program.types known.program.variables path) ≡ true → is_this access (path_access known.program.types known.program.variables path) ≡ true → Spares known (λ t. is_this t (path_access known.program.types known.program.variables path)) → path.selectors ≡ c ∷ cs → Working known s.heap a.places s.masters (λ rooms holds. Goes (frees_path known.program.types known.program.variables (c ∷ cs) path holds) (RunsOn known (Does fs ∷ k) rooms) (Raised among (ways known k rooms))) → Fine known s.heap s.masters (path_next named (before_last (inside (place_at a.places path.root) c) cs) (begun a.places path) (running (FreesIn access (last_of (inside (place_at a.places path.root) c) cs) ∷ Does fs ∷ k) a rest s))
+  pub free_begins : (c : ℕ) (cs : List ℕ) (access : ℕ) (path : PathForm) (fs : StmtsForm) (k : Control) (among : Exception → Bool) → (path_raises path ≡ true → among ConstraintError ≡ true) → is_freed_by known.program.types access (path_access known.program.types known.program.variables path) ≡ true → is_this access (path_access known.program.types known.program.variables path) ≡ true → Spares known (λ t. is_this t (path_access known.program.types known.program.variables path)) → path.selectors ≡ c ∷ cs → Working known s.heap a.places s.masters (λ rooms holds. Goes (frees_path known.program.types known.program.variables known.implicit (c ∷ cs) path holds) (To (RunsOn known (Does fs ∷ k) rooms)) (Raised among (ways known k rooms))) → Fine known s.heap s.masters (path_next named (before_last (inside (place_at a.places path.root) c) cs) (begun a.places path) (running (FreesIn access (last_of (inside (place_at a.places path.root) c) cs) ∷ Does fs ∷ k) a rest s))
   free_begins c cs access path fs k among may freed by_own spares is w =
       let types = known.program.types in
       let variables = known.program.variables in
       let own = path_access types variables path in
       let at = freed_at types variables access path freed in
       let leads = access_leads (path_kind types variables path) at.0 at.1 in
-      let g = released_goes types variables path w.holds own (RunsOn known (Does fs ∷ k) w.rooms) (Raised among (ways known k w.rooms)) w.rest in
-      let kept = freed_kept (passes_own types variables path own) (hold_at w.holds path.root) path.spot g.0 in
+      let g = released_goes types variables known.implicit path w.holds own (To (RunsOn known (Does fs ∷ k) w.rooms)) (Raised among (ways known k w.rooms)) w.rest in
+      let kept = freed_kept (passes_own types variables path own || passes_reached types variables known.implicit path own) (hold_at w.holds path.root) path.spot g.0 in
+      let none_own = first_false (passes_own types variables path own) (passes_reached types variables known.implicit path own) kept.1 in
       let v = place_at a.places path.root in
       let b = root_at path.root path.spot kept.0 w.fit in
       let to = kind_named (selectors_kind types (variable_kind variables path.root) path.selectors) at.0 at.2 in
@@ -133,7 +142,7 @@ module _ (known : Known) (a : Activation Value) (rest : List (Activation Value))
         from = b.from;
         access = own;
         is_from = λ o object names found. root_access b o object names found;
-        passes = let here : PassesNone types b.from (before_last (inside v c) cs ++ last_of (inside v c) cs ∷ []) own = rw (front_last (inside v c) cs) (passes_root types (outers known) s.heap (variable_kind variables path.root) v b c cs to.0 own from_kind (λ t same. (is_own t same, spares_own t same)) (passes_none types variables path (c ∷ cs) own is kept.1)) in here;
+        passes = let here : PassesNone types b.from (before_last (inside v c) cs ++ last_of (inside v c) cs ∷ []) own = rw (front_last (inside v c) cs) (passes_root types (outers known) s.heap (variable_kind variables path.root) v b c cs to.0 own from_kind (λ t same. (is_own t same, spares_own t same)) (passes_none types variables path (c ∷ cs) own is none_own)) in here;
         of_type = rw (front_last (inside v c) cs) (ap access_of from_here ∙ named_type);
         frees_own = this_is access own by_own;
         own = is_own;
@@ -151,7 +160,7 @@ module _ (known : Known) (a : Activation Value) (rest : List (Activation Value))
     null_freed : (o : Id) → IsThere s.heap o → Working known s.heap a.places s.masters (Releasing known s.heap (Names o) [] access c k) → Stepped known s.heap (Followed (Names o)) (running k (record a { operands = below }) rest s)
     null_freed o there w =
         stays known (Followed (Names o)) (running k (record a { operands = below }) rest s)
-        (tt, runs_ready known k s.heap a.places below s.masters (record { rooms = w.rooms; holds = behind_end known.program.variables w.rest.access w.holds; stored = w.stored; roomed = w.roomed; fit = behind_fit w.rest.access w.fit; rest = w.rest.runs }))
+        (tt, runs_ready known k s.heap a.places below s.masters (record { rooms = w.rooms; holds = w.rest.runs.0; stored = w.stored; roomed = w.roomed; fit = weaker_fit w.rest.runs.0 w.rest.runs.1 (behind_fit w.rest.access w.fit); rest = w.rest.runs.2 }))
         (followed o there w.stored)
 
     -- What the component names has the component's access type, and is another object than its own.
@@ -177,7 +186,7 @@ module _ (known : Known) (a : Activation Value) (rest : List (Activation Value))
         let unnamed = component_unnamed o object c p (Some t) (λ u e. (w.rest.own u (is_t ∙ e), w.rest.spares u (is_t ∙ e))) found listed at of_t w.fit in
         let elsewhere = stored_elsewhere s.heap o object c p there.object (parted there.object) found there.found apart in
         let after = part_fit p there.object elsewhere.1 unnamed.1 unnamed.2 unnamed.0 in
-        let runs = rw is_t at w.rest.runs in
+        let runs : To (RunsOn known k w.rooms) (behind_end known.program.variables (Some t) w.holds) = rw is_t at w.rest.runs in
         let by_own : t ≡ access = let own = w.rest.frees_own in cc (is_t, own) in
         let home = freed_home access p there.object homes w.stored there.found exists (rw there.access (w.rest.own t is_t)) (there.access ∙ by_own) in
         let under : Ending known p (GivesBack (Names p) (Freeing s.next) (Some (pool_freed_to (home_of access s.masters))) ∷ ClearsIn (Names o) c ∷ k) (slice_set s.heap p.0 (parted there.object)) a.places s.masters = record {
@@ -186,7 +195,7 @@ module _ (known : Known) (a : Activation Value) (rest : List (Activation Value))
           exists = exists;
           parted = refl;
           stored = stored_part p there.object there.found w.stored;
-          covered = subst (λ (u : ℕ). CoveredIn known.program u) (sym there.access) (w.rest.covered t is_t);
+          covered = subst (λ (u : ℕ). CoveredIn known.implicit known.program u) (sym there.access) (w.rest.covered t is_t);
           rest = (
             refl,
             home,
@@ -194,10 +203,10 @@ module _ (known : Known) (a : Activation Value) (rest : List (Activation Value))
               (object, elsewhere.0, listed),
               record {
                 rooms = w.rooms;
-                holds = behind_end known.program.variables (Some t) w.holds;
+                holds = runs.0;
                 roomed = w.roomed;
-                fit = rw elsewhere.2 after;
-                rest = runs;
+                fit = weaker_fit runs.0 runs.1 (rw elsewhere.2 after);
+                rest = runs.2;
               },
             ),
           );

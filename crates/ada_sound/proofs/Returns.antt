@@ -3,6 +3,7 @@
 use Rattle.std.proofs.Common.{◌≡◌, ℕ, true, List, [], ◌∷◌, ◌++◌, refl, sym, ap, ◌∙◌, subst}
 use Rattle.std.specs.Prelude.{Option, Some, None}
 use Rattle.std.specs.List.{slice_get}
+use Rattle.ada_deeds.specs.Implicit.{implicit_of}
 use Rattle.ada_program.specs.declared.program.Exception.{Exception}
 use Rattle.ada_program.specs.declared.program.Program.{Program}
 use Rattle.ada_program.specs.Form.{ActualForm}
@@ -54,7 +55,7 @@ module _ (program : Program) (procedure : Option ℕ) (g : Suspension) (gs : Lis
   caller = known_in program g.procedure gs
 
   abbrev WaitsForIt : Type 0
-  WaitsForIt = Waits callee.program (caller_of program g gs) (callers_of program gs)
+  WaitsForIt = Waits callee.implicit callee.program (caller_of program g gs) (callers_of program gs)
 
   same_here : callee.program.types ≡ caller.program.types
   same_here = same_types procedure (program_form program) ∙ sym (same_types g.procedure (program_form program))
@@ -76,16 +77,16 @@ module _ (program : Program) (procedure : Option ℕ) (g : Suspension) (gs : Lis
         let w = caller_of program g gs in
         let ws = callers_of program gs in
         returned_fit (outer_of w) callee.program.variables places holds (handed_at g.actuals) given_back (handed_back g.actuals g.before) caller.program.types (outers caller) g.passed g.referenced none_spared heap
-        (since_back callee.program w ws waits places holds placed gave) (fit_there holds f)
-        (said_back callee.program w ws waits places holds placed gave) (objects_back callee.program w ws waits places holds placed gave (λ i x is. plain_object i (gives_some (hold_at holds i) (waits.hands.owes i x is holds gave)) (waits.hands.formal i x is) f))
+        (since_back callee.implicit callee.program w ws waits places holds placed gave) (fit_there holds f)
+        (said_back callee.implicit callee.program w ws waits places holds placed gave) (objects_back callee.implicit callee.program w ws waits places holds placed gave (λ i x is. plain_object i (gives_some (hold_at holds i) (waits.hands.owes i x is holds gave)) (waits.hands.formal i x is) f))
 
     left_fit : (holds : Holds) (waits : WaitsForIt) → KeepsAll g.kept holds → FitsHere holds → Fit caller.program.types caller.program.variables (outers caller) none_spared heap g.places (left_unkept g.kept g.actuals g.before)
     left_fit holds waits keeps f =
         let w = caller_of program g gs in
         let ws = callers_of program gs in
         returned_fit (outer_of w) callee.program.variables places holds (handed_at g.actuals) g.places (left_unkept g.kept g.actuals g.before) caller.program.types (outers caller) g.passed g.referenced none_spared heap
-        (since_left callee.program w ws waits places holds keeps f.said) (fit_there holds f)
-        (said_left callee.program w ws waits places holds keeps f.said) (objects_left callee.program w ws waits places holds keeps f.said)
+        (since_left callee.implicit callee.program w ws waits places holds keeps f.said) (fit_there holds f)
+        (said_left callee.implicit callee.program w ws waits places holds keeps f.said) (objects_left callee.implicit callee.program w ws waits places holds keeps f.said)
 
     -- The caller at work, once its masters are the innermost ones: with what it held, or with what it gets back.
     abbrev caller_works : (held : List Value) (after : Holds) → Stored None heap masters → WaitsForIt → masters ≡ g.masters → Fit caller.program.types caller.program.variables (outers caller) none_spared heap held after → Working caller heap held masters (λ rooms known. Unit {0})
@@ -187,7 +188,7 @@ module _ (program : Program) (a : Activation Value) (actuals : List ActualForm) 
           bodies = stands.bodies.3;
           standing = record {
             suspended = stands.standing.suspended.2;
-            waiting = subst (λ (procedure : Option ℕ). AllWait (seen_in procedure (program_form program)) (callers_of program gs)) (sym of) stands.standing.waiting.1;
+            waiting = subst (λ (procedure : Option ℕ). AllWait (implicit_of (program_form program)) (seen_in procedure (program_form program)) (callers_of program gs)) (sym of) stands.standing.waiting.1;
             low = stands.standing.low.2;
           };
         };

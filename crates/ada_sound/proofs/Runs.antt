@@ -6,12 +6,13 @@ use Rattle.std.specs.List.{All, AllPairs, slice_get, slice_index_or}
 use Rattle.std.proofs.lemmas.Option.{slice_get-get_or}
 use Rattle.std.proofs.lemmas.List.Elements.{All-nil, All-cons}
 use Rattle.std.proofs.lemmas.List.Kept.{AllPairs-cons}
+use Rattle.ada_deeds.specs.Implicit.{implicit_of}
 use Rattle.ada_program.specs.declared.program.Program.{Program}
 use Rattle.ada_program.specs.Form.{ActualForm}
 use Rattle.ada_program.specs.ProgramForm.{TypeForm, BodyForm, ProgramForm, program_form, body_forms, main_body, seen_by, seen_in}
 use Rattle.ada_program.specs.WellFormed.{IsWellFormed}
 use Rattle.ada_parts.specs.Task.{Task, next as task_next}
-use Rattle.ada_effects.specs.Effects.{body_frees, effects_of}
+use Rattle.ada_effects.specs.Effects.{Implicit, body_frees, effects_of}
 use Rattle.ada_flow.specs.Flow.{first_holds, gone_with, ObeysRules}
 use Rattle.ada_meaning.specs.declared.state.Id.{Id}
 use Rattle.ada_meaning.specs.declared.state.Value.{Value}
@@ -93,36 +94,36 @@ named_out heap v id o x is found out named =
     some_same : (p q : Id) → Some p ≡ Some q → p ≡ q
     some_same p q e = cc e
 
-back_out : (p : ProgramForm) (e : Event) (heap : List Object) (after : State) (o : Id) → Says p e heap after → back_of e ≡ Some o → OutIn heap o
-back_out p (Born v part turn type number by) heap after o says is = absurd (cc is)
-back_out p (Finalized v part turn type number cause) heap after o says is = absurd (cc is)
-back_out p (Back v access number pool subpool cause) heap after o says is = named_out heap v says.id o says.object says.is says.found says.out is
-back_out p (Followed v) heap after o says is = absurd (cc is)
-back_out p (Left master) heap after o says is = absurd (cc is)
-back_out p (Line line) heap after o says is = absurd (cc is)
-back_out p Quiet heap after o says is = absurd (cc is)
+back_out : (implicit : Implicit) (p : ProgramForm) (e : Event) (heap : List Object) (after : State) (o : Id) → Says implicit p e heap after → back_of e ≡ Some o → OutIn heap o
+back_out implicit p (Born v part turn type number by) heap after o says is = absurd (cc is)
+back_out implicit p (Finalized v part turn type number cause) heap after o says is = absurd (cc is)
+back_out implicit p (Back v access number pool subpool cause) heap after o says is = named_out heap v says.id o says.object says.is says.found says.out is
+back_out implicit p (Followed v) heap after o says is = absurd (cc is)
+back_out implicit p (Left master) heap after o says is = absurd (cc is)
+back_out implicit p (Line line) heap after o says is = absurd (cc is)
+back_out implicit p Quiet heap after o says is = absurd (cc is)
 
-followed_out : (p : ProgramForm) (e : Event) (heap : List Object) (after : State) (o : Id) → Says p e heap after → followed_of e ≡ Some o → OutIn heap o
-followed_out p (Born v part turn type number by) heap after o says is = absurd (cc is)
-followed_out p (Finalized v part turn type number cause) heap after o says is = absurd (cc is)
-followed_out p (Back v access number pool subpool cause) heap after o says is = absurd (cc is)
-followed_out p (Followed v) heap after o says is = named_out heap v says.id o says.object says.is says.found says.out is
-followed_out p (Left master) heap after o says is = absurd (cc is)
-followed_out p (Line line) heap after o says is = absurd (cc is)
-followed_out p Quiet heap after o says is = absurd (cc is)
+followed_out : (implicit : Implicit) (p : ProgramForm) (e : Event) (heap : List Object) (after : State) (o : Id) → Says implicit p e heap after → followed_of e ≡ Some o → OutIn heap o
+followed_out implicit p (Born v part turn type number by) heap after o says is = absurd (cc is)
+followed_out implicit p (Finalized v part turn type number cause) heap after o says is = absurd (cc is)
+followed_out implicit p (Back v access number pool subpool cause) heap after o says is = absurd (cc is)
+followed_out implicit p (Followed v) heap after o says is = named_out heap v says.id o says.object says.is says.found says.out is
+followed_out implicit p (Left master) heap after o says is = absurd (cc is)
+followed_out implicit p (Line line) heap after o says is = absurd (cc is)
+followed_out implicit p Quiet heap after o says is = absurd (cc is)
 
 -- What goes back is back after.
-back_in : (p : ProgramForm) (e : Event) (heap : List Object) (after : State) (o : Id) → Says p e heap after → back_of e ≡ Some o → BackIn after.heap o
-back_in p (Born v part turn type number by) heap after o says is = absurd (cc is)
-back_in p (Finalized v part turn type number cause) heap after o says is = absurd (cc is)
-back_in p (Back v access number pool subpool cause) heap after o says is = let same : Some says.id ≡ Some o = rw says.is at is in rw (← some_same says.id o same) says.back
+back_in : (implicit : Implicit) (p : ProgramForm) (e : Event) (heap : List Object) (after : State) (o : Id) → Says implicit p e heap after → back_of e ≡ Some o → BackIn after.heap o
+back_in implicit p (Born v part turn type number by) heap after o says is = absurd (cc is)
+back_in implicit p (Finalized v part turn type number cause) heap after o says is = absurd (cc is)
+back_in implicit p (Back v access number pool subpool cause) heap after o says is = let same : Some says.id ≡ Some o = rw says.is at is in rw (← some_same says.id o same) says.back
   where
     some_same : (p q : Id) → Some p ≡ Some q → p ≡ q
     some_same p q e = cc e
-back_in p (Followed v) heap after o says is = absurd (cc is)
-back_in p (Left master) heap after o says is = absurd (cc is)
-back_in p (Line line) heap after o says is = absurd (cc is)
-back_in p Quiet heap after o says is = absurd (cc is)
+back_in implicit p (Followed v) heap after o says is = absurd (cc is)
+back_in implicit p (Left master) heap after o says is = absurd (cc is)
+back_in implicit p (Line line) heap after o says is = absurd (cc is)
+back_in implicit p Quiet heap after o says is = absurd (cc is)
 
 -- What is out is not what is back.
 differ_out : (heap : List Object) (a b : Option Id) → ((o : Id) → a ≡ Some o → BackIn heap o) → ((o : Id) → b ≡ Some o → OutIn heap o) → Differ a b
@@ -138,14 +139,14 @@ differ_out heap (Some o) (Some p) back out = λ same.
     absurd (cc (b, y.2))
 
 -- Words go home as an event says, and objects keep their homes.
-goes_home : (p : ProgramForm) (e : Event) (heap : List Object) (after : State) → Says p e heap after → IsBackHome heap e
-goes_home p (Born v part turn type number by) heap after says = tt
-goes_home p (Finalized v part turn type number cause) heap after says = tt
-goes_home p (Back v access number pool subpool cause) heap after says = rw says.is (says.object, says.found, says.of_type, says.numbered, says.to_pool, says.to_subpool, says.home)
-goes_home p (Followed v) heap after says = tt
-goes_home p (Left master) heap after says = tt
-goes_home p (Line line) heap after says = tt
-goes_home p Quiet heap after says = tt
+goes_home : (implicit : Implicit) (p : ProgramForm) (e : Event) (heap : List Object) (after : State) → Says implicit p e heap after → IsBackHome heap e
+goes_home implicit p (Born v part turn type number by) heap after says = tt
+goes_home implicit p (Finalized v part turn type number cause) heap after says = tt
+goes_home implicit p (Back v access number pool subpool cause) heap after says = rw says.is (says.object, says.found, says.of_type, says.numbered, says.to_pool, says.to_subpool, says.home)
+goes_home implicit p (Followed v) heap after says = tt
+goes_home implicit p (Left master) heap after says = tt
+goes_home implicit p (Line line) heap after says = tt
+goes_home implicit p Quiet heap after says = tt
 
 -- Each object is still there, as the object that it was.
 abbrev KeepsObjects : List Object → List Object → Type 0
@@ -168,9 +169,10 @@ home_kept before after Quiet keeps h = tt
 
 -- What a step does to objects, and what its event says of them.
 pub record Does (before : List Object) (e : Event) (after : State) : Type 0 where
+  pub implicit : Implicit
   pub body : ProgramForm
   pub alters : Alters before e after.heap
-  pub says : Says body e before after
+  pub says : Says implicit body e before after
 
 -- From one state to the other the same body runs, what waits for it stays as it is, and what is left to do behind it does.
 record Stays (s after : State) : Type 0 where
@@ -191,7 +193,7 @@ each_stays s mid (picks n taking) p r b e = λ i lt. stays_by s mid (taking i) p
 pub record InOperation (program : Program) (before : List Object) (e : Event) (after : State) : Type 0 where
   pub operates : Operates program after
   pub alters : Alters before e after.heap
-  pub says : (p : ProgramForm) → Says p e before after
+  pub says : (implicit : Implicit) (p : ProgramForm) → Says implicit p e before after
   pub covered : (number : ℕ) → IsCovered program number e
 
 -- What a step leads to: the ordinary invariant, or the body of a quiet operation runs.
@@ -199,14 +201,14 @@ abbrev pub Led : Program → List Object → Event → State → Type 0
 Led program before e after = (Crosses program before e after × IsCalm (behind_call after.control)) ⊎ InOperation program before e after
 
 -- What tells of no storage says nothing of objects, and covers nothing.
-told_says : (e : Event) (before : List Object) (after : State) → TellsNothing e → (p : ProgramForm) → Says p e before after
-told_says (Born v part turn type number by) before after told p = tt
-told_says (Finalized v part turn type number cause) before after told p = tt
-told_says (Back v access number pool subpool cause) before after told p = absurd told
-told_says (Followed v) before after told p = absurd told
-told_says (Left master) before after told p = tt
-told_says (Line line) before after told p = tt
-told_says Quiet before after told p = tt
+told_says : (e : Event) (before : List Object) (after : State) → TellsNothing e → (implicit : Implicit) (p : ProgramForm) → Says implicit p e before after
+told_says (Born v part turn type number by) before after told implicit p = tt
+told_says (Finalized v part turn type number cause) before after told implicit p = tt
+told_says (Back v access number pool subpool cause) before after told implicit p = absurd told
+told_says (Followed v) before after told implicit p = absurd told
+told_says (Left master) before after told implicit p = tt
+told_says (Line line) before after told implicit p = tt
+told_says Quiet before after told implicit p = tt
 
 told_covered : (program : Program) (e : Event) → TellsNothing e → (number : ℕ) → IsCovered program number e
 told_covered program (Born v part turn type number by) told n = tt
@@ -263,14 +265,14 @@ module _ (program : Program) (number : ℕ) (b : BodyForm) (given : List ActualF
   same_body : main_body called.program ≡ main_body (seen_by number b (program_form program))
   same_body = ap main_body (seen_is (program_form program) number b seen_body)
 
-  spares_called : (rest : List (Activation Value)) → Stands program gs (record s { activations = a ∷ rest }) → Spares called (body_frees called.program.types (effects_of called.program) (main_body called.program))
+  spares_called : (rest : List (Activation Value)) → Stands program gs (record s { activations = a ∷ rest }) → Spares called (body_frees called.program.types (effects_of called.implicit called.program) (main_body called.program))
   spares_called rest stands t may =
       let freed = freed_by_call program number b given k a rest gs s w stands t may in
       let caller = known_in program a.procedure gs in
       let same = same_types a.procedure (program_form program) ∙ sym (same_types (Some number) (program_form program)) in
       let refers = referenced program number b given k a [] gs s in (
         subst (λ (types : List TypeForm). NoOuterAlias types (outers called) t) same
-            (call_spares caller.program.types caller.program.variables (slice_get (effects_of caller.program) number) given a.places (values program number b given k a [] gs s) refers w.holds (outers caller) t freed (w.rest.3 t freed).0
+            (call_spares caller.program.types caller.program.variables (slice_get (effects_of caller.implicit caller.program).calls number) given a.places (values program number b given k a [] gs s) refers w.holds (outers caller) t freed (w.rest.3 t freed).0
             (λ of o is. passes_spared program number b given k a [] gs s w passed t freed of o is)),
         may,
       )
@@ -278,7 +280,7 @@ module _ (program : Program) (number : ℕ) (b : BodyForm) (given : List ActualF
   runs_called : (rest : List (Activation Value)) → Stands program gs (record s { activations = a ∷ rest }) → RunsOn called (Elaborates b.declarations b.statements b.handlers ∷ Returns given (references program number b given k a [] gs s) ∷ k) (gone_with b.declarations ∷ []) (first_holds b.formals b.variables)
   runs_called rest stands =
       subst (λ (c : BodyForm). RunsOn called (Elaborates c.declarations c.statements c.handlers ∷ Returns given (references program number b given k a [] gs s) ∷ k) (gone_with c.declarations ∷ []) (first_holds c.formals c.variables)) same_body
-      (body_runs program (Some number) (waiting program number b given k a [] gs s w ∷ gs) (body_obeys program (Some number) (b, seen_body) obeys) (none_out program (Some number) well) (none_on program (Some number) well) (spares_called rest stands) (callee_keeps (program_form program) a.procedure number b is w.rest.0))
+      (body_runs program (Some number) (waiting program number b given k a [] gs s w ∷ gs) (body_obeys program (Some number) (b, seen_body) obeys) (none_out program (Some number) well) (none_on program (Some number) well) (spares_called rest stands) (callee_keeps (implicit_of (program_form program)) (program_form program) a.procedure number b is w.rest.0))
 
 are_of_kinds : (p : ProgramForm) (s : State) → typed.TypedIn p s → AreOfKinds p.types s
 are_of_kinds p s t o x found = filled_at p.types (cells_of s.heap) (cells_of s.heap) o.0 x.cell (filled_in p s t) (typing.cell_at s.heap o.0 x found)
@@ -468,14 +470,14 @@ module _ (program : Program) (s : State) (o : Operates program s) where
   after_alters e heap (inl same) = rw same (alters_same s.heap e)
   after_alters e heap (inr (x, c, v, found, is, wrote)) = rw wrote (alters_set s.heap e o.object x (filled c v x) found (refl, refl, refl) (λ h. h) (λ h. inl h))
 
-  mild_says : (p : ProgramForm) (e : Event) (after : State) → IsMild sight o.procedure (o.caller ∷ o.rest) o.lower o.behind e → Says p e s.heap after
-  mild_says p (Born object part turn type number by) after mild = tt
-  mild_says p (Finalized object part turn type number cause) after mild = tt
-  mild_says p (Back object access number pool subpool cause) after mild = absurd mild
-  mild_says p (Followed v) after mild = record { id = o.object; object = o.body.x; is = mild; found = o.body.found; out = object_out }
-  mild_says p (Left master) after mild = tt
-  mild_says p (Line line) after mild = tt
-  mild_says p Quiet after mild = tt
+  mild_says : (implicit : Implicit) (p : ProgramForm) (e : Event) (after : State) → IsMild sight o.procedure (o.caller ∷ o.rest) o.lower o.behind e → Says implicit p e s.heap after
+  mild_says implicit p (Born object part turn type number by) after mild = tt
+  mild_says implicit p (Finalized object part turn type number cause) after mild = tt
+  mild_says implicit p (Back object access number pool subpool cause) after mild = absurd mild
+  mild_says implicit p (Followed v) after mild = record { id = o.object; object = o.body.x; is = mild; found = o.body.found; out = object_out }
+  mild_says implicit p (Left master) after mild = tt
+  mild_says implicit p (Line line) after mild = tt
+  mild_says implicit p Quiet after mild = tt
 
   mild_covered : (e : Event) → IsMild sight o.procedure (o.caller ∷ o.rest) o.lower o.behind e → (number : ℕ) → IsCovered program number e
   mild_covered (Born object part turn type number by) mild n = tt
@@ -491,7 +493,7 @@ module _ (program : Program) (s : State) (o : Operates program s) where
   led_on (moves e after) (inl a) = inr (record {
     operates = operates_on program s after e o a;
     alters = after_alters e after.heap a.wrote;
-    says = λ p. mild_says p e after a.mild;
+    says = λ implicit p. mild_says implicit p e after a.mild;
     covered = mild_covered e a.mild;
   })
   led_on (moves e after) (inr (quiet, is)) = rw (quiet, is) (inl (operation_ends program s o, o.suspended.calm))
@@ -541,8 +543,8 @@ pub led : (program : Program) (s : State) (choice : Choice) (e : Event) (after :
 led program s choice e after r step = leads_fine program s (next program.types.items (body_forms program) s) choice e after (step_fine program s r) step
 
 does_so : (program : Program) (before : List Object) (e : Event) (after : State) → Led program before e after → Does before e after
-does_so program before e after (inl (c, calm)) = record { body = (known_in program (running_procedure after) c.suspensions).program; alters = c.stepped.alters; says = c.stepped.says }
-does_so program before e after (inr c) = record { body = program_form program; alters = c.alters; says = c.says (program_form program) }
+does_so program before e after (inl (c, calm)) = record { implicit = implicit_of (program_form program); body = (known_in program (running_procedure after) c.suspensions).program; alters = c.stepped.alters; says = c.stepped.says }
+does_so program before e after (inr c) = record { implicit = implicit_of (program_form program); body = program_form program; alters = c.alters; says = c.says (implicit_of (program_form program)) (program_form program) }
 
 pub stepped : (program : Program) (s : State) (choice : Choice) (e : Event) (after : State) → Sound program s → Step program s choice e after → Does s.heap e after
 stepped program s choice e after r step = does_so program s.heap e after (led program s choice e after r step)
@@ -651,7 +653,7 @@ WentBack e s = (o : Id) → back_of e ≡ Some o → BackIn s.heap o
 
 went_born : (program : Program) (e : Event) (before : List Object) (after : State) → Does before e after → WentBack e after
 unfolding WentBack
-went_born program e before after st = λ o is. back_in st.body e before after o st.says is
+went_born program e before after st = λ o is. back_in st.implicit st.body e before after o st.says is
 
 went_kept : (program : Program) (d : Event) (s : State) (e : Event) (after : State) → Does s.heap e after → WentBack d s → WentBack d after
 unfolding WentBack
@@ -660,11 +662,11 @@ went_kept program d s e after st h = λ o is. let b = h o is in let y = st.alter
 -- The words of an object go back at most once, and none is followed after.
 pub back_once : {program : Program} {s last : State} {events : List Event} → Run program s events last → Sound program s → AllPairs BackTwoObjects events
 unfolding WentBack
-back_once = all_pairs BackTwoObjects WentBack went_born (λ program d s choice e after r step h. let st = stepped program s choice e after r step in (differ_out s.heap (back_of d) (back_of e) h (λ o is. back_out st.body e s.heap after o st.says is), went_kept program d s e after st h))
+back_once = all_pairs BackTwoObjects WentBack went_born (λ program d s choice e after r step h. let st = stepped program s choice e after r step in (differ_out s.heap (back_of d) (back_of e) h (λ o is. back_out st.implicit st.body e s.heap after o st.says is), went_kept program d s e after st h))
 
 pub followed_before_back : {program : Program} {s last : State} {events : List Event} → Run program s events last → Sound program s → AllPairs FollowedBeforeBack events
 unfolding WentBack
-followed_before_back = all_pairs FollowedBeforeBack WentBack went_born (λ program d s choice e after r step h. let st = stepped program s choice e after r step in (differ_out s.heap (back_of d) (followed_of e) h (λ o is. followed_out st.body e s.heap after o st.says is), went_kept program d s e after st h))
+followed_before_back = all_pairs FollowedBeforeBack WentBack went_born (λ program d s choice e after r step h. let st = stepped program s choice e after r step in (differ_out s.heap (back_of d) (followed_of e) h (λ o is. followed_out st.implicit st.body e s.heap after o st.says is), went_kept program d s e after st h))
 
 -- Words go back home.
 pub back_home : {program : Program} {s last : State} {events : List Event} → Run program s events last → Sound program s → All (IsBackHome last.heap) events
@@ -676,7 +678,7 @@ back_home {program} {s = s} {last = last} run r = go run r
     go {t = t} (there {event = e} {events = es} choice mid step rest) r' =
         let st = stepped program t choice e mid r' step in
         All-cons (IsBackHome last.heap) e es
-        (home_kept t.heap last.heap e (objects_kept (there choice mid step rest) r') (goes_home st.body e t.heap mid st.says))
+        (home_kept t.heap last.heap e (objects_kept (there choice mid step rest) r') (goes_home st.implicit st.body e t.heap mid st.says))
         (go rest (sound_step program t choice e mid r' step))
 
 -- The words of an object are back exactly where an event says so.
@@ -689,7 +691,7 @@ told_run {program} {s = s} o (there {event = e} choice mid step run) r b =
 happened_back : {program : Program} {s last : State} {events : List Event} (o : Id) → Run program s events last → Sound program s → Happened (GivesBackOf o) events → BackIn last.heap o
 happened_back o here r h = absurd h
 happened_back {program} {s = s} o (there {event = e} choice mid step run) r (inl h) =
-    let st = stepped program s choice e mid r step in back_kept o run (sound_step program s choice e mid r step) (back_in st.body e s.heap mid o st.says h)
+    let st = stepped program s choice e mid r step in back_kept o run (sound_step program s choice e mid r step) (back_in st.implicit st.body e s.heap mid o st.says h)
 happened_back {program} {s = s} o (there {event = e} choice mid step run) r (inr h) = happened_back o run (sound_step program s choice e mid r step) h
 
 pub back_is_told : {program : Program} {s last : State} {events : List Event} → s.heap ≡ [] → Run program s events last → Sound program s → (o : Id) (x : Object) → object_at last.heap o ≡ Some x → IsBack x ↔ Happened (GivesBackOf o) events

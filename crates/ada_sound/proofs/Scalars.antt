@@ -8,15 +8,15 @@ use Rattle.ada_text.specs.declared.spot.Spot.{Spot}
 use Rattle.ada_program.specs.declared.program.Program.{Program}
 use Rattle.ada_program.specs.declared.program.VariableKind.{VariableKind}
 use Rattle.ada_program.specs.declared.program.VariableKind.TheVariants as variable
-use Rattle.ada_program.specs.Form.{PathForm, ExpressionForm, RightForm, computes, DeclarationForm, creates_pool, collects, declares, declares_record, StmtForm, skips, assigns, assigns_record, frees, gets, writes, writes_text, chooses, repeats, counts, exits, calls, returns, raises, encloses, StmtsForm, no_stmts, a_stmt, BranchesForm, otherwise, a_branch, HandlersForm, no_handlers, a_handler, ActualForm, in_value, in_null, in_access, in_record, in_out_path, in_out_access, in_out_component, in_out_record}
+use Rattle.ada_program.specs.Form.{PathForm, ExpressionForm, RightForm, nothing, value_of, allocates, allocates_default, computes, DeclarationForm, creates_pool, collects, declares, declares_record, StmtForm, skips, assigns, assigns_record, frees, gets, writes, writes_text, chooses, repeats, counts, exits, calls, returns, raises, encloses, StmtsForm, no_stmts, a_stmt, BranchesForm, otherwise, a_branch, HandlersForm, no_handlers, a_handler, ActualForm, in_value, in_null, in_access, in_record, in_out_path, in_out_access, in_out_component, in_out_record}
 use Rattle.ada_program.specs.ProgramForm.{TypeForm, VariableForm, program_form, seen_in}
 use Rattle.ada_program.specs.WellFormed.{access_of, variable_kind, is_borrower, selectors_kind, path_access, right_fits, initial_fits, is_freed_by, statement_fits, stmts_fit, branches_fit, handlers_fit, Profile, callable_in, value_access, root_kind, is_record_object, names_borrower, actual_fits, actuals_fit, suits_profile}
-use Rattle.ada_effects.specs.Effects.{expression_raises, path_raises, record_path_raises, items_raise, actuals_raise, initial_raises, Effect, call_raises, passes, call_frees}
+use Rattle.ada_effects.specs.Effects.{expression_raises, path_raises, record_path_raises, items_raise, actuals_raise, initial_raises, initial_starts, initial_frees, assignment_frees, endings_free, Effect, Implicit, call_raises, passes, call_frees}
 use Rattle.ada_flow.specs.declared.rule.Hold.{Hold}
 use Rattle.ada_flow.specs.declared.rule.Region.TheVariants.{Whole}
 use Rattle.ada_flow.specs.declared.rule.Hold.TheVariants.{Null, Own, Alias, Lost, Kept}
 use Rattle.ada_flow.specs.declared.rule.Rule.TheVariants.{LoopState, FormalNotOwned}
-use Rattle.ada_flow.specs.Flow.{Holds, hold_at, variable_access, join, join_option, Outcome, faults, goes, also_raises, then_flow, raising_if, ends_with, Use, uses_in, uses_in_right, uses_in_target, Breach, broken_among, unless_broken, using_paths, computed, left_by_move, without_value, without_values, moved_by_right, right_hold, evaluation_raises, gives, gives_path, without_alias, without_aliases, without_freed, left_by_call, uses_in_actuals, behind_end, freed, released, passes_own, freed_behind, frees_path, gets_path, either_of, are_as_good, opened_hold, opened, opened_target, opened_by, opened_by_all, opened_by_branches, opened_by_handlers, ends_turn, left_with, is_left, condition_flow, loop_flow, Gone, gone_with, declared_at, uses_in_initial, uses_in_record, reaches_it, without_types, without_variables, if_own, left, left_option, leaves_block, handled, Around, in_loop, in_block, exit_of, exit_flow, declaration_flow, declarations_flow, bounds_flow, counting_start, begins_pair, stmt_flow, stmts_flow, branches_flow, handlers_flow, all_touched, touched, touched_hold, touched_by_all, variable_of, opened_by_actuals, handed_back, left_unkept, unless_kept, first_kept, others_kept, Keeping, all_give_back, formal_hold, first_holds, kept_at}
+use Rattle.ada_flow.specs.Flow.{Holds, hold_at, variable_access, join, join_option, Outcome, faults, goes, also_raises, then_flow, raising_if, ends_with, Use, uses_in, uses_in_right, uses_in_target, Breach, broken_among, unless_broken, using_paths, computed, left_by_move, without_value, without_values, moved_by_right, right_hold, evaluation_raises, gives, gives_path, without_alias, without_aliases, without_freed, without_freed_option, loses, initializes, finalizes, uses_in_start, uses_in_assignment, left_by_call, uses_in_actuals, behind_end, freed, released, passes_own, passes_reached, freed_behind, frees_path, gets_path, either_of, are_as_good, opened_hold, opened, opened_target, opened_by, opened_by_all, opened_by_branches, opened_by_handlers, ends_turn, left_with, is_left, condition_flow, loop_flow, Gone, gone_with, declared_at, uses_in_initial, without_types, without_variables, if_own, left, left_option, leaves_block, left_finalized, handled, Around, in_loop, in_block, exit_of, exit_flow, declaration_flow, declarations_flow, bounds_flow, counting_start, begins_pair, stmt_flow, stmts_flow, branches_flow, handlers_flow, all_touched, touched, touched_hold, touched_by_all, variable_of, opened_by_actuals, handed_back, left_unkept, unless_kept, first_kept, others_kept, Keeping, all_give_back, formal_hold, first_holds, kept_at}
 use Rattle.ada_typed.proofs.Bodies.{SeenFits}
 use Rattle.ada_sound.proofs.Assigned.{root_or_none}
 use Rattle.ada_sound.specs.Agreement.{Place, Turning, Comes, here, behind, in_branches, in_body, in_count, in_enclosed, ComesBy, in_others, in_this, in_next, ComesTo, to_this, to_next, ComesInside, in_statements, in_handlers, IsFlowAt}
@@ -184,6 +184,26 @@ module _ (types : List TypeForm) (variables : List VariableForm) (texts exceptio
   either_keeps (goes normal raising) (faults spot rule) k m = tt
   either_keeps (goes normal raising) (goes other others) k m = (join_keeps normal other k.0 m.0, join_keeps raising others k.1 m.1)
 
+  -- Where operations may free objects in the midst.
+  less_keeps : (may : ℕ → Bool) (way : Option Holds) → OnWay way → OnWay (without_freed_option variables may way)
+  less_keeps may None k = tt
+  less_keeps may (Some holds) k = λ x none. freed_lost variables may holds x (k x none)
+
+  loses_keeps : (may : ℕ → Bool) (o : Outcome) → Keeps o → Keeps (loses variables may o)
+  loses_keeps may (faults spot rule) k = tt
+  loses_keeps may (goes normal raising) k = (less_keeps may normal k.0, less_keeps may raising k.1)
+
+  initializes_keeps : (implicit : Implicit) (right : RightForm) (o : Outcome) → Keeps o → Keeps (initializes variables implicit right o)
+  initializes_keeps implicit nothing o k = k
+  initializes_keeps implicit (value_of path) o k = k
+  initializes_keeps implicit (allocates access items) o k = k
+  initializes_keeps implicit (allocates_default access) o k = loses_keeps (implicit.start_frees access) o k
+  initializes_keeps implicit (computes e) o k = k
+
+  finalizes_keeps : (implicit : Implicit) (access : Option ℕ) (o : Outcome) → Keeps o → Keeps (finalizes variables implicit access o)
+  finalizes_keeps implicit None o k = k
+  finalizes_keeps implicit (Some t) o k = loses_keeps (implicit.end_frees t) o k
+
   computed_keeps : (e : ExpressionForm) (holds : Holds) → Scalars holds → Keeps (computed e holds)
   computed_keeps e holds s = using_keeps (uses_in e) holds (ends_with (expression_raises e) holds holds) (ends_keep (expression_raises e) holds holds s s)
 
@@ -225,13 +245,13 @@ module _ (types : List TypeForm) (variables : List VariableForm) (texts exceptio
   released_keeps x spot holds (Alias r) some s = tt
   released_keeps x spot holds Lost some s = tt
 
-  frees_keeps : (cs : List ℕ) (access : ℕ) (path : PathForm) (holds : Holds) → is_freed_by types access (value_access (selectors_kind types (root_kind path.of_record (variable_kind variables path.root)) cs)) ≡ true → Scalars holds → Keeps (frees_path types variables cs path holds)
-  frees_keeps [] access path holds fits s =
+  frees_keeps : (implicit : Implicit) (cs : List ℕ) (access : ℕ) (path : PathForm) (holds : Holds) → is_freed_by types access (value_access (selectors_kind types (root_kind path.of_record (variable_kind variables path.root)) cs)) ≡ true → Scalars holds → Keeps (frees_path types variables implicit cs path holds)
+  frees_keeps implicit [] access path holds fits s =
       released_keeps path.root path.spot holds (hold_at holds path.root) (λ n. let freed : is_freed_by types access None ≡ true = rw (none_value path.of_record (variable_kind variables path.root) n) at fits in cc freed) s
-  frees_keeps (c ∷ cs) access path holds fits s =
+  frees_keeps implicit (c ∷ cs) access path holds fits s =
       let own = path_access types variables path in
       let after = behind_end variables own holds in
-      unless_keeps (freed_behind (passes_own types variables path own) (hold_at holds path.root) path.spot) (ends_with (path_raises path) after after)
+      unless_keeps (freed_behind (passes_own types variables path own || passes_reached types variables implicit path own) (hold_at holds path.root) path.spot) (ends_with (path_raises path) after after)
       (ends_keep (path_raises path) after after (behind_end_keeps own holds s) (behind_end_keeps own holds s))
 
   gets_keeps : (cs : List ℕ) (path : PathForm) (holds : Holds) → Scalars holds → Keeps (gets_path cs path holds)
@@ -334,16 +354,16 @@ module _ (types : List TypeForm) (variables : List VariableForm) (texts exceptio
       (then_keeps (condition_flow condition start) (λ hs. ends_turn start spot (turn (Some start) hs)) (condition_keeps condition start s)
       (λ holds k. turn_keeps start spot (turn (Some start) holds) (t holds k)))
 
-  exit_keeps : (start : Option Holds) (inside : Gone) (condition : Option ExpressionForm) (spot : Spot) (holds : Holds) → Scalars holds → Keeps (exit_flow variables start inside condition spot holds)
-  exit_keeps start inside condition spot holds s = go start (once condition)
+  exit_keeps : (implicit : Implicit) (start : Option Holds) (inside : Gone) (condition : Option ExpressionForm) (spot : Spot) (holds : Holds) → Scalars holds → Keeps (exit_flow variables implicit start inside condition spot holds)
+  exit_keeps implicit start inside condition spot holds s = go start (once condition)
     where
       once : (e : Option ExpressionForm) → Keeps (exit_of e holds)
       once None = (tt, tt)
       once (Some e) = computed_keeps e holds s
 
-      go : (start : Option Holds) → Keeps (exit_of condition holds) → Keeps (exit_flow variables start inside condition spot holds)
+      go : (start : Option Holds) → Keeps (exit_of condition holds) → Keeps (exit_flow variables implicit start inside condition spot holds)
       go None k = k
-      go (Some start) k = worse_keeps (are_as_good (left variables inside holds) start) spot (exit_of condition holds) k
+      go (Some start) k = worse_keeps (are_as_good (left_finalized variables implicit inside holds) start) spot (exit_of condition holds) k
 
   left_keeps : (gone : Gone) (way : Option Holds) → OnWay way → OnWay (left_option variables gone way)
   left_keeps gone None k = tt
@@ -358,21 +378,26 @@ module _ (types : List TypeForm) (variables : List VariableForm) (texts exceptio
   handled_keeps b handlers (goes normal None) k h = (k.0, tt)
   handled_keeps b handlers (goes normal (Some raising)) k h = either_keeps (goes normal (raising_if b raising)) (handlers raising) (k.0, if_keeps b raising k.1) (h raising k.1)
 
-  declarations_keep : (ds : List DeclarationForm) (holds : Holds) → list_all (initial_fits types variables) ds ≡ true → Scalars holds → Keeps (declarations_flow types variables ds holds)
-  declarations_keep [] holds fits s = (s, tt)
-  declarations_keep (d ∷ ds) holds fits s =
+  declarations_keep : (implicit : Implicit) (ds : List DeclarationForm) (holds : Holds) → list_all (initial_fits types variables) ds ≡ true → Scalars holds → Keeps (declarations_flow types variables implicit ds holds)
+  declarations_keep implicit [] holds fits s = (s, tt)
+  declarations_keep implicit (d ∷ ds) holds fits s =
       let parts = and_parts _ _ fits in
-      then_keeps (declaration_flow types variables d holds) (declarations_flow types variables ds) (one d parts.0) (λ hs k. declarations_keep ds hs parts.1 k)
+      then_keeps (declaration_flow types variables implicit d holds) (declarations_flow types variables implicit ds) (one d parts.0) (λ hs k. declarations_keep implicit ds hs parts.1 k)
     where
-      one : (d : DeclarationForm) → initial_fits types variables d ≡ true → Keeps (declaration_flow types variables d holds)
+      one : (d : DeclarationForm) → initial_fits types variables d ≡ true → Keeps (declaration_flow types variables implicit d holds)
       one (creates_pool pool) e = (s, tt)
       one (collects access) e = (s, tt)
-      one (declares x right) e = gives_keeps (declared_at variables x) false x right holds (and_parts _ _ (and_parts _ _ e).0).1 s
+      one (declares x right) e =
+          let spot = declared_at variables x in
+          initializes_keeps implicit right (gives types variables spot false x right holds) (gives_keeps spot false x right holds (and_parts _ _ (and_parts _ _ e).0).1 s)
       one (declares_record x t initial) e =
           let after = slice_set holds x (Own Whole) in
           let is = (and_parts _ _ e).0 in
-          using_keeps (uses_in_initial types (declared_at variables x) t initial) holds (ends_with (initial_raises initial) holds after)
-          (ends_keep (initial_raises initial) holds after s (set_keeps holds x (Own Whole) (λ none. absurd (record_some (variable_kind variables x) t is none)) s))
+          let may = initial_raises initial || initial_starts implicit (λ f. true) t initial in
+          let uses = uses_in_initial types (declared_at variables x) t initial in
+          loses_keeps (λ u. initial_frees implicit u t initial) (using_paths uses holds (ends_with may holds after))
+          (using_keeps uses holds (ends_with may holds after)
+          (ends_keep may holds after s (set_keeps holds x (Own Whole) (λ none. absurd (record_some (variable_kind variables x) t is none)) s)))
 
   bounds_keep : (low high : ExpressionForm) (holds : Holds) → Scalars holds → Keeps (bounds_flow low high holds)
   bounds_keep low high holds s = then_keeps (computed low holds) (computed high) (computed_keeps low holds s) (λ hs k. computed_keeps high hs k)
@@ -427,11 +452,20 @@ module _ (types : List TypeForm) (variables : List VariableForm) (texts exceptio
   mutual
     stmt_keeps : (around : Around) (inside cleared : Bool) (f : StmtForm) (holds : Holds) → statement_fits types variables texts exceptions callable inside f ≡ true → Scalars holds → Keeps (stmt_flow types variables around cleared f holds)
     stmt_keeps around inside cleared skips holds fits s = (s, tt)
-    stmt_keeps around inside cleared (assigns target right) holds fits s = path_keeps cleared target.selectors target right holds (and_parts _ _ fits).0 s
+    stmt_keeps around inside cleared (assigns target right) holds fits s =
+        let implicit = around.effects.implicit in
+        let o = gives_path types variables cleared target.selectors target right holds in
+        using_keeps (uses_in_start types variables implicit target right) holds (initializes variables implicit right o)
+        (initializes_keeps implicit right o (path_keeps cleared target.selectors target right holds (and_parts _ _ fits).0 s))
     stmt_keeps around inside cleared (assigns_record target items) holds fits s =
-        let may = record_path_raises target || items_raise items in
-        using_keeps (reaches_it target.object ∷ uses_in_record types target.object.spot target.record_type items) holds (ends_with may holds holds) (ends_keep may holds holds s s)
-    stmt_keeps around inside cleared (frees access path) holds fits s = frees_keeps path.selectors access path holds (and_parts _ _ fits).0 s
+        let some = record_path_raises target || items_raise items in
+        let may : ℕ → Bool = λ t. assignment_frees around.effects.implicit t target.record_type in
+        let uses = uses_in_assignment types variables may target items in
+        loses_keeps may (using_paths uses holds (ends_with some holds holds)) (using_keeps uses holds (ends_with some holds holds) (ends_keep some holds holds s s))
+    stmt_keeps around inside cleared (frees access path) holds fits s =
+        let implicit = around.effects.implicit in
+        finalizes_keeps implicit (path_access types variables path) (frees_path types variables implicit path.selectors path holds)
+        (frees_keeps implicit path.selectors access path holds (and_parts _ _ fits).0 s)
     stmt_keeps around inside cleared (gets target) holds fits s = gets_keeps target.selectors target holds s
     stmt_keeps around inside cleared (writes e) holds fits s = computed_keeps e holds s
     stmt_keeps around inside cleared (writes_text text) holds fits s = (s, tt)
@@ -444,9 +478,9 @@ module _ (types : List TypeForm) (variables : List VariableForm) (texts exceptio
         (λ hs k.
         loop_keeps None true end_spot (λ start gs. stmts_flow types variables (in_loop start around) fs gs) (counting_start variables x fs hs) (counting_keeps x fs hs k)
         (λ gs m. stmts_keep (in_loop (Some (counting_start variables x fs hs)) around) true fs gs (and_parts _ _ fits).1 m))
-    stmt_keeps around inside cleared (exits condition spot) holds fits s = exit_keeps around.start around.inside condition spot holds s
+    stmt_keeps around inside cleared (exits condition spot) holds fits s = exit_keeps around.effects.implicit around.start around.inside condition spot holds s
     stmt_keeps around inside cleared (calls procedure actuals) holds fits s =
-        let effect = slice_get around.effects procedure in
+        let effect = slice_get around.effects.calls procedure in
         let left = left_by_call variables effect holds in
         let kept = kept_at around.kept procedure in
         let may = actuals_raise actuals || call_raises effect (λ e. true) in
@@ -458,12 +492,15 @@ module _ (types : List TypeForm) (variables : List VariableForm) (texts exceptio
     stmt_keeps around inside cleared (encloses ds fs hs) holds fits s =
         let parts = and_parts _ _ fits in
         let more = and_parts _ _ parts.0 in
-        block_keeps (gone_with ds) _
-        (then_keeps (declarations_flow types variables ds holds) _ (declarations_keep ds holds (and_parts _ _ more.0).1 s)
+        let implicit = around.effects.implicit in
+        let gone = gone_with ds in
+        block_keeps gone _
+        (loses_keeps (endings_free implicit gone.types) _
+        (then_keeps (declarations_flow types variables implicit ds holds) _ (declarations_keep implicit ds holds (and_parts _ _ more.0).1 s)
         (λ at k.
-        handled_keeps (passes around.effects fs hs) (handlers_flow types variables (in_block (gone_with ds) around) hs) (stmts_flow types variables (in_block (gone_with ds) around) fs at)
-        (stmts_keep (in_block (gone_with ds) around) inside fs at more.1 k)
-        (λ gs m. handlers_keep (in_block (gone_with ds) around) inside hs gs parts.1 m)))
+        handled_keeps (passes around.effects fs hs) (handlers_flow types variables (in_block gone around) hs) (stmts_flow types variables (in_block gone around) fs at)
+        (stmts_keep (in_block gone around) inside fs at more.1 k)
+        (λ gs m. handlers_keep (in_block gone around) inside hs gs parts.1 m))))
 
     stmts_keep : (around : Around) (inside : Bool) (fs : StmtsForm) (holds : Holds) → stmts_fit types variables texts exceptions callable inside fs ≡ true → Scalars holds → Keeps (stmts_flow types variables around fs holds)
     stmts_keep around inside no_stmts holds fits s = (s, tt)
@@ -526,11 +563,11 @@ module _ (types : List TypeForm) (variables : List VariableForm) (texts exceptio
     handlers_comes inside fits s (to_next more) = handlers_comes inside (and_parts _ _ fits).1 s more
 
     inside_comes : {around : Around} {outer place : Place} {ds : List DeclarationForm} {fs : StmtsForm} {hs : HandlersForm} {holds at : Holds} {way : List Turning} (inside : Bool) → list_all (initial_fits types variables) ds ≡ true → stmts_fit types variables texts exceptions callable inside fs ≡ true → handlers_fit types variables texts exceptions callable inside hs ≡ true → Scalars holds → ComesInside types variables around outer ds fs hs holds way place at → Scalars at
-    inside_comes inside initials statements handlers s (in_statements {raising = raising} {ds = ds} {holds = holds} mid is more) =
-        comes_keep inside statements (normal_of _ mid raising is (declarations_keep ds holds initials s)) more
+    inside_comes {around = around} inside initials statements handlers s (in_statements {raising = raising} {ds = ds} {holds = holds} mid is more) =
+        comes_keep inside statements (normal_of _ mid raising is (declarations_keep around.effects.implicit ds holds initials s)) more
     inside_comes {around = around} inside initials statements handlers s (in_handlers {raising = raising} {normal = normal} {ds = ds} {body = body} {holds = holds} mid raised is at more) =
         handlers_comes inside handlers
-        (raised_of _ normal raised at (stmts_keep around inside body mid statements (normal_of _ mid raising is (declarations_keep ds holds initials s)))) more
+        (raised_of _ normal raised at (stmts_keep around inside body mid statements (normal_of _ mid raising is (declarations_keep around.effects.implicit ds holds initials s)))) more
 
 -- In a body of a well-formed program flow calls each Integer and Boolean lost.
 pub scalars_lost : (program : Program) (procedure : Option ℕ) (rest : Place) (way : List Turning) (place : Place) (holds : Holds) → SeenFits (seen_in procedure (program_form program)) → IsFlowAt program procedure rest way place holds → (x : ℕ) → variable_access (seen_in procedure (program_form program)).variables x ≡ None → hold_at holds x ≡ Lost

@@ -3,6 +3,7 @@
 
 use Rattle.std.proofs.Common.{◌≡◌, ℕ, zero, suc, true, false, List, [], ◌∷◌, refl, sym, subst, ◌⊎◌, inl}
 use Rattle.std.specs.Prelude.{ℤ, Option, None}
+use Rattle.ada_deeds.specs.Implicit.{implicit_of}
 use Rattle.ada_program.specs.declared.program.Program.{Program}
 use Rattle.ada_program.specs.ProgramForm.{TypeForm, VariableForm, program_form, main_body, seen_in}
 use Rattle.ada_program.specs.WellFormed.{IsWellFormed}
@@ -54,10 +55,11 @@ pub record Sound (program : Program) (s : State) : Type 0 where
   pub nested : Scoped (program_form program) s
 
 -- Each body of a program breaks no rule, and no exit leads out of it.
-pub body_obeys : (program : Program) (procedure : Option ℕ) → IsBody (program_form program) procedure → ObeysRules program → IsFine (seen_in procedure (program_form program)).types (body_flow (seen_in procedure (program_form program)).types (effects_of (seen_in procedure (program_form program))) (keeping_of (seen_in procedure (program_form program))) (main_body (seen_in procedure (program_form program))))
+pub body_obeys : (program : Program) (procedure : Option ℕ) → IsBody (program_form program) procedure → ObeysRules program → IsFine (body_flow (seen_in procedure (program_form program)).types (effects_of (implicit_of (program_form program)) (seen_in procedure (program_form program))) (keeping_of (implicit_of (program_form program)) (seen_in procedure (program_form program))) (main_body (seen_in procedure (program_form program))))
 body_obeys program procedure is obeys =
     let own = seen_in procedure (program_form program) in
-    subst (λ (types : List TypeForm). IsFine types (body_flow types (effects_of own) (keeping_of own) (main_body own))) (sym (same_types procedure (program_form program))) (obeys_in (program_form program) procedure is obeys)
+    let implicit = implicit_of (program_form program) in
+    subst (λ (types : List TypeForm). IsFine (body_flow types (effects_of implicit own) (keeping_of implicit own) (main_body own))) (sym (same_types procedure (program_form program))) (obeys_in implicit (program_form program) procedure is obeys)
 
 pub none_out : (program : Program) (procedure : Option ℕ) → IsWellFormed (program_form program) → have_exit (seen_in procedure (program_form program)).statements ≡ false
 none_out program procedure well =

@@ -13,8 +13,8 @@ use Rattle.ada_program.specs.Handling.{is_same}
 use Rattle.ada_program.specs.Freed.{statement_frees_own, statements_free_own}
 use Rattle.ada_program.specs.Typed.{pool_named}
 use Rattle.ada_program.specs.ProgramForm.{BodyForm}
-use Rattle.ada_effects.specs.Effects.{effects_of, stmt_raises, expression_raises, path_raises, condition_raises, right_raises}
-use Rattle.ada_flow.specs.Flow.{Holds, uses_in_target, ends_with, bounds_flow, gives, gives_path, gets_path, frees_path, leaves_path, clears, begins_pair, exit_of, declared_at, collected, gone_with, computed}
+use Rattle.ada_effects.specs.Effects.{effects_of, stmt_raises, expression_raises, path_raises, condition_raises, right_raises, right_starts, declaration_raises, ending_frees}
+use Rattle.ada_flow.specs.Flow.{Holds, uses_in_target, uses_in_start, initializes, ends_with, bounds_flow, gives, gives_path, gets_path, frees_path, leaves_path, clears, begins_pair, exit_of, declared_at, collected, gone_with, computed}
 use Rattle.ada_meaning.specs.declared.state.Value.{Value}
 use Rattle.ada_meaning.specs.declared.state.Mode.TheVariants.{Raising, Exiting, Returning}
 use Rattle.ada_meaning.specs.Frame.{Elaborates, Does, Decides, Repeats, Turns, Ranges, Counts, Exits, Handles, Closes, Evaluates, Computes, Stores, Declares, Writes}
@@ -34,10 +34,10 @@ use Rattle.ada_sound.proofs.Copied.{record_there}
 use Rattle.ada_sound.proofs.Records.{has_place, record_fine}
 use Rattle.ada_sound.proofs.Wholes.{record_begins}
 use Rattle.ada_sound.proofs.RecordAssignments.{copy_begins}
-use Rattle.ada_sound.proofs.Invariant.{Spares, owed_in, Known, Where, below, Control, Rooms, Roomed, Goes, Raised, Doing, Choosing, TurnsTo, condition_among, component_among, Counting, Elaborating, Handled, Outside, RunsOn, Deciding, TurningOn, ExitingTo, Computing, IsOne, Pairs, Takes, Working, Resumes, EvaluatesTo, Fine, ways}
+use Rattle.ada_sound.proofs.Invariant.{Spares, owed_in, Known, Where, below, Control, Rooms, Roomed, Goes, To, Raised, Doing, Choosing, TurnsTo, condition_among, component_among, Counting, Elaborating, Handled, Outside, RunsOn, RunsAfter, Deciding, TurningOn, ExitingTo, Computing, IsOne, Pairs, Takes, Working, Resumes, EvaluatesTo, Fine, ways}
 use Rattle.ada_sound.proofs.Ready.{running, at_work, with_less, at_less, stays, lost_stored, ready_on, runs_on, jumps, jumps_less}
 use Rattle.ada_sound.proofs.Nestings.{Starting, starts, others_do, branch_does, chooses_from, repeats_from, turn_runs, counts_from, count_runs, exit_parts, encloses_from}
-use Rattle.ada_sound.proofs.Outcomes.{return_goes, goes_map, to_before, raised_before, raised_less, then_goes, using_goes, computed_goes}
+use Rattle.ada_sound.proofs.Outcomes.{return_goes, goes_map, to_before, raised_before, raised_less, then_goes, using_goes, computed_goes, initializes_after, finalizes_to}
 use Rattle.ada_sound.proofs.Raising.{or_left, or_right, same_here}
 use Rattle.ada_sound.proofs.Leavings.{all_among}
 use Rattle.ada_sound.proofs.Targets.{component_begins, get_begins, half_begins}
@@ -109,14 +109,18 @@ module _ (known : Known) where
   declares_more : (heap : List Object) (places : List Value) (x : ℕ) (right : RightForm) (ds : List DeclarationForm) (fs : StmtsForm) (hs : HandlersForm) (k : Control) (holds : Holds) (rooms : Rooms) → RunsOn known (Elaborates (declares x right ∷ ds) fs hs ∷ k) rooms holds → Takes known heap places right (Declares x ∷ Elaborates ds fs hs ∷ k) rooms holds
   declares_more heap places x right ds fs hs k holds [] e = absurd e
   declares_more heap places x right ds fs hs k holds (gone ∷ rooms) e =
-      let o = Outside known.program.variables gone (ways known k rooms) in (
+      let o = Outside known.program.variables gone (ways known k rooms) in
+      let flow = gives known.program.types known.program.variables (declared_at known.program.variables x) false x right holds in
+      let less : Exception → Bool = λ e'. right_raises (is_same e') right in
+      let among : Exception → Bool = λ e'. declaration_raises known.implicit (is_same e') (declares x right) in (
         tt,
         false,
         (
           declared_at known.program.variables x,
-          goes_map (gives known.program.types known.program.variables (declared_at known.program.variables x) false x right holds) (Elaborating known ds (Doing known fs (Handles hs ∷ Closes ∷ k) (Handled known hs (Closes ∷ k) (Outside known.program.variables gone (ways known k rooms)))) (Outside known.program.variables gone (ways known k rooms)))
-              (Raised (λ e'. right_raises (is_same e') right) o) (RunsOn known (Elaborates ds fs hs ∷ k) (gone ∷ rooms)) (Raised (λ e'. right_raises (is_same e') right) (ways known (Elaborates ds fs hs ∷ k) (gone ∷ rooms)))
-              (λ h g. (e.0, g)) (λ h r. r) e.1,
+          initializes_after known right flow (Elaborates ds fs hs ∷ k) (gone ∷ rooms) (Raised less o) (raised_before less o)
+              (goes_map (initializes known.program.variables known.implicit right flow) (Elaborating known ds (Doing known fs (Handles hs ∷ Closes ∷ k) (Handled known hs (Closes ∷ k) o)) o)
+              (Raised among o) (RunsOn known (Elaborates ds fs hs ∷ k) (gone ∷ rooms)) (Raised less o)
+              (λ h g. (e.0, g)) (λ h r. raised_less among less o (λ e' i. or_left (less e') (right_starts known.implicit (is_same e') right) i) h r) e.1),
         ),
         tt,
       )
@@ -181,7 +185,7 @@ module _ (known : Known) where
       declarations_fine types (d ∷ ds) held fits w = declaration_fine types d ds held (and_parts _ _ fits).0 w
 
     -- Paths that are targets, or are freed.
-    assign_fine : (cs : List ℕ) (target : PathForm) (right : RightForm) (fs : StmtsForm) (k : Control) → target.selectors ≡ cs → (target.of_record ≡ true → is_object known.program.variables target.root ≡ true) → Working known s.heap a.places s.masters (λ rooms holds. Goes (gives_path known.program.types known.program.variables (begins_pair (assigns target right) fs) cs target right holds) (RunsOn known (Does fs ∷ k) rooms) (Raised (component_among (path_raises target) right) (ways known k rooms))) → Fine known s.heap s.masters (assign_next named cs target.root right (running (Does fs ∷ k) a rest s))
+    assign_fine : (cs : List ℕ) (target : PathForm) (right : RightForm) (fs : StmtsForm) (k : Control) → target.selectors ≡ cs → (target.of_record ≡ true → is_object known.program.variables target.root ≡ true) → Working known s.heap a.places s.masters (λ rooms holds. Goes (gives_path known.program.types known.program.variables (begins_pair (assigns target right) fs) cs target right holds) (RunsAfter known right (Does fs ∷ k) rooms) (Raised (component_among (path_raises target) right) (ways known k rooms))) → Fine known s.heap s.masters (assign_next named cs target.root right (running (Does fs ∷ k) a rest s))
     assign_fine [] target right fs k is whole w =
         let out = ways known k w.rooms in
         let cleared = begins_pair (assigns target right) fs in
@@ -191,7 +195,7 @@ module _ (known : Known) where
           cleared,
           (
             target.spot,
-            goes_map (gives known.program.types known.program.variables target.spot cleared target.root right w.holds) (RunsOn known (Does fs ∷ k) w.rooms) (Raised among out) (RunsOn known (Does fs ∷ k) w.rooms) (Raised (λ e. right_raises (is_same e) right) out)
+            goes_map (gives known.program.types known.program.variables target.spot cleared target.root right w.holds) (RunsAfter known right (Does fs ∷ k) w.rooms) (Raised among out) (RunsAfter known right (Does fs ∷ k) w.rooms) (Raised (λ e. right_raises (is_same e) right) out)
                 (λ h m. m) (λ h r. raised_less among (λ e. right_raises (is_same e) right) out (λ e may. or_right (is_same e ConstraintError && path_raises target) (right_raises (is_same e) right) may) h r) w.rest,
           ),
           pairs_variable target right fs k is,
@@ -200,7 +204,7 @@ module _ (known : Known) where
         let cleared = begins_pair (assigns target right) fs in
         component_begins known a rest s cleared c cs target right fs k is whole (at_work w (w.rest, pairs_component c cs target right fs k is))
 
-    frees_fine : (defined : List TypeDefinition) (cs : List ℕ) (access : ℕ) (path : PathForm) (fs : StmtsForm) (k : Control) → HaveHomes known.program.types s.heap s.masters → is_freed_by known.program.types access (path_access known.program.types known.program.variables path) ≡ true → is_this access (path_access known.program.types known.program.variables path) ≡ true → Spares known (λ t. is_this t (path_access known.program.types known.program.variables path)) → path.selectors ≡ cs → Working known s.heap a.places s.masters (λ rooms holds. Goes (frees_path known.program.types known.program.variables cs path holds) (RunsOn known (Does fs ∷ k) rooms) (Raised (free_among path) (ways known k rooms))) → Fine known s.heap s.masters (frees_next named defined cs access path.root (running (Does fs ∷ k) a rest s))
+    frees_fine : (defined : List TypeDefinition) (cs : List ℕ) (access : ℕ) (path : PathForm) (fs : StmtsForm) (k : Control) → HaveHomes known.program.types s.heap s.masters → is_freed_by known.program.types access (path_access known.program.types known.program.variables path) ≡ true → is_this access (path_access known.program.types known.program.variables path) ≡ true → Spares known (λ t. is_this t (path_access known.program.types known.program.variables path)) → path.selectors ≡ cs → Working known s.heap a.places s.masters (λ rooms holds. Goes (frees_path known.program.types known.program.variables known.implicit cs path holds) (To (RunsOn known (Does fs ∷ k) rooms)) (Raised (free_among path) (ways known k rooms))) → Fine known s.heap s.masters (frees_next named defined cs access path.root (running (Does fs ∷ k) a rest s))
     frees_fine defined [] access path fs k homes freed by_own spares is w =
         let own = freed_at known.program.types known.program.variables access path freed in
         let at : path_access known.program.types known.program.variables path ≡ Some access = this_is access (path_access known.program.types known.program.variables path) by_own in
@@ -307,7 +311,15 @@ module _ (known : Known) where
         let types = known.program.types in
         let variables = known.program.variables in
         let leads = right_leads types variables (path_kind types variables target) right (and_parts (right_fits types variables (path_kind types variables target) right) (lends_to variables (names_borrower variables target) right) fits).0 in
-        assign_fine target.selectors target right fs k refl (root_object types variables target leads.0 leads.1) (at_work w w.rest.1)
+        let out = ways known k w.rooms in
+        let among : Exception → Bool = λ e. stmt_raises (effects_of known.implicit known.program) (is_same e) (assigns target right) in
+        let flow = gives_path types variables (begins_pair (assigns target right) fs) target.selectors target right w.holds in
+        let used = using_goes (uses_in_start types variables known.implicit target right) w.holds (initializes variables known.implicit right flow) (RunsOn known (Does fs ∷ k) w.rooms) (Raised among out) w.rest.1 in
+        let goes_on = initializes_after known right flow (Does fs ∷ k) w.rooms (Raised among out) (raised_before among out) used.1 in
+        let less = component_among (path_raises target) right in
+        assign_fine target.selectors target right fs k refl (root_object types variables target leads.0 leads.1)
+        (at_work w (goes_map flow (RunsAfter known right (Does fs ∷ k) w.rooms) (Raised among out) (RunsAfter known right (Does fs ∷ k) w.rooms) (Raised less out) (λ h m. m)
+        (λ h r. raised_less among less out (λ e i. or_left (less e) (right_starts known.implicit (is_same e) right) i) h r) goes_on))
     stmt_fine defined bodies calling inside here (assigns_record target items) fs k homes fits own w =
         assigned_fine (has_parts defined target.record_type)
       where
@@ -317,7 +329,13 @@ module _ (known : Known) where
         assigned_fine : (parts : Bool) → Fine known s.heap s.masters (record_assign_next named parts target items (running (Does fs ∷ k) a rest s))
         assigned_fine true = copy_begins known a rest s target items fs k two.0 two.1 (at_work w w.rest.1)
         assigned_fine false = record_begins known a rest s target items fs k (record_there known.program.types known.program.variables target two.0) (at_work w w.rest.1)
-    stmt_fine defined bodies calling inside here (frees access path) fs k homes fits own w = frees_fine defined path.selectors access path fs k homes (and_parts _ _ fits).0 own w.rest.4 refl (at_work w w.rest.1)
+    stmt_fine defined bodies calling inside here (frees access path) fs k homes fits own w =
+        let types = known.program.types in
+        let variables = known.program.variables in
+        let freed = path_access types variables path in
+        let out = ways known k w.rooms in
+        let goes_on = finalizes_to variables known.implicit freed (frees_path types variables known.implicit path.selectors path w.holds) (RunsOn known (Does fs ∷ k) w.rooms) (Raised (free_among path) out) (raised_before (free_among path) out) w.rest.1 in
+        frees_fine defined path.selectors access path fs k homes (and_parts _ _ fits).0 own (λ t i. w.rest.4 t (or_left (is_this t freed) (ending_frees known.implicit t freed) i)) refl (at_work w goes_on)
     stmt_fine defined bodies calling inside here (gets target) fs k homes fits own w = (
         let types = known.program.types in
         let variables = known.program.variables in
@@ -337,7 +355,7 @@ module _ (known : Known) where
     stmt_fine defined bodies calling inside here (exits condition spot) fs k homes fits own w =
         exit_fine condition (Does fs ∷ k) (at_work w (exit_parts known here.start here.inside condition spot w.holds (RunsOn known (Does fs ∷ k) w.rooms) (Raised (λ e. is_same e ConstraintError && condition_raises condition) (ways known k w.rooms)) (ways known k w.rooms).exited w.rest.1 (w.rest.2 refl)))
     stmt_fine defined bodies calling inside here (calls procedure actuals) fs k homes fits own w = call_begins known bodies calling here procedure actuals fs k a rest s fits w
-    stmt_fine defined bodies calling inside here (returns spot) fs k homes fits own w = jumps known (Does fs ∷ k) a rest s Returning (at_work w (w.rest.3 w.holds (return_goes known.program.variables (owed_in known.program) here.within spot w.holds (Doing known fs k (ways known k w.rooms)) (Raised (λ e. stmt_raises (effects_of known.program) (is_same e) (returns spot)) (ways known k w.rooms)) w.rest.1)))
+    stmt_fine defined bodies calling inside here (returns spot) fs k homes fits own w = jumps known (Does fs ∷ k) a rest s Returning (at_work w (w.rest.3 w.holds (return_goes known.program.variables (owed_in known.program) here.within spot w.holds (Doing known fs k (ways known k w.rooms)) (Raised (λ e. stmt_raises (effects_of known.implicit known.program) (is_same e) (returns spot)) (ways known k w.rooms)) w.rest.1)))
     stmt_fine defined bodies calling inside here (raises e) fs k homes fits own w = jumps_less known (Does fs ∷ k) a rest s (Raising e) (at_work w (w.rest.1.1 e (same_here e)))
     stmt_fine defined bodies calling inside here (encloses ds body hs) fs k homes fits own w =
         stays known Quiet _ (

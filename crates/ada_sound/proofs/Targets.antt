@@ -31,7 +31,7 @@ use Rattle.ada_sound.proofs.Fits.{MayFollow, is_object, component_access, place_
 use Rattle.ada_sound.proofs.Stored.{Stored, exists_out, stored_filled}
 use Rattle.ada_sound.proofs.Alters.{alters_set}
 use Rattle.ada_sound.proofs.Begins.{root_follows}
-use Rattle.ada_sound.proofs.Invariant.{begun, along, Known, Control, Rooms, ReadyIn, Goes, Raised, RunsOn, NoneBroken, MayRaise, RaisesAt, Pairs, IsOne, component_among, Doing, LeadsTo, FillsIn, Receiving, Working, Half, HalfBy, Resumes, Clearing, EvaluatesTo, TargetsTo, StoringIn, StoresOn, Accepts, IsFollowed, Stepped, Fine, front, final, ways}
+use Rattle.ada_sound.proofs.Invariant.{begun, along, Known, Control, Rooms, ReadyIn, Goes, Raised, RunsOn, RunsAfter, NoneBroken, MayRaise, RaisesAt, Pairs, IsOne, component_among, Doing, LeadsTo, FillsIn, Receiving, Working, Half, HalfBy, Resumes, Clearing, EvaluatesTo, TargetsTo, StoringIn, StoresOn, Accepts, IsFollowed, Stepped, Fine, front, final, ways}
 use Rattle.ada_sound.proofs.Objects.{set_here, set_other}
 use Rattle.ada_sound.proofs.Values.{same_or_not}
 use Rattle.ada_sound.proofs.Ready.{stores_ready, running, at_work, at_less, stays, runs_ready, resumes_ready, goes_ready, jumps_less}
@@ -88,9 +88,9 @@ module _ (known : Known) (a : Activation Value) (rest : List (Activation Value))
       (λ object. object_there target.root target.spot (rw is at (first_kept w.holds (reads_it target) [] kept).0) (whole object) w.fit) (rw is at may)
 
   -- An assignment to a component begins: its object is found first.
-  pub component_begins : (cleared : Bool) (c : ℕ) (cs : List ℕ) (target : PathForm) (right : RightForm) (fs : StmtsForm) (k : Control) → target.selectors ≡ c ∷ cs → (target.of_record ≡ true → is_object known.program.variables target.root ≡ true) → Working known s.heap a.places s.masters (λ rooms holds. Goes (gives_component known.program.types cleared target right holds) (RunsOn known (Does fs ∷ k) rooms) (Raised (component_among (path_raises target) right) (ways known k rooms)) × Pairs cleared right (λ taken. IsOne taken.selectors) (Does fs ∷ k)) → Fine known s.heap s.masters (path_next named (before_last (inside (place_at a.places target.root) c) cs) (begun a.places target) (running (Targets (last_of (inside (place_at a.places target.root) c) cs) right ∷ Does fs ∷ k) a rest s))
+  pub component_begins : (cleared : Bool) (c : ℕ) (cs : List ℕ) (target : PathForm) (right : RightForm) (fs : StmtsForm) (k : Control) → target.selectors ≡ c ∷ cs → (target.of_record ≡ true → is_object known.program.variables target.root ≡ true) → Working known s.heap a.places s.masters (λ rooms holds. Goes (gives_component known.program.types cleared target right holds) (RunsAfter known right (Does fs ∷ k) rooms) (Raised (component_among (path_raises target) right) (ways known k rooms)) × Pairs cleared right (λ taken. IsOne taken.selectors) (Does fs ∷ k)) → Fine known s.heap s.masters (path_next named (before_last (inside (place_at a.places target.root) c) cs) (begun a.places target) (running (Targets (last_of (inside (place_at a.places target.root) c) cs) right ∷ Does fs ∷ k) a rest s))
   component_begins cleared c cs target right fs k is whole w =
-      let g = target_goes known.program.types cleared target right w.holds (RunsOn known (Does fs ∷ k) w.rooms) (Raised (component_among (path_raises target) right) (ways known k w.rooms)) w.rest.0 in
+      let g = target_goes known.program.types cleared target right w.holds (RunsAfter known right (Does fs ∷ k) w.rooms) (Raised (component_among (path_raises target) right) (ways known k w.rooms)) w.rest.0 in
       finds_fine known a rest s a.operands (Targets (last_of (inside (place_at a.places target.root) c) cs) right ∷ Does fs ∷ k) (before_last (inside (place_at a.places target.root) c) cs) (begun a.places target)
       (at_work w (
         target_raises c cs target (Does fs ∷ k) is whole w g.0 (λ may. g.2 may ConstraintError (or_left (path_raises target) (right_raises (is_same ConstraintError) right) may)),
@@ -108,7 +108,7 @@ module _ (known : Known) (a : Activation Value) (rest : List (Activation Value))
   cleared_runs o c d ds path later k is w =
       let runs = ways known k w.rooms in
       let first = starts known (assigns path nothing) later k runs w.holds w.rest in
-      at_work w (cleared_goes known.program.types known.program.variables path.selectors d ds path w.holds (Doing known later k runs) (Raised (λ e. stmt_raises (effects_of known.program) (is_same e) (assigns path nothing)) runs) is first.1)
+      at_work w (cleared_goes known.program.types known.program.variables path.selectors d ds path w.holds (Doing known later k runs) (Raised (λ e. stmt_raises (effects_of known.implicit known.program) (is_same e) (assigns path nothing)) runs) is first.1)
 
   -- Its object is found first, which is known to be there.
   pair_ends : (path : PathForm) (cs : List ℕ) (later : StmtsForm) (k : Control) (o : Id) (c : ℕ) → path.selectors ≡ cs → final (along a.places path) ≡ Some c → walk s.heap (begun a.places path) (front (along a.places path)) ≡ finds (Names o) → IsThere s.heap o → Working known (store s.heap (Names o) c Null) a.places s.masters (RunsOn known (Does (a_stmt (assigns path nothing) later) ∷ k)) → Fine known s.heap s.masters (assign_next named cs path.root nothing (running (Does later ∷ k) a rest s))

@@ -2,6 +2,7 @@
 
 use Rattle.std.proofs.Common.{◌≡◌, ℕ, List, [], ◌∷◌, sym, subst}
 use Rattle.std.specs.Prelude.{Option}
+use Rattle.ada_deeds.specs.Implicit.{implicit_of}
 use Rattle.ada_program.specs.declared.program.Program.{Program}
 use Rattle.ada_program.specs.ProgramForm.{program_form, seen_in}
 use Rattle.ada_meaning.specs.declared.state.Value.{Value}
@@ -44,7 +45,7 @@ module _ (program : Program) (s after : State) (gs : List Suspension) (stands : 
     bodies = subst (λ (rest : List (Activation Value)). AreOf program rest gs) (sym same.suspended) stands.bodies;
     standing = record {
       suspended = subst (λ (rest : List (Activation Value)). AreSuspended rest (callers_of program gs)) (sym same.suspended) stands.standing.suspended;
-      waiting = subst (λ (procedure : Option ℕ). AllWait (seen_in procedure (program_form program)) (callers_of program gs)) (sym same.procedure) stands.standing.waiting;
+      waiting = subst (λ (procedure : Option ℕ). AllWait (implicit_of (program_form program)) (seen_in procedure (program_form program)) (callers_of program gs)) (sym same.procedure) stands.standing.waiting;
       low = low_kept (callers_of program gs) stands.standing.low;
     };
   }

@@ -1,11 +1,12 @@
 -- Records as wholes: they are copied and assigned to, where their components are Integers and Booleans.
 
-use Rattle.std.proofs.Common.{◌≡◌, ℕ, ◌+◌, Bool, true, false, ◌||◌, ◌&&◌, List, [], ◌∷◌, length, take, drop, reverse, refl, ap, ◌∙◌, inl}
+use Rattle.std.proofs.Common.{◌≡◌, ℕ, ◌+◌, Bool, true, false, ◌||◌, ◌&&◌, List, [], ◌∷◌, ◌++◌, length, take, drop, reverse, refl, ap, ◌∙◌, inl}
 use Rattle.std.proofs.lemmas.Bool.{eqb-true}
 use Rattle.std.specs.Prelude.{Option, Some, None, ◌==◌, if◌then◌else◌}
 use Rattle.std.specs.List.{list_any}
 use Rattle.ada_program.specs.declared.program.ComponentKind.{ComponentKind}
 use Rattle.ada_program.specs.declared.program.ComponentKind.TheVariants as component
+use Rattle.ada_program.specs.declared.program.Exception.{Exception}
 use Rattle.ada_program.specs.declared.program.Exception.TheVariants.{ConstraintError}
 use Rattle.ada_program.specs.declared.program.TypeDefinition.{TypeDefinition}
 use Rattle.ada_program.specs.declared.program.VariableKind.TheVariants as variable
@@ -13,8 +14,8 @@ use Rattle.ada_program.specs.Form.{RecordPathForm, ItemForm, StmtsForm, assigns_
 use Rattle.ada_program.specs.Handling.{is_same}
 use Rattle.ada_program.specs.Typed.{count_of, width_of}
 use Rattle.ada_program.specs.WellFormed.{record_components, reached_components, is_alike, begins_with, has_record_at}
-use Rattle.ada_effects.specs.Effects.{effects_of, record_path_raises, items_raise, stmt_raises}
-use Rattle.ada_flow.specs.Flow.{Holds, is_owning, is_owning_record, reaches_it, copies_to, uses_in_items, uses_in_record, gives_record, ends_with}
+use Rattle.ada_effects.specs.Effects.{effects_of, record_path_raises, items_raise, stmt_raises, assignment_frees}
+use Rattle.ada_flow.specs.Flow.{Holds, hold_at, is_owning, is_owning_record, passes_it, copies_to, uses_in_items, uses_in_record, uses_in_copy, record_passes, gives_record, using_paths, ends_with}
 use Rattle.ada_meaning.specs.declared.state.Id.{Id}
 use Rattle.ada_meaning.specs.declared.state.Value.{Value}
 use Rattle.ada_meaning.specs.declared.state.Value.TheVariants.{Null, Names, Scalar, Part}
@@ -35,10 +36,11 @@ use Rattle.ada_sound.proofs.Stored.{Stored, stored_filled}
 use Rattle.ada_sound.proofs.Fits.{Fit, MayFollow, none_spared, place_at, store_blank}
 use Rattle.ada_sound.proofs.Alters.{Alters, alters_same, alters_set, alters_then}
 use Rattle.ada_sound.proofs.Begins.{root_follows}
-use Rattle.ada_sound.proofs.Invariant.{outers, Known, Control, Goes, Raised, RunsOn, RunsBehind, RaisesAt, IsPlainIn, CopiesTo, RecordIn, Working, Fine, ways, begun, along}
+use Rattle.ada_sound.proofs.Invariant.{outers, Known, Control, Goes, To, Raised, RunsOn, RunsBehind, RaisesAt, IsPlainIn, CopiesTo, RecordIn, Working, Fine, ways, begun, along}
 use Rattle.ada_sound.proofs.Ready.{running, at_work, stays, runs_behind, behind_ready, jumps_less}
-use Rattle.ada_sound.proofs.Outcomes.{using_goes, ends_goes}
-use Rattle.ada_sound.proofs.Followings.{first_kept}
+use Rattle.ada_sound.proofs.Outcomes.{raised_before, using_goes, ends_goes, loses_to}
+use Rattle.ada_sound.proofs.Followings.{first_kept, kept_apart}
+use Rattle.ada_sound.proofs.Handings.{passed_safe}
 use Rattle.ada_sound.proofs.Raising.{or_left, or_right}
 use Rattle.ada_sound.proofs.Roots.{root_object, object_there, record_raises, selected_raises}
 use Rattle.ada_sound.proofs.Assigned.{kind_names}
@@ -201,7 +203,7 @@ module _ (known : Known) (types : List TypeDefinition) (reaches : Reaches known 
   store_record_fine (Part object_id base) first count kinds fits computed w = absurd w.rest.0
 
 -- A record is assigned to: its object is found first.
-pub record_begins : (known : Known) (a : Activation Value) (rest : List (Activation Value)) (s : State) (target : RecordPathForm) (items : List ItemForm) (fs : StmtsForm) (k : Control) → RecordThere known.program.types known.program.variables target → Working known s.heap a.places s.masters (λ rooms holds. Goes (gives_record known.program.types target items holds) (RunsOn known (Does fs ∷ k) rooms) (Raised (λ e. stmt_raises (effects_of known.program) (is_same e) (assigns_record target items)) (ways known k rooms))) → Fine known s.heap s.masters (record_holder_next named target (λ place. TargetsRecord place.component target.record_type items) (running (Does fs ∷ k) a rest s))
+pub record_begins : (known : Known) (a : Activation Value) (rest : List (Activation Value)) (s : State) (target : RecordPathForm) (items : List ItemForm) (fs : StmtsForm) (k : Control) → RecordThere known.program.types known.program.variables target → Working known s.heap a.places s.masters (λ rooms holds. Goes (gives_record known.program.types known.program.variables (λ u. assignment_frees known.implicit u target.record_type) target items holds) (RunsOn known (Does fs ∷ k) rooms) (Raised (λ e. stmt_raises (effects_of known.implicit known.program) (is_same e) (assigns_record target items)) (ways known k rooms))) → Fine known s.heap s.masters (record_holder_next named target (λ place. TargetsRecord place.component target.record_type items) (running (Does fs ∷ k) a rest s))
 record_begins known a rest s target items fs k there w =
     let program = known.program in
     let path = target.object in
@@ -210,16 +212,25 @@ record_begins known a rest s target items fs k there w =
     let owning = is_owning_record program.types target.record_type in
     let used = uses_in_items program.types path.spot None [] items in
     let may = record_path_raises target || items_raise items in
-    let raised' = Raised (λ e. stmt_raises (effects_of known.program) (is_same e) (assigns_record target items)) (ways known k w.rooms) in
-    let u = using_goes (reaches_it path ∷ uses_in_record program.types path.spot target.record_type items) w.holds (ends_with may w.holds w.holds) (RunsOn known (Does fs ∷ k) w.rooms) raised' w.rest in
-    let n = ends_goes may w.holds w.holds (RunsOn known (Does fs ∷ k) w.rooms) raised' u.1 in
-    let reached = first_kept w.holds (reaches_it path) (uses_in_record program.types path.spot target.record_type items) u.0 in
-    let copied = first_kept w.holds (copies_to owning path.spot) used reached.1 in
+    let among : Exception → Bool = λ e. stmt_raises (effects_of known.implicit known.program) (is_same e) (assigns_record target items) in
+    let out = ways known k w.rooms in
+    let more = To (RunsOn known (Does fs ∷ k) w.rooms) in
+    let frees = λ (u : ℕ). assignment_frees known.implicit u target.record_type in
+    let needed = uses_in_record program.types path.spot target.record_type items in
+    let copies = uses_in_copy program.types program.variables frees items in
+    let reach = passes_it (record_passes program.types program.variables frees target) path in
+    let flow = ends_with may w.holds w.holds in
+    let g = loses_to program.variables frees (using_paths (reach ∷ (needed ++ copies)) w.holds flow) (RunsOn known (Does fs ∷ k) w.rooms) (Raised among out) (raised_before among out) w.rest in
+    let u = using_goes (reach ∷ (needed ++ copies)) w.holds flow more (Raised among out) g in
+    let n = ends_goes may w.holds w.holds more (Raised among out) u.1 in
+    let found = first_kept w.holds reach (needed ++ copies) u.0 in
+    let reached = passed_safe (record_passes program.types program.variables frees target) (hold_at w.holds path.root) path.spot found.0 in
+    let copied = first_kept w.holds (copies_to owning path.spot) used (kept_apart w.holds needed copies found.1).0 in
     finds_fine known a rest s a.operands (TargetsRecord place.component target.record_type items ∷ Does fs ∷ k) (along a.places path) v
     (at_work w (
       selected_raises known (place_at a.places path.root) v path.selectors (Does fs ∷ k) w.rooms w.holds
           (record_raises known v (Does fs ∷ k) w.rooms w.holds path.of_record path.selectors
-          (λ whole. object_there path.root path.spot reached.0 (root_object program.types program.variables path there.to there.leads whole) w.fit)
+          (λ whole. object_there path.root path.spot reached.1 (root_object program.types program.variables path there.to there.leads whole) w.fit)
           (λ raises. (let either = or_left (record_path_raises target) (items_raise items) raises in n.1 either ConstraintError either))),
       (
         copied_plain owning path.spot copied.0,
@@ -231,4 +242,4 @@ record_begins known a rest s target items fs k there w =
         },
         n.0,
       ),
-    )) (root_follows path.root path.spot reached.0 w.fit)
+    )) (root_follows path.root path.spot reached.1 w.fit)

@@ -13,7 +13,8 @@ use Rattle.ada_program.specs.WellFormed.{access_of, variable_kind, reached_compo
 use Rattle.ada_flow.specs.declared.rule.Hold.{Hold}
 use Rattle.ada_flow.specs.declared.rule.Hold.TheVariants as hold
 use Rattle.ada_flow.specs.Flow.{Holds, goes, hold_at, variable_access, declarations_flow, computed, bounds_flow, condition_flow, opened_by_all, counting_start, gone_with, Around, body_around, keeping_of, in_loop, in_block, begins_pair, stmt_flow, stmts_flow, first_holds}
-use Rattle.ada_effects.specs.Effects.{effects_of}
+use Rattle.ada_deeds.specs.Implicit.{implicit_of}
+use Rattle.ada_effects.specs.Effects.{Implicit, effects_of}
 use Rattle.ada_meaning.specs.declared.state.Id.{Id}
 use Rattle.ada_meaning.specs.declared.state.Value.{Value}
 use Rattle.ada_meaning.specs.declared.state.Value.TheVariants.{Null, Names, Scalar, Part}
@@ -132,12 +133,12 @@ mutual
       : Around → (outer : Place) → List DeclarationForm → StmtsForm → HandlersForm → Holds → List Turning → Place → Holds → Type 0 where
     in_statements : {around : Around} {raising : Option Holds} {outer place : Place}
         {ds : List DeclarationForm} {body : StmtsForm} {hs : HandlersForm} {holds at : Holds} {way : List Turning}
-        (mid : Holds) → declarations_flow types variables ds holds ≡ goes (Some mid) raising
+        (mid : Holds) → declarations_flow types variables around.effects.implicit ds holds ≡ goes (Some mid) raising
         → Comes types variables around (frame.Handles hs ∷ frame.Closes ∷ outer) body mid way place at
         → ComesInside types variables around outer ds body hs holds (into ∷ way) place at
     in_handlers : {around : Around} {raising normal : Option Holds} {outer place : Place}
         {ds : List DeclarationForm} {body : StmtsForm} {hs : HandlersForm} {holds at : Holds} {way : List Turning}
-        (mid raised : Holds) → declarations_flow types variables ds holds ≡ goes (Some mid) raising
+        (mid raised : Holds) → declarations_flow types variables around.effects.implicit ds holds ≡ goes (Some mid) raising
         → stmts_flow types variables around body mid ≡ goes normal (Some raised)
         → ComesTo types variables around (frame.Closes ∷ outer) hs raised way place at
         → ComesInside types variables around outer ds body hs holds (past ∷ way) place at
@@ -151,15 +152,16 @@ abbrev pub IsBehind : (procedure : Option ℕ) → (rest : Place) → Type 0
 IsBehind None rest = rest ≡ []
 IsBehind (Some number) rest = (actuals : List ActualForm) × (references : List Value) × (k : Place) × (rest ≡ frame.Returns actuals references ∷ k)
 
--- The holds that flow gives at a place, on this way from the declarations of a program's main body.
-abbrev pub IsFlowIn : (p : ProgramForm) (rest : Place) (way : List Turning) (place : Place) (holds : Holds) → Type 0
-IsFlowIn p rest way place holds =
-    ComesInside p.types p.variables (body_around (effects_of p) (keeping_of p) (main_body p)) rest p.declarations p.statements p.handlers
+-- The holds that flow gives at a place, on this way from the declarations of a program's main body, where this is known of implicit calls.
+abbrev pub IsFlowIn : Implicit → (p : ProgramForm) (rest : Place) (way : List Turning) (place : Place) (holds : Holds) → Type 0
+IsFlowIn implicit p rest way place holds =
+    ComesInside p.types p.variables (body_around (effects_of implicit p) (keeping_of implicit p) (main_body p)) rest p.declarations p.statements p.handlers
     (first_holds p.formals p.variables) way place holds
 
 -- So it is from the declarations of a procedure's body, or the main one, on.
 abbrev pub IsFlowAt : (program : Program) (procedure : Option ℕ) (rest : Place) (way : List Turning) (place : Place) (holds : Holds) → Type 0
-IsFlowAt program procedure rest way place holds = IsFlowIn (seen_in procedure (program_form program)) rest way place holds
+IsFlowAt program procedure rest way place holds =
+    IsFlowIn (implicit_of (program_form program)) (seen_in procedure (program_form program)) rest way place holds
 
 -- A way leads to one place, and flow says one thing there.
 abbrev pub OneFlow : Type 0

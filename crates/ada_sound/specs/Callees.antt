@@ -11,7 +11,7 @@ use Rattle.ada_program.specs.WellFormed.{access_of, variable_kind, selected_kind
 use Rattle.ada_program.specs.declared.program.Exception.{Exception}
 use Rattle.ada_program.specs.declared.program.Program.{Program}
 use Rattle.ada_program.specs.Handling.{is_same}
-use Rattle.ada_effects.specs.Effects.{call_frees, call_raises, effects_of}
+use Rattle.ada_effects.specs.Effects.{Effect, call_frees, call_raises, effects_of}
 use Rattle.ada_flow.specs.declared.rule.Hold.TheVariants.{Own, Alias, Lost}
 use Rattle.ada_flow.specs.declared.rule.Region.{Region}
 use Rattle.ada_flow.specs.declared.rule.Region.TheVariants.{Whole}
@@ -27,7 +27,7 @@ use Rattle.ada_meaning.specs.Named.{State}
 use Rattle.ada_meaning.specs.Run.{Event, Choice, Step, Run, first_state}
 use Rattle.ada_meaning.specs.Calls.{EndsBody}
 use Rattle.ada_owners.specs.Reliance.{Owns}
-use Rattle.ada_sound.specs.Always.{InEveryRun}
+use Rattle.ada_sound.specs.Always.{InEveryRun, implicit_in}
 use Rattle.ada_sound.specs.Agreement.{IsOwner, running_procedure}
 
 -- A call comes to its end with these holds.
@@ -44,14 +44,14 @@ CallRaises types variables around procedure actuals holds raised =
 abbrev pub CallLeavesNoAlias : Type 0
 CallLeavesNoAlias =
     (types : List TypeForm) (variables : List VariableForm) (around : Around) (procedure t : ℕ) (actuals : List ActualForm) (holds after : Holds)
-    → CallEnds types variables around procedure actuals holds after → call_frees (slice_get around.effects procedure) t ≡ true
+    → CallEnds types variables around procedure actuals holds after → call_frees (slice_get around.effects.calls procedure) t ≡ true
     → (x : ℕ) → variable_access variables x ≡ Some t → (r : Region) → hold_at after x ≢ Alias r
 
 -- Nor does one where the call raises an exception: there as little is said as behind it.
 abbrev pub RaisedCallLeavesNoAlias : Type 0
 RaisedCallLeavesNoAlias =
     (types : List TypeForm) (variables : List VariableForm) (around : Around) (procedure t : ℕ) (actuals : List ActualForm) (holds raised : Holds)
-    → CallRaises types variables around procedure actuals holds raised → call_frees (slice_get around.effects procedure) t ≡ true
+    → CallRaises types variables around procedure actuals holds raised → call_frees (slice_get around.effects.calls procedure) t ≡ true
     → (x : ℕ) → variable_access variables x ≡ Some t → (r : Region) → hold_at raised x ≢ Alias r
 
 -- A variable is handed over to a formal parameter of mode `in out` of an access type (6.4.1).
@@ -111,7 +111,7 @@ CallKeepsOthers =
     (types : List TypeForm) (variables : List VariableForm) (around : Around) (procedure : ℕ) (actuals : List ActualForm) (holds after : Holds)
     → CallEnds types variables around procedure actuals holds after
     → (x : ℕ) (v : VariableForm) → slice_get variables x ≡ Some v
-    → is_freed (call_frees (slice_get around.effects procedure)) (variable_access variables x) ≡ false → (IsHandedOver x actuals → ⊥)
+    → is_freed (call_frees (slice_get around.effects.calls procedure)) (variable_access variables x) ≡ false → (IsHandedOver x actuals → ⊥)
     → hold_at after x ≡ hold_at holds x
 
 -- Where the call raises an exception, a variable of such a type holds what it did, unless it is given up.
@@ -120,7 +120,7 @@ RaisedCallKeepsOthers =
     (types : List TypeForm) (variables : List VariableForm) (around : Around) (procedure : ℕ) (actuals : List ActualForm) (holds raised : Holds)
     → CallRaises types variables around procedure actuals holds raised
     → (x : ℕ) (v : VariableForm) → slice_get variables x ≡ Some v
-    → is_freed (call_frees (slice_get around.effects procedure)) (variable_access variables x) ≡ false
+    → is_freed (call_frees (slice_get around.effects.calls procedure)) (variable_access variables x) ≡ false
     → (IsGivenUp around procedure x actuals → ⊥) → hold_at raised x ≡ hold_at holds x
 
 -- Does a path with these components behind its variable follow the value of that one (4.1)?
@@ -216,7 +216,7 @@ CallsSpareWhatTheyPass =
     (types : List TypeForm) (variables : List VariableForm) (around : Around) (cleared : Bool) (procedure : ℕ) (actuals : List ActualForm) (holds : Holds)
     (normal raising : Option Holds)
     → stmt_flow types variables around cleared (calls procedure actuals) holds ≡ goes normal raising
-    → ArePassedSafely types variables (call_frees (slice_get around.effects procedure)) actuals
+    → ArePassedSafely types variables (call_frees (slice_get around.effects.calls procedure)) actuals
 
 -- Nothing is handed over that another owns.
 abbrev pub HandsNoAlias : List ActualForm → Holds → Type 0
@@ -230,7 +230,7 @@ LostIsNoActual =
     → list_any (value_relies_on x) actuals ≡ true → hold_at holds x ≡ Lost
     → (spot : Spot) × (rule : Rule) × (stmt_flow types variables around cleared (calls procedure actuals) holds ≡ faults spot rule)
     × (AreGivenApart actuals → HandsNoAlias actuals holds
-    → ArePassedSafely types variables (call_frees (slice_get around.effects procedure)) actuals → rule ≡ LostValue)
+    → ArePassedSafely types variables (call_frees (slice_get around.effects.calls procedure)) actuals → rule ≡ LostValue)
 
 -- Where a call breaks no rule, no actual parameter begins with a variable with which another one begins that is for a formal parameter of mode `in out`
 -- (6.4.1).
@@ -240,13 +240,17 @@ NoneIsGivenTwice =
     (normal raising : Option Holds)
     → stmt_flow types variables around cleared (calls procedure actuals) holds ≡ goes normal raising → AreGivenApart actuals
 
+-- What is known of the calls of a procedure of a program (6.4).
+abbrev pub effect_at : Program → (procedure : ℕ) → Option Effect
+effect_at program procedure = slice_get (effects_of (implicit_in program) (program_form program)).calls procedure
+
 -- What goes back by a Free is of an access type of which calls of a procedure may free objects (13.11.2).
 abbrev pub IsCovered : Program → (procedure : ℕ) → Event → Type 0
 IsCovered program procedure (Born object part turn type number by) = Unit {0}
 IsCovered program procedure (Finalized object part turn type number cause) = Unit {0}
 IsCovered program procedure (Back object access number pool subpool (Leaving master item)) = Unit {0}
 IsCovered program procedure (Back object access number pool subpool (Freeing free)) =
-    call_frees (slice_get (effects_of (program_form program)) procedure) access ≡ true
+    call_frees (effect_at program procedure) access ≡ true
 IsCovered program procedure (Back object access number pool subpool (Assigning assignment)) = Unit {0}
 IsCovered program procedure (Back object access number pool subpool (Undoing allocator)) = Unit {0}
 IsCovered program procedure (Followed object) = Unit {0}
@@ -267,4 +271,4 @@ FreesAreCovered program =
 abbrev pub RaisesAreCovered : Program → Type 0
 RaisesAreCovered program = InEveryRun program
     (λ events last. (procedure : ℕ) (e : Exception) → running_procedure last ≡ Some procedure → EndsBody last → last.mode ≡ Raising e
-    → call_raises (slice_get (effects_of (program_form program)) procedure) (is_same e) ≡ true)
+    → call_raises (effect_at program procedure) (is_same e) ≡ true)

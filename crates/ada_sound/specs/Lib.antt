@@ -24,3 +24,5 @@ pub mod OperationExamples
 pub mod Owners
 -- what they say of calls
 pub mod Callees
+-- what they say of operations that are called implicitly
+pub mod ImplicitCalls

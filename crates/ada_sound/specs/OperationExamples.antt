@@ -9,7 +9,7 @@ use Rattle.ada_program.specs.declared.program.FormalMode.TheVariants.{InOut}
 use Rattle.ada_program.specs.declared.program.Operations.{Operations}
 use Rattle.ada_program.specs.declared.program.Program.{Program}
 use Rattle.ada_program.specs.declared.program.VariableKind.TheVariants as variable
-use Rattle.ada_program.specs.Form.{PathForm, integer, reads, is_null, item_of_record, nothing, allocates_default, computes, DeclarationForm, collects, declares, declares_record, StmtForm, skips, assigns, assigns_record, frees, writes, writes_text, chooses, raises, encloses, StmtsForm, no_stmts, a_stmt, otherwise, a_branch, HandlersForm, no_handlers, a_handler}
+use Rattle.ada_program.specs.Form.{PathForm, integer, reads, is_null, item_of_record, nothing, allocates_default, value_of, computes, DeclarationForm, collects, declares, declares_record, StmtForm, skips, assigns, assigns_record, frees, writes, writes_text, chooses, raises, encloses, StmtsForm, no_stmts, a_stmt, otherwise, a_branch, HandlersForm, no_handlers, a_handler}
 use Rattle.ada_program.specs.ProgramForm.{BodyForm}
 use Rattle.ada_meaning.specs.declared.state.Value.{Value}
 use Rattle.ada_meaning.specs.declared.state.Value.TheVariants.{Names}
@@ -145,17 +145,18 @@ operating_events =
     ∷ []
 
 -- type Node is new Controlled with record Value : Integer; Next : Link; end record; which has number 0; type Link is access Node; which has number 1.
--- Head : Link has number 0 in the main procedure.
+-- Head, Second : Link have the numbers 0 and 1 in the main procedure.
 
 -- Node overrides Finalize, by this procedure.
 abbrev pub node_operations : Operations
 node_operations = record { initialize = None; adjust = None; finalize = Some (record { 0 = 0 }) }
 
--- Head := new Node; Head.Next := new Node;
+-- Head := new Node; Second := new Node; Head.Next := Second;
 abbrev pub two_nodes : StmtsForm
 two_nodes =
     a_stmt (assigns (example_path 0 []) (allocates_default 1))
-    (a_stmt (assigns (example_path 0 (1 ∷ [])) (allocates_default 1)) no_stmts)
+    (a_stmt (assigns (example_path 1 []) (allocates_default 1))
+    (a_stmt (assigns (example_path 0 (1 ∷ [])) (value_of (example_path 1 []))) no_stmts))
 
 -- The component Next of the formal parameter, N.
 abbrev pub next_now : PathForm
@@ -185,10 +186,9 @@ second_node = Names (record { 0 = 1 })
 abbrev pub node_events : List Event
 node_events =
     Born first_node 0 0 0 1 Creation
-    ∷ Followed first_node
     ∷ Born second_node 0 0 0 2 Creation
-    ∷ Followed first_node
-    ∷ Finalized second_node 0 0 0 2 (Leaving 0 0)
+    ∷ replicate 2 (Followed first_node)
+    ++ Finalized second_node 0 0 0 2 (Leaving 0 0)
     ∷ Followed second_node
     ∷ Left 1
     ∷ Back second_node 1 2 (Some 0) None (Leaving 0 0)

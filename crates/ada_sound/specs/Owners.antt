@@ -12,7 +12,8 @@ use Rattle.ada_program.specs.declared.program.ComponentKind.TheVariants as compo
 use Rattle.ada_program.specs.declared.program.TypeNo.{TypeNo}
 use Rattle.ada_program.specs.ProgramForm.{TypeForm, VariableForm}
 use Rattle.ada_program.specs.WellFormed.{access_of, record_components, reached_components, variable_kind, selectors_kind, path_access, is_borrower, names_borrower, lends_to}
-use Rattle.ada_flow.specs.Flow.{Holds, faults, goes, hold_at, variable_access, Around, begins_pair, stmt_flow, stmts_flow, declaration_flow}
+use Rattle.ada_effects.specs.Effects.{assignment_frees, Implicit}
+use Rattle.ada_flow.specs.Flow.{Holds, faults, goes, hold_at, variable_access, is_freed, Around, begins_pair, stmt_flow, stmts_flow, declaration_flow}
 use Rattle.ada_owners.specs.Reliance.{Owns}
 use Rattle.ada_sound.specs.Agreement.{IsOwner}
 
@@ -47,6 +48,15 @@ IsVariable path = path.selectors ≡ []
 -- What is assigned to is a component, or another variable than this one.
 abbrev pub IsElsewhere : (target : PathForm) (x : ℕ) → Type 0
 IsElsewhere target x = IsVariable target → x ≢ target.root
+
+-- A variable holds an alias of one of some access types (3.10).
+abbrev pub IsAliasOf : List VariableForm → (may : ℕ → Bool) → Holds → (x : ℕ) → Type 0
+IsAliasOf variables may holds x = (r : Region) × (hold_at holds x ≡ Alias r) × (is_freed may (variable_access variables x) ≡ true)
+
+-- A variable holds what it did, where operations may free objects of some access types in the midst (7.6); but an alias of one of these types is lost.
+abbrev pub Stays : List VariableForm → (may : ℕ → Bool) → (holds after : Holds) → (x : ℕ) → Type 0
+Stays variables may holds after x =
+    (IsAliasOf variables may holds x → hold_at after x ≡ Lost) × ((IsAliasOf variables may holds x → ⊥) → hold_at after x ≡ hold_at holds x)
 
 -- Two paths are one.
 abbrev pub IsSamePath : PathForm → PathForm → Type 0
@@ -131,18 +141,23 @@ ItemsStayWhereRaised =
     (types : List TypeForm) (variables : List VariableForm) (target : PathForm) (access : ℕ) (items : List ItemForm) (holds raised : Holds)
     → RaisesWith types variables (assigns target (allocates access items)) holds raised → raised ≡ holds
 
--- P := new T (4.8): an allocator without items moves nothing, so each other variable holds what it did.
+-- P := new T (4.8): an allocator without items moves nothing, so each other variable holds what it did; but the initialization may free objects, whose
+-- aliases are lost.
 abbrev pub DefaultsMoveNothing : Type 0
 DefaultsMoveNothing =
-    (types : List TypeForm) (variables : List VariableForm) (target : PathForm) (access : ℕ) (holds after : Holds)
-    → EndsWith types variables (assigns target (allocates_default access)) holds after
-    → (x : ℕ) → IsElsewhere target x → hold_at after x ≡ hold_at holds x
+    (types : List TypeForm) (variables : List VariableForm) (around : Around) (cleared : Bool) (target : PathForm) (access : ℕ) (holds after : Holds)
+    (raising : Option Holds)
+    → stmt_flow types variables around cleared (assigns target (allocates_default access)) holds ≡ goes (Some after) raising
+    → (x : ℕ) (v : VariableForm) → slice_get variables x ≡ Some v → IsElsewhere target x
+    → Stays variables (around.effects.implicit.start_frees access) holds after x
 
--- Where it raises an exception, each variable is what it was.
+-- Where it raises an exception, each variable is what it was, but for such aliases.
 abbrev pub DefaultsStayWhereRaised : Type 0
 DefaultsStayWhereRaised =
-    (types : List TypeForm) (variables : List VariableForm) (target : PathForm) (access : ℕ) (holds raised : Holds)
-    → RaisesWith types variables (assigns target (allocates_default access)) holds raised → raised ≡ holds
+    (types : List TypeForm) (variables : List VariableForm) (around : Around) (cleared : Bool) (target : PathForm) (access : ℕ) (holds raised : Holds)
+    (normal : Option Holds)
+    → stmt_flow types variables around cleared (assigns target (allocates_default access)) holds ≡ goes normal (Some raised)
+    → (x : ℕ) (v : VariableForm) → slice_get variables x ≡ Some v → Stays variables (around.effects.implicit.start_frees access) holds raised x
 
 -- The statement behind `T := P.C;` is `P.C := null;`; T is another variable than the one that P begins with, or a component, and then P is
 -- that variable alone. So the statement changes nothing on the way to P.C.
@@ -190,15 +205,17 @@ LostIsNotBorrowed =
 -- B : access T := P; (3.3.1, 3.10): a declaration that suits a borrower moves nothing, so each other variable holds what it did.
 abbrev pub DeclaredBorrowersMoveNothing : Type 0
 DeclaredBorrowersMoveNothing =
-    (types : List TypeForm) (variables : List VariableForm) (b : ℕ) (right : RightForm) (holds after : Holds) (raising : Option Holds) → is_borrower variables b ≡ true
-    → lends_to variables true right ≡ true → declaration_flow types variables (declares b right) holds ≡ goes (Some after) raising
+    (types : List TypeForm) (variables : List VariableForm) (implicit : Implicit) (b : ℕ) (right : RightForm) (holds after : Holds) (raising : Option Holds)
+    → is_borrower variables b ≡ true
+    → lends_to variables true right ≡ true → declaration_flow types variables implicit (declares b right) holds ≡ goes (Some after) raising
     → (x : ℕ) → x ≢ b → hold_at after x ≡ hold_at holds x
 
 -- Behind it the borrower owns nothing.
 abbrev pub DeclaredBorrowersOwnNothing : Type 0
 DeclaredBorrowersOwnNothing =
-    (types : List TypeForm) (variables : List VariableForm) (b : ℕ) (right : RightForm) (holds after : Holds) (raising : Option Holds) → is_borrower variables b ≡ true
-    → lends_to variables true right ≡ true → declaration_flow types variables (declares b right) holds ≡ goes (Some after) raising → OwnsNothing after b
+    (types : List TypeForm) (variables : List VariableForm) (implicit : Implicit) (b : ℕ) (right : RightForm) (holds after : Holds) (raising : Option Holds)
+    → is_borrower variables b ≡ true
+    → lends_to variables true right ≡ true → declaration_flow types variables implicit (declares b right) holds ≡ goes (Some after) raising → OwnsNothing after b
 
 -- None of these components, if there are any, is of an access type (3.10): each holds an Integer or a Boolean.
 abbrev pub HasNoAccess : Option (List ComponentKind) → Type 0
@@ -228,18 +245,25 @@ CopiedItemsArePlain =
 -- R : T := ..; (3.3.1): nor is one of a record object with an initial value.
 abbrev pub DeclaredRecordsArePlain : Type 0
 DeclaredRecordsArePlain =
-    (types : List TypeForm) (variables : List VariableForm) (x object_type : ℕ) (items : List ItemForm) (holds : Holds) (normal raising : Option Holds)
-    → declaration_flow types variables (declares_record x object_type (Some items)) holds ≡ goes normal raising
+    (types : List TypeForm) (variables : List VariableForm) (implicit : Implicit) (x object_type : ℕ) (items : List ItemForm) (holds : Holds) (normal raising : Option Holds)
+    → declaration_flow types variables implicit (declares_record x object_type (Some items)) holds ≡ goes normal raising
     → HasNoAccess (reached_components types object_type)
 
--- An assignment of a record moves nothing: where it comes to its end, each variable holds what it did.
+-- An assignment of a record moves nothing: where it comes to its end, each variable holds what it did; but the finalization and the adjustment of the record
+-- may free objects, whose aliases are lost.
 abbrev pub CopiesMoveNothing : Type 0
 CopiesMoveNothing =
-    (types : List TypeForm) (variables : List VariableForm) (target : RecordPathForm) (items : List ItemForm) (holds after : Holds)
-    → EndsWith types variables (assigns_record target items) holds after → after ≡ holds
+    (types : List TypeForm) (variables : List VariableForm) (around : Around) (cleared : Bool) (target : RecordPathForm) (items : List ItemForm)
+    (holds after : Holds) (raising : Option Holds)
+    → stmt_flow types variables around cleared (assigns_record target items) holds ≡ goes (Some after) raising
+    → (x : ℕ) (v : VariableForm) → slice_get variables x ≡ Some v
+    → Stays variables (λ t. assignment_frees around.effects.implicit t target.record_type) holds after x
 
 -- So it does where it raises one.
 abbrev pub CopiesStayWhereRaised : Type 0
 CopiesStayWhereRaised =
-    (types : List TypeForm) (variables : List VariableForm) (target : RecordPathForm) (items : List ItemForm) (holds raised : Holds)
-    → RaisesWith types variables (assigns_record target items) holds raised → raised ≡ holds
+    (types : List TypeForm) (variables : List VariableForm) (around : Around) (cleared : Bool) (target : RecordPathForm) (items : List ItemForm)
+    (holds raised : Holds) (normal : Option Holds)
+    → stmt_flow types variables around cleared (assigns_record target items) holds ≡ goes normal (Some raised)
+    → (x : ℕ) (v : VariableForm) → slice_get variables x ≡ Some v
+    → Stays variables (λ t. assignment_frees around.effects.implicit t target.record_type) holds raised x

@@ -10,6 +10,7 @@ ghost use Rattle.ada_sound.specs.Always as always;
 ghost use Rattle.ada_sound.specs.Always.{IsChecked, NeverErroneous, AgreesWithFlow, EndsClean};
 ghost use Rattle.ada_sound.specs.Owners as owners;
 ghost use Rattle.ada_sound.specs.Callees as callees;
+ghost use Rattle.ada_sound.specs.ImplicitCalls as implicit_calls;
 
 /// In every run of a program that is accepted, wherever a statement begins while no operation of a controlled type runs,
 /// in the main procedure's body or in that of one that is called, flow comes to what is left to do in that body, and each
@@ -141,7 +142,8 @@ pub fn only_owners_are_moved()
 
 /// The rules let an allocator move what a variable owns, or null, and what the component holds that the new object goes
 /// to, each once (4.8). The variables own nothing after; where it raises an exception, they are what they were. Without
-/// items it moves nothing.
+/// items it moves nothing: each other variable holds what it did, but that an alias is lost of an access type of which the
+/// operations that initialize the new object may free an object (7.6); so it is where it raises an exception.
 pub fn only_owners_are_items()
     ensures owner { owners.OnlyOwnersAreItems }
     ensures once { owners.ItemsMoveApart }
@@ -160,7 +162,8 @@ pub fn only_pairs_take()
 
 /// The rules let a record be assigned or declared by its value, or be copied as an item of an aggregate, only where
 /// none of its elementary components is of an access type, at any depth (3.3.1, 4.3.1, 4.8, 5.2). So an assignment of a
-/// record moves nothing: each variable holds what it did, also where it raises an exception.
+/// record moves nothing: each variable holds what it did, also where it raises an exception, but that an alias is lost of
+/// an access type of which the operations that finalize and adjust the record may free an object (7.6).
 pub fn records_are_copied_plain()
     ensures assigned { owners.AssignedRecordsArePlain }
     ensures assigned_items { owners.AssignedItemsArePlain }
@@ -226,4 +229,34 @@ pub fn calls_spare_what_they_pass()
 pub fn effects_cover_calls()
     ensures frees { (program : Program) → IsChecked program → callees.FreesAreCovered program }
     ensures raises { (program : Program) → IsChecked program → callees.RaisesAreCovered program }
+{}
+
+/// Where operations of controlled types are called implicitly that may free objects of an access type (7.6), no variable of
+/// that type relies on the value of another behind it, nor where an exception is raised there: behind a Free, which
+/// finalizes what it frees (13.11.2); behind a block, which finalizes the record objects that it declares, and the objects
+/// of its collections (7.6.1); behind the declaration of a record object, which is initialized or adjusted; and behind that
+/// of a variable with a new object, which is initialized (4.8). At an exit out of such a block (5.7) a variable that relies
+/// on another at the start of the loop is null. And a Free and a block are let through which lose an alias.
+pub fn implicit_calls_leave_no_alias()
+    ensures freed { implicit_calls.FinalizedFreeLeavesNoAlias }
+    ensures block { implicit_calls.EndedBlockLeavesNoAlias }
+    ensures exit { implicit_calls.ExitsLeaveNoAlias }
+    ensures declared_record { implicit_calls.DeclaredRecordLeavesNoAlias }
+    ensures declared_object { implicit_calls.DeclaredObjectLeavesNoAlias }
+    ensures freed_example { implicit_calls.FreeLosesAnAlias }
+    ensures block_example { implicit_calls.BlockLosesAnAlias }
+{}
+
+/// What is found before operations of controlled types are called implicitly (7.6), and needed behind them, lies in no
+/// object of an access type of which they may free objects, nor behind one: a component that gets a new object, which is
+/// initialized before (4.8); a record that gets another value, and the one that is copied, while the record is finalized
+/// and adjusted (5.2, 7.6); and a component that is freed, whose object is finalized before (13.11.2) by operations that may
+/// free such objects, or follow them. And one statement is let through of which this is asked, and another one is refused.
+pub fn implicit_calls_spare_what_waits()
+    ensures new_object { implicit_calls.StartsSpareTheTarget }
+    ensures assigned { implicit_calls.AssignmentsSpareTheTarget }
+    ensures copied { implicit_calls.AssignmentsSpareTheSource }
+    ensures freed { implicit_calls.FreesSpareTheWay }
+    ensures let_through { implicit_calls.StartSparesTheTarget }
+    ensures refused { implicit_calls.StartIsRefused }
 {}

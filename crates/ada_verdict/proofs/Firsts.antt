@@ -1,5 +1,5 @@
 -- A source has one program at most, one first fault at most, and never both.
-use Rattle.std.proofs.Common.{◌≡◌, ◌≢◌, ℕ, ◌||◌, ◌&&◌, ◌==◌, Bool, true, false, List, Option, Some, None, Result, Ok, Err, IfErr, IsErrAnd, arith, refl, sym, ap, subst, ◌∙◌}
+use Rattle.std.proofs.Common.{◌≡◌, ◌≢◌, ℕ, ◌||◌, ◌&&◌, ◌==◌, Bool, true, false, List, Option, Some, None, Result, Ok, Err, IfOk, IfErr, IsErrAnd, arith, refl, sym, ap, subst, ◌∙◌}
 use Rattle.std.specs.Prelude.{nat_lt}
 use Rattle.ada_text.specs.declared.spot.Spot.{Spot}
 use Rattle.ada_text.specs.declared.fault.TextFault.{TextFault}
@@ -10,27 +10,31 @@ use Rattle.ada_flow.specs.declared.rule.Rule.{Rule}
 use Rattle.ada_program.specs.declared.program.Program.{Program}
 use Rattle.ada_tree.specs.Statements.{UnitTree, IsTextOf}
 use Rattle.ada_program.specs.ProgramForm.{ProgramForm, program_form}
+use Rattle.ada_deeds.specs.Implicit.{implicit_of}
 use Rattle.ada_flow.specs.Flow.{Outcome, faults, goes, Holds, flow_of, program_flow, ObeysRules}
-use Rattle.ada_flow.specs.Told.{judgement}
+use Rattle.ada_flow.specs.Told.{breach_of, judgement, IsFirstFault as IsFirstFlowFault}
 use Rattle.ada_parser.specs.declared.fault.SyntaxFault.{SyntaxFault}
 use Rattle.ada_parser.specs.declared.fault.SyntaxFault.TheVariants as syntax
 use Rattle.ada_parser.specs.FirstFault.{IsFirstFault as IsFirstSyntaxFault}
-use Rattle.ada_operations.specs.declared.fault.OperationFault.{OperationFault}
 use Rattle.ada_operations.specs.declared.fault.OperationFault.TheVariants as operations
 use Rattle.ada_operations.specs.declared.rule.OperationRule.{OperationRule}
 use Rattle.ada_operations.specs.declared.rule.OperationRule.TheVariants.{FinalizeOrder, MayPropagate, FinalizeAllocates}
-use Rattle.ada_operations.specs.Operations.{HasFault, IsFirstFault as IsFirstOf, is_before, rule_number}
-use Rattle.ada_quiet.specs.First.{HasUnquiet, IsFirstUnquiet, stands_before}
+use Rattle.ada_operations.specs.Operations.{HasFault, IsFirstFault as IsFirstOf, rule_number}
+use Rattle.ada_quiet.specs.First.{HasUnquiet, HasUntracked, IsFirst as IsFirstPlace}
 use Rattle.ada_resolve.specs.declared.fault.NameFault.{NameFault}
 use Rattle.ada_resolve.specs.declared.fault.NameFault.TheVariants as names
 use Rattle.ada_resolve.specs.declared.fault.NameRule.{NameRule}
 use Rattle.ada_resolve.specs.Resolution.{Told as NamesTold, broken, gives, resolution}
+use Rattle.ada_flow.specs.declared.fault.FlowFault.{FlowFault}
 use Rattle.ada_flow.specs.declared.fault.FlowFault.TheVariants as flow
+use Rattle.ada_effects.specs.Effects.{Implicit}
+use Rattle.ada_text.specs.Exactly.{Exactly}
 use Rattle.ada_verdict.specs.declared.fault.UnusedFault.TheVariants as unused
 use Rattle.ada_verdict.specs.declared.fault.Verdict.{Verdict}
 use Rattle.ada_verdict.specs.declared.fault.Verdict.TheVariants as verdict
-use Rattle.ada_verdict.specs.First.{IsSourceOf, IsProgramOf, IsAccepted, IsFirstOfOperations, IsFirst, RefusesRightly, HasFaultOrProgram}
-use Rattle.ada_verdict.specs.Refusal.{Told, told, rule_text, operation_text, refusal_of}
+use Rattle.ada_verdict.specs.First.{IsSourceOf, IsProgramOf, IsAccepted, IsFirstIn, IsFirst, RefusesRightly, HasFaultOrProgram}
+use Rattle.ada_verdict.specs.declared.rules.TheConstants as rules
+use Rattle.ada_verdict.specs.Refusal.{Told, told, rule_text, refusal_of}
 
 -- The laws of the crates below.
 abbrev pub OneTokens : Type 0
@@ -76,15 +80,25 @@ one_resolution tokens tree source t u a b = ap resolution (same_tree tokens tree
 
 -- Of programs that are alike flow judges alike.
 same_judgement : (p q : Program) → program_form p ≡ program_form q → judgement (program_flow p) ≡ judgement (program_flow q)
-same_judgement p q e = ap (λ (form : ProgramForm). judgement (flow_of form)) e
+same_judgement p q e = ap (λ (form : ProgramForm). judgement (flow_of (implicit_of form) form)) e
 
 -- A judgement that no rule is broken.
 obeying : (o : Outcome) → judgement o ≡ Ok tt → (normal raising : Option Holds) × (o ≡ goes normal raising)
 obeying (faults spot rule) e = cc
 obeying (goes normal raising) e = (normal, raising, refl)
 
-pub obeys : (p : Program) → judgement (program_flow p) ≡ Ok tt → ObeysRules p
-obeys p e = obeying (program_flow p) e
+-- What flow answers, where it is asked with what the implicit calls of the program may do.
+abbrev Answers : Program → Implicit → Result (Unit {0}) FlowFault → Type 0
+Answers p implicit r = Exactly (λ _. tt) breach_of r (judgement (flow_of implicit (program_form p)))
+
+pub obeyed : (p : Program) (implicit : Implicit) (r : Result (Unit {0}) FlowFault) → implicit ≡ implicit_of (program_form p) → Answers p implicit r → IfOk r (λ _. ObeysRules p)
+obeyed p implicit (Ok x) known told = obeying (program_flow p) (subst (λ (i : Implicit). judgement (flow_of i (program_form p)) ≡ Ok tt) known told)
+obeyed p implicit (Err fault) known told = tt
+
+pub refused_by_flow : (p : Program) (implicit : Implicit) (r : Result (Unit {0}) FlowFault) → implicit ≡ implicit_of (program_form p) → Answers p implicit r
+    → IfErr r (λ fault. IsFirstFlowFault p fault)
+refused_by_flow p implicit (Ok x) known told = tt
+refused_by_flow p implicit (Err fault) known told = subst (λ (i : Implicit). Answers p i (Err fault)) known told
 
 gives_one : (p q : ProgramForm) → gives p ≡ gives q → p ≡ q
 gives_one p q e = cc
@@ -167,8 +181,9 @@ late_program source (verdict.Flow f) late a = (a.0, a.1)
 no_broken : {X : Type 0} (p q : ProgramForm) (spot : Spot) (rule : OperationRule) → p ≡ q → IsFirstOf p (Some (spot, rule)) → IsFirstOf q None → X
 no_broken p q spot rule same breaks fine = absurd (fine (spot, rule) (subst (λ (form : ProgramForm). HasFault form (spot, rule)) same breaks.0))
 
-no_unused : {X : Type 0} (p q : ProgramForm) (spot : Spot) → p ≡ q → IsFirstUnquiet p (Some spot) → IsFirstUnquiet q None → X
-no_unused p q spot same left fine = absurd (fine spot (subst (λ (form : ProgramForm). HasUnquiet form spot) same left.0))
+-- Where there is a first place, it is not so that there is none.
+no_place : {X : Type 0} (places : ProgramForm → Spot → Type 0) (p q : ProgramForm) (spot : Spot) → p ≡ q → IsFirstPlace (places p) (Some spot) → IsFirstPlace (places q) None → X
+no_place places p q spot same there fine = absurd (fine spot (subst (λ (form : ProgramForm). places form spot) same there.0))
 
 neither : (a b : Bool) → (a || b) ≡ false → (a ≡ false) × (b ≡ false)
 neither false b h = (refl, h)
@@ -222,12 +237,12 @@ one_operation p q spot other rule another same a b =
     let is = one_rule another rule one.2 in
     rw (one.0, one.1, is) refl
 
--- One first operation that is not in use.
-one_unused : (p q : ProgramForm) (spot other : Spot) → p ≡ q → IsFirstUnquiet p (Some spot) → IsFirstUnquiet q (Some other)
-    → refusal_of (verdict.Unused (unused.Operation spot)) ≡ refusal_of (verdict.Unused (unused.Operation other))
-one_unused p q spot other same a b =
-    let moved : HasUnquiet p other = subst (λ (form : ProgramForm). HasUnquiet form other) (sym same) b.0 in
-    let back : HasUnquiet q spot = subst (λ (form : ProgramForm). HasUnquiet form spot) same a.0 in
+-- One first place.
+one_place : (places : ProgramForm → Spot → Type 0) (p q : ProgramForm) (spot other : Spot) → p ≡ q → IsFirstPlace (places p) (Some spot)
+    → IsFirstPlace (places q) (Some other) → (text : List ℕ) → told spot text ≡ told other text
+one_place places p q spot other same a b text =
+    let moved : places p other = subst (λ (form : ProgramForm). places form other) (sym same) b.0 in
+    let back : places q spot = subst (λ (form : ProgramForm). places form spot) same a.0 in
     let one = same_place other.line spot.line other.column spot.column (a.1 other moved) (b.1 spot back) in
     rw (one.0, one.1) refl
 
@@ -239,11 +254,13 @@ no_first tokens text tree syntax source (verdict.Names f) b p a = no_early token
 no_first tokens text tree syntax source (verdict.Operations (operations.Broken spot rule)) b p a =
     no_broken (program_form b.0) (program_form p) spot rule (one_program tokens tree source b.0 p b.1 a.0) b.2 a.1.0
 no_first tokens text tree syntax source (verdict.Operations operations.NoMemory) b p a = refl
+no_first tokens text tree syntax source (verdict.Unused (unused.Adjust spot)) b p a =
+    no_place HasUntracked (program_form b.0) (program_form p) spot (one_program tokens tree source b.0 p b.1 a.0) b.2.1 a.1.1
 no_first tokens text tree syntax source (verdict.Unused (unused.Operation spot)) b p a =
-    no_unused (program_form b.0) (program_form p) spot (one_program tokens tree source b.0 p b.1 a.0) b.3 a.1.1
+    no_place HasUnquiet (program_form b.0) (program_form p) spot (one_program tokens tree source b.0 p b.1 a.0) b.2.1.2 a.1.3
 no_first tokens text tree syntax source (verdict.Unused unused.NoMemory) b p a = refl
 no_first tokens text tree syntax source (verdict.Flow (flow.Broken spot rule)) b p a =
-    obeys_none p spot rule (same_judgement p b.0 (one_program tokens tree source p b.0 a.0 b.1) ∙ b.3) a.2
+    obeys_none p spot rule (same_judgement p b.0 (one_program tokens tree source p b.0 a.0 b.1) ∙ b.2.2) a.1.2
 no_first tokens text tree syntax source (verdict.Flow flow.NoMemory) b p a = refl
 
 -- One first fault: what each phase's fault says of the later phases.
@@ -286,21 +303,31 @@ late_one : OneTokens → OneTree → (source : List ℕ) (v w : Verdict) → is_
 late_one tokens tree source (verdict.Operations (operations.Broken spot rule)) (verdict.Operations (operations.Broken other another)) x y a b n m =
     one_operation (program_form a.0) (program_form b.0) spot other rule another (one_program tokens tree source a.0 b.0 a.1 b.1) a.2 b.2
 late_one tokens tree source (verdict.Operations (operations.Broken spot rule)) (verdict.Unused g) x y a b n m =
-    no_broken (program_form a.0) (program_form b.0) spot rule (one_program tokens tree source a.0 b.0 a.1 b.1) a.2 b.2
+    no_broken (program_form a.0) (program_form b.0) spot rule (one_program tokens tree source a.0 b.0 a.1 b.1) a.2 b.2.0
 late_one tokens tree source (verdict.Operations (operations.Broken spot rule)) (verdict.Flow g) x y a b n m =
     no_broken (program_form a.0) (program_form b.0) spot rule (one_program tokens tree source a.0 b.0 a.1 b.1) a.2 b.2.0
 late_one tokens tree source (verdict.Unused f) (verdict.Operations (operations.Broken spot rule)) x y a b n m =
-    no_broken (program_form b.0) (program_form a.0) spot rule (one_program tokens tree source b.0 a.0 b.1 a.1) b.2 a.2
+    no_broken (program_form b.0) (program_form a.0) spot rule (one_program tokens tree source b.0 a.0 b.1 a.1) b.2 a.2.0
+late_one tokens tree source (verdict.Unused (unused.Adjust spot)) (verdict.Unused (unused.Adjust other)) x y a b n m =
+    one_place HasUntracked (program_form a.0) (program_form b.0) spot other (one_program tokens tree source a.0 b.0 a.1 b.1) a.2.1 b.2.1 rules.NOT_IN_PROFILE.now
+late_one tokens tree source (verdict.Unused (unused.Adjust spot)) (verdict.Unused (unused.Operation other)) x y a b n m =
+    no_place HasUntracked (program_form a.0) (program_form b.0) spot (one_program tokens tree source a.0 b.0 a.1 b.1) a.2.1 b.2.1.0
+late_one tokens tree source (verdict.Unused (unused.Operation spot)) (verdict.Unused (unused.Adjust other)) x y a b n m =
+    no_place HasUntracked (program_form b.0) (program_form a.0) other (one_program tokens tree source b.0 a.0 b.1 a.1) b.2.1 a.2.1.0
 late_one tokens tree source (verdict.Unused (unused.Operation spot)) (verdict.Unused (unused.Operation other)) x y a b n m =
-    one_unused (program_form a.0) (program_form b.0) spot other (one_program tokens tree source a.0 b.0 a.1 b.1) a.3 b.3
-late_one tokens tree source (verdict.Unused (unused.Operation spot)) (verdict.Flow g) x y a b n m =
-    no_unused (program_form a.0) (program_form b.0) spot (one_program tokens tree source a.0 b.0 a.1 b.1) a.3 b.2.1
+    one_place HasUnquiet (program_form a.0) (program_form b.0) spot other (one_program tokens tree source a.0 b.0 a.1 b.1) a.2.1.2 b.2.1.2 rules.NOT_IN_PROFILE.now
+late_one tokens tree source (verdict.Unused (unused.Adjust spot)) (verdict.Flow g) x y a b n m =
+    no_place HasUntracked (program_form a.0) (program_form b.0) spot (one_program tokens tree source a.0 b.0 a.1 b.1) a.2.1 b.2.1
+late_one tokens tree source (verdict.Unused (unused.Operation spot)) (verdict.Flow (flow.Broken other rule)) x y a b n m =
+    obeys_none a.0 other rule (same_judgement a.0 b.0 (one_program tokens tree source a.0 b.0 a.1 b.1) ∙ b.2.2) a.2.1.1
 late_one tokens tree source (verdict.Flow f) (verdict.Operations (operations.Broken spot rule)) x y a b n m =
     no_broken (program_form b.0) (program_form a.0) spot rule (one_program tokens tree source b.0 a.0 b.1 a.1) b.2 a.2.0
-late_one tokens tree source (verdict.Flow f) (verdict.Unused (unused.Operation spot)) x y a b n m =
-    no_unused (program_form b.0) (program_form a.0) spot (one_program tokens tree source b.0 a.0 b.1 a.1) b.3 a.2.1
+late_one tokens tree source (verdict.Flow f) (verdict.Unused (unused.Adjust spot)) x y a b n m =
+    no_place HasUntracked (program_form b.0) (program_form a.0) spot (one_program tokens tree source b.0 a.0 b.1 a.1) b.2.1 a.2.1
+late_one tokens tree source (verdict.Flow (flow.Broken other rule)) (verdict.Unused (unused.Operation spot)) x y a b n m =
+    obeys_none b.0 other rule (same_judgement b.0 a.0 (one_program tokens tree source b.0 a.0 b.1 a.1) ∙ a.2.2) b.2.1.1
 late_one tokens tree source (verdict.Flow (flow.Broken spot rule)) (verdict.Flow (flow.Broken other another)) x y a b n m =
-    breach_one spot other rule another (sym a.3 ∙ same_judgement a.0 b.0 (one_program tokens tree source a.0 b.0 a.1 b.1) ∙ b.3)
+    breach_one spot other rule another (sym a.2.2 ∙ same_judgement a.0 b.0 (one_program tokens tree source a.0 b.0 a.1 b.1) ∙ b.2.2)
 late_one tokens tree source v (verdict.Operations operations.NoMemory) x y a b n m = absurd (m refl)
 late_one tokens tree source (verdict.Operations operations.NoMemory) w x y a b n m = absurd (n refl)
 late_one tokens tree source v (verdict.Unused unused.NoMemory) x y a b n m = absurd (m refl)
@@ -323,14 +350,14 @@ one_first tokens text no_text_fault tree syntax no_syntax_fault source v w a b n
     go true false late early = let p = late_program source v late a in absurd (m (no_early tokens no_text_fault tree no_syntax_fault source w early b p.0 p.1))
     go true true late other = late_one tokens tree source v w late other a b n m
 
--- The first fault of the operations of the program of a source is the source's.
-pub operations_first : (source : List ℕ) (p : Program) (v : Verdict) → IsProgramOf source p → IsFirstOfOperations p v → IsFirst source v
-operations_first source p (verdict.Text f) meant first = absurd first
-operations_first source p (verdict.Syntax f) meant first = absurd first
-operations_first source p (verdict.Names f) meant first = absurd first
-operations_first source p (verdict.Operations f) meant first = (p, meant, first)
-operations_first source p (verdict.Unused f) meant first = (p, meant, first.0, first.1)
-operations_first source p (verdict.Flow f) meant first = absurd first
+-- The first fault of the program of a source is the source's.
+pub program_first : (source : List ℕ) (p : Program) (v : Verdict) → IsProgramOf source p → IsFirstIn p v → IsFirst source v
+program_first source p (verdict.Text f) meant first = absurd first
+program_first source p (verdict.Syntax f) meant first = absurd first
+program_first source p (verdict.Names f) meant first = absurd first
+program_first source p (verdict.Operations f) meant first = (p, meant, first)
+program_first source p (verdict.Unused f) meant first = (p, meant, first)
+program_first source p (verdict.Flow f) meant first = (p, meant, first)
 
 -- A fault that is passed on is the first one of the source where it was the first one of its phase.
 pub first_told : {A : Type 0} (source : List ℕ) (v : Verdict) (r : Result A Verdict) → IsFirst source v → IsErrAnd r (λ w. w ≡ v) → IfErr r (λ w. IsFirst source w)

@@ -1,4 +1,5 @@
--- The program of a source, and its first fault: the phases are text, syntax, names, operations of controlled types and flow.
+-- The program of a source, and its first fault. The phases are text, syntax, names, the rules on operations of controlled types, which of these flow
+-- follows, flow, and which operations are in use.
 
 use Rattle.std.specs.Prelude.{◌≡◌, ◌≢◌, ℕ, List, Some, None}
 use Rattle.ada_text.specs.Token.{Lexeme}
@@ -10,7 +11,7 @@ use Rattle.ada_program.specs.ProgramForm.{program_form}
 use Rattle.ada_operations.specs.declared.fault.OperationFault.{OperationFault}
 use Rattle.ada_operations.specs.declared.fault.OperationFault.TheVariants as operations
 use Rattle.ada_operations.specs.Operations.{IsFirstFault as IsFirstOf}
-use Rattle.ada_quiet.specs.First.{IsFirstUnquiet}
+use Rattle.ada_quiet.specs.First.{IsFirstUnquiet, IsFirstUntracked}
 use Rattle.ada_resolve.specs.Resolution.{Resolves}
 use Rattle.ada_resolve.specs.View.{Faults}
 use Rattle.ada_flow.specs.Flow.{ObeysRules}
@@ -37,45 +38,51 @@ pub record IsProgramOf (source : List ℕ) (program : Program) : Type 0 where
 abbrev pub OperationsObey : Program → Type 0
 OperationsObey program = IsFirstOf (program_form program) None
 
+-- None overrides Adjust of a type with a component of an access type (3.10, 7.6): what it does to such a component flow does not follow.
+abbrev pub AdjustsNoAccess : Program → Type 0
+AdjustsNoAccess program = IsFirstUntracked (program_form program) None
+
 -- Each operation is in use: none begins that is not quiet.
 abbrev pub OperationsAreInUse : Program → Type 0
 OperationsAreInUse program = IsFirstUnquiet (program_form program) None
 
--- Nothing is wrong with the operations of a program.
-abbrev pub HasFineOperations : Program → Type 0
-HasFineOperations program = OperationsObey program × OperationsAreInUse program
+-- Nothing is wrong with a program, by the phases behind names: its operations obey their rules, flow follows them, it obeys the rules of flow, where what
+-- operations may do that are called implicitly counts, and its operations are in use.
+abbrev pub HasNoFault : Program → Type 0
+HasNoFault program = OperationsObey program × AdjustsNoAccess program × ObeysRules program × OperationsAreInUse program
 
--- The program is that of the source, its operations are fine, and it obeys the rules of flow.
+-- The program is that of the source, and nothing is wrong with it.
 abbrev pub IsAccepted : List ℕ → Program → Type 0
-IsAccepted source program = IsProgramOf source program × HasFineOperations program × ObeysRules program
+IsAccepted source program = IsProgramOf source program × HasNoFault program
 
 -- The first fault of the operations of a program.
 abbrev pub IsFirstBroken : Program → OperationFault → Type 0
 IsFirstBroken program (operations.Broken spot rule) = IsFirstOf (program_form program) (Some (spot, rule))
 IsFirstBroken program operations.NoMemory = Unit {0}
 
--- The first operation that is not in use.
+-- The first operation that is not in use: one that flow does not follow, or, where the rules of flow are obeyed, one that is not quiet.
 abbrev pub IsFirstUnused : Program → UnusedFault → Type 0
-IsFirstUnused program (unused.Operation spot) = IsFirstUnquiet (program_form program) (Some spot)
-IsFirstUnused program unused.NoMemory = Unit {0}
+IsFirstUnused program (unused.Adjust spot) = IsFirstUntracked (program_form program) (Some spot)
+IsFirstUnused program (unused.Operation spot) = AdjustsNoAccess program × ObeysRules program × IsFirstUnquiet (program_form program) (Some spot)
+IsFirstUnused program unused.NoMemory = AdjustsNoAccess program × ObeysRules program
 
--- The first fault of the phase of operations: that of a rule, and where none is broken an operation that is not in use.
-abbrev pub IsFirstOfOperations : Program → Verdict → Type 0
-IsFirstOfOperations program (verdict.Text fault) = ⊥
-IsFirstOfOperations program (verdict.Syntax fault) = ⊥
-IsFirstOfOperations program (verdict.Names fault) = ⊥
-IsFirstOfOperations program (verdict.Operations fault) = IsFirstBroken program fault
-IsFirstOfOperations program (verdict.Unused fault) = OperationsObey program × IsFirstUnused program fault
-IsFirstOfOperations program (verdict.Flow fault) = ⊥
+-- The first fault of a program, behind names: that of the first phase that has one.
+abbrev pub IsFirstIn : Program → Verdict → Type 0
+IsFirstIn program (verdict.Text fault) = ⊥
+IsFirstIn program (verdict.Syntax fault) = ⊥
+IsFirstIn program (verdict.Names fault) = ⊥
+IsFirstIn program (verdict.Operations fault) = IsFirstBroken program fault
+IsFirstIn program (verdict.Unused fault) = OperationsObey program × IsFirstUnused program fault
+IsFirstIn program (verdict.Flow fault) = OperationsObey program × AdjustsNoAccess program × IsFirstFlowFault program fault
 
 -- The first fault of a source: that of the first phase that has one, of what that phase begins with. Want of memory is no fault of a source.
 abbrev pub IsFirst : List ℕ → Verdict → Type 0
 IsFirst source (verdict.Text fault) = IsFirstTextFault source fault
 IsFirst source (verdict.Syntax fault) = (tokens : List Lexeme) × Spells source tokens × IsFirstSyntaxFault tokens fault
 IsFirst source (verdict.Names fault) = (tree : UnitTree) × IsSourceOf source tree × Faults fault tree
-IsFirst source (verdict.Operations fault) = (program : Program) × IsProgramOf source program × IsFirstBroken program fault
-IsFirst source (verdict.Unused fault) = (program : Program) × IsProgramOf source program × OperationsObey program × IsFirstUnused program fault
-IsFirst source (verdict.Flow fault) = (program : Program) × IsProgramOf source program × HasFineOperations program × IsFirstFlowFault program fault
+IsFirst source (verdict.Operations fault) = (program : Program) × IsProgramOf source program × IsFirstIn program (verdict.Operations fault)
+IsFirst source (verdict.Unused fault) = (program : Program) × IsProgramOf source program × IsFirstIn program (verdict.Unused fault)
+IsFirst source (verdict.Flow fault) = (program : Program) × IsProgramOf source program × IsFirstIn program (verdict.Flow fault)
 
 -- The source could not be accepted, or memory ran out.
 abbrev pub RefusesRightly : List ℕ → Verdict → Type 0

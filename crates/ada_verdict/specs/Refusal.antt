@@ -16,6 +16,7 @@ use Rattle.ada_resolve.specs.declared.fault.NameRule.{NameRule}
 use Rattle.ada_resolve.specs.declared.fault.NameRule.TheVariants as name
 use Rattle.ada_parser.specs.declared.fault.SyntaxFault.{SyntaxFault}
 use Rattle.ada_parser.specs.declared.fault.SyntaxFault.TheVariants as syntax
+use Rattle.ada_verdict.specs.declared.fault.UnusedFault.{UnusedFault}
 use Rattle.ada_verdict.specs.declared.fault.UnusedFault.TheVariants as unused
 use Rattle.ada_verdict.specs.declared.fault.Verdict.{Verdict}
 use Rattle.ada_verdict.specs.declared.fault.Verdict.TheVariants as verdict
@@ -69,6 +70,12 @@ abbrev pub operation_told : OperationFault → Option Told
 operation_told (operations.Broken spot broken) = told spot (operation_text broken)
 operation_told operations.NoMemory = None
 
+-- An operation that is not in use.
+abbrev pub unused_told : UnusedFault → Option Told
+unused_told (unused.Adjust spot) = told spot rules.NOT_IN_PROFILE.now
+unused_told (unused.Operation spot) = told spot rules.NOT_IN_PROFILE.now
+unused_told unused.NoMemory = None
+
 -- The rules of the flow of values.
 abbrev pub rule_text : Rule → List ℕ
 rule_text rule.LostValue = rules.LOST_VALUE.now
@@ -86,7 +93,6 @@ refusal_of (verdict.Syntax fault) = syntax_told fault
 refusal_of (verdict.Names (names.Broken spot broken)) = told spot (name_text broken)
 refusal_of (verdict.Names names.NoMemory) = None
 refusal_of (verdict.Operations fault) = operation_told fault
-refusal_of (verdict.Unused (unused.Operation spot)) = told spot rules.NOT_IN_PROFILE.now
-refusal_of (verdict.Unused unused.NoMemory) = None
+refusal_of (verdict.Unused fault) = unused_told fault
 refusal_of (verdict.Flow (flow.Broken spot broken)) = told spot (rule_text broken)
 refusal_of (verdict.Flow flow.NoMemory) = None

@@ -1,7 +1,10 @@
 //! The checker: one phase after another, and the program that it accepts.
 
 ghost use Rattle.std.specs.Prelude.{◌≡◌, true, IfOk, IfErr};
+ghost use Rattle.ada_deeds.specs.Implicit.{implicit_of};
+ghost use Rattle.ada_effects.specs.Found.{implicit_in};
 ghost use Rattle.ada_flow.specs.Flow.{ObeysRules};
+ghost use Rattle.ada_flow.specs.Told.{IsFirstFault as IsFirstFlowFault};
 ghost use Rattle.ada_meaning.specs.Safe.{Safe};
 ghost use Rattle.ada_program.specs.Freed.{FreesItsOwn};
 ghost use Rattle.ada_program.specs.Nested.{CollectionsNest};
@@ -10,15 +13,16 @@ ghost use Rattle.ada_program.specs.WellFormed.{IsWellFormed};
 ghost use Rattle.ada_quiet.specs.Quiet.{operations_are_quiet};
 ghost use Rattle.ada_sound.specs.Always.{IsChecked};
 ghost use Rattle.ada_tree.specs.StatementView.{unit_of};
-ghost use Rattle.ada_verdict.specs.First.{HasFineOperations, IsAccepted, IsFirst, IsProgramOf, IsSourceOf, IsFirstOfOperations, IsFirstUnused, OperationsAreInUse, RefusesRightly};
+ghost use Rattle.ada_verdict.specs.First.{AdjustsNoAccess, HasNoFault, IsAccepted, IsFirst, IsFirstIn, IsFirstUnused, IsProgramOf, IsSourceOf, OperationsAreInUse, RefusesRightly};
 
 use crate::fault::{UnusedFault, Verdict};
 use crate::laws::accepted_sources_have_no_fault;
-use ada_flow::flow;
+use ada_effects::Implicit;
+use ada_flow::{FlowFault, flow};
 use ada_operations::operations;
 use ada_parser::parse;
 use ada_program::Program;
-use ada_quiet::first_unquiet;
+use ada_quiet::{first_unquiet, first_untracked};
 use ada_resolve::resolve;
 use ada_sound::laws::rules_imply_safety;
 use ada_tree::unit::Unit;
@@ -63,8 +67,8 @@ impl Accepted {
 }
 
 /// Checks a source: it is accepted exactly where it is a program that obeys the rules, out of memory aside, and then
-/// the program is safe; else this is its first fault. The phases are text, syntax, names, operations of controlled types
-/// and flow; a fault is that of the first phase that has one.
+/// the program is safe; else this is its first fault. The phases are text, syntax, names, the rules on operations of controlled
+/// types, which of these flow follows, flow, and which operations are in use; a fault is that of the first phase that has one.
 ///
 /// # Errors
 /// The first fault, or want of memory.
@@ -90,31 +94,61 @@ fn checked(alloc: Global, source: &[u8]) -> Result<Accepted, Verdict>
     ensures refused { IfErr result (λ verdict. IsFirst source.now verdict) }
 {
     let program = program_of(alloc, source)?;
-    operated(alloc, &program)?;
-    flow(alloc, &program)?;
+    judge(alloc, &program)?;
     Ok(Accepted { program })
 }
 
-/// The phase of operations: they obey the rules on what they may do, and each one is in use.
+/// The phases behind names, one after another: operations obey the rules on what they may do, flow follows them, the flow of
+/// values obeys its rules, where what they may do counts, and each operation is in use.
 ///
 /// # Errors
 /// The first fault, or want of memory.
-fn operated(alloc: Global, program: &Program) -> Result<(), Verdict>
+fn judge(alloc: Global, program: &Program) -> Result<(), Verdict>
     requires { IsWellFormed (program_form program.now) }
-    ensures fine { IfOk result (λ _. HasFineOperations program.now) }
+    ensures fine { IfOk result (λ _. HasNoFault program.now) }
     ensures quiet { IfOk result (λ _. operations_are_quiet (program_form program.now) ≡ true) }
-    ensures refused { IfErr result (λ verdict. IsFirstOfOperations program.now verdict) }
+    ensures refused { IfErr result (λ verdict. IsFirstIn program.now verdict) }
 {
-    operations(alloc, program)?;
-    used(alloc, program)?;
+    let implicit = operations(alloc, program)?;
+    follow_all(program)?;
+    obey(alloc, program, &implicit)?;
+    use_all(alloc, program)?;
     Ok(())
+}
+
+/// Flow follows each operation: none overrides Adjust of a type with a component of an access type.
+///
+/// # Errors
+/// The first one that does.
+fn follow_all(program: &Program) -> Result<(), UnusedFault>
+    ensures followed { IfOk result (λ _. AdjustsNoAccess program.now) }
+    ensures refused { IfErr result (λ fault. IsFirstUnused program.now fault) }
+{
+    match first_untracked(program) {
+        Some(spot) => Err(UnusedFault::Adjust(spot)),
+        None => Ok(()),
+    }
+}
+
+/// The flow of values obeys its rules, where this is known of the operations that are called implicitly.
+///
+/// # Errors
+/// The first rule that is broken, or want of memory.
+fn obey(alloc: Global, program: &Program, implicit: &Implicit) -> Result<(), FlowFault>
+    requires { implicit_in implicit.now ≡ implicit_of (program_form program.now) }
+    ensures obeys { IfOk result (λ _. ObeysRules program.now) }
+    ensures refused { IfErr result (λ fault. IsFirstFlowFault program.now fault) }
+{
+    flow(alloc, program, implicit)
 }
 
 /// Each operation is in use: it is quiet.
 ///
 /// # Errors
 /// The first one that is not, or want of memory.
-fn used(alloc: Global, program: &Program) -> Result<(), UnusedFault>
+fn use_all(alloc: Global, program: &Program) -> Result<(), UnusedFault>
+    requires followed { AdjustsNoAccess program.now }
+    requires obeys { ObeysRules program.now }
     ensures used { IfOk result (λ _. OperationsAreInUse program.now) }
     ensures quiet { IfOk result (λ _. operations_are_quiet (program_form program.now) ≡ true) }
     ensures refused { IfErr result (λ fault. IsFirstUnused program.now fault) }

@@ -24,7 +24,9 @@ pub enum Verdict {
 /// An operation of a controlled type that is not in use yet, or that memory ran out.
 #[derive(Drop)]
 pub enum UnusedFault {
-    /// Its body begins here.
+    /// It overrides Adjust of a type with a component of an access type, which flow does not follow. Its body begins here.
+    Adjust(Spot),
+    /// It is not quiet, and no theorem speaks of it. Its body begins here.
     Operation(Spot),
     NoMemory,
 }

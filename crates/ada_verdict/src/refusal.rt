@@ -33,11 +33,9 @@ impl Verdict {
             Verdict::Syntax(fault) => syntax_refusal(fault),
             Verdict::Names(NameFault::Broken { spot, rule }) => refused(*spot, name_text(*rule)),
             Verdict::Operations(fault) => operation_refusal(fault),
-            Verdict::Unused(UnusedFault::Operation(spot)) => refused(*spot, rules::NOT_IN_PROFILE),
+            Verdict::Unused(fault) => unused_refusal(fault),
             Verdict::Flow(FlowFault::Broken { spot, rule }) => refused(*spot, rule_text(*rule)),
-            Verdict::Names(NameFault::NoMemory)
-            | Verdict::Unused(UnusedFault::NoMemory)
-            | Verdict::Flow(FlowFault::NoMemory) => None,
+            Verdict::Names(NameFault::NoMemory) | Verdict::Flow(FlowFault::NoMemory) => None,
         }
     }
 }
@@ -82,6 +80,18 @@ fn operation_refusal(fault: &OperationFault) -> Option<Refusal>
     match fault {
         OperationFault::Broken { spot, rule } => refused(*spot, operation_text(*rule)),
         OperationFault::NoMemory => None,
+    }
+}
+
+/// The refusal for an operation that is not in use.
+fn unused_refusal(fault: &UnusedFault) -> Option<Refusal>
+    ensures { shown_if result ≡ printed.unused_told fault.now }
+{
+    match fault {
+        UnusedFault::Adjust(spot) | UnusedFault::Operation(spot) => {
+            refused(*spot, rules::NOT_IN_PROFILE)
+        }
+        UnusedFault::NoMemory => None,
     }
 }
 

@@ -1,17 +1,21 @@
 use Rattle.std.proofs.Common.{◌≡◌, ℕ, ◌+◌, ◌<◌, Bool, true, false, List, ◌∷◌, map, length, get_or, drop, Option, Some, None, sym, ap, ◌∙◌, subst}
 use Rattle.std.proofs.lemmas.List.{at_drop_more}
 use Rattle.std.proofs.lemmas.Result.{err_from_is_err_and}
+use Rattle.std.specs.Global.{Vec}
 use Rattle.std.specs.Prelude.{Ok, Err, IfSome, if◌then◌else◌}
 use Rattle.ada_text.specs.declared.spot.Spot.{Spot}
-use Rattle.ada_effects.specs.Effects.{passes}
+use Rattle.ada_effects.specs.Effects.{Implicit, assignment_frees, passes}
 use Rattle.ada_program.specs.declared.program.Handler.{Handler}
+use Rattle.ada_program.specs.declared.program.Item.{Item}
+use Rattle.ada_program.specs.declared.program.RecordPath.{RecordPath}
 use Rattle.ada_program.specs.declared.program.Stmt.{Stmt}
-use Rattle.ada_program.specs.Form.{StmtForm, StmtsForm, ExpressionForm, HandlersForm, a_handler, DeclarationForm, encloses, encloses_form, condition_form, declaration_form, handlers_form, stmt_form, stmts_form}
+use Rattle.ada_program.specs.declared.program.Stmt.TheVariants.{AssignRecord}
+use Rattle.ada_program.specs.Form.{StmtForm, StmtsForm, ExpressionForm, HandlersForm, a_handler, DeclarationForm, assigns_record_form, encloses, encloses_form, condition_form, declaration_form, handlers_form, item_form, record_path_form, stmt_form, stmts_form}
 use Rattle.ada_program.specs.ProgramForm.{TypeForm, VariableForm}
 use Rattle.ada_flow.specs.declared.fault.FlowFault.{FlowFault}
 use Rattle.ada_flow.specs.declared.fault.FlowFault.TheVariants.{Broken, NoMemory}
-use Rattle.ada_flow.specs.Flow.{Holds, Gone, goes, Around, gone_with, gone_with_both, nothing_gone, join_option, left_option, stmt_flow, stmts_flow, handlers_flow, unless_worse, condition_flow, loop_flow, in_loop, in_block, declarations_flow}
-use Rattle.ada_flow.specs.Told.{Noted, emptied, ending, end_handled, around_of, breach_of, gone_of, held, joined_end, noted, noted_behind, noted_for, types_in, variables_in}
+use Rattle.ada_flow.specs.Flow.{Holds, Gone, goes, Around, gives_record, gone_with, gone_with_both, nothing_gone, join_option, stmt_flow, stmts_flow, handlers_flow, unless_worse, condition_flow, loop_flow, in_loop, in_block, declarations_flow}
+use Rattle.ada_flow.specs.Told.{Noted, emptied, ending, end_handled, around_of, breach_of, finalized_option, gone_of, held, joined_end, noted, noted_behind, noted_for, types_in, variables_in}
 use Rattle.ada_flow.proofs.Noted.{End, handlers_end, turn_returns, turn_stops, block_declares_badly, block_breaks, block_handles}
 use Rattle.ada_flow.proofs.+flowing.Goals as goal
 use Rattle.ada_flow.proofs.+flowing.Goals.{repetition::turn-in-Some+in_ok-unless_worse, repetition::turn-in_default}
@@ -104,11 +108,11 @@ repetition::turn-returns-else-leaves t c =
     c.in_ok-compute_condition.ensures c.in_ok-after.ensures keeps
 
 -- how the declarations of a block end
-declared : (n own : Noted) (types : List TypeForm) (variables : List VariableForm) (ds ds' : List DeclarationForm) (holds : Holds) (end : End) → own ≡ emptied n → ds' ≡ ds →
-    ending own (declarations_flow types variables ds' holds) ≡ end → ending (emptied n) (declarations_flow types variables ds holds) ≡ end
-declared n own types variables ds ds' holds end own_is ds_is ends =
-    subst (λ (o : Noted). ending o (declarations_flow types variables ds holds) ≡ end) own_is
-    (subst (λ (xs : List DeclarationForm). ending own (declarations_flow types variables xs holds) ≡ end) ds_is ends)
+declared : (n own : Noted) (types : List TypeForm) (variables : List VariableForm) (implicit : Implicit) (ds ds' : List DeclarationForm) (holds : Holds) (end : End) → own ≡ emptied n → ds' ≡ ds →
+    ending own (declarations_flow types variables implicit ds' holds) ≡ end → ending (emptied n) (declarations_flow types variables implicit ds holds) ≡ end
+declared n own types variables implicit ds ds' holds end own_is ds_is ends =
+    subst (λ (o : Noted). ending o (declarations_flow types variables implicit ds holds) ≡ end) own_is
+    (subst (λ (xs : List DeclarationForm). ending own (declarations_flow types variables implicit xs holds) ≡ end) ds_is ends)
 
 -- and its statements
 inner_ends : (m inner : Noted) (types : List TypeForm) (variables : List VariableForm) (around within : Around) (gone : Gone) (fs fs' : StmtsForm) (hs hs' : HandlersForm) (at : Holds) (end : End) →
@@ -130,17 +134,17 @@ stands_in gone inside within around e f = ap (λ (g : Gone). stands around g wit
 -- its declarations break a rule
 declares_badly : (fault : FlowFault) (n own : Noted) (types : List TypeForm) (variables : List VariableForm) (cleared : Bool) (around : Around) (f : StmtForm) (ds ds' : List DeclarationForm) (fs : StmtsForm) (hs : HandlersForm) (holds : Holds) →
     f ≡ encloses ds fs hs → own ≡ emptied n → ds' ≡ ds →
-    IfSome (breach_of fault) (λ breach. ending own (declarations_flow types variables ds' holds) ≡ Err breach) →
+    IfSome (breach_of fault) (λ breach. ending own (declarations_flow types variables around.effects.implicit ds' holds) ≡ Err breach) →
     IfSome (breach_of fault) (λ breach. ending n (stmt_flow types variables around cleared f holds) ≡ Err breach)
 declares_badly NoMemory n own types variables cleared around f ds ds' fs hs holds form own_is ds_is breaks = tt
 declares_badly (Broken spot rule) n own types variables cleared around f ds ds' fs hs holds form own_is ds_is breaks =
     subst (λ (g : StmtForm). ending n (stmt_flow types variables around cleared g holds) ≡ Err (spot, rule)) (sym form)
-    (block_declares_badly n types variables around cleared ds fs hs holds (spot, rule) (declared n own types variables ds ds' holds (Err (spot, rule)) own_is ds_is breaks))
+    (block_declares_badly n types variables around cleared ds fs hs holds (spot, rule) (declared n own types variables around.effects.implicit ds ds' holds (Err (spot, rule)) own_is ds_is breaks))
 
 -- its statements do
 inner_breaks : (fault : FlowFault) (n own m inner : Noted) (types : List TypeForm) (variables : List VariableForm) (cleared : Bool) (around within : Around) (gone : Gone) (f : StmtForm) (ds ds' : List DeclarationForm) (fs fs' : StmtsForm) (hs hs' : HandlersForm) (holds at : Holds) →
     f ≡ encloses ds fs hs → gone ≡ gone_with ds → own ≡ emptied n → ds' ≡ ds →
-    ending own (declarations_flow types variables ds' holds) ≡ Ok (Some at, m) →
+    ending own (declarations_flow types variables around.effects.implicit ds' holds) ≡ Ok (Some at, m) →
     within ≡ in_block gone around → inner ≡ noted_for m hs' → hs' ≡ hs → fs' ≡ fs →
     IfSome (breach_of fault) (λ breach. ending inner (stmts_flow types variables within fs' at) ≡ Err breach) →
     IfSome (breach_of fault) (λ breach. ending n (stmt_flow types variables around cleared f holds) ≡ Err breach)
@@ -148,17 +152,17 @@ inner_breaks NoMemory n own m inner types variables cleared around within gone f
 inner_breaks (Broken spot rule) n own m inner types variables cleared around within gone f ds ds' fs fs' hs hs' holds at form gone_is own_is ds_is declares within_is inner_is hs_is fs_is breaks =
     subst (λ (g : StmtForm). ending n (stmt_flow types variables around cleared g holds) ≡ Err (spot, rule)) (sym form)
     (block_breaks n m types variables around cleared gone ds fs hs holds at (spot, rule) gone_is
-    (declared n own types variables ds ds' holds (Ok (Some at, m)) own_is ds_is declares)
+    (declared n own types variables around.effects.implicit ds ds' holds (Ok (Some at, m)) own_is ds_is declares)
     (inner_ends m inner types variables around within gone fs fs' hs hs' at (Err (spot, rule)) within_is inner_is hs_is fs_is breaks))
 
 -- and where nothing does
 block_is_left : (n own m inner k l raised : Noted) (types : List TypeForm) (variables : List VariableForm) (cleared : Bool) (around within : Around) (gone : Gone) (f : StmtForm) (ds ds' : List DeclarationForm) (fs fs' fs'' : StmtsForm) (hs hs' hs'' : HandlersForm) (holds at : Holds) (normal end leaves : Option Holds) →
     f ≡ encloses ds fs hs → gone ≡ gone_with ds → own ≡ emptied n → ds' ≡ ds →
-    ending own (declarations_flow types variables ds' holds) ≡ Ok (Some at, m) →
+    ending own (declarations_flow types variables around.effects.implicit ds' holds) ≡ Ok (Some at, m) →
     within ≡ in_block gone around → inner ≡ noted_for m hs' → hs' ≡ hs → fs' ≡ fs →
     ending inner (stmts_flow types variables within fs' at) ≡ Ok (normal, k) →
     fs'' ≡ fs → hs'' ≡ hs → end_handled m (passes around.effects fs'' hs'') (handlers_flow types variables within hs'') normal k ≡ Ok (end, l) →
-    raised ≡ noted_behind n variables gone l → leaves ≡ left_option variables gone end →
+    raised ≡ noted_behind n variables around.effects.implicit gone l → leaves ≡ finalized_option variables around.effects.implicit gone end →
     ending n (stmt_flow types variables around cleared f holds) ≡ Ok (leaves, raised)
 block_is_left n own m inner k l raised types variables cleared around within gone f ds ds' fs fs' fs'' hs hs' hs'' holds at normal end leaves form gone_is own_is ds_is declares within_is inner_is hs_is fs_is ends fs_is' hs_is' handles raised_is leaves_is =
     let handlers_end : end_handled m (passes around.effects fs hs) (handlers_flow types variables (in_block gone around) hs) normal k ≡ Ok (end, l) =
@@ -166,17 +170,17 @@ block_is_left n own m inner k l raised types variables cleared around within gon
     (subst (λ (h : HandlersForm). end_handled m (passes around.effects fs h) (handlers_flow types variables within h) normal k ≡ Ok (end, l)) hs_is'
     (subst (λ (g : StmtsForm). end_handled m (passes around.effects g hs'') (handlers_flow types variables within hs'') normal k ≡ Ok (end, l)) fs_is' handles)) in
     subst (λ (x : Option Holds). ending n (stmt_flow types variables around cleared f holds) ≡ Ok (x, raised)) (sym leaves_is)
-    (subst (λ (x : Noted). ending n (stmt_flow types variables around cleared f holds) ≡ Ok (left_option variables gone end, x)) (sym raised_is)
-    (subst (λ (g : StmtForm). ending n (stmt_flow types variables around cleared g holds) ≡ Ok (left_option variables gone end, noted_behind n variables gone l)) (sym form)
+    (subst (λ (x : Noted). ending n (stmt_flow types variables around cleared f holds) ≡ Ok (finalized_option variables around.effects.implicit gone end, x)) (sym raised_is)
+    (subst (λ (g : StmtForm). ending n (stmt_flow types variables around cleared g holds) ≡ Ok (finalized_option variables around.effects.implicit gone end, noted_behind n variables around.effects.implicit gone l)) (sym form)
     (block_handles n m k types variables around cleared gone ds fs hs holds at normal (Ok (end, l)) gone_is
-    (declared n own types variables ds ds' holds (Ok (Some at, m)) own_is ds_is declares)
+    (declared n own types variables around.effects.implicit ds ds' holds (Ok (Some at, m)) own_is ds_is declares)
     (inner_ends m inner types variables around within gone fs fs' hs hs' at (Ok (normal, k)) within_is inner_is hs_is fs_is ends)
     handlers_end)))
 
 -- its handlers do
 handlers_break_rule : (fault : FlowFault) (n own m inner k : Noted) (types : List TypeForm) (variables : List VariableForm) (cleared : Bool) (around within : Around) (gone : Gone) (f : StmtForm) (ds ds' : List DeclarationForm) (fs fs' fs'' : StmtsForm) (hs hs' hs'' : HandlersForm) (holds at : Holds) (normal : Option Holds) →
     f ≡ encloses ds fs hs → gone ≡ gone_with ds → own ≡ emptied n → ds' ≡ ds →
-    ending own (declarations_flow types variables ds' holds) ≡ Ok (Some at, m) →
+    ending own (declarations_flow types variables around.effects.implicit ds' holds) ≡ Ok (Some at, m) →
     within ≡ in_block gone around → inner ≡ noted_for m hs' → hs' ≡ hs → fs' ≡ fs →
     ending inner (stmts_flow types variables within fs' at) ≡ Ok (normal, k) →
     fs'' ≡ fs → hs'' ≡ hs →
@@ -190,7 +194,7 @@ handlers_break_rule (Broken spot rule) n own m inner k types variables cleared a
     (subst (λ (g : StmtsForm). end_handled m (passes around.effects g hs'') (handlers_flow types variables within hs'') normal k ≡ Err (spot, rule)) fs_is' breaks)) in
     subst (λ (g : StmtForm). ending n (stmt_flow types variables around cleared g holds) ≡ Err (spot, rule)) (sym form)
     (block_handles n m k types variables around cleared gone ds fs hs holds at normal (Err (spot, rule)) gone_is
-    (declared n own types variables ds ds' holds (Ok (Some at, m)) own_is ds_is declares)
+    (declared n own types variables around.effects.implicit ds ds' holds (Ok (Some at, m)) own_is ds_is declares)
     (inner_ends m inner types variables around within gone fs fs' hs hs' at (Ok (normal, k)) within_is inner_is hs_is fs_is ends)
     handlers_end)
 
@@ -253,9 +257,26 @@ statements::statement-returns-in-Block t c =
     (stmts_form c.in-Block.statements.items) (stmts_form c.deref-in-Block-4.result.now) (stmts_form c.deref-in-Block-6.result.now)
     (handlers_form c.in-Block.handlers.items) (handlers_form c.deref-in-Block-3.result.now) (handlers_form c.deref-in-Block-5.result.now)
     c.args.known.holds.items c.declare.new.known.holds.items
-    (held c.in_ok-end-in-Block.end) (held c.in_ok-end-in-Block-2.end) (held c.in_ok-leave_end-in-Block.field-0)
+    (held c.in_ok-end-in-Block.end) (held c.in_ok-end-in-Block-2.end) (held c.in_ok-leave_finalized_end-in-Block.field-0)
     form gone_is c.emptied-own.ensures (ap (map declaration_form) c.deref-in-Block-2.ensures.value) c.in_ok-declare-in-Block.ensures
     (stands_in (gone_of c.in_ok-gone-in-Block.gone) (gone_of c.in_ok-inside-in-Block.inside) (gone_of c.in_ok-both-in-Block.both) (around_of c.args.around.now) c.in_ok-inside-in-Block.ensures c.in_ok-both-in-Block.ensures)
     c.with_handlers-inner.ensures (ap handlers_form c.deref-in-Block-3.ensures.value) (ap stmts_form c.deref-in-Block-4.ensures.value) c.in_ok-end-in-Block.ensures
     (ap stmts_form c.deref-in-Block-6.ensures.value) (ap handlers_form c.deref-in-Block-5.ensures.value) c.in_ok-end-in-Block-2.ensures
-    c.in_ok-add_behind-in-Block.ensures c.in_ok-leave_end-in-Block.ensures
+    c.in_ok-add_behind-in-Block.ensures c.in_ok-leave_finalized_end-in-Block.ensures
+
+-- an assignment to a record
+record_assigned : (n : Noted) (types : List TypeForm) (variables : List VariableForm) (cleared : Bool) (around : Around) (s : Stmt) (target : RecordPath) (items : Vec Item) (given : List Item) (holds : Holds) (end : End) →
+    s ≡ AssignRecord target items → given ≡ items.items →
+    ending n (gives_record types variables (λ t. assignment_frees around.effects.implicit t (record_path_form target).record_type) (record_path_form target) (map item_form given) holds) ≡ end →
+    ending n (stmt_flow types variables around cleared (stmt_form s) holds) ≡ end
+record_assigned n types variables cleared around s target items given holds end is same gives =
+    let may : ℕ → Bool = λ t. assignment_frees around.effects.implicit t (record_path_form target).record_type in
+    ap (λ (f : StmtForm). ending n (stmt_flow types variables around cleared f holds)) (ap stmt_form is ∙ assigns_record_form target items)
+    ∙ ap (λ (xs : List Item). ending n (gives_record types variables may (record_path_form target) (map item_form xs) holds)) (sym same)
+    ∙ gives
+
+pub statements::statement-returns-in-AssignRecord : goal.statements::statement-returns-in-AssignRecord
+statements::statement-returns-in-AssignRecord t c =
+    record_assigned (noted c.args.raised.now) (types_in c.args.around.now) (variables_in c.args.around.now) c.args.cleared (around_of c.args.around.now) c.args.statement.now
+    c.in-AssignRecord.target c.in-AssignRecord.items c.deref.result.now c.args.known.holds.items (Ok (Some c.give_record.new.known.holds.items, noted c.give_record.new.raised))
+    c.in-AssignRecord.is c.deref.ensures.value c.in_ok-give_record-in-AssignRecord.ensures

@@ -4,5 +4,5 @@ use Rattle.ada_effects.proofs.frees.free_in_call.Goals as goal
 -- what is known of the calls of the procedure stands at its number
 pub returns-in-Some : goal.returns-in-Some
 returns-in-Some c =
-    rw (known_calls c.args.effects.now c.args.procedure.0 c.in-Some.effect.now c.in-Some.ensures.lookup.3.0 c.in-Some.ensures.lookup.1)
+    rw (known_calls c.args.effects.calls.now c.args.procedure.0 c.in-Some.effect.now c.in-Some.ensures.lookup.3.0 c.in-Some.ensures.lookup.1)
     (rw c.deref.ensures.value at c.add_all.ensures)

@@ -2,7 +2,7 @@ use Rattle.std.proofs.Common.{◌≡◌, ℕ, List, map, Option, None, sym, ap, 
 use Rattle.std.proofs.lemmas.Result.{err_from_is_err_and}
 use Rattle.std.specs.Prelude.{Ok, Err}
 use Rattle.ada_text.specs.declared.spot.Spot.{Spot}
-use Rattle.ada_effects.specs.Effects.{Effect, passes}
+use Rattle.ada_effects.specs.Effects.{Effects, passes}
 use Rattle.ada_effects.specs.Found.{effects_in}
 use Rattle.ada_program.specs.declared.program.FormalMode.{FormalMode}
 use Rattle.ada_program.specs.Form.{StmtsForm, HandlersForm, DeclarationForm, declaration_form, handlers_form, stmts_form}
@@ -16,14 +16,14 @@ use Rattle.ada_flow.proofs.bodies.body.Goals as goal
 -- the parts of a body that stand here
 abbrev parts_at : List TypeForm → List VariableForm → Around → List DeclarationForm → StmtsForm → HandlersForm → Holds → Outcome
 parts_at types variables around ds fs hs holds =
-    then_flow (declarations_flow types variables ds holds)
+    then_flow (declarations_flow types variables around.effects.implicit ds holds)
     (λ at. handled (passes around.effects fs hs) (handlers_flow types variables around hs) (stmts_flow types variables around fs at))
 
 -- in no loop, and in no block but the body
-abbrev stands : List Effect → List Keeping → (owed : List ℕ) → (inside within : Gone) → Around
+abbrev stands : Effects → List Keeping → (owed : List ℕ) → (inside within : Gone) → Around
 stands effects kept owed inside within = record { effects = effects; kept = kept; owed = owed; start = None; inside = inside; within = within }
 
-place_in : (effects : List Effect) (kept : List Keeping) (b : BodyForm) (owed : List ℕ) (inside within : Gone) (place : Around) → place ≡ stands effects kept owed inside within →
+place_in : (effects : Effects) (kept : List Keeping) (b : BodyForm) (owed : List ℕ) (inside within : Gone) (place : Around) → place ≡ stands effects kept owed inside within →
     owed ≡ owed_from 0 b.formals b.variables → inside ≡ nothing_gone → within ≡ gone_with b.declarations → place ≡ body_around effects kept b
 place_in effects kept b owed inside within place place_is owed_is nothing within_is =
     place_is
@@ -58,7 +58,7 @@ returns-in_err-give_all_back c =
     let fs = stmts_form c.args.statements.now in
     let hs = handlers_form c.args.handlers.now in
     let b = body_in ms c.args.variables.now c.args.declarations.now c.args.statements.now c.args.handlers.now c.args.end in
-    let effects = effects_in c.args.effects.now in
+    let effects = effects_in c.args.effects in
     let kept = keepings_in c.args.kept.now in
     let owed = owed_from 0 ms variables in
     let gone = gone_with ds in
@@ -87,7 +87,7 @@ returns c =
     let fs = stmts_form c.args.statements.now in
     let hs = handlers_form c.args.handlers.now in
     let b = body_in ms c.args.variables.now c.args.declarations.now c.args.statements.now c.args.handlers.now c.args.end in
-    let effects = effects_in c.args.effects.now in
+    let effects = effects_in c.args.effects in
     let kept = keepings_in c.args.kept.now in
     let owed = owed_from 0 ms variables in
     let gone = gone_with ds in

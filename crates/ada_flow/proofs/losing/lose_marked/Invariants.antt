@@ -2,7 +2,7 @@ use Rattle.std.proofs.Common.{◌≡◌, ◌≤◌, ◌++◌, take, drop, length
 use Rattle.ada_flow.specs.Flow.{without_freed}
 use Rattle.ada_flow.specs.Told.{marked_types}
 use Rattle.ada_program.specs.ProgramForm.{variable_form}
-use Rattle.ada_flow.proofs.calls.lose_freed.Given as goal
+use Rattle.ada_flow.proofs.losing.lose_marked.Given as goal
 
 -- what is left so far, and what remains to be, are all
 abbrev pub invariant-loop-number : goal.invariant-loop-number

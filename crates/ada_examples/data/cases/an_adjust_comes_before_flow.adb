@@ -1,0 +1,10 @@
+with Ada.Finalization;
+procedure Main is
+type Cell is record Value : Integer := 0; end record;
+type Ref is access Cell;
+type Box is new Ada.Finalization.Controlled with record Item : Ref; end record;
+overriding procedure Adjust (Object : in out Box);
+procedure Adjust (Object : in out Box) is begin null; end Adjust;
+A : Ref := new Cell;
+B : Ref := A;
+begin A.Value := 1; end Main;
