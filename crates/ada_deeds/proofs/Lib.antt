@@ -16,3 +16,15 @@ pub mod Within
 pub mod Table
 -- the example
 pub mod Example
+-- which types allocators and declarations name
+pub mod Naming
+-- what effects say of an exception is done
+pub mod Raised
+-- what comes out of the initialization of an object
+pub mod Starting
+-- operations of objects with controlled parts
+pub mod Parted
+-- what effects say of Frees is done
+pub mod Freed
+-- what is known of the calls of procedures is done
+pub mod Known

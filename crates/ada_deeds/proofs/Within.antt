@@ -117,7 +117,7 @@ within_does : (p : ProgramForm) (d : Deed) → is_deed_of p d ≡ true → (n : 
 within_does p d of zero c h = absurd (cc h)
 within_does p d of (suc n) c h = does of (does_within p d n) (λ other known. within_does p d of n other known) h
 
-is_one_of : (p : ProgramForm) (d : Deed) (c : Callee) → Does p d c → is_deed_of p d ≡ true
+pub is_one_of : (p : ProgramForm) (d : Deed) (c : Callee) → Does p d c → is_deed_of p d ≡ true
 is_one_of p d c (does of known each h) = of
 
 pub counts_are_enough : CountsAreEnough

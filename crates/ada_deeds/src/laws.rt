@@ -2,7 +2,7 @@
 
 ghost use Rattle.ada_deeds.specs.Example.{BothRaise, TheThirdDoesNot};
 ghost use Rattle.ada_deeds.specs.Within.{CountsAreEnough};
-ghost use Rattle.ada_deeds.specs.Laws.{MoreDoMore, IsClosedUnderCalls, IsTheLeast};
+ghost use Rattle.ada_deeds.specs.Laws.{MoreDoMore, IsClosedUnderCalls, IsTheLeast, RaisesAreDone, FreesAreDone};
 
 /// Where more is known to do a deed, more does it.
 pub fn more_do_more()
@@ -18,6 +18,12 @@ pub fn does_is_least()
 /// What does a deed is known within as many calls of calls as the program has callees.
 pub fn counts_are_enough()
     ensures { CountsAreEnough }
+{}
+
+/// What is known of the calls of procedures is done.
+pub fn effects_are_done()
+    ensures raises { RaisesAreDone }
+    ensures frees { FreesAreDone }
 {}
 
 /// The laws are not empty: of two procedures that call one another both raise what one of them raises, and another one does not.

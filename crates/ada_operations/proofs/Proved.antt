@@ -36,9 +36,8 @@ use Rattle.ada_program.specs.declared.program.PartKind.{PartKind}
 use Rattle.ada_program.specs.declared.program.PartKind.TheVariants as part
 use Rattle.ada_program.specs.ProgramForm.{PartForm, TypeForm, record_of, access_to, object_of, VariableForm, BodyForm, ProgramForm}
 use Rattle.ada_program.specs.WellFormed.{Profile, profile_of, callable_in, stands_for, operates_on, is_operation, overrides_rightly, has_operations, have_operations, IsWellFormed, finalization_in, finalization_of, kind_held, variable_kind}
-use Rattle.ada_quiet.specs.First.{IsAmong}
 use Rattle.ada_quiet.specs.Quiet.{is_near, holds_elementary, is_quiet_body, operations_are_quiet}
-use Rattle.ada_quiet.proofs.Unquiet.{none_unquiet}
+use Rattle.ada_quiet.proofs.Unused.{IsAmong, quiet_among}
 use Rattle.ada_text.specs.declared.spot.Spot.{Spot}
 use Rattle.std.proofs.lemmas.Option.{slice_get-map}
 use Rattle.std.specs.Prelude.{option_map}
@@ -132,14 +131,6 @@ first_record p w r f q b is one at = go (slice_get p.types r) refl
 
 -- Quiet operations do nothing that is not allowed.
 
-quiet_one : (p : ProgramForm) → operations_are_quiet p ≡ true → (r : ℕ) (f : Finalization) (q : ProcedureNo) (b : BodyForm) → finalization_of p.types r ≡ Some f →
-    IsAmong f.operations q → slice_get p.bodies q.0 ≡ Some b → is_quiet_body p.types b ≡ true
-quiet_one p all r f q b is one at = go (is_quiet_body p.types b) refl
-  where
-    go : (quiet : Bool) → is_quiet_body p.types b ≡ quiet → is_quiet_body p.types b ≡ true
-    go true h = h
-    go false h = absurd (none_unquiet p all b.start_spot (q, (r, f, is, one), (b, at, inl h, refl)))
-
 nothing_done : (p : ProgramForm) (q : ProcedureNo) (b : BodyForm) → slice_get p.bodies q.0 ≡ Some b → NothingFollowed p.types b.variables → is_quiet_body p.types b ≡ true →
     (d : Deed) → ¬ (Does p d (callee.Procedure q))
 nothing_done p q b at followed quiet d (does of known each h) =
@@ -164,7 +155,7 @@ quiet_obey p w all f (q, b, at, begins, breaks) =
     go r operation is h =
         let (g, has, one) = own (finalization_of p.types r) operation q is in
         let (object, kind) = first_record p w r g q b has one at in
-        breaks_nothing p q operation r (nothing_done p q b at (near p.types b.variables object kind) (quiet_one p all r g q b has one at)) f.1 h
+        breaks_nothing p q operation r (nothing_done p q b at (near p.types b.variables object kind) (quiet_among p all r g q b has one at)) f.1 h
 
 -- What is called implicitly.
 
@@ -189,7 +180,7 @@ overriding_still p w all known d r operation q is = go (slice_get p.bodies q.0) 
         let (f, has, one) = own (finalization_of p.types r) operation q is in
         let (object, kind) = first_record p w r f q b has one at in
         ap (called_does p.types known d) at
-        ∙ never (body_does p.types known d b) (does_nothing p.types b (near p.types b.variables object kind) (quiet_one p all r f q b has one at) known d)
+        ∙ never (body_does p.types known d b) (does_nothing p.types b (near p.types b.variables object kind) (quiet_among p all r f q b has one at) known d)
 
 own_still : (p : ProgramForm) (known : Callee → Bool) → IsBlank p known → (operation : Operation) (r : ℕ) (o : Option Finalization) → finalization_of p.types r ≡ o →
     own_does known operation o ≡ false

@@ -16,7 +16,7 @@ use ada_deeds::{Deed, Operation};
 use ada_effects::Implicit;
 use ada_program::parts::finalization_of;
 use ada_program::{ProcedureNo, Program};
-use ada_quiet::first_unquiet;
+use ada_quiet::operations_are_quiet;
 use std::alloc::{AllocError, Global};
 
 /// The rule with the least number that the body of a procedure breaks, where it overrides an operation of a record type.
@@ -140,10 +140,10 @@ pub fn operations(alloc: Global, program: &Program) -> Result<Implicit, Operatio
     ensures obey { Answers (program_form program.now) result }
     ensures known { IfOk result (λ implicit. implicit_in implicit ≡ implicit_of (program_form program.now)) }
 {
-    let unquiet = first_unquiet(alloc, program)?;
-    let Some(_) = unquiet else {
+    let quiet = operations_are_quiet(alloc, program)?;
+    if quiet {
         return Ok(Implicit::nothing(alloc));
-    };
+    }
     let facts = Facts::of(alloc, program)?;
     match first_fault(alloc, program, &facts)? {
         None => Ok(facts.deeds.implicit(alloc, program)?),

@@ -12,7 +12,7 @@ use Rattle.ada_program.specs.WellFormed.{finalization_of}
 use Rattle.ada_quiet.specs.First.{HasUntracked, stands_before, IsFirst, first_of, untracked_in}
 use Rattle.ada_quiet.specs.Quiet.{has_access, operation_body, adjust_body}
 use Rattle.ada_quiet.proofs.Firsts.{same_first, AnyBelow, any_none, any_more}
-use Rattle.ada_quiet.proofs.Unquiet.{some_same, text_order, within}
+use Rattle.ada_quiet.proofs.Unused.{some_same, text_order, within}
 
 -- One type.
 

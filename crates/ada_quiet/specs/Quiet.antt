@@ -114,14 +114,17 @@ module _ (types : List TypeForm) (variables : List VariableForm) where
     are_quiet_handlers no_handlers = true
     are_quiet_handlers (a_handler choices fs hs) = are_quiet fs && are_quiet_handlers hs
 
--- All variables of the body but its formal parameter are Integers and Booleans, so are all that it reads and writes, and it raises nothing. It calls
--- nothing, so nothing is asked of calls.
-abbrev pub is_quiet_body : List TypeForm → BodyForm → Bool
-is_quiet_body types b =
+-- All variables of the body but its formal parameter are Integers and Booleans, and so are all that it reads and writes; an exception may come out of it.
+abbrev pub is_plain_body : List TypeForm → BodyForm → Bool
+is_plain_body types b =
     list_all (λ x. is_elementary x.kind) (drop 1 b.variables) && are_quiet_declarations types b.variables b.declarations
-    && are_quiet types b.variables b.statements && are_quiet_handlers types b.variables b.handlers && not (body_raises no_calls b (λ e. true))
+    && are_quiet types b.variables b.statements && are_quiet_handlers types b.variables b.handlers
 
--- A procedure that was found has such a body.
+-- A plain body is quiet where it raises nothing. It calls nothing, so nothing is asked of calls.
+abbrev pub is_quiet_body : List TypeForm → BodyForm → Bool
+is_quiet_body types b = is_plain_body types b && not (body_raises no_calls b (λ e. true))
+
+-- A procedure that was found has a quiet body.
 abbrev pub is_quiet_procedure : List TypeForm → Option BodyForm → Bool
 is_quiet_procedure types None = true
 is_quiet_procedure types (Some b) = is_quiet_body types b
@@ -136,6 +139,22 @@ abbrev pub has_quiet_operations : ProgramForm → Option Finalization → Bool
 has_quiet_operations p None = true
 has_quiet_operations p (Some f) =
     is_quiet_operation p f.operations.initialize && is_quiet_operation p f.operations.adjust && is_quiet_operation p f.operations.finalize
+
+-- A procedure that was found has a plain body.
+abbrev pub is_plain_procedure : List TypeForm → Option BodyForm → Bool
+is_plain_procedure types None = true
+is_plain_procedure types (Some b) = is_plain_body types b
+
+-- What overrides an operation has, if one is overridden (7.6).
+abbrev pub is_plain_operation : ProgramForm → Option ProcedureNo → Bool
+is_plain_operation p None = true
+is_plain_operation p (Some procedure) = is_plain_procedure p.types (slice_get p.bodies procedure.0)
+
+-- Of a type Initialize is plain: an exception may come out of it, and what has begun is finalized then. Adjust and Finalize are quiet (7.6, 7.6.1).
+abbrev pub uses_operations : ProgramForm → Option Finalization → Bool
+uses_operations p None = true
+uses_operations p (Some f) =
+    is_plain_operation p f.operations.initialize && is_quiet_operation p f.operations.adjust && is_quiet_operation p f.operations.finalize
 
 -- A declared component is of an access type (3.8, 3.10).
 abbrev pub is_of_access : PartKind → Bool
@@ -170,3 +189,8 @@ adjusts_access p t = has_access (Some t) && is_some (adjust_body p (finalization
 -- Whatever overrides an operation of a controlled type is quiet, and no body overrides Adjust of a type with such a component.
 abbrev pub operations_are_quiet : ProgramForm → Bool
 operations_are_quiet p = list_all (λ t. has_quiet_operations p (finalization_in (Some t)) && not (adjusts_access p t)) p.types
+
+-- All that overrides an operation of a controlled type is in use: Initialize is plain, Adjust and Finalize are quiet, and no body overrides Adjust of a type
+-- with such a component.
+abbrev pub operations_are_in_use : ProgramForm → Bool
+operations_are_in_use p = list_all (λ t. uses_operations p (finalization_in (Some t)) && not (adjusts_access p t)) p.types

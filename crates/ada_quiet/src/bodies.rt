@@ -52,7 +52,18 @@ fn raises_some(
     Ok(!effect.raises.is_empty())
 }
 
-/// Whether a body is quiet. Linear in the body.
+/// Whether a body is plain: it touches Integers and Booleans alone, and calls nothing. Linear in the body.
+pub(crate) fn is_plain_body(types: &[TypeDefinition], procedure: &Procedure) -> bool
+    ensures { result ≡ rules.is_plain_body (types_in types.now) (body_form procedure.now) }
+{
+    let variables: &[Variable] = &procedure.variables;
+    has_elementary(variables)
+        && are_quiet_declarations(types, variables, &procedure.declarations)
+        && are_quiet(types, variables, &procedure.statements)
+        && are_quiet_handlers(types, variables, &procedure.handlers)
+}
+
+/// Whether a body is quiet: it is plain, and lets no exception out. Linear in the body.
 ///
 /// # Errors
 /// `AllocError` where memory for the exceptions that it raises was refused.
@@ -63,15 +74,9 @@ pub(crate) fn is_quiet_body(
 ) -> Result<bool, AllocError>
     ensures { IfOk result (λ answer. answer ≡ rules.is_quiet_body (types_in types.now) (body_form procedure.now)) }
 {
-    let variables: &[Variable] = &procedure.variables;
-    if has_elementary(variables)
-        && are_quiet_declarations(types, variables, &procedure.declarations)
-        && are_quiet(types, variables, &procedure.statements)
-        && are_quiet_handlers(types, variables, &procedure.handlers)
-    {
-        let raises = raises_some(alloc, types, procedure)?;
-        Ok(!raises)
-    } else {
-        Ok(false)
+    if !is_plain_body(types, procedure) {
+        return Ok(false);
     }
+    let raises = raises_some(alloc, types, procedure)?;
+    Ok(!raises)
 }

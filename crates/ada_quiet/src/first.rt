@@ -1,19 +1,16 @@
-//! The first body in the text that overrides an operation of a controlled type and is not in use: it is not quiet, or leaves a
-//! component that it must change.
+//! The first body in the text that overrides an operation of a controlled type and is not in use: Initialize is not plain, Adjust or
+//! Finalize is not quiet, or Adjust leaves a component that it must change.
 
-ghost use Rattle.std.specs.Prelude.{◌≡◌, ◌↔◌, None, true, map, option_map, IfOk};
-ghost use Rattle.std.specs.List.{list_any, slice_get};
-ghost use Rattle.ada_program.specs.Kept.{types_in};
-ghost use Rattle.ada_program.specs.ProgramForm.{body_form, part_form, program_form, type_form};
-ghost use Rattle.ada_program.specs.WellFormed.{finalization_in};
+ghost use Rattle.std.specs.Prelude.{◌≡◌, ◌↔◌, None, true, IfOk};
+ghost use Rattle.ada_program.specs.ProgramForm.{program_form};
 ghost use Rattle.ada_quiet.specs.First as rules;
-ghost use Rattle.ada_quiet.specs.First.{IsFirstUnquiet, IsFirstUntracked};
+ghost use Rattle.ada_quiet.specs.First.{IsFirstUntracked, IsFirstUnused};
 ghost use Rattle.ada_quiet.specs.Quiet as quiet;
-ghost use Rattle.ada_quiet.specs.Quiet.{operations_are_quiet};
+ghost use Rattle.ada_quiet.specs.Quiet.{operations_are_in_use};
 
-use crate::bodies::is_quiet_body;
+use crate::operations::{has_access, is_plain_operation, is_quiet_operation};
 use ada_program::parts::finalization_of;
-use ada_program::program::{ComponentKind, Finalization, Part, PartKind, TypeDefinition};
+use ada_program::program::Finalization;
 use ada_program::{ProcedureNo, Program, Spot};
 use std::alloc::{AllocError, Global};
 
@@ -39,102 +36,57 @@ fn first_of(one: Option<Spot>, other: Option<Spot>) -> Option<Spot>
     }
 }
 
-/// Whether a declared component is of an access type (3.8, 3.10).
-fn is_of_access(kind: PartKind) -> bool
-    ensures { result ≡ quiet.is_of_access kind }
+/// Where the body of an operation begins, if there is one and it does not fit.
+fn start_unless(program: &Program, fits: bool, operation: Option<ProcedureNo>) -> Option<Spot>
+    ensures { result ≡ rules.start_unless fits (quiet.operation_body (program_form program.now) operation) }
 {
-    matches!(kind, PartKind::Elementary(ComponentKind::Access(_)))
-}
-
-/// Whether one of these is.
-fn have_access(parts: &[Part]) -> bool
-    ensures { result ≡ list_any (λ c. quiet.is_of_access c.kind) (map part_form parts.now) }
-{
-    'parts: for part in parts {
-        if is_of_access(part.kind) {
-            return true;
-        }
+    if fits {
+        return None;
     }
-    false
+    let number = operation?;
+    let procedure = program.procedures.get(number.0)?;
+    Some(procedure.start)
 }
 
-/// Whether the type of a number is a record type with such a component, declared in it directly.
-fn has_access(types: &[TypeDefinition], number: usize) -> bool
-    ensures { result ≡ quiet.has_access (slice_get (types_in types.now) number) }
-{
-    match types.get(number) {
-        Some(
-            TypeDefinition::Record {
-                name: _,
-                parts,
-                components: _,
-                finalization: _,
-            },
-        ) => have_access(parts),
-        Some(TypeDefinition::Access { .. } | TypeDefinition::Object { .. }) | None => false,
-    }
-}
-
-/// Where the body begins that overrides an operation, where it is overridden, and if the body is not quiet or leaves a component
-/// of an access type.
-fn unquiet_operation(
-    alloc: Global,
-    program: &Program,
-    leaves: bool,
-    operation: Option<ProcedureNo>,
-) -> Result<Option<Spot>, AllocError>
-    ensures { IfOk result (λ first. first ≡ rules.unquiet_operation (program_form program.now) leaves operation) }
-{
-    let Some(number) = operation else {
-        return Ok(None);
-    };
-    let Some(procedure) = program.procedures.get(number.0) else {
-        return Ok(None);
-    };
-    if is_quiet_body(alloc, &program.types, procedure)? && !leaves {
-        Ok(None)
-    } else {
-        Ok(Some(procedure.start))
-    }
-}
-
-/// The first one of those that override the operations of a type, whose Adjust leaves such a component or not.
-fn unquiet_in(
+/// The first one of those that override the operations of a type and are not in use, where its Adjust leaves such a component or not.
+fn unused_in(
     alloc: Global,
     program: &Program,
     leaves: bool,
     finalization: Option<Finalization>,
 ) -> Result<Option<Spot>, AllocError>
-    ensures { IfOk result (λ first. first ≡ rules.unquiet_in (program_form program.now) leaves finalization) }
+    ensures { IfOk result (λ first. first ≡ rules.unused_in (program_form program.now) leaves finalization) }
 {
-    match finalization {
-        None => Ok(None),
-        Some(finalization) => {
-            let operations = finalization.operations;
-            let initialize = unquiet_operation(alloc, program, false, operations.initialize)?;
-            let adjust = unquiet_operation(alloc, program, leaves, operations.adjust)?;
-            let finalize = unquiet_operation(alloc, program, false, operations.finalize)?;
-            Ok(first_of(initialize, first_of(adjust, finalize)))
-        }
-    }
+    let Some(finalization) = finalization else {
+        return Ok(None);
+    };
+    let operations = finalization.operations;
+    let begins = is_plain_operation(program, operations.initialize);
+    let adjusts = is_quiet_operation(alloc, program, operations.adjust)?;
+    let ends = is_quiet_operation(alloc, program, operations.finalize)?;
+    let initialize = start_unless(program, begins, operations.initialize);
+    let adjust = start_unless(program, adjusts && !leaves, operations.adjust);
+    let finalize = start_unless(program, ends, operations.finalize);
+    Ok(first_of(initialize, first_of(adjust, finalize)))
 }
 
-/// Where the first body in the text begins that overrides an operation of a controlled type (7.6) and is not quiet: one that
-/// touches storage, calls, or lets an exception out; or that overrides Adjust of a type with a component of an access type,
+/// Where the first body in the text begins that overrides an operation of a controlled type (7.6) and is not in use: one that
+/// overrides Initialize and is not plain, since it touches storage or calls; one that overrides Adjust or Finalize and is not quiet,
+/// since it is not plain or lets an exception out; or one that overrides Adjust of a type with a component of an access type,
 /// declared in it directly, which a quiet one leaves as it is. Linear in the types, their components, and the bodies of their
 /// operations.
 ///
 /// # Errors
 /// `AllocError` where memory for the exceptions that a body raises was refused.
-#[tactic(auto, using(std::proofs::lemmas::Grind::common_steps, crate::proofs::Unquiet::first_steps))]
-pub fn first_unquiet(alloc: Global, program: &Program) -> Result<Option<Spot>, AllocError>
-    ensures first { IfOk result (IsFirstUnquiet (program_form program.now)) }
-    ensures quiet { IfOk result (λ first. (first ≡ None) ↔ (operations_are_quiet (program_form program.now) ≡ true)) }
+#[tactic(auto, using(std::proofs::lemmas::Grind::common_steps, crate::proofs::Unused::first_steps))]
+pub fn first_unused(alloc: Global, program: &Program) -> Result<Option<Spot>, AllocError>
+    ensures first { IfOk result (IsFirstUnused (program_form program.now)) }
+    ensures used { IfOk result (λ first. (first ≡ None) ↔ (operations_are_in_use (program_form program.now) ≡ true)) }
 {
     let mut first = None;
     'types: for number in 0..program.types.len() {
         let leaves = has_access(&program.types, number);
-        let found = unquiet_in(
+        let found = unused_in(
             alloc,
             program,
             leaves,

@@ -1,10 +1,11 @@
-//! Quiet operations: those procedures that override Initialize, Adjust or Finalize of a controlled type (7.6), read and write
-//! Integers and Booleans alone, call nothing, and let no exception out.
+//! Plain and quiet operations: those procedures that override Initialize, Adjust or Finalize of a controlled type (7.6), read and write
+//! Integers and Booleans alone, and call nothing, are plain; and quiet, where they let no exception out.
 //!
-//! `first_unquiet` finds the first body in the text that overrides an operation and is not quiet, or that overrides Adjust of a
-//! type with a component of an access type. A program with such a body is refused (F23): operations that touch storage, call,
-//! or let an exception out are not in use yet, since no theorem covers them so far; and an Adjust that leaves such a component
-//! as it is would have two records name one object.
+//! `first_unused` finds the first body in the text that overrides an operation and is not in use: Initialize is to be plain, Adjust
+//! and Finalize are to be quiet, and no Adjust is to be overridden of a type with a component of an access type. A program with
+//! another body is refused (F23): operations that touch storage or call, and an Adjust or a Finalize that lets an exception out, are
+//! not in use yet, since no theorem covers them so far; and an Adjust that leaves such a component as it is would have two records
+//! name one object.
 //!
 //! `first_untracked` finds the first one that overrides such an Adjust, quiet or not: flow does not follow what it does to that
 //! component, so the checker asks for it before flow, and for the others behind.
@@ -12,7 +13,9 @@
 
 mod bodies;
 mod first;
+mod operations;
 mod statements;
 mod values;
 
-pub use crate::first::{first_unquiet, first_untracked};
+pub use crate::first::{first_untracked, first_unused};
+pub use crate::operations::operations_are_quiet;

@@ -4,8 +4,8 @@ pub mod Reading
 pub mod Writing
 -- the runner's run, step by step
 pub mod Steps
--- quiet operations create nothing in their declarations
-pub mod Quiet
+-- operations that are in use create nothing in their declarations
+pub mod Plain
 -- the number that a word gives
 pub mod Numbers
 -- from what is kept of an input to its numbers

@@ -21,8 +21,8 @@ use Rattle.ada_meaning.specs.Event.{Quiet}
 use Rattle.ada_meaning.specs.Step.{halts, moves, tells, asks, picks}
 use Rattle.ada_meaning.specs.Named.{State, Next, next}
 use Rattle.ada_meaning.specs.Run.{Event, Choice, settled, grants, takes, Leads, Run, here, there, Halts, first_state}
-use Rattle.ada_quiet.specs.Quiet.{operations_are_quiet}
-use Rattle.ada_sound.specs.Always.{IsChecked, Breaks, IsIllFormed, IsIllNested, FreesOthers, NotQuiet, InSomeRun, is_seen, IsFineAtEnds, HaltsAfter, HaltsSomewhere}
+use Rattle.ada_quiet.specs.Quiet.{operations_are_in_use}
+use Rattle.ada_sound.specs.Always.{IsChecked, Breaks, IsIllFormed, IsIllNested, FreesOthers, NotInUse, InSomeRun, is_seen, IsFineAtEnds, HaltsAfter, HaltsSomewhere}
 
 -- Events, and the state that they lead to.
 abbrev pub Came : Type 0
@@ -145,9 +145,9 @@ is_formed p =
 abbrev pub fits : ProgramForm → Bool
 fits p = list_all (components_lie p.types) p.types && (have_operations p.types (callable_in p) 0 p.types && is_formed p)
 
--- Whether what overrides its operations is quiet, too; whether its collections nest; and whether it frees by the instances for what it frees.
+-- Whether what overrides its operations is in use, too; whether its collections nest; and whether it frees by the instances for what it frees.
 abbrev pub is_fine : ProgramForm → Bool
-is_fine p = operations_are_quiet p && fits p
+is_fine p = operations_are_in_use p && fits p
 
 abbrev pub is_nested : ProgramForm → Bool
 is_nested p =
@@ -162,8 +162,8 @@ is_own p =
 abbrev pub is_kept : ProgramForm → Bool
 is_kept p = is_nested p && is_own p
 
-quiet_is : (p : ProgramForm) → is_fine p ≡ true → operations_are_quiet p ≡ true
-quiet_is p e = (and_parts _ _ e).0
+in_use_is : (p : ProgramForm) → is_fine p ≡ true → operations_are_in_use p ≡ true
+in_use_is p e = (and_parts _ _ e).0
 
 fits_is : (p : ProgramForm) → fits p ≡ true → IsWellFormed p
 fits_is p e =
@@ -225,8 +225,8 @@ module _ (program : Program) (bodies : List BodyForm) (fs : StmtsForm) (hs : Han
   fine_in : is_fine (form_with program bodies fs hs) ≡ true → IsWellFormed (program_form program)
   fine_in e = subst IsWellFormed (sym form_is) (fine_is (form_with program bodies fs hs) e)
 
-  quiet_in : is_fine (form_with program bodies fs hs) ≡ true → operations_are_quiet (program_form program) ≡ true
-  quiet_in e = subst (λ (p : ProgramForm). operations_are_quiet p ≡ true) (sym form_is) (quiet_is (form_with program bodies fs hs) e)
+  in_use_in : is_fine (form_with program bodies fs hs) ≡ true → operations_are_in_use (program_form program) ≡ true
+  in_use_in e = subst (λ (p : ProgramForm). operations_are_in_use p ≡ true) (sym form_is) (in_use_is (form_with program bodies fs hs) e)
 
   nested_in : is_nested (form_with program bodies fs hs) ≡ true → CollectionsNest (program_form program)
   nested_in e = subst CollectionsNest (sym form_is) (nested_is (form_with program bodies fs hs) e)
@@ -241,7 +241,7 @@ module _ (program : Program) (bodies : List BodyForm) (fs : StmtsForm) (hs : Han
       let both = and_parts _ _ kept in
       record {
         well_formed = fine_in fine;
-        quiet = quiet_in fine;
+        in_use = in_use_in fine;
         nests = nested_in both.0;
         frees_own = own_in both.1;
         obeys = (normal, raising, flow_in (goes normal raising) e);
@@ -253,21 +253,21 @@ module _ (program : Program) (bodies : List BodyForm) (fs : StmtsForm) (hs : Han
       let both = and_parts _ _ kept in
       record {
         well_formed = fine_in fine;
-        quiet = quiet_in fine;
+        in_use = in_use_in fine;
         nests = nested_in both.0;
         frees_own = own_in both.1;
         spot = spot;
         faults_there = flow_in (faults spot rule) e;
       }
 
-  pub not_quiet_in : (normal raising : Option Holds) → fits (form_with program bodies fs hs) ≡ true
-      → operations_are_quiet (form_with program bodies fs hs) ≡ false → is_kept (form_with program bodies fs hs) ≡ true
-      → flow_with program bodies fs hs ≡ goes normal raising → NotQuiet program
-  not_quiet_in normal raising formed loud kept e =
+  pub not_in_use_in : (normal raising : Option Holds) → fits (form_with program bodies fs hs) ≡ true
+      → operations_are_in_use (form_with program bodies fs hs) ≡ false → is_kept (form_with program bodies fs hs) ≡ true
+      → flow_with program bodies fs hs ≡ goes normal raising → NotInUse program
+  not_in_use_in normal raising formed unused kept e =
       let both = and_parts _ _ kept in
       record {
         well_formed = subst IsWellFormed (sym form_is) (fits_is (form_with program bodies fs hs) formed);
-        not_quiet = subst (λ (p : ProgramForm). operations_are_quiet p ≡ false) (sym form_is) loud;
+        not_in_use = subst (λ (p : ProgramForm). operations_are_in_use p ≡ false) (sym form_is) unused;
         nests = nested_in both.0;
         frees_own = own_in both.1;
         obeys = (normal, raising, flow_in (goes normal raising) e);
@@ -327,13 +327,13 @@ module _ (program : Program) (fs : StmtsForm) (hs : HandlersForm) (is : stmt_for
   breaks_by rule spot fine kept e = breaks_in program (body_forms program) fs hs refl is has rule spot fine kept e
 
   pub ill_formed_by : (normal raising : Option Holds)
-      → stmts_fit whole.types whole.variables whole.texts whole.exceptions (callable_in whole) false fs ≡ false → operations_are_quiet whole ≡ true
+      → stmts_fit whole.types whole.variables whole.texts whole.exceptions (callable_in whole) false fs ≡ false → operations_are_in_use whole ≡ true
       → is_kept whole ≡ true → flow_of (implicit_of whole) whole ≡ goes normal raising → IsIllFormed program
-  ill_formed_by normal raising unfit quiet kept e = record {
+  ill_formed_by normal raising unfit uses kept e = record {
     ill_formed = λ w.
         let fits : stmts_fit whole.types whole.variables whole.texts whole.exceptions (callable_in whole) false fs ≡ true = rw is at (w.statements_fit) in
         cc (unfit, fits);
-    quiet = subst (λ (p : ProgramForm). operations_are_quiet p ≡ true) (sym (form_is program (body_forms program) fs hs refl is has)) quiet;
+    in_use = subst (λ (p : ProgramForm). operations_are_in_use p ≡ true) (sym (form_is program (body_forms program) fs hs refl is has)) uses;
     nests = nested_in program (body_forms program) fs hs refl is has (and_parts _ _ kept).0;
     frees_own = own_in program (body_forms program) fs hs refl is has (and_parts _ _ kept).1;
     obeys = (normal, raising, flow_in program (body_forms program) fs hs refl is has (goes normal raising) e);
@@ -343,7 +343,7 @@ module _ (program : Program) (fs : StmtsForm) (hs : HandlersForm) (is : stmt_for
       → is_own whole ≡ true → flow_of (implicit_of whole) whole ≡ goes normal raising → IsIllNested program
   ill_nested_by normal raising fine unnested own e = record {
     well_formed = fine_in program (body_forms program) fs hs refl is has fine;
-    quiet = quiet_in program (body_forms program) fs hs refl is has fine;
+    in_use = in_use_in program (body_forms program) fs hs refl is has fine;
     ill_nested = λ w. cc (unnested, w.declarations);
     frees_own = own_in program (body_forms program) fs hs refl is has own;
     obeys = (normal, raising, flow_in program (body_forms program) fs hs refl is has (goes normal raising) e);
@@ -353,7 +353,7 @@ module _ (program : Program) (fs : StmtsForm) (hs : HandlersForm) (is : stmt_for
       → statements_free_own whole.types whole.variables fs ≡ false → flow_of (implicit_of whole) whole ≡ goes normal raising → FreesOthers program
   frees_others_by normal raising fine nested other e = record {
     well_formed = fine_in program (body_forms program) fs hs refl is has fine;
-    quiet = quiet_in program (body_forms program) fs hs refl is has fine;
+    in_use = in_use_in program (body_forms program) fs hs refl is has fine;
     nests = nested_in program (body_forms program) fs hs refl is has nested;
     frees_others = λ w.
         let own : statements_free_own whole.types whole.variables fs ≡ true = rw is at (w.statements) in

@@ -148,6 +148,7 @@ module _ (known : Known) (heap : List Object) (places : List Value) where
           fit = back_fit types variables f.done (item_of_record p ∷ items) others (unrolled_fits types variables p kinds items is) f.leads.components f.leads.fit;
           fails = λ may. f.leads.fails (back_raise f.done others (item_of_record p ∷ items) (λ some. or_right (item_raises (item_of_record p)) (items_raise items) (rw (unrolled_raises kinds items) at some)) may);
           refused = f.leads.refused;
+          starts = f.leads.starts;
           room = f.leads.room;
           to = rw moves at f.leads.to;
         };

@@ -1,15 +1,15 @@
 -- Effects cover what calls do: each activation that waits may free what the running one may.
 
-use Rattle.std.proofs.Common.{◌≡◌, ℕ, zero, suc, true, List, [], ◌∷◌, refl, ◌∙◌, ◌⊎◌, inl, inr}
+use Rattle.std.proofs.Common.{◌≡◌, ℕ, zero, suc, true, List, [], ◌∷◌, refl, subst, ◌∙◌, ◌⊎◌, inl, inr}
 use Rattle.std.specs.Prelude.{ℤ, Option, Some}
 use Rattle.std.specs.List.{slice_get}
 use Rattle.ada_program.specs.declared.program.Program.{Program}
 use Rattle.ada_program.specs.declared.program.Exception.{Exception}
 use Rattle.ada_program.specs.Handling.{is_same}
 use Rattle.ada_program.specs.Form.{ActualForm}
-use Rattle.ada_program.specs.ProgramForm.{ProgramForm, program_form, seen_in}
+use Rattle.ada_program.specs.ProgramForm.{ProgramForm, main_body, program_form, seen_in}
 use Rattle.ada_deeds.specs.Implicit.{implicit_of}
-use Rattle.ada_effects.specs.Effects.{Implicit, call_frees, call_raises}
+use Rattle.ada_effects.specs.Effects.{Implicit, no_calls, body_raises, call_frees, call_raises, effects_of}
 use Rattle.ada_flow.specs.Flow.{Holds}
 use Rattle.ada_meaning.specs.declared.event.Cause.TheVariants.{Leaving, Freeing, Assigning, Undoing}
 use Rattle.ada_meaning.specs.declared.state.Mode.{Mode}
@@ -30,6 +30,7 @@ use Rattle.ada_sound.proofs.Invariant.{Control, Rooms, Working, GoesOn, ReadyIn,
 use Rattle.ada_sound.proofs.Callers.{Suspension, callers_of, known_in, AreOf, Stands}
 use Rattle.ada_sound.proofs.Starts.{Ordinary, Sound, sound_first}
 use Rattle.ada_sound.proofs.Operating.{Sight, Comes, Body, Operates}
+use Rattle.ada_sound.proofs.Uncalled.{body_called}
 use Rattle.ada_sound.proofs.Runs.{Led}
 use Rattle.ada_sound.proofs.Runs as runs
 
@@ -93,7 +94,7 @@ module _ (program : Program) where
 
 module _ (program : Program) (accepted : IsChecked program) where
   first : (input : List ℤ) → Sound program (first_state program input)
-  first input = sound_first program input accepted.well_formed accepted.quiet accepted.nests accepted.frees_own accepted.obeys
+  first input = sound_first program input accepted.well_formed accepted.in_use accepted.nests accepted.frees_own accepted.obeys
 
   pub frees : FreesAreCovered program
   frees input events before after choice e run step depth a number at is =
@@ -109,11 +110,16 @@ module _ (program : Program) (accepted : IsChecked program) where
       called_raises program number e (rw (runs ∙ is) at (o.stands.body)) (rw (runs ∙ is) at may)
   raises_in s (inr o) procedure number e runs is ends mode =
       let body : Body (record { program = seen_in (Some o.procedure) (program_form program); object = o.object; access = o.access }) o.behind o.upper s.heap o.places o.operands (Raising e) (Returns ends.actuals ends.references ∷ ends.outer) = rw (mode, ends.first) at o.body in
-      absurd (none_leaves (record { program = seen_in (Some o.procedure) (program_form program); object = o.object; access = o.access }) o.behind o.upper o.operands body.comes)
+      let here : Some o.procedure ≡ Some number = (rw o.active at runs) ∙ is in
+      let same : o.procedure ≡ number = cc here in
+      let own = seen_in (Some o.procedure) (program_form program) in
+      let may = comes_out (record { program = own; object = o.object; access = o.access }) o.behind o.upper o.operands body.comes in
+      subst (λ (called : ℕ). call_raises (callees.effect_at program called) (is_same e) ≡ true) same
+      (called_raises program o.procedure e o.is_body (body_called (effects_of (implicit_of (program_form program)) own) (main_body own) (is_same e) may))
     where
-      none_leaves : (sight : Sight) (behind : Control) (ms : List Master) (operands : List Value) → Comes sight behind ms (Raising e) (Returns ends.actuals ends.references ∷ ends.outer) operands → ⊥
-      none_leaves sight behind ms operands (inl (all, stays, leads)) = stays
-      none_leaves sight behind ms operands (inr (running, finds)) = cc running
+      comes_out : (sight : Sight) (behind : Control) (ms : List Master) (operands : List Value) → Comes sight behind ms (Raising e) (Returns ends.actuals ends.references ∷ ends.outer) operands → body_raises no_calls (main_body sight.program) (is_same e) ≡ true
+      comes_out sight behind ms operands (inl (all, stays, leads)) = stays
+      comes_out sight behind ms operands (inr (running, finds)) = absurd (cc running)
 
   pub raises : RaisesAreCovered program
   raises input events last run number e is ends mode =

@@ -15,7 +15,7 @@ use Rattle.ada_meaning.specs.declared.state.Mode.{Mode}
 use Rattle.ada_meaning.specs.declared.state.Mode.TheVariants.{Running}
 use Rattle.ada_meaning.specs.declared.event.Cause.{Cause}
 use Rattle.ada_meaning.specs.declared.event.Cause.TheVariants.{Leaving, Freeing, Assigning, Undoing}
-use Rattle.ada_meaning.specs.Frame.{Leaves, Ends, GivesBack, Clears, ClearsIn, ends}
+use Rattle.ada_meaning.specs.Frame.{Leaves, Ends, GivesBack, Clears, ClearsIn, Resumes, ends}
 use Rattle.ada_meaning.specs.Event.{Back, Left, Quiet}
 use Rattle.ada_meaning.specs.State.{Owned, declared, collection, record_object, storage_pool, Item, Master, Activation}
 use Rattle.ada_meaning.specs.Step.{all_tasks, taken_out, told_back, end_next, back_next, members_next, item_leave_next, master_leave_next, leave_next}
@@ -30,7 +30,7 @@ use Rattle.ada_sound.proofs.Homes.{same_one}
 use Rattle.ada_sound.proofs.Stored.{Stored, IsTaken, stored_part, stored_finish, stored_back, stored_shorter, stored_older, exists_out, none_is_left, taken_is}
 use Rattle.ada_sound.proofs.Fits.{Fit, none_spared, going, weaker_fit, part_fit, finish_fit, back_fit, going_set, going_shorter, going_left}
 use Rattle.ada_sound.proofs.Alters.{alters_set}
-use Rattle.ada_sound.proofs.Invariant.{outers, below, Known, Control, Rooms, Roomed, OwnedAmong, NamesNone, RunsOn, Working, Parting, Freed, Clearing, ClearsTo, LeavesTo, Behind, ThenBack, Ending, EndingBy, Backing, BackingBy, ReadyIn, Stepped, Fine, innermost}
+use Rattle.ada_sound.proofs.Invariant.{outers, below, Known, Control, Rooms, Roomed, OwnedAmong, NamesNone, RunsOn, Working, Parting, Freed, Clearing, ClearsTo, LeavesTo, ResumesTo, Behind, ThenBack, Ending, EndingBy, Backing, BackingBy, ReadyIn, Stepped, Fine, innermost}
 use Rattle.ada_sound.proofs.Ready.{running, stays, goes_ready, treats_ready}
 use Rattle.ada_sound.proofs.Taken.{stored_after}
 use Rattle.ada_sound.proofs.Leavings.{NamedBelow, HeldIn, taken_unnamed, taken_unreferred}
@@ -124,11 +124,16 @@ module _ (known : Known) where
     }
     leaves_set places ms (f ∷ k) c = absurd c
 
+    resumes_set : (places : List Value) (ms : List Master) (k : Control) → ResumesTo known heap places ms k → ResumesTo known (slice_set heap o.0 y) places ms k
+    resumes_set places ms [] c = absurd c
+    resumes_set places ms (Resumes mode ∷ k) c = record { rooms = c.rooms; holds = c.holds; roomed = c.roomed; fit = keeps heap places found none_spared c.holds c.fit; rest = c.rest }
+    resumes_set places ms (f ∷ k) c = absurd c
+
     pub behind_set : (cause : Cause) (home : ℕ) (places : List Value) (ms : List Master) (k : Control) → Behind known cause home heap places ms k → Behind known cause home (slice_set heap o.0 y) places ms k
     behind_set (Leaving m item) home places ms k b = (b.0, leaves_set places ms k b.1)
     behind_set (Freeing number) home places ms k b = clears_set places ms k b
     behind_set (Assigning number) home places ms k b = absurd b
-    behind_set (Undoing number) home places ms k b = absurd b
+    behind_set (Undoing number) home places ms k b = resumes_set places ms k b
 
   module _ (a : Activation Value) (rest : List (Activation Value)) (s : State) where
     -- An object ceases to exist.
@@ -178,11 +183,16 @@ module _ (known : Known) where
       left_ready (Leaves mode ∷ k) c = freed_parts stored c
       left_ready (f ∷ k) c = absurd c
 
+      resumed_ready : (k : Control) → ResumesTo known heap a.places s.masters k → ReadyIn known Running k heap a.places a.operands s.masters
+      resumed_ready [] c = absurd c
+      resumed_ready (Resumes mode ∷ k) c = freed_works stored c
+      resumed_ready (f ∷ k) c = absurd c
+
       behind_ready : (cause : Cause) (home : ℕ) (k : Control) → Behind known cause home heap a.places s.masters k → ReadyIn known Running k heap a.places a.operands s.masters
       behind_ready (Leaving m item) home k b = left_ready k b.1
       behind_ready (Freeing number) home k b = cleared_ready k b
       behind_ready (Assigning number) home k b = absurd b
-      behind_ready (Undoing number) home k b = absurd b
+      behind_ready (Undoing number) home k b = resumed_ready k b
 
     leaves_home : (cause : Cause) (o : Id) (x : Object) (k : Control) → Behind known cause x.cell.home.item s.heap a.places s.masters k → LeavesHome x.cell.home (leaving_by (Some cause))
     leaves_home (Leaving m item) o x k b = b.0

@@ -1,6 +1,6 @@
 -- What is assigned is evaluated, moved and stored; new objects come to be; what is read is written.
 
-use Rattle.std.proofs.Common.{◌≡◌, ◌≢◌, ℕ, Bool, true, false, ◌==◌, ◌||◌, List, [], ◌∷◌, ◌++◌, length, map, refl, sym, ap, ◌∙◌, subst, ◌⊎◌, inl, inr}
+use Rattle.std.proofs.Common.{◌≡◌, ◌≢◌, ℕ, Bool, true, false, ◌==◌, ◌&&◌, ◌||◌, List, [], ◌∷◌, ◌++◌, length, map, refl, sym, ap, ◌∙◌, subst, ◌⊎◌, inl, inr}
 use Rattle.std.proofs.lemmas.Bool.{and_parts, eqb-true}
 use Rattle.std.specs.Prelude.{ℤ, Option, Some, None}
 use Rattle.std.specs.List.{slice_get, slice_set}
@@ -13,7 +13,7 @@ use Rattle.ada_program.specs.declared.program.ComponentKind.{ComponentKind}
 use Rattle.ada_program.specs.declared.program.TypeDefinition.{TypeDefinition}
 use Rattle.ada_program.specs.Typed.{reached_of, count_of, words_of}
 use Rattle.ada_program.specs.WellFormed.{access_of, reached_components, selected_kind, selectors_kind, kind_takes, is_borrower}
-use Rattle.ada_effects.specs.Effects.{expression_raises, items_raise, path_raises, right_raises}
+use Rattle.ada_effects.specs.Effects.{expression_raises, items_raise, path_raises, right_raises, right_starts}
 use Rattle.ada_flow.specs.declared.rule.Hold.{Hold}
 use Rattle.ada_flow.specs.declared.rule.Hold.TheVariants as hold
 use Rattle.ada_flow.specs.declared.rule.Region.TheVariants.{Whole}
@@ -43,7 +43,7 @@ use Rattle.ada_sound.proofs.Values.{read_other}
 use Rattle.ada_sound.proofs.Stored.{Stored, exists_out, stored_owning}
 use Rattle.ada_sound.proofs.Fits.{Fit, MayFollow, names_object, is_object, component_value, component_access, none_spared, place_at, put_null, put_alias, component_is, component_follows, take_variable, take_component, ArePlain, plain_object}
 use Rattle.ada_sound.proofs.Begins.{root_at, root_access, root_follows}
-use Rattle.ada_sound.proofs.Invariant.{outers, below, HasRoom, Known, Control, Rooms, Roomed, Accepts, LeadsTo, GoesInto, Allocating, Clearing, component_among, StoringIn, Pairs, IsAlone, IsOne, Half, HalfBy, IsCleared, front, final, WalksOn, Goes, Raised, RunsOn, NoneBroken, To, MayRaise, RaisesAt, FillsIn, IsHolder, Takes, Computing, Working, Resumes, EvaluatesTo, Awaits, FindsFor, MovesOn, FillsOn, PassesOn, PassesTo, FollowsFor, HalfFollows, ReadyIn, Stepped, Fine, ways, begun, along}
+use Rattle.ada_sound.proofs.Invariant.{assignment_among, outers, below, HasRoom, Known, Control, Rooms, Roomed, Accepts, LeadsTo, GoesInto, Allocating, Clearing, component_among, StoringIn, Pairs, IsAlone, IsOne, Half, HalfBy, IsCleared, front, final, WalksOn, Goes, Raised, RunsOn, NoneBroken, To, MayRaise, RaisesAt, FillsIn, IsHolder, Takes, Computing, Working, Resumes, EvaluatesTo, Awaits, FindsFor, MovesOn, FillsOn, PassesOn, PassesTo, FollowsFor, HalfFollows, ReadyIn, Stepped, Fine, ways, begun, along}
 use Rattle.ada_sound.proofs.Ready.{running, at_work, stays, ready_on, runs_on, resumes_on, jumps_less}
 use Rattle.ada_sound.proofs.Walks.{finds_fine, fills_fine, passed_fine, half_fine, plain_whole}
 use Rattle.ada_sound.proofs.Passed.{raises_behind, passes_fine}
@@ -51,7 +51,7 @@ use Rattle.ada_sound.proofs.Rooms.{roomed_declares}
 use Rattle.ada_sound.proofs.Outcomes.{using_goes, ends_goes}
 use Rattle.ada_sound.proofs.Followings.{kept_apart}
 use Rattle.ada_sound.proofs.Roots.{selected_no_object, takes_none, takes_object, object_there, raises_null, raises_all, rest_raises}
-use Rattle.ada_sound.proofs.Raising.{or_right}
+use Rattle.ada_sound.proofs.Raising.{or_left, or_right}
 use Rattle.ada_sound.proofs.Expressions.{MayRead, reads_fine}
 use Rattle.ada_sound.proofs.Assigned.{Allocated, value_starts, computed_goes, allocated_goes, kind_names, selected_of}
 use Rattle.ada_sound.proofs.Taken.{variable_none, declared_none, variable_goes, declared_goes, component_goes, at_path, value_gives, value_fills, cleared_is, stored_after, there_after, selectors_are, walk_on, kept_root, path_goes, null_place, move_by, borrow_by, borrow_gives, store_by, some_root}
@@ -87,7 +87,7 @@ module _ (known : Known) (k : Control) (a : Activation Value) (rest : List (Acti
       into (Names o) c k' kind takes fits' w' =
           let there = w'.rest.0 in
           let g = w'.rest.1 in
-          let h = value_fills known.program.types g.1 g.0 whole root [] spot w'.holds (RunsOn known k' w'.rooms) (Raised (component_among (path_raises g.0) (value_of (at_path whole root [] spot))) (ways known k' w'.rooms)) g.2 in
+          let h = value_fills known.program.types g.1 g.0 whole root [] spot w'.holds (RunsOn known k' w'.rooms) (Raised (component_among known (path_raises g.0) (value_of (at_path whole root [] spot))) (ways known k' w'.rooms)) g.2 in
           let same = component_goes known.program s.heap kind kinds o there.0 c k' there.1 fits' ∙ sym (own_access kind takes) in
           inl (
             there,
@@ -103,12 +103,12 @@ module _ (known : Known) (k : Control) (a : Activation Value) (rest : List (Acti
       into (Scalar n) c k' kind takes fits' w' = absurd (w'.rest.0)
       into (Part object_id base) c k' kind takes fits' w' = absurd (w'.rest.0)
 
-      to : (More : Rooms → Holds → Type 0) (here : Spot) (cleared : Bool) (x : ℕ) (k' : Control) → is_object known.program.variables x ≡ false → is_object known.program.variables root ≡ false → variable_access known.program.variables x ≡ variable_access known.program.variables root → (rooms : Rooms) (holds : Holds) → Stored None s.heap s.masters → Roomed (below known) s.masters rooms → Fit known.program.types known.program.variables (outers known) none_spared s.heap a.places holds → ((h : Holds) → RunsOn known k' rooms h → More rooms h) → Goes (gives known.program.types known.program.variables here cleared x (value_of (at_path whole root [] spot)) holds) (RunsOn known k' rooms) (Raised (λ e. right_raises (is_same e) (value_of (at_path whole root [] spot))) (ways known k' rooms)) → Working known s.heap (slice_set a.places x (place_at a.places root)) s.masters More
+      to : (More : Rooms → Holds → Type 0) (here : Spot) (cleared : Bool) (x : ℕ) (k' : Control) → is_object known.program.variables x ≡ false → is_object known.program.variables root ≡ false → variable_access known.program.variables x ≡ variable_access known.program.variables root → (rooms : Rooms) (holds : Holds) → Stored None s.heap s.masters → Roomed (below known) s.masters rooms → Fit known.program.types known.program.variables (outers known) none_spared s.heap a.places holds → ((h : Holds) → RunsOn known k' rooms h → More rooms h) → Goes (gives known.program.types known.program.variables here cleared x (value_of (at_path whole root [] spot)) holds) (RunsOn known k' rooms) (Raised (assignment_among known (value_of (at_path whole root [] spot))) (ways known k' rooms)) → Working known s.heap (slice_set a.places x (place_at a.places root)) s.masters More
       to More here cleared x k' none other same rooms holds stored roomed fit more g = by (is_borrower known.program.variables x) refl
         where
           by : (b : Bool) → is_borrower known.program.variables x ≡ b → Working known s.heap (slice_set a.places x (place_at a.places root)) s.masters More
           by true is =
-              let h = borrow_gives known.program.types known.program.variables here cleared x whole root [] spot holds (RunsOn known k' rooms) (Raised (λ e. right_raises (is_same e) (value_of (at_path whole root [] spot))) (ways known k' rooms)) is g in
+              let h = borrow_gives known.program.types known.program.variables here cleared x whole root [] spot holds (RunsOn known k' rooms) (Raised (assignment_among known (value_of (at_path whole root [] spot))) (ways known k' rooms)) is g in
               record {
                 rooms = rooms;
                 holds = slice_set holds x (borrowed_hold (hold_at holds root));
@@ -118,7 +118,7 @@ module _ (known : Known) (k : Control) (a : Activation Value) (rest : List (Acti
                 rest = more _ h.1;
               }
           by false is =
-              let h = value_gives known.program.types known.program.variables here cleared x whole root [] spot holds (RunsOn known k' rooms) (Raised (λ e. right_raises (is_same e) (value_of (at_path whole root [] spot))) (ways known k' rooms)) is g in
+              let h = value_gives known.program.types known.program.variables here cleared x whole root [] spot holds (RunsOn known k' rooms) (Raised (assignment_among known (value_of (at_path whole root [] spot))) (ways known k' rooms)) is g in
               record {
                 rooms = rooms;
                 holds = slice_set (without_values (root ∷ []) holds) x (touched_hold (hold_at holds root));
@@ -186,9 +186,9 @@ module _ (known : Known) (k : Control) (a : Activation Value) (rest : List (Acti
     borrow_component_by x d ds (hold.Alias r) none is kept f walks same = put_alias x v r none (plain o object c v found at) (rw same (λ p e. component_is o object c v p refl found listed at e f)) f
     borrow_component_by x d ds hold.Lost none is kept f walks same = absurd (cc kept)
 
-    borrow_to : (More : Rooms → Holds → Type 0) (here : Spot) (cleared : Bool) (x d : ℕ) (ds : List ℕ) (k' : Control) (rooms : Rooms) (holds : Holds) → is_object known.program.variables x ≡ false → is_borrower known.program.variables x ≡ true → Stored None s.heap s.masters → Roomed (below known) s.masters rooms → Fit known.program.types known.program.variables (outers known) none_spared s.heap a.places holds → WalksOn s.heap a.places (at_path whole root (d ∷ ds) spot) (Names o) (c ∷ []) → variable_access known.program.variables x ≡ component_access known.program.types object c → ((h : Holds) → RunsOn known k' rooms h → More rooms h) → Goes (gives known.program.types known.program.variables here cleared x (value_of (at_path whole root (d ∷ ds) spot)) holds) (RunsOn known k' rooms) (Raised (λ e. right_raises (is_same e) (value_of (at_path whole root (d ∷ ds) spot))) (ways known k' rooms)) → Working known s.heap (slice_set a.places x v) s.masters More
+    borrow_to : (More : Rooms → Holds → Type 0) (here : Spot) (cleared : Bool) (x d : ℕ) (ds : List ℕ) (k' : Control) (rooms : Rooms) (holds : Holds) → is_object known.program.variables x ≡ false → is_borrower known.program.variables x ≡ true → Stored None s.heap s.masters → Roomed (below known) s.masters rooms → Fit known.program.types known.program.variables (outers known) none_spared s.heap a.places holds → WalksOn s.heap a.places (at_path whole root (d ∷ ds) spot) (Names o) (c ∷ []) → variable_access known.program.variables x ≡ component_access known.program.types object c → ((h : Holds) → RunsOn known k' rooms h → More rooms h) → Goes (gives known.program.types known.program.variables here cleared x (value_of (at_path whole root (d ∷ ds) spot)) holds) (RunsOn known k' rooms) (Raised (assignment_among known (value_of (at_path whole root (d ∷ ds) spot))) (ways known k' rooms)) → Working known s.heap (slice_set a.places x v) s.masters More
     borrow_to More here cleared x d ds k' rooms holds none is stored roomed f walks same more g =
-        let h = borrow_gives known.program.types known.program.variables here cleared x whole root (d ∷ ds) spot holds (RunsOn known k' rooms) (Raised (λ e. right_raises (is_same e) (value_of (at_path whole root (d ∷ ds) spot))) (ways known k' rooms)) is g in
+        let h = borrow_gives known.program.types known.program.variables here cleared x whole root (d ∷ ds) spot holds (RunsOn known k' rooms) (Raised (assignment_among known (value_of (at_path whole root (d ∷ ds) spot))) (ways known k' rooms)) is g in
         record { rooms = rooms; holds = slice_set holds x (borrowed_hold (hold_at holds root)); stored = stored; roomed = roomed; fit = borrow_component_by x d ds (hold_at holds root) none refl h.0 f walks same; rest = more _ h.1 }
 
     take_variable_by : (x d : ℕ) (ds : List ℕ) (k' : Control) (rooms : Rooms) (holds : Holds) (h : Hold) → is_object known.program.variables x ≡ false → hold_at holds root ≡ h → lost_by h spot ≡ None → Stored None s.heap s.masters → Roomed (below known) s.masters rooms → (f : Fit known.program.types known.program.variables (outers known) none_spared s.heap a.places holds) → x ≢ root → IsCleared (at_path whole root (d ∷ ds) spot) k' → WalksOn s.heap a.places (at_path whole root (d ∷ ds) spot) (Names o) (c ∷ []) → variable_access known.program.variables x ≡ component_access known.program.types object c → RunsOn known k' rooms (slice_set holds x (value_hold (d ∷ ds) h)) → HalfBy known k' s.heap (slice_set a.places x v) s.masters
@@ -210,31 +210,31 @@ module _ (known : Known) (k : Control) (a : Activation Value) (rest : List (Acti
         (λ p e. named_there f p (sym (component_value s.heap [] o object c v found listed at) ∙ e))
         (record { rooms = rooms; holds = slice_set holds x (hold.Own r); stored = stored_after s.heap o c Null stored; roomed = roomed; fit = take_variable x r none o object c v (plain o object c v found at) found listed at same f; rest = more })
 
-    take_to : (here : Spot) (cleared : Bool) (x d : ℕ) (ds : List ℕ) (k' : Control) (rooms : Rooms) (holds : Holds) → is_object known.program.variables x ≡ false → is_borrower known.program.variables x ≡ false → Stored None s.heap s.masters → Roomed (below known) s.masters rooms → Fit known.program.types known.program.variables (outers known) none_spared s.heap a.places holds → WalksOn s.heap a.places (at_path whole root (d ∷ ds) spot) (Names o) (c ∷ []) → variable_access known.program.variables x ≡ component_access known.program.types object c → Goes (gives known.program.types known.program.variables here cleared x (value_of (at_path whole root (d ∷ ds) spot)) holds) (RunsOn known k' rooms) (Raised (λ e. right_raises (is_same e) (value_of (at_path whole root (d ∷ ds) spot))) (ways known k' rooms)) → Pairs cleared (value_of (at_path whole root (d ∷ ds) spot)) (λ path. x ≢ path.root) k' → HalfBy known k' s.heap (slice_set a.places x v) s.masters
+    take_to : (here : Spot) (cleared : Bool) (x d : ℕ) (ds : List ℕ) (k' : Control) (rooms : Rooms) (holds : Holds) → is_object known.program.variables x ≡ false → is_borrower known.program.variables x ≡ false → Stored None s.heap s.masters → Roomed (below known) s.masters rooms → Fit known.program.types known.program.variables (outers known) none_spared s.heap a.places holds → WalksOn s.heap a.places (at_path whole root (d ∷ ds) spot) (Names o) (c ∷ []) → variable_access known.program.variables x ≡ component_access known.program.types object c → Goes (gives known.program.types known.program.variables here cleared x (value_of (at_path whole root (d ∷ ds) spot)) holds) (RunsOn known k' rooms) (Raised (assignment_among known (value_of (at_path whole root (d ∷ ds) spot))) (ways known k' rooms)) → Pairs cleared (value_of (at_path whole root (d ∷ ds) spot)) (λ path. x ≢ path.root) k' → HalfBy known k' s.heap (slice_set a.places x v) s.masters
     take_to here false x d ds k' rooms holds none owned stored roomed f walks same g pairs =
-        let h = value_gives known.program.types known.program.variables here false x whole root (d ∷ ds) spot holds (RunsOn known k' rooms) (Raised (λ e. right_raises (is_same e) (value_of (at_path whole root (d ∷ ds) spot))) (ways known k' rooms)) owned g in
+        let h = value_gives known.program.types known.program.variables here false x whole root (d ∷ ds) spot holds (RunsOn known k' rooms) (Raised (assignment_among known (value_of (at_path whole root (d ∷ ds) spot))) (ways known k' rooms)) owned g in
         let never = cleared_is false (hold_at holds root) spot h.0 in
         absurd (cc (never.0))
     take_to here true x d ds k' rooms holds none owned stored roomed f walks same g pairs =
-        let h = value_gives known.program.types known.program.variables here true x whole root (d ∷ ds) spot holds (RunsOn known k' rooms) (Raised (λ e. right_raises (is_same e) (value_of (at_path whole root (d ∷ ds) spot))) (ways known k' rooms)) owned g in
+        let h = value_gives known.program.types known.program.variables here true x whole root (d ∷ ds) spot holds (RunsOn known k' rooms) (Raised (assignment_among known (value_of (at_path whole root (d ∷ ds) spot))) (ways known k' rooms)) owned g in
         take_variable_by x d ds k' rooms holds (hold_at holds root) none refl h.0 stored roomed f pairs.0 pairs.1 walks same h.1
 
-    declares_none : (here : Spot) (cleared : Bool) (x d : ℕ) (ds : List ℕ) (k' : Control) (rooms : Rooms) (holds : Holds) → is_borrower known.program.variables x ≡ false → Goes (gives known.program.types known.program.variables here cleared x (value_of (at_path whole root (d ∷ ds) spot)) holds) (RunsOn known k' rooms) (Raised (λ e. right_raises (is_same e) (value_of (at_path whole root (d ∷ ds) spot))) (ways known k' rooms)) → IsAlone cleared → ⊥
+    declares_none : (here : Spot) (cleared : Bool) (x d : ℕ) (ds : List ℕ) (k' : Control) (rooms : Rooms) (holds : Holds) → is_borrower known.program.variables x ≡ false → Goes (gives known.program.types known.program.variables here cleared x (value_of (at_path whole root (d ∷ ds) spot)) holds) (RunsOn known k' rooms) (Raised (assignment_among known (value_of (at_path whole root (d ∷ ds) spot))) (ways known k' rooms)) → IsAlone cleared → ⊥
     declares_none here true x d ds k' rooms holds owned g alone = alone
     declares_none here false x d ds k' rooms holds owned g alone =
-        let h = value_gives known.program.types known.program.variables here false x whole root (d ∷ ds) spot holds (RunsOn known k' rooms) (Raised (λ e. right_raises (is_same e) (value_of (at_path whole root (d ∷ ds) spot))) (ways known k' rooms)) owned g in
+        let h = value_gives known.program.types known.program.variables here false x whole root (d ∷ ds) spot holds (RunsOn known k' rooms) (Raised (assignment_among known (value_of (at_path whole root (d ∷ ds) spot))) (ways known k' rooms)) owned g in
         let none = cleared_is false (hold_at holds root) spot h.0 in
         cc (none.0)
 
     -- A variable gets the value: a borrower as it is, any other with the first half of a take pair; a declaration is none.
-    stores_to : (here : Spot) (cleared : Bool) (x d : ℕ) (ds : List ℕ) (k' : Control) (rooms : Rooms) (holds : Holds) → is_object known.program.variables x ≡ false → Stored None s.heap s.masters → Roomed (below known) s.masters rooms → Fit known.program.types known.program.variables (outers known) none_spared s.heap a.places holds → WalksOn s.heap a.places (at_path whole root (d ∷ ds) spot) (Names o) (c ∷ []) → variable_access known.program.variables x ≡ component_access known.program.types object c → Goes (gives known.program.types known.program.variables here cleared x (value_of (at_path whole root (d ∷ ds) spot)) holds) (RunsOn known k' rooms) (Raised (λ e. right_raises (is_same e) (value_of (at_path whole root (d ∷ ds) spot))) (ways known k' rooms)) → Pairs cleared (value_of (at_path whole root (d ∷ ds) spot)) (λ path. x ≢ path.root) k' → Resumes known s.heap (slice_set a.places x v) s.masters k'
+    stores_to : (here : Spot) (cleared : Bool) (x d : ℕ) (ds : List ℕ) (k' : Control) (rooms : Rooms) (holds : Holds) → is_object known.program.variables x ≡ false → Stored None s.heap s.masters → Roomed (below known) s.masters rooms → Fit known.program.types known.program.variables (outers known) none_spared s.heap a.places holds → WalksOn s.heap a.places (at_path whole root (d ∷ ds) spot) (Names o) (c ∷ []) → variable_access known.program.variables x ≡ component_access known.program.types object c → Goes (gives known.program.types known.program.variables here cleared x (value_of (at_path whole root (d ∷ ds) spot)) holds) (RunsOn known k' rooms) (Raised (assignment_among known (value_of (at_path whole root (d ∷ ds) spot))) (ways known k' rooms)) → Pairs cleared (value_of (at_path whole root (d ∷ ds) spot)) (λ path. x ≢ path.root) k' → Resumes known s.heap (slice_set a.places x v) s.masters k'
     stores_to here cleared x d ds k' rooms holds none stored roomed f walks same g pairs = by (is_borrower known.program.variables x) refl
       where
         by : (b : Bool) → is_borrower known.program.variables x ≡ b → Resumes known s.heap (slice_set a.places x v) s.masters k'
         by true is = inl (borrow_to (RunsOn known k') here cleared x d ds k' rooms holds none is stored roomed f walks same (λ h r. r) g)
         by false is = inr (take_to here cleared x d ds k' rooms holds none is stored roomed f walks same g pairs)
 
-    declares_to : (More : Rooms → Holds → Type 0) (here : Spot) (cleared : Bool) (x d : ℕ) (ds : List ℕ) (k' : Control) (rooms : Rooms) (holds : Holds) → is_object known.program.variables x ≡ false → Stored None s.heap s.masters → Roomed (below known) s.masters rooms → Fit known.program.types known.program.variables (outers known) none_spared s.heap a.places holds → WalksOn s.heap a.places (at_path whole root (d ∷ ds) spot) (Names o) (c ∷ []) → variable_access known.program.variables x ≡ component_access known.program.types object c → ((h : Holds) → RunsOn known k' rooms h → More rooms h) → Goes (gives known.program.types known.program.variables here cleared x (value_of (at_path whole root (d ∷ ds) spot)) holds) (RunsOn known k' rooms) (Raised (λ e. right_raises (is_same e) (value_of (at_path whole root (d ∷ ds) spot))) (ways known k' rooms)) → IsAlone cleared → Working known s.heap (slice_set a.places x v) s.masters More
+    declares_to : (More : Rooms → Holds → Type 0) (here : Spot) (cleared : Bool) (x d : ℕ) (ds : List ℕ) (k' : Control) (rooms : Rooms) (holds : Holds) → is_object known.program.variables x ≡ false → Stored None s.heap s.masters → Roomed (below known) s.masters rooms → Fit known.program.types known.program.variables (outers known) none_spared s.heap a.places holds → WalksOn s.heap a.places (at_path whole root (d ∷ ds) spot) (Names o) (c ∷ []) → variable_access known.program.variables x ≡ component_access known.program.types object c → ((h : Holds) → RunsOn known k' rooms h → More rooms h) → Goes (gives known.program.types known.program.variables here cleared x (value_of (at_path whole root (d ∷ ds) spot)) holds) (RunsOn known k' rooms) (Raised (assignment_among known (value_of (at_path whole root (d ∷ ds) spot))) (ways known k' rooms)) → IsAlone cleared → Working known s.heap (slice_set a.places x v) s.masters More
     declares_to More here cleared x d ds k' rooms holds none stored roomed f walks same more g alone = by (is_borrower known.program.variables x) refl
       where
         by : (b : Bool) → is_borrower known.program.variables x ≡ b → Working known s.heap (slice_set a.places x v) s.masters More
@@ -242,14 +242,14 @@ module _ (known : Known) (k : Control) (a : Activation Value) (rest : List (Acti
         by false is = absurd (declares_none here cleared x d ds k' rooms holds is g alone)
 
     -- The same into a component: then the path has one selector.
-    take_into : (cleared : Bool) (target : PathForm) (q : Id) (holder : Object) (e d : ℕ) (ds : List ℕ) (k' : Control) (rooms : Rooms) (holds : Holds) → object_at s.heap q ≡ Some holder → holder.listed ≡ true → Stored None s.heap s.masters → Roomed (below known) s.masters rooms → Fit known.program.types known.program.variables (outers known) none_spared s.heap a.places holds → WalksOn s.heap a.places (at_path whole root (d ∷ ds) spot) (Names o) (c ∷ []) → component_access known.program.types holder e ≡ component_access known.program.types object c → Goes (gives_component known.program.types cleared target (value_of (at_path whole root (d ∷ ds) spot)) holds) (RunsOn known k' rooms) (Raised (component_among (path_raises target) (value_of (at_path whole root (d ∷ ds) spot))) (ways known k' rooms)) → Pairs cleared (value_of (at_path whole root (d ∷ ds) spot)) (λ taken. IsOne taken.selectors) k' → HalfBy known k' (store s.heap (Names q) e v) a.places s.masters
+    take_into : (cleared : Bool) (target : PathForm) (q : Id) (holder : Object) (e d : ℕ) (ds : List ℕ) (k' : Control) (rooms : Rooms) (holds : Holds) → object_at s.heap q ≡ Some holder → holder.listed ≡ true → Stored None s.heap s.masters → Roomed (below known) s.masters rooms → Fit known.program.types known.program.variables (outers known) none_spared s.heap a.places holds → WalksOn s.heap a.places (at_path whole root (d ∷ ds) spot) (Names o) (c ∷ []) → component_access known.program.types holder e ≡ component_access known.program.types object c → Goes (gives_component known.program.types cleared target (value_of (at_path whole root (d ∷ ds) spot)) holds) (RunsOn known k' rooms) (Raised (component_among known (path_raises target) (value_of (at_path whole root (d ∷ ds) spot))) (ways known k' rooms)) → Pairs cleared (value_of (at_path whole root (d ∷ ds) spot)) (λ taken. IsOne taken.selectors) k' → HalfBy known k' (store s.heap (Names q) e v) a.places s.masters
     take_into false target q holder e d ds k' rooms holds at_q listed_q stored roomed f walks same g pairs =
-        let h = value_fills known.program.types false target whole root (d ∷ ds) spot holds (RunsOn known k' rooms) (Raised (component_among (path_raises target) (value_of (at_path whole root (d ∷ ds) spot))) (ways known k' rooms)) g in
+        let h = value_fills known.program.types false target whole root (d ∷ ds) spot holds (RunsOn known k' rooms) (Raised (component_among known (path_raises target) (value_of (at_path whole root (d ∷ ds) spot))) (ways known k' rooms)) g in
         let no = cleared_is false (hold_at holds root) spot h.0 in
         absurd (cc (no.0))
     take_into true target q holder e d (d' ∷ ds) k' rooms holds at_q listed_q stored roomed f walks same g pairs = absurd (pairs.0)
     take_into true target q holder e d [] k' rooms holds at_q listed_q stored roomed f walks same g pairs =
-        let h = value_fills known.program.types true target whole root (d ∷ []) spot holds (RunsOn known k' rooms) (Raised (component_among (path_raises target) (value_of (at_path whole root (d ∷ []) spot))) (ways known k' rooms)) g in
+        let h = value_fills known.program.types true target whole root (d ∷ []) spot holds (RunsOn known k' rooms) (Raised (component_among known (path_raises target) (value_of (at_path whole root (d ∷ []) spot))) (ways known k' rooms)) g in
         half_behind (store s.heap (Names q) e v) a.places whole root (d ∷ []) spot k' o c pairs.1 walks.1 walks.0 (there_after s.heap q o e v (object, found, listed))
         (λ p is. there_after s.heap q p e v (named_there f p (stored_still p is)))
         (record { rooms = rooms; holds = holds; stored = stored_after (store s.heap (Names q) e v) o c Null (stored_after s.heap q e v stored); roomed = roomed; fit = take_component q holder e o object c v at_q listed_q found listed at same f; rest = h.1 })
@@ -339,18 +339,18 @@ module _ (known : Known) (k : Control) (a : Activation Value) (rest : List (Acti
       al : Allocated known.program.types known.program.variables kind access items
       al = allocated_goes known.program.types known.program.variables kind access items takes
 
-      to : (x : ℕ) (k' : Control) → variable_access known.program.variables x ≡ access_of (Some kind) → (here : Spot) (cleared : Bool) → Goes (gives known.program.types known.program.variables here cleared x (allocates access items) holds) (To (RunsOn known k' rooms)) (Raised (λ e. right_raises (is_same e) (allocates access items)) (ways known k' rooms)) → NoneBroken holds (uses_in_items known.program.types here None [] items) × (((variable_access known.program.variables x ≡ Some access) × To (RunsOn known k' rooms) (slice_set (without_values (moved_by_items items) holds) x (hold.Own Whole))) × Raised (λ e. right_raises (is_same e) (allocates access items)) (ways known k' rooms) holds)
+      to : (x : ℕ) (k' : Control) → variable_access known.program.variables x ≡ access_of (Some kind) → (here : Spot) (cleared : Bool) → Goes (gives known.program.types known.program.variables here cleared x (allocates access items) holds) (To (RunsOn known k' rooms)) (Raised (assignment_among known (allocates access items)) (ways known k' rooms)) → NoneBroken holds (uses_in_items known.program.types here None [] items) × (((variable_access known.program.variables x ≡ Some access) × To (RunsOn known k' rooms) (slice_set (without_values (moved_by_items items) holds) x (hold.Own Whole))) × Raised (assignment_among known (allocates access items)) (ways known k' rooms) holds)
       to x k' is here cleared g =
-          let u = using_goes (uses_in_items known.program.types here None [] items) holds (ends_with true holds (slice_set (without_values (moved_by_items items) holds) x (hold.Own Whole))) (To (RunsOn known k' rooms)) (Raised (λ e. right_raises (is_same e) (allocates access items)) (ways known k' rooms)) g in
+          let u = using_goes (uses_in_items known.program.types here None [] items) holds (ends_with true holds (slice_set (without_values (moved_by_items items) holds) x (hold.Own Whole))) (To (RunsOn known k' rooms)) (Raised (assignment_among known (allocates access items)) (ways known k' rooms)) g in
           (u.0, ((is ∙ al.goes, u.1.0), u.1.1))
 
-      into : (o : Value) (c : ℕ) (k' : Control) → typed.Fits known.program (cells_of s.heap) (of_kind kind ∷ kinds) (StoresIn o c ∷ k') → IsHolder s.heap o → (g : FillsIn known (allocates access items) (LeadsTo s.heap a.places o [] c) rooms holds k') → NoneBroken holds (uses_in_items known.program.types (spot_of g.0) (Some g.0) [] items) × ((Accepts known s.heap o c (Some access) × To (RunsOn known k' rooms) (without_values (moved_by_items items) holds)) × Raised (component_among (path_raises g.0) (allocates access items)) (ways known k' rooms) holds)
+      into : (o : Value) (c : ℕ) (k' : Control) → typed.Fits known.program (cells_of s.heap) (of_kind kind ∷ kinds) (StoresIn o c ∷ k') → IsHolder s.heap o → (g : FillsIn known (allocates access items) (LeadsTo s.heap a.places o [] c) rooms holds k') → NoneBroken holds (uses_in_items known.program.types (spot_of g.0) (Some g.0) [] items) × ((Accepts known s.heap o c (Some access) × To (RunsOn known k' rooms) (without_values (moved_by_items items) holds)) × Raised (component_among known (path_raises g.0) (allocates access items)) (ways known k' rooms) holds)
       into Null c k' fits' there g = absurd there
       into (Names o) c k' fits' there g =
           let items_use = uses_in_items known.program.types (spot_of g.0) (Some g.0) [] items in
           let may = path_raises g.0 || true in
           let after = without_values (moved_by_items items) holds in
-          let raised' = Raised (component_among (path_raises g.0) (allocates access items)) (ways known k' rooms) in
+          let raised' = Raised (component_among known (path_raises g.0) (allocates access items)) (ways known k' rooms) in
           let u = using_goes (uses_in_target g.0 ++ items_use) holds (ends_with may holds after) (To (RunsOn known k' rooms)) raised' g.2 in
           let n = ends_goes may holds after (To (RunsOn known k' rooms)) raised' u.1 in
           ((kept_apart holds (uses_in_target g.0) items_use u.0).1, (((there.0, there.1, there.2, component_goes known.program s.heap kind kinds o there.0 c k' there.1 fits' ∙ al.goes), n.0), n.1 (or_right (path_raises g.0) true refl)))
@@ -364,13 +364,13 @@ module _ (known : Known) (k : Control) (a : Activation Value) (rest : List (Acti
       go [] fits' g = absurd g
       go (Stores x ∷ k') fits' g =
           let h = to x k' (variable_goes known.program s.heap kind kinds x k' fits') g.1.0 g.0 g.1.1 in
-          (g.1.0, None, tt, h.0, record { components = al.components; reached = al.reached; fit = al.fit; fails = λ may. h.1.1 ConstraintError (rw may refl); refused = λ may. h.1.1 StorageError refl; room = tt; to = ((h.1.0.0, variable_none known.program s.heap kind kinds x k' none fits'), h.1.0.1) })
+          (g.1.0, None, tt, h.0, record { components = al.components; reached = al.reached; fit = al.fit; fails = λ may. h.1.1 ConstraintError (rw may refl); refused = λ may. h.1.1 StorageError refl; starts = λ e may. h.1.1 e (or_right (right_raises (is_same e) (allocates access items)) (right_starts known.implicit (is_same e) (allocates access items)) may); room = tt; to = ((h.1.0.0, variable_none known.program s.heap kind kinds x k' none fits'), h.1.0.1) })
       go (Declares x ∷ k') fits' g =
           let h = to x k' (declared_goes known.program s.heap kind kinds x k' fits') g.2.0 g.1 g.2.1 in
-          (g.2.0, None, tt, h.0, record { components = al.components; reached = al.reached; fit = al.fit; fails = λ may. h.1.1 ConstraintError (rw may refl); refused = λ may. h.1.1 StorageError refl; room = g.0; to = ((h.1.0.0, declared_none known.program s.heap kind kinds x k' none fits'), h.1.0.1) })
+          (g.2.0, None, tt, h.0, record { components = al.components; reached = al.reached; fit = al.fit; fails = λ may. h.1.1 ConstraintError (rw may refl); refused = λ may. h.1.1 StorageError refl; starts = λ e may. h.1.1 e (or_right (right_raises (is_same e) (allocates access items)) (right_starts known.implicit (is_same e) (allocates access items)) may); room = g.0; to = ((h.1.0.0, declared_none known.program s.heap kind kinds x k' none fits'), h.1.0.1) })
       go (StoresIn o c ∷ k') fits' g =
           let h = into o c k' fits' g.0 g.1 in
-          (spot_of g.1.0, Some g.1.0, g.1.4, h.0, record { components = al.components; reached = al.reached; fit = al.fit; fails = λ may. h.1.1 ConstraintError (or_right (path_raises g.1.0) (items_raise items) may); refused = λ may. h.1.1 StorageError refl; room = tt; to = h.1.0 })
+          (spot_of g.1.0, Some g.1.0, g.1.4, h.0, record { components = al.components; reached = al.reached; fit = al.fit; fails = λ may. h.1.1 ConstraintError (or_left (path_raises g.1.0 || items_raise items) (right_starts known.implicit (is_same ConstraintError) (allocates access items)) (or_right (path_raises g.1.0) (items_raise items) may)); refused = λ may. h.1.1 StorageError refl; starts = λ e may. h.1.1 e (or_right ((is_same e ConstraintError && path_raises g.1.0) || right_raises (is_same e) (allocates access items)) (right_starts known.implicit (is_same e) (allocates access items)) may); room = tt; to = h.1.0 })
       go (f ∷ k') fits' g = absurd g
 
   -- The component that the object of an allocator without items goes to, if it goes to one; and what the allocator leads to.
@@ -381,15 +381,15 @@ module _ (known : Known) (k : Control) (a : Activation Value) (rest : List (Acti
   defaulting : (access : ℕ) (kind : VariableKind) (kinds : List OperandKind) (d : DefaultFor known.program.types kind access) → names_object (Some kind) ≡ false → typed.Fits known.program (cells_of s.heap) (of_kind kind ∷ kinds) k → (rooms : Rooms) (holds : Holds) → Takes known s.heap a.places (allocates_default access) k rooms holds → Defaulted_to access d.components k rooms holds
   defaulting access kind kinds d none fits rooms holds = go k fits
     where
-      to : (x : ℕ) (k' : Control) (here : Spot) (cleared : Bool) → Goes (gives known.program.types known.program.variables here cleared x (allocates_default access) holds) (To (RunsOn known k' rooms)) (Raised (λ e. right_raises (is_same e) (allocates_default access)) (ways known k' rooms)) → To (RunsOn known k' rooms) (slice_set holds x (hold.Own Whole)) × Raised (λ e. right_raises (is_same e) (allocates_default access)) (ways known k' rooms) holds
+      to : (x : ℕ) (k' : Control) (here : Spot) (cleared : Bool) → Goes (gives known.program.types known.program.variables here cleared x (allocates_default access) holds) (To (RunsOn known k' rooms)) (Raised (assignment_among known (allocates_default access)) (ways known k' rooms)) → To (RunsOn known k' rooms) (slice_set holds x (hold.Own Whole)) × Raised (assignment_among known (allocates_default access)) (ways known k' rooms) holds
       to x k' here cleared g =
-          (using_goes [] holds (ends_with true holds (slice_set holds x (hold.Own Whole))) (To (RunsOn known k' rooms)) (Raised (λ e. right_raises (is_same e) (allocates_default access)) (ways known k' rooms)) g).1
+          (using_goes [] holds (ends_with true holds (slice_set holds x (hold.Own Whole))) (To (RunsOn known k' rooms)) (Raised (assignment_among known (allocates_default access)) (ways known k' rooms)) g).1
 
-      into : (o : Value) (c : ℕ) (k' : Control) → typed.Fits known.program (cells_of s.heap) (of_kind kind ∷ kinds) (StoresIn o c ∷ k') → IsHolder s.heap o → (g : FillsIn known (allocates_default access) (LeadsTo s.heap a.places o [] c) rooms holds k') → (Accepts known s.heap o c (Some access) × To (RunsOn known k' rooms) holds) × Raised (component_among (path_raises g.0) (allocates_default access)) (ways known k' rooms) holds
+      into : (o : Value) (c : ℕ) (k' : Control) → typed.Fits known.program (cells_of s.heap) (of_kind kind ∷ kinds) (StoresIn o c ∷ k') → IsHolder s.heap o → (g : FillsIn known (allocates_default access) (LeadsTo s.heap a.places o [] c) rooms holds k') → (Accepts known s.heap o c (Some access) × To (RunsOn known k' rooms) holds) × Raised (component_among known (path_raises g.0) (allocates_default access)) (ways known k' rooms) holds
       into Null c k' fits' there g = absurd there
       into (Names o) c k' fits' there g =
           let may = path_raises g.0 || true in
-          let raised' = Raised (component_among (path_raises g.0) (allocates_default access)) (ways known k' rooms) in
+          let raised' = Raised (component_among known (path_raises g.0) (allocates_default access)) (ways known k' rooms) in
           let u = using_goes (uses_in_target g.0 ++ []) holds (ends_with may holds holds) (To (RunsOn known k' rooms)) raised' g.2 in
           let n = ends_goes may holds holds (To (RunsOn known k' rooms)) raised' u.1 in
           (((there.0, there.1, there.2, component_goes known.program s.heap kind kinds o there.0 c k' there.1 fits' ∙ d.goes), n.0), n.1 (or_right (path_raises g.0) true refl))
@@ -400,22 +400,22 @@ module _ (known : Known) (k : Control) (a : Activation Value) (rest : List (Acti
       go [] fits' g = absurd g
       go (Stores x ∷ k') fits' g =
           let h = to x k' g.1.0 g.0 g.1.1 in
-          (None, tt, record { components = d.components; reached = d.reached; fit = defaults_fit known.program.types known.program.variables d.components; fails = λ may. absurd (cc (may, defaults_raise d.components)); refused = λ may. h.1 StorageError refl; room = tt; to = ((variable_goes known.program s.heap kind kinds x k' fits' ∙ d.goes, variable_none known.program s.heap kind kinds x k' none fits'), rw (defaults_move d.components) h.0) })
+          (None, tt, record { components = d.components; reached = d.reached; fit = defaults_fit known.program.types known.program.variables d.components; fails = λ may. absurd (cc (may, defaults_raise d.components)); refused = λ may. h.1 StorageError refl; starts = λ e may. h.1 e (or_right (right_raises (is_same e) (allocates_default access)) (right_starts known.implicit (is_same e) (allocates_default access)) may); room = tt; to = ((variable_goes known.program s.heap kind kinds x k' fits' ∙ d.goes, variable_none known.program s.heap kind kinds x k' none fits'), rw (defaults_move d.components) h.0) })
       go (Declares x ∷ k') fits' g =
           let h = to x k' g.2.0 g.1 g.2.1 in
-          (None, tt, record { components = d.components; reached = d.reached; fit = defaults_fit known.program.types known.program.variables d.components; fails = λ may. absurd (cc (may, defaults_raise d.components)); refused = λ may. h.1 StorageError refl; room = g.0; to = ((declared_goes known.program s.heap kind kinds x k' fits' ∙ d.goes, declared_none known.program s.heap kind kinds x k' none fits'), rw (defaults_move d.components) h.0) })
+          (None, tt, record { components = d.components; reached = d.reached; fit = defaults_fit known.program.types known.program.variables d.components; fails = λ may. absurd (cc (may, defaults_raise d.components)); refused = λ may. h.1 StorageError refl; starts = λ e may. h.1 e (or_right (right_raises (is_same e) (allocates_default access)) (right_starts known.implicit (is_same e) (allocates_default access)) may); room = g.0; to = ((declared_goes known.program s.heap kind kinds x k' fits' ∙ d.goes, declared_none known.program s.heap kind kinds x k' none fits'), rw (defaults_move d.components) h.0) })
       go (StoresIn o c ∷ k') fits' g =
           let h = into o c k' fits' g.0 g.1 in
-          (Some g.1.0, g.1.4, record { components = d.components; reached = d.reached; fit = defaults_fit known.program.types known.program.variables d.components; fails = λ may. absurd (cc (may, defaults_raise d.components)); refused = λ may. h.1 StorageError refl; room = tt; to = (h.0.0, rw (defaults_move d.components) h.0.1) })
+          (Some g.1.0, g.1.4, record { components = d.components; reached = d.reached; fit = defaults_fit known.program.types known.program.variables d.components; fails = λ may. absurd (cc (may, defaults_raise d.components)); refused = λ may. h.1 StorageError refl; starts = λ e may. h.1 e (or_right ((is_same e ConstraintError && path_raises g.1.0) || right_raises (is_same e) (allocates_default access)) (right_starts known.implicit (is_same e) (allocates_default access)) may); room = tt; to = (h.0.0, rw (defaults_move d.components) h.0.1) })
       go (f ∷ k') fits' g = absurd g
 
   -- An expression goes to a variable on which nothing relies, or into a component without access values.
   computing : (e : ExpressionForm) (kind : VariableKind) (kinds : List OperandKind) → kind_takes known.program.types known.program.variables kind (computes e) ≡ true → typed.Fits known.program (cells_of s.heap) (of_kind kind ∷ kinds) k → (rooms : Rooms) (holds : Holds) → Takes known s.heap a.places (computes e) k rooms holds → Computing known s.heap a.places a.operands e k rooms holds
   computing e kind kinds takes fits rooms holds = go k fits
     where
-      to : (x : ℕ) (k' : Control) (here : Spot) (cleared : Bool) → Goes (gives known.program.types known.program.variables here cleared x (computes e) holds) (RunsOn known k' rooms) (Raised (λ y. right_raises (is_same y) (computes e)) (ways known k' rooms)) → NoneBroken holds (uses_in e) × (RunsOn known k' rooms (slice_set holds x hold.Lost) × (expression_raises e ≡ true → Raised (λ y. right_raises (is_same y) (computes e)) (ways known k' rooms) holds))
+      to : (x : ℕ) (k' : Control) (here : Spot) (cleared : Bool) → Goes (gives known.program.types known.program.variables here cleared x (computes e) holds) (RunsOn known k' rooms) (Raised (assignment_among known (computes e)) (ways known k' rooms)) → NoneBroken holds (uses_in e) × (RunsOn known k' rooms (slice_set holds x hold.Lost) × (expression_raises e ≡ true → Raised (assignment_among known (computes e)) (ways known k' rooms) holds))
       to x k' here cleared g =
-          let raised' = Raised (λ y. right_raises (is_same y) (computes e)) (ways known k' rooms) in
+          let raised' = Raised (assignment_among known (computes e)) (ways known k' rooms) in
           let u = using_goes (uses_in e) holds (ends_with (expression_raises e) holds (slice_set holds x hold.Lost)) (RunsOn known k' rooms) raised' g in
           let n = ends_goes (expression_raises e) holds (slice_set holds x hold.Lost) (RunsOn known k' rooms) raised' u.1 in
           (u.0, (n.0, n.1))
@@ -424,17 +424,17 @@ module _ (known : Known) (k : Control) (a : Activation Value) (rest : List (Acti
       into Null c k' fits' there g = absurd there
       into (Names o) c k' fits' there g =
           let may = path_raises g.0 || expression_raises e in
-          let raised' = Raised (component_among (path_raises g.0) (computes e)) (ways known k' rooms) in
+          let raised' = Raised (component_among known (path_raises g.0) (computes e)) (ways known k' rooms) in
           let u = using_goes (uses_in_target g.0 ++ uses_in e) holds (ends_with may holds holds) (RunsOn known k' rooms) raised' g.2 in
           let n = ends_goes may holds holds (RunsOn known k' rooms) raised' u.1 in
-          ((kept_apart holds (uses_in_target g.0) (uses_in e) u.0).1, (((there.0, there.1, there.2, component_goes known.program s.heap kind kinds o there.0 c k' there.1 fits' ∙ computed_goes known.program.types known.program.variables kind e takes), n.0), λ raises. n.1 (or_right (path_raises g.0) (expression_raises e) raises) ConstraintError (or_right (path_raises g.0) (expression_raises e) raises)))
+          ((kept_apart holds (uses_in_target g.0) (uses_in e) u.0).1, (((there.0, there.1, there.2, component_goes known.program s.heap kind kinds o there.0 c k' there.1 fits' ∙ computed_goes known.program.types known.program.variables kind e takes), n.0), λ raises. (let either = or_right (path_raises g.0) (expression_raises e) raises in n.1 either ConstraintError (or_left may false either))))
       into (Scalar n) c k' fits' there g = absurd there
       into (Part object_id base) c k' fits' there g = absurd there
 
       go : (k' : Control) → typed.Fits known.program (cells_of s.heap) (of_kind kind ∷ kinds) k' → Takes known s.heap a.places (computes e) k' rooms holds → Computing known s.heap a.places a.operands e k' rooms holds
       go [] fits' g = absurd g
-      go (Stores x ∷ k') fits' g = let h = to x k' g.1.0 g.0 g.1.1 in (h.0, (λ may. h.1.1 may ConstraintError may), h.1.0)
-      go (Declares x ∷ k') fits' g = let h = to x k' g.2.0 g.1 g.2.1 in (h.0, (λ may. h.1.1 may ConstraintError may), (g.0, h.1.0))
+      go (Stores x ∷ k') fits' g = let h = to x k' g.1.0 g.0 g.1.1 in (h.0, (λ may. h.1.1 may ConstraintError (or_left (expression_raises e) false may)), h.1.0)
+      go (Declares x ∷ k') fits' g = let h = to x k' g.2.0 g.1 g.2.1 in (h.0, (λ may. h.1.1 may ConstraintError (or_left (expression_raises e) false may)), (g.0, h.1.0))
       go (StoresIn o c ∷ k') fits' g = let h = into o c k' fits' g.0 g.1 in (h.0, h.1.1, h.1.0)
       go (f ∷ k') fits' g = absurd g
 
@@ -442,7 +442,7 @@ module _ (known : Known) (k : Control) (a : Activation Value) (rest : List (Acti
   nothing_ready : (kind : VariableKind) (kinds : List OperandKind) → names_object (Some kind) ≡ false → typed.Fits known.program (cells_of s.heap) (of_kind kind ∷ kinds) k → EvaluatesTo known nothing k s.heap a.places s.masters → ReadyIn known Running k s.heap a.places (Null ∷ a.operands) s.masters
   nothing_ready kind kinds none fits e = go k fits e
     where
-      to : (More : Rooms → Holds → Type 0) (here : Spot) (cleared : Bool) (x : ℕ) (k' : Control) (rooms : Rooms) (holds : Holds) → is_object known.program.variables x ≡ false → Stored None s.heap s.masters → Roomed (below known) s.masters rooms → Fit known.program.types known.program.variables (outers known) none_spared s.heap a.places holds → ((h : Holds) → RunsOn known k' rooms h → More rooms h) → Goes (gives known.program.types known.program.variables here cleared x nothing holds) (RunsOn known k' rooms) (Raised (λ y. right_raises (is_same y) nothing) (ways known k' rooms)) → Working known s.heap (slice_set a.places x Null) s.masters More
+      to : (More : Rooms → Holds → Type 0) (here : Spot) (cleared : Bool) (x : ℕ) (k' : Control) (rooms : Rooms) (holds : Holds) → is_object known.program.variables x ≡ false → Stored None s.heap s.masters → Roomed (below known) s.masters rooms → Fit known.program.types known.program.variables (outers known) none_spared s.heap a.places holds → ((h : Holds) → RunsOn known k' rooms h → More rooms h) → Goes (gives known.program.types known.program.variables here cleared x nothing holds) (RunsOn known k' rooms) (Raised (assignment_among known nothing) (ways known k' rooms)) → Working known s.heap (slice_set a.places x Null) s.masters More
       to More here cleared x k' rooms holds other stored roomed fit more g = record { rooms = rooms; holds = slice_set holds x hold.Null; stored = stored; roomed = roomed; fit = put_null x other fit; rest = more _ g.0 }
 
       clears_in : (o : Value) (c : ℕ) (k' : Control) → Clearing known o c k' s.heap a.places s.masters → StoringIn known o c Null k' s.heap a.places s.masters

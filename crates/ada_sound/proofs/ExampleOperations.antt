@@ -34,19 +34,19 @@ use Rattle.ada_meaning.specs.declared.event.Halt.TheVariants.{Finished, Erroneou
 use Rattle.ada_meaning.specs.declared.event.Why.TheVariants.{FollowsGone, FinalizesTwice}
 use Rattle.ada_meaning.specs.Named.{next}
 use Rattle.ada_meaning.specs.Run.{Choice, grants, takes}
-use Rattle.ada_sound.specs.Always.{IsChecked, FinishesAfter, NotQuiet, HaltsAfter}
+use Rattle.ada_sound.specs.Always.{IsChecked, FinishesAfter, NotInUse, HaltsAfter}
 use Rattle.ada_sound.specs.OperationExamples.{count_operations, count_bodies, operating_declarations, operating_stmts, operating_handlers, operating_events, node_operations, two_nodes, freeing_finalize, node_events, following_finalize, following_events}
-use Rattle.ada_sound.proofs.Choices.{accepted_in, not_quiet_in, halts_after_in}
+use Rattle.ada_sound.proofs.Choices.{accepted_in, not_in_use_in, halts_after_in}
 use Rattle.ada_sound.proofs.Example.{steps, vec, no_name, spot, link, with_number}
 use Rattle.ada_sound.proofs.ExampleOwners.{access_to, an_integer, an_access, path, whole, part as component}
 use Rattle.ada_sound.proofs.ExampleRecords.{object, of_object, record_at, of_object_type}
 
 -- A component of a controlled type, the parent part among them.
-abbrev of_kind : PartKind → (first number : ℕ) → Part
+abbrev pub of_kind : PartKind → (first number : ℕ) → Part
 of_kind kind first number = record { name = no_name; kind = kind; first = record { 0 = first }; part = record { 0 = number } }
 
 -- A controlled type without controlled components, which overrides these operations.
-abbrev controlled_type : (parts : List Part) → length parts ≤ 8 → (components : List ComponentKind) → length components ≤ 8 → Operations → TypeDefinition
+abbrev pub controlled_type : (parts : List Part) → length parts ≤ 8 → (components : List ComponentKind) → length components ≤ 8 → Operations → TypeDefinition
 controlled_type parts few components le operations =
     definition.Record no_name (vec parts few) (vec components le)
     (Some (record { number = record { 0 = 0 }; parts = 1; limited = false; operations = operations }))
@@ -80,7 +80,7 @@ abbrev count : Path
 count = of_object 0 0
 
 -- when .. => ..;
-abbrev handles : HandlerChoice → Stmt → Handler
+abbrev pub handles : HandlerChoice → Stmt → Handler
 handles c s = record { choices = vec (c ∷ []) (omega arith); statements = vec (s ∷ []) (omega arith) }
 
 -- C.N := 1; Put_Line (".."); and C.N := C.N + 1; exception when others => null; and Put_Line (Integer'Image (C.N));
@@ -196,9 +196,9 @@ freeing_bodies = simp statement_rules
 pub freeing_form : stmt_forms freeing ≡ two_nodes
 freeing_form = simp statement_rules
 
-pub freeing_not_quiet : NotQuiet freeing
+pub freeing_not_in_use : NotInUse freeing
 unfolding uses_in
-freeing_not_quiet = not_quiet_in freeing (freeing_finalize ∷ []) two_nodes no_handlers freeing_bodies freeing_form refl _ _ refl refl refl refl
+freeing_not_in_use = not_in_use_in freeing (freeing_finalize ∷ []) two_nodes no_handlers freeing_bodies freeing_form refl _ _ refl refl refl refl
 
 -- Finalize of the first node frees the second one, which is gone.
 pub frees_gone : HaltsAfter node_events (Erroneous FinalizesTwice) freeing
@@ -229,9 +229,9 @@ following_bodies = simp (statement_rules, expression_rules)
 pub following_form : stmt_forms following ≡ two_nodes
 following_form = simp statement_rules
 
-pub following_not_quiet : NotQuiet following
+pub following_not_in_use : NotInUse following
 unfolding uses_in
-following_not_quiet = not_quiet_in following (following_finalize ∷ []) two_nodes no_handlers following_bodies following_form refl _ _ refl refl refl refl
+following_not_in_use = not_in_use_in following (following_finalize ∷ []) two_nodes no_handlers following_bodies following_form refl _ _ refl refl refl refl
 
 -- Finalize of the first node follows its component to the second one, which is gone.
 pub follows_gone : HaltsAfter following_events (Erroneous FollowsGone) following

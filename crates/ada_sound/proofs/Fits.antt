@@ -28,8 +28,9 @@ use Rattle.ada_owners.proofs.Kernel as kernel
 use Rattle.ada_owners.proofs.Kernel.{same_or_not, same_id, same_place, lost_owns}
 use Rattle.ada_owners.proofs.Objects.{read_same, read_other, at_other, at_older, not_past, listed_at, component_listed}
 use Rattle.ada_owners.proofs.Changes as changes
-use Rattle.ada_owners.proofs.Changes.{weaken, taken, nulls, put_fits, put_hand, put_blank, put_reads, put_value, at_here, changed_is, store_hand}
+use Rattle.ada_owners.proofs.Changes.{kinds_same, weaken, taken, nulls, put_fits, put_hand, put_blank, put_reads, put_value, at_here, changed_is, store_hand}
 use Rattle.ada_owners.proofs.Creations.{create_fits, created_hand}
+use Rattle.ada_sound.proofs.Objects.{read_beside}
 use Rattle.ada_owners.proofs.Ends.{IsUnnamed, kind_is, part_fits, finish_parted, back_fits}
 use Rattle.ada_owners.proofs.Reliances.{good_same, good_lost, forget_good, forget_borrows, forget_owner}
 use Rattle.ada_owners.proofs.Keeping.{take_pairs_keep, component_pairs_keep, insertions_keep}
@@ -667,6 +668,30 @@ back_fit {outer = outer} {heap = heap} o x found f = record {
   objects = f.objects;
   referred = λ k t is. same_access heap o x (returned x) found refl k ∙ f.referred k t is;
 }
+
+-- An object that is in no collection changes no place: what fits does so beside one.
+module _ (heap : List Object) (y : Object) (off : y.listed ≡ false) where
+  beside_access : (k : Id) → access_at (heap ++ y ∷ []) k ≡ access_at heap k
+  beside_access k = read_beside access_in heap y (ap (λ (b : Bool). if b then Some y.cell.access else None) off) k.0
+
+  beside_component : (c : ℕ) (k : Id) → component_in (object_at (heap ++ y ∷ []) k) c ≡ component_in (object_at heap k) c
+  beside_component c k = read_beside (λ (t : Option Object). component_in t c) heap y (ap (λ (b : Bool). if b then slice_index_or y.cell.values c Null else Null) off) k.0
+
+  beside_value : (activations : List (Activation Value)) (p : Place) → value_at (heap ++ y ∷ []) activations p ≡ value_at heap activations p
+  beside_value activations (variable x) = refl
+  beside_value activations (component k c) = beside_component c k
+  beside_value activations (elsewhere d x) = refl
+
+  pub beside_fit : {types : List TypeForm} {variables : List VariableForm} {outer : Outsiders} {spared : Id → Bool} {places : List Value} {holds : Holds} → Fit types variables outer spared heap places holds → Fit types variables outer spared (heap ++ y ∷ []) places holds
+  beside_fit {types = types} {variables = variables} {outer = outer} {places = places} f = record {
+    owners = record {
+      fit = kernel.same f.owners.fit (access_at (heap ++ y ∷ [])) (value_at (heap ++ y ∷ []) (stacked places outer)) (kind_of (kinds_of types variables outer) (access_at (heap ++ y ∷ [])))
+          beside_access (beside_value (stacked places outer)) (kinds_same (kinds_of types variables outer) (access_at heap) (access_at (heap ++ y ∷ [])) beside_access);
+    };
+    said = f.said;
+    objects = f.objects;
+    referred = λ k t is. beside_access k ∙ f.referred k t is;
+  }
 
 -- A controlled part of an object changes (7.6): nothing that is relied on does.
 pub treated_fit : {types : List TypeForm} {variables : List VariableForm} {outer : Outsiders} {spared : Id → Bool} {heap : List Object} {places : List Value} {holds : Holds} (change : PartState → PartState) (part : ℕ) (o : Id) (x : Object) → object_at heap o ≡ Some x → Fit types variables outer spared heap places holds → Fit types variables outer spared (slice_set heap o.0 (treated change part x)) places holds

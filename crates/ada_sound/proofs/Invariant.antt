@@ -15,7 +15,7 @@ use Rattle.ada_program.specs.declared.program.VariableKind.TheVariants as variab
 use Rattle.ada_program.specs.declared.program.TypeNo.{TypeNo}
 use Rattle.ada_program.specs.WellFormed.{is_access, access_of, kind_among, selectors_kind, variable_kind, record_components, reached_components, items_fit, is_record_object, profile_of, suits_profile}
 use Rattle.ada_program.specs.Handling.{is_same, handler_of}
-use Rattle.ada_effects.specs.Effects.{expression_raises, links_raise, items_raise, path_raises, record_path_raises, condition_raises, unary_raises, binary_raises, right_raises, declaration_raises, stmts_raise, branches_raise, handlers_raise, Effect, Implicit, call_raises, body_raises, stmts_free, branches_free, handlers_free, body_frees, call_frees, effects_of}
+use Rattle.ada_effects.specs.Effects.{expression_raises, links_raise, items_raise, path_raises, record_path_raises, condition_raises, unary_raises, binary_raises, right_raises, right_starts, declaration_raises, stmts_raise, branches_raise, handlers_raise, Effect, Implicit, call_raises, body_raises, stmts_free, branches_free, handlers_free, body_frees, call_frees, effects_of}
 use Rattle.ada_flow.specs.declared.rule.Hold.TheVariants as hold
 use Rattle.ada_flow.specs.declared.rule.Region.TheVariants.{Whole}
 use Rattle.ada_flow.specs.Flow.{Holds, hold_at, variable_access, lost_by, Outcome, faults, goes, Use, uses_in, uses_in_links, uses_in_item, named_by_item, is_owning, is_owning_record, owns_at_first, broken_among, without_values, moved_by_items, passes_type, behind_end, gives, gives_component, clears, compares_it, uses_in_actuals, Keeping, keeping_of, kept_at, is_kept, handed_back, left_unkept, owed_from, gives_back, all_give_back, are_as_good, have_exit, branches_have_exit, handlers_have_exit, is_left, condition_flow, stmts_flow, branches_flow, handlers_flow, declaration_flow, Gone as GoneWith, collected, is_among, left, left_by_call, nothing_gone, Around}
@@ -26,6 +26,8 @@ use Rattle.ada_meaning.specs.declared.state.Value.TheVariants.{Null, Names, Scal
 use Rattle.ada_meaning.specs.declared.state.Stage.TheVariants.{Existing, Gone}
 use Rattle.ada_meaning.specs.declared.state.Mode.{Mode}
 use Rattle.ada_meaning.specs.declared.state.Mode.TheVariants.{Running, Raising, Exiting, Returning}
+use Rattle.ada_meaning.specs.declared.event.Birth.{Birth}
+use Rattle.ada_meaning.specs.declared.event.Birth.TheVariants.{Creation, Copy, Adjustment}
 use Rattle.ada_meaning.specs.declared.event.Cause.{Cause}
 use Rattle.ada_meaning.specs.declared.event.Cause.TheVariants.{Leaving, Freeing, Assigning, Undoing}
 use Rattle.ada_meaning.specs.declared.event.Halt.{Halt}
@@ -36,7 +38,7 @@ use Rattle.ada_meaning.specs.Event.{Born, Finalized, Back, Followed, Left, Line,
 use Rattle.ada_meaning.specs.State.{Activation, Owned, declared, collection, record_object, storage_pool, Item, Master, height}
 use Rattle.ada_meaning.specs.Heap.{Home, Cell, finds}
 use Rattle.ada_meaning.specs.Step.{halts, moves, tells, asks, picks, first_or, older, in_front, before_last, last_of, selected, place_in, places, operands, treating}
-use Rattle.ada_meaning.specs.Named.{Object, State, Next, object_at, look, named, store, whole, inside}
+use Rattle.ada_meaning.specs.Named.{Object, State, Next, object_at, look, named, on_object, parted, store, whole, inside}
 use Rattle.ada_meaning.specs.Run.{Event}
 use Rattle.ada_meaning.specs.Law.{leaving_by, LeavesHome}
 use Rattle.ada_sound.specs.Agreement.{Turning, Comes, ComesBy, ComesTo}
@@ -449,11 +451,15 @@ RunsAfter known (allocates access items) k rooms holds = To (RunsOn known k room
 RunsAfter known (allocates_default access) k rooms holds = To (RunsOn known k rooms) holds
 RunsAfter known (computes e) k rooms holds = RunsOn known k rooms holds
 
+-- Which exceptions an assignment may raise: where what is assigned is evaluated, and where a new object is initialized (4.8, 7.6).
+abbrev pub assignment_among : Known → RightForm → Exception → Bool
+assignment_among known right e = right_raises (is_same e) right || right_starts known.implicit (is_same e) right
+
 -- A variable gets what is assigned.
 abbrev pub GivesTo : Known → RightForm → Rooms → Holds → ℕ → Control → Type 0
 GivesTo known right rooms holds x k =
     (cleared : Bool)
-    × ((spot : Spot) × Goes (gives known.program.types known.program.variables spot cleared x right holds) (RunsAfter known right k rooms) (Raised (λ e. right_raises (is_same e) right) (ways known k rooms)))
+    × ((spot : Spot) × Goes (gives known.program.types known.program.variables spot cleared x right holds) (RunsAfter known right k rooms) (Raised (assignment_among known right) (ways known k rooms)))
     × Pairs cleared right (λ path. x ≢ path.root) k
 
 -- A declaration is no half of a take pair.
@@ -470,12 +476,12 @@ HasRoom (gone ∷ rooms) = Unit {0}
 abbrev pub DeclaresTo : Known → RightForm → Rooms → Holds → ℕ → Control → Type 0
 DeclaresTo known right rooms holds x k =
     HasRoom rooms × (cleared : Bool)
-    × ((spot : Spot) × Goes (gives known.program.types known.program.variables spot cleared x right holds) (RunsAfter known right k rooms) (Raised (λ e. right_raises (is_same e) right) (ways known k rooms)))
+    × ((spot : Spot) × Goes (gives known.program.types known.program.variables spot cleared x right holds) (RunsAfter known right k rooms) (Raised (assignment_among known right) (ways known k rooms)))
     × IsAlone cleared
 
 -- Which exceptions an assignment to a component may raise, whose path may raise one or not.
-abbrev pub component_among : (may : Bool) → RightForm → Exception → Bool
-component_among may right e = (is_same e ConstraintError && may) || right_raises (is_same e) right
+abbrev pub component_among : Known → (may : Bool) → RightForm → Exception → Bool
+component_among known may right e = ((is_same e ConstraintError && may) || right_raises (is_same e) right) || right_starts known.implicit (is_same e) right
 
 -- Where a path begins (4.1, 6.2): with what its variable holds; or, where that refers to a record, with the object in which the record lies. And the
 -- selectors behind that.
@@ -493,7 +499,7 @@ LeadsTo heap places w cs c path = (walk heap (begun places path) (front (along p
 abbrev pub FillsIn : Known → RightForm → (leads : PathForm → Type 0) → Rooms → Holds → Control → Type 0
 FillsIn known right leads rooms holds k =
     (path : PathForm) × (cleared : Bool)
-    × Goes (gives_component known.program.types cleared path right holds) (RunsAfter known right k rooms) (Raised (component_among (path_raises path) right) (ways known k rooms))
+    × Goes (gives_component known.program.types cleared path right holds) (RunsAfter known right k rooms) (Raised (component_among known (path_raises path) right) (ways known k rooms))
     × Pairs cleared right (λ taken. IsOne taken.selectors) k × leads path
 
 -- An object that a component lies in is there.
@@ -565,6 +571,10 @@ RoomFor [] rooms = Unit {0}
 RoomFor (Declares x ∷ k) rooms = HasRoom rooms
 RoomFor (f ∷ k) rooms = Unit {0}
 
+-- Whatever comes out of the initialization of a new object of this type passes the frames with what was known before (4.8, 7.6).
+abbrev pub StartsTo : Known → (type_number : ℕ) → Control → Rooms → Holds → Type 0
+StartsTo known t k rooms holds = (e : Exception) → list_any (is_same e) (known.implicit.start_raises t) ≡ true → To ((ways known k rooms).raised e) holds
+
 -- What an allocator with all these items leads to: less may be known behind it, where the new object is initialized.
 pub record Allocating (known : Known) (heap : List Object) (access : ℕ) (all : List ItemForm) (k : Control) (rooms : Rooms) (holds : Holds) : Type 0 where
   pub components : List ComponentKind
@@ -572,6 +582,7 @@ pub record Allocating (known : Known) (heap : List Object) (access : ℕ) (all :
   pub fit : items_fit known.program.types known.program.variables components all ≡ true
   pub fails : MayRaise known (items_raise all) ConstraintError k rooms holds
   pub refused : MayRaise known true StorageError k rooms holds
+  pub starts : StartsTo known access k rooms holds
   pub room : RoomFor k rooms
   pub to : StoresTo k
       (λ x k'. ((variable_access known.program.variables x ≡ Some access) × (is_object known.program.variables x ≡ false))
@@ -600,7 +611,9 @@ pub record Giving (known : Known) (todo : List ItemForm) (k : Control) (rooms : 
 -- What is left goes on, perhaps behind the adjustment of a record that was assigned to (7.6), and with less known, where its operations free objects.
 abbrev pub RunsBehind : Known → Control → Rooms → Holds → Type 0
 RunsBehind known [] rooms holds = To (RunsOn known [] rooms) holds
-RunsBehind known (Treats v (begins by done) tasks ∷ k) rooms holds = To (RunsOn known k rooms) holds
+RunsBehind known (Treats v (begins Creation done) tasks ∷ k) rooms holds = ⊥
+RunsBehind known (Treats v (begins Copy done) tasks ∷ k) rooms holds = ⊥
+RunsBehind known (Treats v (begins (Adjustment number) done) tasks ∷ k) rooms holds = To (RunsOn known k rooms) holds
 RunsBehind known (Treats v (ends cause) tasks ∷ k) rooms holds = ⊥
 RunsBehind known (f ∷ k) rooms holds = To (RunsOn known (f ∷ k) rooms) holds
 
@@ -884,8 +897,9 @@ pub record Freed (known : Known) (spared : Id → Bool) (heap : List Object) (pl
   pub fit : Fit known.program.types known.program.variables (outers known) spared heap places holds
   pub rest : more rooms holds
 
--- What is behind an object under way, by what ends it: a Free, whose variable or component becomes null; or the leaving of a master, at the object's
--- home. A component counts as null already, and so does its object, which is another one.
+-- What is behind an object under way, by what ends it: a Free, whose variable or component becomes null; the leaving of a master, at the object's
+-- home; or an exception that came out of its initialization, and goes on (7.6.1). A component counts as null already, and so does its object, which is
+-- another one.
 abbrev pub ClearsTo : Known → List Object → List Value → List Master → Control → Type 0
 ClearsTo known heap places masters [] = ⊥
 ClearsTo known heap places masters (Clears x ∷ k) = Freed known none_spared heap (slice_set places x Null) masters (RunsOn known k)
@@ -897,11 +911,16 @@ LeavesTo known heap places masters [] = ⊥
 LeavesTo known heap places masters (Leaves mode ∷ k) = Freed known (going heap (innermost masters)) heap places masters (RunsOn known (Leaves mode ∷ k))
 LeavesTo known heap places masters (f ∷ k) = ⊥
 
+abbrev pub ResumesTo : Known → List Object → List Value → List Master → Control → Type 0
+ResumesTo known heap places masters [] = ⊥
+ResumesTo known heap places masters (frame.Resumes mode ∷ k) = Freed known none_spared heap places masters (λ rooms holds. To (By mode (ways known k rooms)) holds)
+ResumesTo known heap places masters (f ∷ k) = ⊥
+
 abbrev pub Behind : Known → Cause → (home : ℕ) → List Object → List Value → List Master → Control → Type 0
 Behind known (Leaving m item) home heap places masters k = (item ≡ home) × LeavesTo known heap places masters k
 Behind known (Freeing number) home heap places masters k = ClearsTo known heap places masters k
 Behind known (Assigning number) home heap places masters k = ⊥
-Behind known (Undoing number) home heap places masters k = ⊥
+Behind known (Undoing number) home heap places masters k = ResumesTo known heap places masters k
 
 -- Its words go back next to the pool of its home.
 abbrev pub ThenBack : Known → Id → Home → List Object → List Value → List Master → Control → Type 0
@@ -1078,9 +1097,26 @@ CopiesBehind known (Copies first t ∷ k) heap places operands masters =
     Working known heap places masters (λ rooms holds. IsHolder heap (first_or Null operands) × StoresBehind known heap k rooms holds)
 CopiesBehind known (f ∷ k) heap places operands masters = ⊥
 
--- An object is treated (7.6, 7.6.1): whatever is left of that, what is behind is ready.
+-- This exception may come out of the initialization of the object that a value names (7.6).
+abbrev pub StartsRaise : Known → List Object → Value → Exception → Type 0
+StartsRaise known heap v e =
+    (o : Id) × (x : Object) × (v ≡ Names o) × (object_at heap o ≡ Some x) × (list_any (is_same e) (known.implicit.start_raises x.cell.access) ≡ true)
+
+-- What is behind the initialization of an object goes on with an exception (7.6.1): the object counts as out of its collection already.
+abbrev pub UndoneTo : Known → Value → Control → List Object → List Value → List Master → Exception → Type 0
+UndoneTo known v k heap places masters e =
+    Freed known none_spared (on_object parted heap v) places masters (λ rooms holds. To ((ways known k rooms).raised e) holds)
+
+-- A new object may be undone, where an exception comes out of its initialization; what is copied or adjusted never is (7.6, 7.6.1).
+abbrev pub MayUndo : Known → Value → Birth → Control → List Object → List Value → List Master → Type 0
+MayUndo known v Creation k heap places masters =
+    Stored None heap masters × ((e : Exception) → StartsRaise known heap v e → UndoneTo known v k heap places masters e)
+MayUndo known v Copy k heap places masters = Unit {0}
+MayUndo known v (Adjustment number) k heap places masters = Unit {0}
+
+-- An object is treated (7.6, 7.6.1): whatever is left of that, what is behind is ready; and so it is where a new object is undone.
 abbrev pub TreatsBy : Known → Value → Treatment → Control → List Object → (places operands : List Value) → List Master → Type 0
-TreatsBy known v (begins by done) k heap places operands masters = BegunTo known k heap places operands masters
+TreatsBy known v (begins by done) k heap places operands masters = BegunTo known k heap places operands masters × MayUndo known v by k heap places masters
 TreatsBy known v (ends cause) k heap places operands masters = EndsTo known v k heap places masters ⊎ CopiesBehind known k heap places operands masters
 
 -- An object exists that a value names.
@@ -1148,17 +1184,24 @@ ReadyBy known (DeclaresRecord x t) k heap places operands masters = Working know
 ReadyBy known (Treats v treatment tasks) k heap places operands masters = TreatsBy known v treatment k heap places operands masters
 ReadyBy known (frame.Awaits v by done of part tasks) k heap places operands masters = IsLive heap v × TreatsBy known v (begins by done) k heap places operands masters
 ReadyBy known frame.Confines k heap places operands masters = ConfinesBy known k heap places operands masters
-ReadyBy known (frame.Resumes mode) k heap places operands masters = ⊥
+ReadyBy known (frame.Resumes mode) k heap places operands masters = Working known heap places masters (λ rooms holds. To (By mode (ways known k rooms)) holds)
 ReadyBy known Writes k heap places operands masters = Working known heap places masters (RunsOn known k)
 ReadyBy known (Ends v) k heap places operands masters = EndingBy known v k heap places masters
 ReadyBy known (GivesBack v cause pool) k heap places operands masters = BackingBy known v cause pool k heap places masters
 ReadyBy known (Clears x) k heap places operands masters = Working known heap (slice_set places x Null) masters (RunsOn known k)
 ReadyBy known (ClearsIn o c) k heap places operands masters = Clearing known o c k heap places masters
 
+-- What holds where an exception comes to a frame. The body of an Initialize lets it out to what awaits the end of that body, and then the new object is
+-- undone (7.6.1).
+abbrev pub RaisesBy : Known → Exception → Frame Value → Control → List Object → List Value → List Master → Type 0
+RaisesBy known e (frame.Awaits v by done of part tasks) k heap places masters =
+    (by ≡ Creation) × IsLive heap v × Stored None heap masters × UndoneTo known v k heap places masters e
+RaisesBy known e f k heap places masters = Working known heap places masters (GoesOn known (Raising e) (f ∷ k))
+
 abbrev pub ReadyIn : Known → Mode → Control → List Object → (places operands : List Value) → List Master → Type 0
 ReadyIn known mode [] heap places operands masters = Stored None heap masters × NoMaster masters
 ReadyIn known Running (f ∷ k) heap places operands masters = ReadyBy known f k heap places operands masters
-ReadyIn known (Raising e) (f ∷ k) heap places operands masters = Working known heap places masters (GoesOn known (Raising e) (f ∷ k))
+ReadyIn known (Raising e) (f ∷ k) heap places operands masters = RaisesBy known e f k heap places masters
 ReadyIn known Exiting (f ∷ k) heap places operands masters = Working known heap places masters (GoesOn known Exiting (f ∷ k))
 ReadyIn known Returning (f ∷ k) heap places operands masters = Working known heap places masters (GoesOn known Returning (f ∷ k))
 

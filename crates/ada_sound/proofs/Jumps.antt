@@ -11,13 +11,15 @@ use Rattle.ada_meaning.specs.declared.state.Mode.{Mode}
 use Rattle.ada_meaning.specs.declared.state.Mode.TheVariants.{Running, Raising, Exiting, Returning}
 use Rattle.ada_meaning.specs.Frame.{Frame, Elaborates, Does, Repeats, Counts, Handles, Closes, Leaves, Returns, is_master, is_return, landing, handler_landing}
 use Rattle.ada_meaning.specs.Frame as frame
+use Rattle.ada_meaning.specs.declared.event.Birth.TheVariants.{Creation, Copy, Adjustment}
 use Rattle.ada_meaning.specs.Event.{Quiet}
 use Rattle.ada_meaning.specs.State.{Activation}
 use Rattle.ada_meaning.specs.Step.{pass_next, unwound}
 use Rattle.ada_meaning.specs.Named.{State, named}
-use Rattle.ada_sound.proofs.Invariant.{Known, Control, Rooms, To, By, TakenBy, Outside, RunsOn, GoesOn, Working, Stepped, Fine, ways}
+use Rattle.ada_sound.proofs.Invariant.{Known, Control, Rooms, To, By, TakenBy, Outside, RunsOn, GoesOn, RaisesBy, Working, Stepped, Fine, ways}
 use Rattle.ada_sound.proofs.Ready.{running, in_mode, at_work, at_less, runs_on, goes_in_mode}
 use Rattle.ada_sound.proofs.Leavings.{left_good, names_none}
+use Rattle.ada_sound.proofs.Undone.{undo_fine}
 
 module _ (known : Known) (k : Control) where
   -- What comes to the end of a master leaves it.
@@ -75,13 +77,15 @@ module _ (known : Known) (k : Control) where
     handled_fine e (Some no_stmts) w = tt
     handled_fine e (Some (a_stmt f fs)) w = runs_on known (Does (a_stmt f fs) ∷ k) a rest s (at_work w w.rest) Quiet tt
 
-    pub raising_fine : (e : Exception) (f : Frame Value) → is_return f ≡ false → Working known s.heap a.places s.masters (GoesOn known (Raising e) (f ∷ k)) → Fine known s.heap s.masters (pass_next named (is_master f) (landing (Raising e) f) (Raising e) (unwound named (Raising e) f (in_mode (Raising e) k a rest s)))
+    pub raising_fine : (e : Exception) (f : Frame Value) → is_return f ≡ false → RaisesBy known e f k s.heap a.places s.masters → Fine known s.heap s.masters (pass_next named (is_master f) (landing (Raising e) f) (Raising e) (unwound named (Raising e) f (in_mode (Raising e) k a rest s)))
     raising_fine e (Elaborates ds fs hs) stays w = closes_fine (Raising e) (at_work w (raised_closes ds fs hs e w.rooms w.holds w.rest))
     raising_fine e Closes stays w = closes_fine (Raising e) w
     raising_fine e (Handles hs) stays w = handled_fine e (handler_of e hs) (at_work w w.rest)
     raising_fine e (Leaves mode) stays w = absurd (raised_leaves mode e w.rooms w.holds w.rest)
     raising_fine e (Returns actuals references) stays w = absurd (cc stays)
-    raising_fine e (frame.Awaits v by done of part tasks) stays w = absurd (w.rest)
+    raising_fine e (frame.Awaits v Creation done of part tasks) stays r = undo_fine known k a rest s e done v r.1 r.2 r.3
+    raising_fine e (frame.Awaits v Copy done of part tasks) stays r = let never = r.0 in absurd (cc never)
+    raising_fine e (frame.Awaits v (Adjustment number) done of part tasks) stays r = let never = r.0 in absurd (cc never)
     raising_fine e frame.Confines stays w = absurd (w.rest)
     raising_fine e (frame.Resumes mode) stays w = absurd (w.rest)
     raising_fine e f stays w = goes_in_mode known k a rest s (Raising e) (at_work w w.rest)

@@ -20,7 +20,7 @@ use Rattle.ada_owners.specs.Places.{Place, variable, component, elsewhere, compo
 use Rattle.ada_owners.specs.Reliance.{IsOf, Says, Owns, Borrows, component_hold}
 use Rattle.ada_owners.proofs.Ends.{IsUnnamed}
 use Rattle.ada_sound.proofs.Fits.{IsReferred, IsUnreferred, Outsiders, Fit, IsRelied, outer_hold, hold_in, stacked, outer_value, outer_value_at, place_at, going, lies_among, hand_is_unnamed}
-use Rattle.ada_sound.proofs.Orderings.{AsGood, good_here, good_lost, good_losing, good_to_lost, without_freed_good}
+use Rattle.ada_sound.proofs.Orderings.{AsGood, as_good, good_here, good_lost, good_losing, good_to_lost, without_freed_good}
 use Rattle.ada_sound.proofs.Raising.{both}
 use Rattle.ada_sound.proofs.Values.{read_other, same_or_not, lost_here}
 use Rattle.ada_sound.proofs.Invariant.{AllAmong, NamesNone}
@@ -154,6 +154,16 @@ variables_less (x ∷ xs) holds less good =
 pub left_less : (variables : List VariableForm) (gone : Gone) (holds less : Holds) → AsGood holds less → AsGood (left variables gone holds) (left variables gone less)
 left_less variables gone holds less good =
     variables_less gone.variables (without_types variables gone.types holds) (without_types variables gone.types less) (types_less variables gone.types holds less good)
+
+-- It is as good where a variable is lost before whose record object goes with the block.
+lost_type : (variables : List VariableForm) (types : List ℕ) (holds : Holds) (x : ℕ) → is_among types (variable_access variables x) ≡ true → hold_at (without_types variables types holds) x ≡ hold.Lost
+lost_type variables types holds x among = elim (types_at variables types holds x) [ inl kept ↦ (let other = kept.1 in absurd (cc (among, other))) | inr lost ↦ lost ]
+
+pub left_losing : (variables : List VariableForm) (gone : Gone) (holds : Holds) (x : ℕ) → is_among gone.types (variable_access variables x) ≡ true → AsGood (left variables gone (slice_set holds x hold.Lost)) (left variables gone holds)
+left_losing variables gone holds x among =
+    let kept = without_types variables gone.types holds in
+    variables_less gone.variables (without_types variables gone.types (slice_set holds x hold.Lost)) kept
+    (rw (one_apart variables gone.types holds x) (good_losing x kept kept (lost_type variables gone.types holds x among) (as_good kept)))
 
 -- What is left behind blocks whose objects are finalized is less than what is left behind others.
 pub finalized_less : (variables : List VariableForm) (implicit : Implicit) (gone : Gone) (holds : Holds) → AsGood (left variables gone holds) (left_finalized variables implicit gone holds)

@@ -80,19 +80,25 @@ pub mod Nestings
 pub mod Targets
 -- what ends
 pub mod Endings
+-- an exception comes out of an initialization
+pub mod Undone
 -- controlled parts are initialized and finalized
 pub mod Treatments
 -- an Integer or a Boolean goes into an object that is treated
 pub mod Written
 -- what waits for a body
 pub mod Waiting
--- the body of a quiet operation runs
+-- the body of an operation runs
 pub mod Operating
 -- where none does
 pub mod Calm
--- what overrides an operation is quiet
+-- what overrides an operation is plain, or quiet
 pub mod QuietOperations
--- the body of a quiet operation begins and ends
+-- what comes out of the initialization of an object
+pub mod Started
+-- what forms raise where nothing is called
+pub mod Uncalled
+-- the body of an operation begins and ends
 pub mod OperationCalls
 pub mod OperationStarts
 pub mod OperationBegins
@@ -180,6 +186,7 @@ pub mod ExamplePools
 pub mod ExampleControlled
 -- and those that override operations of controlled types
 pub mod ExampleOperations
+pub mod ExampleUndone
 -- where flow is not agreed with
 pub mod ExampleInside
 -- where a statement begins

@@ -1,7 +1,7 @@
 -- Objects by name, after one more, and after one has changed.
 
 use Rattle.std.proofs.Common.{◌≡◌, ◌≢◌, ℕ, zero, suc, List, [], ◌∷◌, ◌++◌, length, refl, ap, ◌⊎◌, inl, inr, arith}
-use Rattle.std.specs.Prelude.{Some}
+use Rattle.std.specs.Prelude.{Option, Some, None}
 use Rattle.std.specs.List.{slice_get, slice_set}
 
 module _ {X : Type 0} where
@@ -37,6 +37,24 @@ module _ {X : Type 0} where
   set_here [] o x y e = absurd (cc e)
   set_here (z ∷ xs) zero x y e = refl
   set_here (z ∷ xs) (suc o) x y e = set_here xs o x y e
+
+  -- What is written twice in one place is what was written last.
+  pub set_twice : (xs : List X) (i : ℕ) (x y : X) → slice_set (slice_set xs i x) i y ≡ slice_set xs i y
+  set_twice [] i x y = refl
+  set_twice (z ∷ xs) zero x y = refl
+  set_twice (z ∷ xs) (suc i) x y = ap (λ (zs : List X). z ∷ zs) (set_twice xs i x y)
+
+  -- The newest one changes.
+  pub set_new : (xs : List X) (x y : X) → slice_set (xs ++ x ∷ []) (length xs) y ≡ xs ++ y ∷ []
+  set_new [] x y = refl
+  set_new (z ∷ xs) x y = ap (λ (zs : List X). z ∷ zs) (set_new xs x y)
+
+  -- What is read of one more stays, where that is read as nothing is.
+  pub read_beside : {Y : Type 0} (read : Option X → Y) (xs : List X) (y : X) → read (Some y) ≡ read None → (k : ℕ) → read (slice_get (xs ++ y ∷ []) k) ≡ read (slice_get xs k)
+  read_beside read [] y same zero = same
+  read_beside read [] y same (suc k) = refl
+  read_beside read (z ∷ xs) y same zero = refl
+  read_beside read (z ∷ xs) y same (suc k) = read_beside read xs y same k
 
   -- What is there after a change is what was written, or was there before.
   pub set_get : (xs : List X) (o k : ℕ) (y z : X) → slice_get (slice_set xs o y) k ≡ Some z → ((k ≡ o) × (z ≡ y)) ⊎ ((k ≢ o) × (slice_get xs k ≡ Some z))

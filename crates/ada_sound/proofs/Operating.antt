@@ -1,19 +1,23 @@
--- The body of a quiet operation runs (7.6): what holds there, and what is kept of all that waits for it.
+-- The body of an operation runs (7.6): what holds there, and what is kept of all that waits for it.
 
 use Rattle.std.proofs.Common.{◌≡◌, ℕ, Bool, true, false, List, [], ◌∷◌, ◌++◌, ◌⊎◌}
 use Rattle.std.specs.Prelude.{ℤ, drop, Option, Some, None}
-use Rattle.std.specs.List.{list_all, slice_get}
+use Rattle.std.specs.List.{list_all, list_any, slice_get}
 use Rattle.ada_program.specs.declared.program.Exception.{Exception}
 use Rattle.ada_program.specs.declared.program.Exception.TheVariants.{ConstraintError, EndError}
 use Rattle.ada_program.specs.declared.program.Program.{Program}
+use Rattle.ada_program.specs.declared.program.Operations.{Operations}
+use Rattle.ada_program.specs.Controlled.{procedure_number}
 use Rattle.ada_program.specs.Form.{ExpressionForm, RightForm, nothing, value_of, allocates, allocates_default, computes, StmtsForm, BranchesForm, HandlersForm}
-use Rattle.ada_program.specs.ProgramForm.{TypeForm, VariableForm, BodyForm, ProgramForm, program_form, seen_in}
+use Rattle.ada_program.specs.ProgramForm.{TypeForm, VariableForm, BodyForm, ProgramForm, main_body, program_form, seen_in}
 use Rattle.ada_program.specs.Handling.{is_same, is_taken}
 use Rattle.ada_program.specs.declared.program.VariableKind.{VariableKind}
 use Rattle.ada_program.specs.declared.program.VariableKind.TheVariants as variable
 use Rattle.ada_program.specs.WellFormed.{reached_components, kind_among, variable_kind}
-use Rattle.ada_effects.specs.Effects.{no_calls, no_implicit, body_raises, unary_raises, binary_raises, expression_raises, links_raise, condition_raises, declarations_raise, stmts_raise, branches_raise, handlers_raise}
+use Rattle.ada_effects.specs.Effects.{Implicit, no_calls, no_implicit, body_raises, unary_raises, binary_raises, expression_raises, links_raise, condition_raises, declarations_raise, stmts_raise, branches_raise, handlers_raise}
+use Rattle.ada_deeds.specs.Implicit.{implicit_of}
 use Rattle.ada_flow.specs.Flow.{have_exit, branches_have_exit, handlers_have_exit}
+use Rattle.ada_meaning.specs.declared.event.Birth.TheVariants.{Creation, Copy, Adjustment}
 use Rattle.ada_meaning.specs.declared.state.Id.{Id}
 use Rattle.ada_meaning.specs.declared.state.Value.{Value}
 use Rattle.ada_meaning.specs.declared.state.Value.TheVariants.{Null, Names, Scalar, Part}
@@ -25,11 +29,12 @@ use Rattle.ada_meaning.specs.Frame.{Frame, Treatment, begins, ends, Elaborates, 
 use Rattle.ada_meaning.specs.Frame as frame
 use Rattle.ada_meaning.specs.State.{Activation, Owned, declared, collection, record_object, storage_pool, Item, Master}
 use Rattle.ada_parts.specs.Task.{Task}
-use Rattle.ada_meaning.specs.Step.{treating}
+use Rattle.ada_meaning.specs.Step.{treating, beginning}
 use Rattle.ada_meaning.specs.Named.{Object, State, object_at}
 use Rattle.ada_typed.proofs.Kept.{Behind, behind_call}
 use Rattle.ada_finalized.specs.Law.{NoOperationRuns}
 use Rattle.ada_quiet.specs.Quiet.{is_elementary, holds_elementary, is_quiet_expression, are_quiet_links, is_quiet_condition, are_quiet_declarations, are_quiet, are_quiet_branches, are_quiet_handlers}
+use Rattle.ada_sound.proofs.Bodies.{IsBody}
 use Rattle.ada_sound.proofs.Fits.{IsWithin, place_at}
 use Rattle.ada_sound.proofs.Invariant.{Control, TreatsBy}
 use Rattle.ada_sound.proofs.Callers.{Suspension, known_in, Stands}
@@ -60,13 +65,6 @@ abbrev pub OwnVariables : List Master → Type 0
 OwnVariables [] = Unit {0}
 OwnVariables (m ∷ ms) = AreVariables m.items × OwnVariables ms
 
--- An exception that is raised here is taken by a handler of the body.
-abbrev pub StaysIn : Exception → Control → Type 0
-StaysIn e [] = ⊥
-StaysIn e (Handles hs ∷ k) = (is_taken hs e ≡ true) ⊎ StaysIn e k
-StaysIn e (Returns actuals references ∷ k) = ⊥
-StaysIn e (f ∷ k) = StaysIn e k
-
 -- An exit that is done here leaves a loop of the body.
 abbrev pub IsInLoop : Control → Type 0
 IsInLoop [] = ⊥
@@ -75,28 +73,23 @@ IsInLoop (Counts x value last fs ∷ k) = Unit {0}
 IsInLoop (Returns actuals references ∷ k) = ⊥
 IsInLoop (f ∷ k) = IsInLoop k
 
--- So it is of whatever jump goes on here.
-abbrev pub GoesIn : Mode → Control → Type 0
-GoesIn Running k = Unit {0}
-GoesIn (Raising e) k = StaysIn e k
-GoesIn Exiting k = IsInLoop k
-GoesIn Returning k = Unit {0}
-
--- Constraint_Error, if this may raise it.
-abbrev pub Contains : Bool → Control → Type 0
-Contains may k = may ≡ true → StaysIn ConstraintError k
-
 -- An object that is looked for is found.
 abbrev pub StaysLive : Stage → Type 0
 StaysLive Building = Unit {0}
 StaysLive Existing = Unit {0}
 StaysLive Gone = ⊥
 
--- The body of an operation of this object is in front of this: it begins a part of the object, or finalizes one, and then what is left of that comes, and
--- what is behind.
-abbrev pub WaitsFor : Id → Treatment → (k behind : Control) → Type 0
-WaitsFor o (begins by done) k behind = (of : ℕ) × (part : ℕ) × (tasks : List Task) × (behind ≡ frame.Awaits (Names o) by done of part tasks ∷ k)
-WaitsFor o (ends cause) k behind = (tasks : List Task) × (behind ≡ frame.Confines ∷ treating (Names o) (ends cause) tasks k)
+-- The body of an operation of this object is in front of this: it begins a part of the object, of this type, or finalizes one, and then what is left of that
+-- comes, and what is behind.
+abbrev pub WaitsFor : Id → (of : ℕ) → Treatment → (k behind : Control) → Type 0
+WaitsFor o of (begins by done) k behind = (part : ℕ) × (tasks : List Task) × (behind ≡ frame.Awaits (Names o) by done of part tasks ∷ k)
+WaitsFor o of (ends cause) k behind = (tasks : List Task) × (behind ≡ frame.Confines ∷ treating (Names o) (ends cause) tasks k)
+
+-- The operation that a procedure overrides is the one that is called: what begins a part of a new object calls Initialize of the part's type, what ends one
+-- calls Finalize, and what begins a part of a copy calls Adjust (7.6).
+abbrev pub IsCalled : Operations → Treatment → (number : ℕ) → Type 0
+IsCalled operations (begins by done) number = beginning by operations ≡ Some number
+IsCalled operations (ends cause) number = procedure_number operations.finalize ≡ Some number
 
 -- What a body sees, and the object that is treated: its name, and of which access type it is.
 pub record Sight : Type 0 where
@@ -110,6 +103,24 @@ module _ (sight : Sight) where
 
   abbrev variables : List VariableForm
   variables = sight.program.variables
+
+  -- An exception that is raised here is taken by a handler of the body, or is one that the body may let out.
+  abbrev pub StaysIn : Exception → Control → Type 0
+  StaysIn e [] = ⊥
+  StaysIn e (Handles hs ∷ k) = (is_taken hs e ≡ true) ⊎ StaysIn e k
+  StaysIn e (Returns actuals references ∷ k) = (body_raises no_calls (main_body sight.program) (is_same e) ≡ true)
+  StaysIn e (f ∷ k) = StaysIn e k
+
+  -- So it is of whatever jump goes on here; an exit stays in the body.
+  abbrev pub GoesIn : Mode → Control → Type 0
+  GoesIn Running k = Unit {0}
+  GoesIn (Raising e) k = StaysIn e k
+  GoesIn Exiting k = IsInLoop k
+  GoesIn Returning k = Unit {0}
+
+  -- Constraint_Error, if this may raise it.
+  abbrev pub Contains : Bool → Control → Type 0
+  Contains may k = may ≡ true → StaysIn ConstraintError k
 
   -- What a variable of a kind holds: the formal parameter refers to a record in the object that is treated.
   abbrev pub Holds : Option VariableKind → Value → Type 0
@@ -128,7 +139,7 @@ module _ (sight : Sight) where
   HoldScalars x =
       (c : ℕ) (v : Value) → holds_elementary (kind_among (reached_components types sight.access) c) ≡ true → slice_get x.cell.values c ≡ Some v → IsScalar v
 
-  -- Statements are quiet, and so on.
+  -- Statements are plain, and so on.
   abbrev pub RunsIn : StmtsForm → Control → Type 0
   RunsIn fs k =
       (are_quiet types variables fs ≡ true) × ((e : Exception) → stmts_raise no_calls (is_same e) fs ≡ true → StaysIn e k)
@@ -231,19 +242,27 @@ abbrev pub IsCalm : Option Behind → Type 0
 IsCalm None = Unit {0}
 IsCalm (Some behind) = NoOperationRuns behind.left
 
--- The object that a quiet operation is called for is treated; and what waits for it goes on behind that, whatever the body does.
-pub record Suspended (program : Program) (object : Id) (caller : Activation Value) (rest : List (Activation Value)) (behind : Control) (lower : List Master) (s : State) : Type 0 where
+-- Which exceptions may come out of the body of an operation, by what is treated: those that the initialization of an object may raise, and no others (7.6).
+abbrev pub lets_out : Implicit → (access : ℕ) → Treatment → Exception → Bool
+lets_out implicit access (begins Creation done) e = list_any (is_same e) (implicit.start_raises access)
+lets_out implicit access (begins Copy done) e = false
+lets_out implicit access (begins (Adjustment number) done) e = false
+lets_out implicit access (ends cause) e = false
+
+-- The object that an operation is called for is treated; and what waits for it goes on behind that, whatever the body does.
+pub record Suspended (program : Program) (object : Id) (treatment : Treatment) (caller : Activation Value) (rest : List (Activation Value)) (behind : Control) (lower : List Master) (s : State) : Type 0 where
   pub suspensions : List Suspension
-  pub treatment : Treatment
   pub after : Control
-  pub waits : WaitsFor object treatment after behind
+  pub of : ℕ
+  pub waits : WaitsFor object of treatment after behind
   pub treats : TreatsBy (known_in program caller.procedure suspensions) (Names object) treatment after s.heap caller.places caller.operands lower
   pub stands : Stands program suspensions (behind_operation (caller ∷ rest) behind lower s)
   pub calm : IsCalm (behind_call behind)
 
--- The body of a quiet operation runs.
+-- The body of an operation runs.
 pub record Operates (program : Program) (s : State) : Type 0 where
   pub procedure : ℕ
+  pub is_body : IsBody (program_form program) (Some procedure)
   pub places : List Value
   pub operands : List Value
   pub caller : Activation Value
@@ -256,14 +275,15 @@ pub record Operates (program : Program) (s : State) : Type 0 where
   pub object : Id
   pub access : ℕ
   pub body : Body (record { program = seen_in (Some procedure) (program_form program); object = object; access = access }) behind upper s.heap places operands s.mode s.control
-  pub suspended : Suspended program object caller rest behind lower s
+  pub treatment : Treatment
+  pub suspended : Suspended program object treatment caller rest behind lower s
+  pub prepared : (e : Exception) → body_raises no_calls (main_body (seen_in (Some procedure) (program_form program))) (is_same e) ≡ true → lets_out (implicit_of (program_form program)) access treatment e ≡ true
 
--- What is known of a quiet body, in which no exit leads out of the body.
-pub record QuietBody (types : List TypeForm) (b : BodyForm) : Type 0 where
+-- What is known of a plain body, in which no exit leads out of the body.
+pub record PlainBody (types : List TypeForm) (b : BodyForm) : Type 0 where
   pub elementary : list_all (λ x. is_elementary x.kind) (drop 1 b.variables) ≡ true
   pub declarations : are_quiet_declarations types b.variables b.declarations ≡ true
   pub statements : are_quiet types b.variables b.statements ≡ true
   pub handlers : are_quiet_handlers types b.variables b.handlers ≡ true
-  pub raises_nothing : body_raises no_calls b (λ e. true) ≡ false
   pub none_out : have_exit b.statements ≡ false
   pub none_on : handlers_have_exit b.handlers ≡ false

@@ -1,20 +1,32 @@
--- The body of an operation begins in a sound state: it is quiet, and its formal parameter stands for a record in the object that is treated (7.6).
+-- The body of an operation begins in a sound state: it is plain, its formal parameter stands for a record in the object that is treated, and what comes out of
+-- it comes out of the initialization of that object (7.6).
 
-use Rattle.std.proofs.Common.{◌≡◌, ℕ, zero, suc, true, List, [], ◌∷◌, refl, sym, ◌∙◌}
+use Rattle.std.proofs.Common.{◌≡◌, ℕ, zero, suc, true, List, [], ◌∷◌, refl, sym, ap, subst, ◌∙◌, inl, inr}
 use Rattle.std.specs.Prelude.{Option, Some, None}
 use Rattle.std.specs.List.{slice_get}
 use Rattle.ada_program.specs.declared.program.ComponentKind.{ComponentKind}
 use Rattle.ada_program.specs.declared.program.ComponentKind.TheVariants as component
+use Rattle.ada_program.specs.declared.program.Exception.{Exception}
 use Rattle.ada_program.specs.declared.program.Program.{Program}
 use Rattle.ada_program.specs.declared.program.TypeNo.{TypeNo}
 use Rattle.ada_program.specs.declared.program.VariableKind.{VariableKind}
 use Rattle.ada_program.specs.declared.program.VariableKind.TheVariants as variable
+use Rattle.ada_program.specs.Controlled.{operations_of}
+use Rattle.ada_program.specs.Handling.{is_same}
+use Rattle.ada_effects.specs.Effects.{no_calls, body_raises}
+use Rattle.ada_deeds.specs.Implicit.{implicit_of}
+use Rattle.ada_parts.specs.Part.{Part as PartOf}
+use Rattle.ada_parts.specs.Task.{Task, performs}
 use Rattle.ada_program.specs.ProgramForm.{TypeForm, BodyForm, ProgramForm, program_form, body_forms, seen_by, seen_in}
 use Rattle.ada_program.specs.WellFormed.{IsWellFormed, variable_kind, held_kind, reached_components, kind_among, has_record_at}
+use Rattle.ada_meaning.specs.declared.event.Birth.{Birth}
+use Rattle.ada_meaning.specs.declared.event.Birth.TheVariants.{Creation, Copy, Adjustment}
 use Rattle.ada_meaning.specs.declared.state.Id.{Id}
 use Rattle.ada_meaning.specs.declared.state.Place.{Place}
 use Rattle.ada_meaning.specs.declared.state.Value.{Value}
 use Rattle.ada_meaning.specs.declared.state.Value.TheVariants.{Null, Names, Scalar, Part}
+use Rattle.ada_meaning.specs.Frame.{Treatment, begins, ends, Returns}
+use Rattle.ada_meaning.specs.Frame as frame
 use Rattle.ada_meaning.specs.State.{Activation}
 use Rattle.ada_meaning.specs.Heap.{Cell}
 use Rattle.ada_meaning.specs.Step.{operating, places, held}
@@ -23,20 +35,24 @@ use Rattle.ada_meaning.specs.Run.{Event}
 use Rattle.ada_typed.specs.Holding.{Cells, HasKind, HaveKinds, LiesIn, cells_of}
 use Rattle.ada_typed.proofs.Bodies.{seen_as}
 use Rattle.ada_typed.proofs.Evaluations.{cell_at}
-use Rattle.ada_typed.proofs.Values.{filled_at}
+use Rattle.ada_typed.proofs.Lying.{IsOperable}
+use Rattle.ada_typed.proofs.Values.{OperandKind, filled_at}
 use Rattle.ada_typed.proofs.Control as typed
 use Rattle.ada_typed.proofs.Kept.{behind_call}
 use Rattle.ada_typed.proofs.Runs.{typed_holds}
-use Rattle.ada_quiet.specs.Quiet.{holds_elementary, operations_are_quiet}
+use Rattle.ada_quiet.specs.Quiet.{holds_elementary, operations_are_in_use}
 use Rattle.ada_sound.proofs.Begins.{record_kind}
 use Rattle.ada_sound.proofs.Calm.{filled_in}
 use Rattle.ada_sound.proofs.Callers.{Suspension, known_in, Stands}
 use Rattle.ada_sound.proofs.Fits.{IsWithin}
 use Rattle.ada_sound.proofs.Invariant.{Control}
 use Rattle.ada_sound.proofs.OperationStarts.{operation_begins}
-use Rattle.ada_sound.proofs.Operating.{Sight, IsCalm, IsScalar, Holds, HoldScalars, Operates}
-use Rattle.ada_sound.proofs.QuietOperations.{quiet_body}
+use Rattle.ada_sound.proofs.Operating.{Sight, WaitsFor, IsCalled, IsCalm, IsScalar, Holds, HoldScalars, lets_out, Operates}
+use Rattle.ada_sound.proofs.QuietOperations.{OverridesLater, Overrides, plain_body, raises_nothing}
+use Rattle.ada_sound.proofs.Raising.{body_more}
 use Rattle.ada_sound.proofs.Ready.{running}
+use Rattle.ada_sound.proofs.Returns.{same_types}
+use Rattle.ada_sound.proofs.Started.{starts_raise}
 use Rattle.ada_sound.proofs.Treatments.{Begins}
 
 -- What lies in the object, where its Integers and Booleans are.
@@ -100,14 +116,67 @@ module _ (program : Program) (number : ℕ) (b : BodyForm) (o : Id) (place : Pla
       let f = filled_at own.types (cells_of after.heap) (cells_of after.heap) o.0 x.cell (filled_in own after inside) (cell_at after.heap o.0 x found) in
       kinds_scalar own.types (cells_of after.heap) f.0 x.cell.values c v (rw f.1 at is) f.2 at
 
+-- Where the call of an operation ends that begins a part, typing says that this is a part of the object.
+module _ (p : ProgramForm) (cells : Cells) where
+  abbrev BeginsPart : Control → Type 0
+  BeginsPart [] = Unit {0}
+  BeginsPart (frame.Awaits v by done of part tasks ∷ k) = typed.IsTreated p.types cells v (begins by done) (performs of part ∷ tasks)
+  BeginsPart (f ∷ k) = Unit {0}
+
+  begins_part : (kinds : List OperandKind) (k : Control) → typed.AtOperation p cells kinds k → BeginsPart k
+  begins_part kinds _ (typed.awaiting some treated fits) = treated
+  begins_part kinds _ (typed.confined some fits) = tt
+
+part_behind : (p : ProgramForm) (cells : Cells) (callee : Option ℕ) (v : Value) (by : Birth) (done : List PartOf) (of part : ℕ) (tasks : List Task) (k : Control) (a : Activation Value) (rest : List (Activation Value))
+    → typed.Waiting p cells callee (Returns [] [] ∷ frame.Awaits v by done of part tasks ∷ k) (a ∷ rest) → typed.IsTreated (seen_in a.procedure p).types cells v (begins by done) (performs of part ∷ tasks)
+part_behind p cells callee v by done of part tasks k a rest (waits, others) = go waits
+  where
+    go : typed.WaitsBy (seen_in a.procedure p) cells (typed.kinds_in p callee) [] [] (frame.Awaits v by done of part tasks ∷ k) a → typed.IsTreated (seen_in a.procedure p).types cells v (begins by done) (performs of part ∷ tasks)
+    go (typed.for_call w) = absurd (w.fits)
+    go (typed.for_operation w) = begins_part (seen_in a.procedure p) cells w.kinds (frame.Awaits v by done of part tasks ∷ k) w.awaits
+
+-- What may come out of the body: nothing, unless it overrides Initialize, which begins a part of a new object.
+module _ (program : Program) (well : IsWellFormed (program_form program)) (uses : operations_are_in_use (program_form program) ≡ true) (of number : ℕ) (b : BodyForm) (there : slice_get (body_forms program) number ≡ Some b) where
+  overrides_by : (treatment : Treatment) → IsCalled (operations_of program.types.items of) treatment number → Overrides (operations_of program.types.items of) number
+  overrides_by (begins Creation done) called = inl called
+  overrides_by (begins Copy done) called = inr (inl called)
+  overrides_by (begins (Adjustment n) done) called = inr (inl called)
+  overrides_by (ends cause) called = inr (inr called)
+
+  none_out : OverridesLater (operations_of program.types.items of) number → (e : Exception) → body_raises no_calls b (is_same e) ≡ true → ⊥
+  none_out later e may =
+      let none = raises_nothing program uses of number b later there in
+      let more : body_raises no_calls b (λ f. true) ≡ true = body_more no_calls tt (program_form program).types b (is_same e) (λ f. true) (λ f same. refl) may in
+      cc (none, more)
+
+  comes_out : (a : Activation Value) (rest : List (Activation Value)) (o : Id) (heap : List Object) (x : Object) → object_at heap o ≡ Some x → (treatment : Treatment) (k behind : Control) → IsCalled (operations_of program.types.items of) treatment number → WaitsFor o of treatment k behind
+      → typed.Waiting (program_form program) (cells_of heap) (Some number) (Returns [] [] ∷ behind) (a ∷ rest) → (e : Exception) → body_raises no_calls b (is_same e) ≡ true → lets_out (implicit_of (program_form program)) x.cell.access treatment e ≡ true
+  comes_out a rest o heap x found (begins Creation done) k behind called (part, tasks, is) waiting e may =
+      let t : typed.IsTreated (seen_in a.procedure (program_form program)).types (cells_of heap) (Names o) (begins Creation done) (performs of part ∷ tasks) =
+      part_behind (program_form program) (cells_of heap) (Some number) (Names o) Creation done of part tasks k a rest (rw is at waiting) in
+      let operable : IsOperable (program_form program).types t.0 of part =
+      subst (λ (types : List TypeForm). IsOperable types t.0 of part) (same_types a.procedure (program_form program)) (t.2.1.0) in
+      let one : t.1.0 ≡ x.cell = some_same (sym t.1.1 ∙ cell_at heap o.0 x found) in
+      let same : t.0 ≡ x.cell.access = sym (t.1.2) ∙ ap (λ (c : Cell Value). c.access) one in
+      starts_raise program well x.cell.access of part number b (subst (λ (access : ℕ). IsOperable (program_form program).types access of part) same operable) called there e may
+    where
+      some_same : {c d : Cell Value} → Some c ≡ Some d → c ≡ d
+      some_same e' = cc e'
+  comes_out a rest o heap x found (begins Copy done) k behind called waits waiting e may = absurd (none_out (inl called) e may)
+  comes_out a rest o heap x found (begins (Adjustment n) done) k behind called waits waiting e may = absurd (none_out (inl called) e may)
+  comes_out a rest o heap x found (ends cause) k behind called waits waiting e may = absurd (none_out (inr called) e may)
+
 -- The body begins.
-module _ (program : Program) (well : IsWellFormed (program_form program)) (quiet : operations_are_quiet (program_form program) ≡ true) (a : Activation Value) (rest : List (Activation Value)) (gs : List Suspension) (s : State) (k : Control) where
+module _ (program : Program) (well : IsWellFormed (program_form program)) (uses : operations_are_in_use (program_form program) ≡ true) (a : Activation Value) (rest : List (Activation Value)) (gs : List Suspension) (s : State) (k : Control) where
   pub begins_operation : (e : Event) (after : State) → Stands program gs (record s { activations = a ∷ rest }) → IsCalm (behind_call k)
       → typed.Typed (program_form program) after → Begins (known_in program a.procedure gs) a rest s program.types.items (body_forms program) k e after → Operates program after
   begins_operation e after stands calm typing c =
       let begun = operating named c.number c.b (Part c.o c.place) c.behind (record (running k a rest s) { heap = c.heap }) in
-      let inside : typed.TypedIn (seen_in (Some c.number) (program_form program)) begun = (rw c.is at typing).inside in
+      let now : typed.Typed (program_form program) begun = rw c.is at typing in
+      let inside : typed.TypedIn (seen_in (Some c.number) (program_form program)) begun = now.inside in
       let own : typed.TypedIn (seen_by c.number c.b (program_form program)) begun = rw (seen_as (program_form program) c.number c.b c.there) at inside in
-      rw c.is (operation_begins program c.number c.b c.there (quiet_body program well quiet c.of c.number c.b c.overrides c.there) a rest gs s stands c.o c.treatment k c.behind (Part c.o c.place)
+      let overrides = overrides_by program well uses c.of c.number c.b c.there c.treatment c.called in
+      rw c.is (operation_begins program c.number c.b c.there (plain_body program uses well c.of c.number c.b overrides c.there) a rest gs s stands c.o c.of c.treatment k c.behind (Part c.o c.place)
       e c.heap c.x c.found c.live c.alters c.waits c.treats
-      (formal_holds program c.number c.b c.o c.place begun (_, refl) c.x c.found own) (scalars_hold program c.number c.b c.o c.place begun (_, refl) c.x c.found own) calm)
+      (formal_holds program c.number c.b c.o c.place begun (_, refl) c.x c.found own) (scalars_hold program c.number c.b c.o c.place begun (_, refl) c.x c.found own) calm
+      (comes_out program well uses c.of c.number c.b c.there a rest c.o c.heap c.x c.found c.treatment k c.behind c.called c.waits (now.waiting)))

@@ -1,20 +1,21 @@
--- The body of a quiet operation begins, and comes to its end (7.6): what waits for it goes on.
+-- The body of an operation comes to its end (7.6): what waits for it goes on; and an exception that comes out of an Initialize undoes the object (7.6.1).
 
-use Rattle.std.proofs.Common.{◌≡◌, ℕ, List, ◌∷◌, refl, inl}
+use Rattle.std.proofs.Common.{◌≡◌, ℕ, true, List, ◌∷◌, refl, inl}
 use Rattle.std.specs.Prelude.{Some}
 use Rattle.std.specs.List.{slice_set}
+use Rattle.ada_program.specs.declared.program.Exception.{Exception}
 use Rattle.ada_program.specs.declared.program.Program.{Program}
+use Rattle.ada_program.specs.ProgramForm.{program_form}
+use Rattle.ada_deeds.specs.Implicit.{implicit_of}
+use Rattle.ada_meaning.specs.declared.event.Birth.TheVariants.{Creation, Copy, Adjustment}
 use Rattle.ada_meaning.specs.declared.state.Id.{Id}
 use Rattle.ada_meaning.specs.declared.state.Value.{Value}
 use Rattle.ada_meaning.specs.declared.state.Value.TheVariants.{Names}
-use Rattle.ada_meaning.specs.declared.state.Stage.{Stage}
-use Rattle.ada_meaning.specs.declared.state.Stage.TheVariants.{Building, Existing, Gone}
-use Rattle.ada_meaning.specs.declared.state.Mode.TheVariants.{Running}
+use Rattle.ada_meaning.specs.declared.state.Mode.TheVariants.{Running, Raising}
 use Rattle.ada_meaning.specs.Event.{Quiet}
 use Rattle.ada_meaning.specs.Frame.{Treatment, begins, ends}
-use Rattle.ada_meaning.specs.Heap.{finds}
 use Rattle.ada_meaning.specs.State.{Activation, Master}
-use Rattle.ada_meaning.specs.Named.{Object, State, object_at, existing, filled}
+use Rattle.ada_meaning.specs.Named.{Object, State, object_at, filled}
 use Rattle.ada_sound.proofs.Alters.{alters_same, alters_set}
 use Rattle.ada_sound.proofs.Invariant.{Known, Control, IsLive, TreatsBy, ReadyIn}
 use Rattle.ada_sound.proofs.Callers.{known_in}
@@ -22,40 +23,55 @@ use Rattle.ada_sound.proofs.Ready.{stays}
 use Rattle.ada_sound.proofs.Returns.{Crosses}
 use Rattle.ada_sound.proofs.Waiting.{stands_kept}
 use Rattle.ada_sound.proofs.Written.{treats_written}
-use Rattle.ada_sound.proofs.Operating.{StaysLive, WaitsFor, Suspended, behind_operation}
-
--- An object that exists is found.
-pub found_by : (x : Object) (stage : Stage) → StaysLive stage → existing x stage ≡ finds x.cell
-found_by x Building live = refl
-found_by x Existing live = refl
-found_by x Gone live = absurd live
+use Rattle.ada_sound.proofs.OperationStarts.{found_by}
+use Rattle.ada_sound.proofs.Operating.{StaysLive, WaitsFor, lets_out, Suspended, behind_operation}
 
 pub is_live : (heap : List Object) (o : Id) (x : Object) → object_at heap o ≡ Some x → StaysLive x.stage → IsLive heap (Names o)
 is_live heap o x found live = (x.cell, rw found (found_by x x.stage live))
 
 -- What is behind the body of an operation is ready.
-ready_for : (known : Known) (o : Id) (treatment : Treatment) (k behind : Control) (heap : List Object) (places operands : List Value) (ms : List Master) → IsLive heap (Names o) → WaitsFor o treatment k behind → TreatsBy known (Names o) treatment k heap places operands ms → ReadyIn known Running behind heap places operands ms
-ready_for known o (begins by done) k behind heap places operands ms live (of, part, tasks, is) r = rw is (live, r)
-ready_for known o (ends cause) k behind heap places operands ms live (tasks, is) r = rw is (Names o, cause, tasks, k, refl, r)
+ready_for : (known : Known) (o : Id) (of : ℕ) (treatment : Treatment) (k behind : Control) (heap : List Object) (places operands : List Value) (ms : List Master) → IsLive heap (Names o) → WaitsFor o of treatment k behind → TreatsBy known (Names o) treatment k heap places operands ms → ReadyIn known Running behind heap places operands ms
+ready_for known o of (begins by done) k behind heap places operands ms live (part, tasks, is) r = rw is (live, r)
+ready_for known o of (ends cause) k behind heap places operands ms live (tasks, is) r = rw is (Names o, cause, tasks, k, refl, r)
 
-module _ (program : Program) (o : Id) (caller : Activation Value) (rest : List (Activation Value)) (behind : Control) (lower : List Master) where
+-- So it is where an exception comes out of the body: the object is a new one, which is undone then.
+ready_raising : (known : Known) (o : Id) (of : ℕ) (treatment : Treatment) (access : ℕ) (k behind : Control) (heap : List Object) (places operands : List Value) (ms : List Master) (e : Exception) (x : Object) → object_at heap o ≡ Some x → x.cell.access ≡ access → IsLive heap (Names o) → WaitsFor o of treatment k behind
+    → lets_out known.implicit access treatment e ≡ true → TreatsBy known (Names o) treatment k heap places operands ms → ReadyIn known (Raising e) behind heap places operands ms
+ready_raising known o of (begins Creation done) access k behind heap places operands ms e x found same live (part, tasks, is) out r =
+    rw is (refl, live, r.1.0, r.1.1 e (o, x, refl, found, rw same out))
+ready_raising known o of (begins Copy done) access k behind heap places operands ms e x found same live waits out r = absurd (cc out)
+ready_raising known o of (begins (Adjustment number) done) access k behind heap places operands ms e x found same live waits out r = absurd (cc out)
+ready_raising known o of (ends cause) access k behind heap places operands ms e x found same live waits out r = absurd (cc out)
+
+module _ (program : Program) (o : Id) (treatment : Treatment) (caller : Activation Value) (rest : List (Activation Value)) (behind : Control) (lower : List Master) where
   -- The body ends: what waits for it goes on.
-  pub goes_behind : (s : State) (x : Object) → object_at s.heap o ≡ Some x → StaysLive x.stage → Suspended program o caller rest behind lower s → Crosses program s.heap Quiet (behind_operation (caller ∷ rest) behind lower s)
+  pub goes_behind : (s : State) (x : Object) → object_at s.heap o ≡ Some x → StaysLive x.stage → Suspended program o treatment caller rest behind lower s → Crosses program s.heap Quiet (behind_operation (caller ∷ rest) behind lower s)
   goes_behind s x found live w = record {
     suspensions = w.suspensions;
     stepped = stays (known_in program caller.procedure w.suspensions) Quiet (behind_operation (caller ∷ rest) behind lower s)
-        (tt, ready_for (known_in program caller.procedure w.suspensions) o w.treatment w.after behind s.heap caller.places caller.operands lower (is_live s.heap o x found live) w.waits w.treats) tt;
+        (tt, ready_for (known_in program caller.procedure w.suspensions) o w.of treatment w.after behind s.heap caller.places caller.operands lower (is_live s.heap o x found live) w.waits w.treats) tt;
     stands = w.stands;
   }
 
+  -- An exception comes out of the body: the object is undone next.
+  pub raises_behind : (s : State) (access : ℕ) (e : Exception) (x : Object) → object_at s.heap o ≡ Some x → x.cell.access ≡ access → StaysLive x.stage → lets_out (implicit_of (program_form program)) access treatment e ≡ true → Suspended program o treatment caller rest behind lower s
+      → Crosses program s.heap Quiet (record (behind_operation (caller ∷ rest) behind lower s) { mode = Raising e })
+  raises_behind s access e x found same live out w = record {
+    suspensions = w.suspensions;
+    stepped = stays (known_in program caller.procedure w.suspensions) Quiet (record (behind_operation (caller ∷ rest) behind lower s) { mode = Raising e })
+        (tt, ready_raising (known_in program caller.procedure w.suspensions) o w.of treatment access w.after behind s.heap caller.places caller.operands lower e x found same (is_live s.heap o x found live) w.waits out w.treats) tt;
+    stands = stands_kept program (behind_operation (caller ∷ rest) behind lower s) (record (behind_operation (caller ∷ rest) behind lower s) { mode = Raising e }) w.suspensions w.stands Quiet
+        (record { procedure = refl; suspended = refl }) (alters_same s.heap Quiet);
+  }
+
   -- The body writes an Integer or a Boolean into the object: what waits for it waits still.
-  pub waits_written : (s after : State) (x : Object) (c : ℕ) (v : Value) → object_at s.heap o ≡ Some x → ((p : Id) → v ≡ Names p → ⊥) → after.heap ≡ slice_set s.heap o.0 (filled c v x) → Suspended program o caller rest behind lower s → Suspended program o caller rest behind lower after
+  pub waits_written : (s after : State) (x : Object) (c : ℕ) (v : Value) → object_at s.heap o ≡ Some x → ((p : Id) → v ≡ Names p → ⊥) → after.heap ≡ slice_set s.heap o.0 (filled c v x) → Suspended program o treatment caller rest behind lower s → Suspended program o treatment caller rest behind lower after
   waits_written s after x c v found nameless heap w = record {
     suspensions = w.suspensions;
-    treatment = w.treatment;
     after = w.after;
+    of = w.of;
     waits = w.waits;
-    treats = rw heap (treats_written c v nameless (known_in program caller.procedure w.suspensions) lower s.heap o x found w.treatment caller.places caller.operands w.after w.treats);
+    treats = rw heap (treats_written c v nameless (known_in program caller.procedure w.suspensions) lower s.heap o x found treatment caller.places caller.operands w.after w.treats);
     stands = stands_kept program (behind_operation (caller ∷ rest) behind lower s) (behind_operation (caller ∷ rest) behind lower after) w.suspensions w.stands Quiet
         (record { procedure = refl; suspended = refl })
         (rw heap (alters_set s.heap Quiet o x (filled c v x) found (refl, refl, refl) (λ h. h) (λ h. inl h)));
@@ -63,11 +79,11 @@ module _ (program : Program) (o : Id) (caller : Activation Value) (rest : List (
   }
 
   -- It writes nothing.
-  pub waits_on : (s after : State) → after.heap ≡ s.heap → Suspended program o caller rest behind lower s → Suspended program o caller rest behind lower after
+  pub waits_on : (s after : State) → after.heap ≡ s.heap → Suspended program o treatment caller rest behind lower s → Suspended program o treatment caller rest behind lower after
   waits_on s after heap w = record {
     suspensions = w.suspensions;
-    treatment = w.treatment;
     after = w.after;
+    of = w.of;
     waits = w.waits;
     treats = rw heap w.treats;
     stands = stands_kept program (behind_operation (caller ∷ rest) behind lower s) (behind_operation (caller ∷ rest) behind lower after) w.suspensions w.stands Quiet

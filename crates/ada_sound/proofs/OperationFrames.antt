@@ -1,4 +1,4 @@
--- The body of a quiet operation goes on with what is left to do (7.6).
+-- The body of an operation goes on with what is left to do (7.6).
 
 use Rattle.std.proofs.Common.{◌≡◌, ℕ, Bool, true, false, List, [], ◌∷◌, ◌++◌, refl, ◌∙◌, inl, inr}
 use Rattle.std.specs.Prelude.{ℤ, Option, Some, None, Result, Ok, Err, ◌||◌, ◌&&◌, int_le, pos, ◌+ℤ◌, if◌then◌else◌}
@@ -29,8 +29,7 @@ use Rattle.ada_sound.proofs.Invariant.{Control}
 use Rattle.ada_sound.proofs.Raising.{or_left, or_right}
 use Rattle.ada_owners.proofs.Changes.{store_is}
 use Rattle.ada_sound.proofs.Objects.{set_here, set_get}
-use Rattle.ada_sound.proofs.OperationCalls.{found_by}
-use Rattle.ada_sound.proofs.OperationStarts.{apart}
+use Rattle.ada_sound.proofs.OperationStarts.{apart, found_by}
 use Rattle.ada_sound.proofs.Operating.{Sight, IsScalar, AreScalars, IsVariable, AreVariables, OwnVariables, StaysIn, IsInLoop, Contains, GoesIn, HoldScalars, RunsIn, ChoosesIn, EvaluatesIn, TurnsIn, CountsIn, Quietly, Parts, Body}
 use Rattle.ada_sound.proofs.OperationSteps.{acting, IsMild, After, GoesOnIn}
 use Rattle.ada_sound.proofs.OperationStatements as statements
@@ -57,7 +56,7 @@ module _ (sight : Sight) (procedure : ℕ) (rest : List (Activation Value)) (low
   Goes n = GoesOnIn sight procedure rest lower behind s.heap n
 
   -- This comes next, in these masters.
-  pub go : (e : Event) (after : State) (ws : List Value) (ns : List Master) (m : Mode) (j : Control) → IsMild sight procedure rest lower behind e → after.activations ≡ acting sight procedure rest lower behind places ws ∷ rest → after.masters ≡ ns ++ lower → after.heap ≡ s.heap → after.mode ≡ m → after.control ≡ j → OwnVariables ns → AreScalars ws → GoesIn m j → Quietly sight behind ns j → After sight procedure rest lower behind s.heap e after
+  pub go : (e : Event) (after : State) (ws : List Value) (ns : List Master) (m : Mode) (j : Control) → IsMild sight procedure rest lower behind e → after.activations ≡ acting sight procedure rest lower behind places ws ∷ rest → after.masters ≡ ns ++ lower → after.heap ≡ s.heap → after.mode ≡ m → after.control ≡ j → OwnVariables ns → AreScalars ws → GoesIn sight m j → Quietly sight behind ns j → After sight procedure rest lower behind s.heap e after
   go e after ws ns m j mild active masters heap in_mode left own all goes quietly = record {
     places = places;
     operands = ws;
@@ -133,13 +132,13 @@ module _ (sight : Sight) (procedure : ℕ) (rest : List (Activation Value)) (low
     written_on (Some i) q = go _ _ vs ms Running k tt refl refl refl refl refl body.own all tt q
 
     -- Operators.
-    link_on : (decided : Bool) (operator : BinaryOperator) (e : ExpressionForm) (links : LinksForm) → are_quiet_links sight.program.types sight.program.variables (a_link operator e links) ≡ true → Contains (links_raise (a_link operator e links)) k → Quietly sight behind ms k → Goes (link_next named decided operator e links (before vs))
+    link_on : (decided : Bool) (operator : BinaryOperator) (e : ExpressionForm) (links : LinksForm) → are_quiet_links sight.program.types sight.program.variables (a_link operator e links) ≡ true → Contains sight (links_raise (a_link operator e links)) k → Quietly sight behind ms k → Goes (link_next named decided operator e links (before vs))
     link_on decided operator e links quiet stays q =
         let two = apart (is_quiet_expression sight.program.types sight.program.variables e) (are_quiet_links sight.program.types sight.program.variables links) quiet in
-        let later : Contains (links_raise links) k = λ may. stays (or_right (binary_raises operator || expression_raises e) (links_raise links) may) in
+        let later : Contains sight (links_raise links) k = λ may. stays (or_right (binary_raises operator || expression_raises e) (links_raise links) may) in
         by decided two.0 two.1 later
       where
-        by : (d : Bool) → is_quiet_expression sight.program.types sight.program.variables e ≡ true → are_quiet_links sight.program.types sight.program.variables links ≡ true → Contains (links_raise links) k → Goes (link_next named d operator e links (before vs))
+        by : (d : Bool) → is_quiet_expression sight.program.types sight.program.variables e ≡ true → are_quiet_links sight.program.types sight.program.variables links ≡ true → Contains sight (links_raise links) k → Goes (link_next named d operator e links (before vs))
         by true first second later = on _ vs (Continues links ∷ k) refl refl refl refl refl all ((second, later), q)
         by false first second later =
             on _ vs (Computes e ∷ Applies operator ∷ Continues links ∷ k) refl refl refl refl refl all (
@@ -147,7 +146,7 @@ module _ (sight : Sight) (procedure : ℕ) (rest : List (Activation Value)) (low
               ((λ may. stays (or_left (binary_raises operator || expression_raises e) (links_raise links) (or_left (binary_raises operator) (expression_raises e) may))), ((second, later), q)),
             )
 
-    pub links_on : (links : LinksForm) → are_quiet_links sight.program.types sight.program.variables links ≡ true → Contains (links_raise links) k → Quietly sight behind ms k → Goes (links_next named links (before vs))
+    pub links_on : (links : LinksForm) → are_quiet_links sight.program.types sight.program.variables links ≡ true → Contains sight (links_raise links) k → Quietly sight behind ms k → Goes (links_next named links (before vs))
     links_on no_more_links quiet stays q = on _ vs k refl refl refl refl refl all q
     links_on (a_link operator e links) quiet stays q = link_on (is_decided named operator (named.reads_boolean (first_or Null vs))) operator e links quiet stays q
 
@@ -217,7 +216,7 @@ module _ (sight : Sight) (procedure : ℕ) (rest : List (Activation Value)) (low
   filled_scalars : (c : ℕ) (v : Value) → IsScalar v → HoldScalars sight (filled c v body.x)
   filled_scalars c v is d w e at = elim (set_get body.x.cell.values c d v w at) [ inl here ↦ rw here.1 is | inr there ↦ body.scalars d w e there.1 ]
 
-  stores_on : (vs : List Value) → AreScalars vs → (c : ℕ) (v : Value) (m : Mode) (after : State) → IsScalar v → after.activations ≡ acting sight procedure rest lower behind places vs ∷ rest → after.masters ≡ ms ++ lower → after.heap ≡ store s.heap (Names sight.object) c v → after.mode ≡ m → after.control ≡ k → GoesIn m k → Quietly sight behind ms k → After sight procedure rest lower behind s.heap (Followed (Names sight.object)) after
+  stores_on : (vs : List Value) → AreScalars vs → (c : ℕ) (v : Value) (m : Mode) (after : State) → IsScalar v → after.activations ≡ acting sight procedure rest lower behind places vs ∷ rest → after.masters ≡ ms ++ lower → after.heap ≡ store s.heap (Names sight.object) c v → after.mode ≡ m → after.control ≡ k → GoesIn sight m k → Quietly sight behind ms k → After sight procedure rest lower behind s.heap (Followed (Names sight.object)) after
   stores_on vs all c v m after is active masters heap in_mode left goes q = record {
     places = places;
     operands = vs;
@@ -249,12 +248,12 @@ module _ (sight : Sight) (procedure : ℕ) (rest : List (Activation Value)) (low
   store_on vs all o c v named_so is q = rw named_so (rw (body.found, found_by body.x body.x.stage body.live) (stored_on vs all c v (slice_get body.x.cell.values c) is q))
 
   -- The next number of the input goes there.
-  received_on : (vs : List Value) → AreScalars vs → (c : ℕ) (input : List ℤ) (found : Option Value) → StaysIn EndError k → Quietly sight behind ms k → Goes (received_next named (Names sight.object) c input found (before vs))
+  received_on : (vs : List Value) → AreScalars vs → (c : ℕ) (input : List ℤ) (found : Option Value) → StaysIn sight EndError k → Quietly sight behind ms k → Goes (received_next named (Names sight.object) c input found (before vs))
   received_on vs all c input None stays q = refl
   received_on vs all c [] (Some w) stays q = go _ _ [] ms (Raising EndError) k refl refl refl refl refl refl body.own tt stays q
   received_on vs all c (i ∷ is) (Some w) stays q = stores_on vs all c (named.integer i) Running _ tt refl refl refl refl refl tt q
 
-  pub receive_on : (vs : List Value) → AreScalars vs → (o : Value) (c : ℕ) → o ≡ Names sight.object → StaysIn EndError k → Quietly sight behind ms k → Goes (receive_next named o c (look s.heap o) (before vs))
+  pub receive_on : (vs : List Value) → AreScalars vs → (o : Value) (c : ℕ) → o ≡ Names sight.object → StaysIn sight EndError k → Quietly sight behind ms k → Goes (receive_next named o c (look s.heap o) (before vs))
   receive_on vs all o c named_so stays q = rw named_so (rw (body.found, found_by body.x body.x.stage body.live) (received_on vs all c s.input (slice_get body.x.cell.values c) stays q))
 
   -- What it gets is evaluated first.
@@ -264,7 +263,7 @@ module _ (sight : Sight) (procedure : ℕ) (rest : List (Activation Value)) (low
       (go _ _ vs ms Running (Evaluates right ∷ StoresIn (Names sight.object) c ∷ k) refl refl refl refl refl refl body.own all tt (into, (refl, q))))
 
   -- A declaration of an Integer or a Boolean.
-  declaration_right : (right : RightForm) (j : Control) → is_quiet_right sight.program.types sight.program.variables right ≡ true → (right_raises (is_same ConstraintError) right ≡ true → StaysIn ConstraintError j) → EvaluatesIn sight right j
+  declaration_right : (right : RightForm) (j : Control) → is_quiet_right sight.program.types sight.program.variables right ≡ true → (right_raises (is_same ConstraintError) right ≡ true → StaysIn sight ConstraintError j) → EvaluatesIn sight right j
   declaration_right nothing j quiet stays = absurd (cc quiet)
   declaration_right (value_of path) j quiet stays = absurd (cc quiet)
   declaration_right (allocates access items) j quiet stays = absurd (cc quiet)

@@ -1,4 +1,4 @@
--- Any step of the body of a quiet operation (7.6).
+-- Any step of the body of an operation (7.6).
 
 use Rattle.std.proofs.Common.{◌≡◌, ℕ, Bool, true, false, List, [], ◌∷◌, ◌++◌, refl, subst, ◌⊎◌, inl, inr}
 use Rattle.std.specs.Prelude.{Option, Some, None, if◌then◌else◌}
@@ -122,7 +122,7 @@ module _ (sight : Sight) (procedure : ℕ) (rest : List (Activation Value)) (low
   abbrev Lands : Next → Type 0
   Lands n = GoesOnIn sight procedure rest lower behind s.heap n
 
-  next_is : (m : Mode) (ns : List Master) (after : State) (n : Mode) (j : Control) → Body sight behind ns s.heap places vs m whole_control → after.activations ≡ acting sight procedure rest lower behind places vs ∷ rest → after.masters ≡ ns ++ lower → after.heap ≡ s.heap → after.mode ≡ n → after.control ≡ j → GoesIn n j → Quietly sight behind ns j → After sight procedure rest lower behind s.heap Quiet after
+  next_is : (m : Mode) (ns : List Master) (after : State) (n : Mode) (j : Control) → Body sight behind ns s.heap places vs m whole_control → after.activations ≡ acting sight procedure rest lower behind places vs ∷ rest → after.masters ≡ ns ++ lower → after.heap ≡ s.heap → after.mode ≡ n → after.control ≡ j → GoesIn sight n j → Quietly sight behind ns j → After sight procedure rest lower behind s.heap Quiet after
   next_is m ns after n j body active masters heap in_mode left goes q =
       frames.go sight procedure rest lower behind tds bodies s ns places k m whole_control vs body Quiet after vs ns n j tt active masters heap in_mode left body.own all goes q
 
@@ -131,7 +131,7 @@ module _ (sight : Sight) (procedure : ℕ) (rest : List (Activation Value)) (low
       frames.parts sight procedure rest lower behind tds bodies s ns places k m whole_control vs body Quiet after vs ns m tt active masters heap in_mode is body.own all q
 
   -- A handler takes an exception, or does not.
-  handled_on : (ns : List Master) (e : Exception) (hs : HandlersForm) (found : Option StmtsForm) → handler_of e hs ≡ found → Body sight behind ns s.heap places vs (Raising e) whole_control → (is_taken hs e ≡ true) ⊎ StaysIn e k → HandlesIn sight hs k → Quietly sight behind ns k → Lands (landed named (handler_landing found) (Raising e) (jumping_state (Raising e) ns))
+  handled_on : (ns : List Master) (e : Exception) (hs : HandlersForm) (found : Option StmtsForm) → handler_of e hs ≡ found → Body sight behind ns s.heap places vs (Raising e) whole_control → (is_taken hs e ≡ true) ⊎ StaysIn sight e k → HandlesIn sight hs k → Quietly sight behind ns k → Lands (landed named (handler_landing found) (Raising e) (jumping_state (Raising e) ns))
   handled_on ns e hs None is body (inl taken) handles q = absurd (cc (rw is at taken))
   handled_on ns e hs None is body (inr stays) handles q = next_is (Raising e) ns _ (Raising e) k body refl refl refl refl refl stays q
   handled_on ns e hs (Some no_stmts) is body stays handles q = refl
@@ -139,34 +139,34 @@ module _ (sight : Sight) (procedure : ℕ) (rest : List (Activation Value)) (low
       next_is (Raising e) ns _ Running (Does (a_stmt f fs) ∷ k) body refl refl refl refl refl tt (handler_runs sight hs k e (a_stmt f fs) is handles, q)
 
   -- A frame is passed.
-  passed_on : (m : Mode) (ns : List Master) → Body sight behind ns s.heap places vs m whole_control → GoesIn m k → Quietly sight behind ns k → After sight procedure rest lower behind s.heap Quiet (jumping_state m ns)
+  passed_on : (m : Mode) (ns : List Master) → Body sight behind ns s.heap places vs m whole_control → GoesIn sight m k → Quietly sight behind ns k → After sight procedure rest lower behind s.heap Quiet (jumping_state m ns)
   passed_on m ns body goes q = next_is m ns (jumping_state m ns) m k body refl refl refl refl refl goes q
 
-  pub raising_on : (ns : List Master) (e : Exception) (f : Frame Value) → Body sight behind ns s.heap places vs (Raising e) whole_control → StaysIn e (f ∷ k) → Quietly sight behind ns (f ∷ k) → Lands (jump_next named (Raising e) (f ∷ k) (jumping_state (Raising e) ns))
-  raising_on [] e (Elaborates ds fs hs) body stays q = absurd q
-  raising_on (n ∷ ns) e (Elaborates ds fs hs) body stays q = leaves_next_is (Raising e) (n ∷ ns) _ body refl refl refl refl refl (stays, q.1)
-  raising_on [] e Closes body stays q = absurd q
-  raising_on (n ∷ ns) e Closes body stays q = leaves_next_is (Raising e) (n ∷ ns) _ body refl refl refl refl refl (stays, q.1)
-  raising_on ns e (Handles hs) body stays q = handled_on ns e hs (handler_of e hs) refl body stays q.0 q.1
-  raising_on ns e (Returns actuals references) body stays q = absurd stays
-  raising_on ns e (Does fs) body stays q = passed_on (Raising e) ns body stays q.1
-  raising_on ns e (Decides fs branches) body stays q = passed_on (Raising e) ns body stays q.1
-  raising_on ns e (Repeats condition fs) body stays q = passed_on (Raising e) ns body stays q.1
-  raising_on ns e (Turns condition fs) body stays q = passed_on (Raising e) ns body stays q.1
-  raising_on ns e (Ranges x fs) body stays q = passed_on (Raising e) ns body stays q.1
-  raising_on ns e (Counts x value last fs) body stays q = passed_on (Raising e) ns body stays q.1
-  raising_on ns e Exits body stays q = passed_on (Raising e) ns body stays q.1
-  raising_on ns e (Evaluates right) body stays q = passed_on (Raising e) ns body stays q.1
-  raising_on ns e (Computes x) body stays q = passed_on (Raising e) ns body stays q.1
-  raising_on ns e (Continues links) body stays q = passed_on (Raising e) ns body stays q.1
-  raising_on ns e (Applies operator) body stays q = passed_on (Raising e) ns body stays q.1
-  raising_on ns e (AppliesAlone operator) body stays q = passed_on (Raising e) ns body stays q.1
-  raising_on ns e (Stores x) body stays q = passed_on (Raising e) ns body stays q.1
-  raising_on [] e (Declares x) body stays q = absurd q
-  raising_on (n ∷ ns) e (Declares x) body stays q = passed_on (Raising e) (n ∷ ns) body stays q.1
-  raising_on ns e (StoresIn v c) body stays q = passed_on (Raising e) ns body stays q.1
-  raising_on ns e Writes body stays q = passed_on (Raising e) ns body stays q.1
-  raising_on ns e f body stays q = absurd q
+  pub raising_on : (ns : List Master) (e : Exception) (f : Frame Value) → Body sight behind ns s.heap places vs (Raising e) whole_control → is_return f ≡ false → StaysIn sight e (f ∷ k) → Quietly sight behind ns (f ∷ k) → Lands (jump_next named (Raising e) (f ∷ k) (jumping_state (Raising e) ns))
+  raising_on [] e (Elaborates ds fs hs) body inner stays q = absurd q
+  raising_on (n ∷ ns) e (Elaborates ds fs hs) body inner stays q = leaves_next_is (Raising e) (n ∷ ns) _ body refl refl refl refl refl (stays, q.1)
+  raising_on [] e Closes body inner stays q = absurd q
+  raising_on (n ∷ ns) e Closes body inner stays q = leaves_next_is (Raising e) (n ∷ ns) _ body refl refl refl refl refl (stays, q.1)
+  raising_on ns e (Handles hs) body inner stays q = handled_on ns e hs (handler_of e hs) refl body stays q.0 q.1
+  raising_on ns e (Returns actuals references) body inner stays q = absurd (cc inner)
+  raising_on ns e (Does fs) body inner stays q = passed_on (Raising e) ns body stays q.1
+  raising_on ns e (Decides fs branches) body inner stays q = passed_on (Raising e) ns body stays q.1
+  raising_on ns e (Repeats condition fs) body inner stays q = passed_on (Raising e) ns body stays q.1
+  raising_on ns e (Turns condition fs) body inner stays q = passed_on (Raising e) ns body stays q.1
+  raising_on ns e (Ranges x fs) body inner stays q = passed_on (Raising e) ns body stays q.1
+  raising_on ns e (Counts x value last fs) body inner stays q = passed_on (Raising e) ns body stays q.1
+  raising_on ns e Exits body inner stays q = passed_on (Raising e) ns body stays q.1
+  raising_on ns e (Evaluates right) body inner stays q = passed_on (Raising e) ns body stays q.1
+  raising_on ns e (Computes x) body inner stays q = passed_on (Raising e) ns body stays q.1
+  raising_on ns e (Continues links) body inner stays q = passed_on (Raising e) ns body stays q.1
+  raising_on ns e (Applies operator) body inner stays q = passed_on (Raising e) ns body stays q.1
+  raising_on ns e (AppliesAlone operator) body inner stays q = passed_on (Raising e) ns body stays q.1
+  raising_on ns e (Stores x) body inner stays q = passed_on (Raising e) ns body stays q.1
+  raising_on [] e (Declares x) body inner stays q = absurd q
+  raising_on (n ∷ ns) e (Declares x) body inner stays q = passed_on (Raising e) (n ∷ ns) body stays q.1
+  raising_on ns e (StoresIn v c) body inner stays q = passed_on (Raising e) ns body stays q.1
+  raising_on ns e Writes body inner stays q = passed_on (Raising e) ns body stays q.1
+  raising_on ns e f body inner stays q = absurd q
 
   pub exiting_on : (ns : List Master) (f : Frame Value) → Body sight behind ns s.heap places vs Exiting whole_control → IsInLoop (f ∷ k) → Quietly sight behind ns (f ∷ k) → Lands (jump_next named Exiting (f ∷ k) (jumping_state Exiting ns))
   exiting_on [] (Elaborates ds fs hs) body stays q = absurd q

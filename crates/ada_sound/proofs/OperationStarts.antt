@@ -1,24 +1,29 @@
--- The body of a quiet operation begins (7.6).
+-- The body of an operation begins (7.6).
 
-use Rattle.std.proofs.Common.{◌≡◌, ℕ, zero, suc, Bool, true, false, List, [], ◌∷◌, drop, refl, inl}
-use Rattle.std.specs.Prelude.{Some, ◌||◌, ◌&&◌}
+use Rattle.std.proofs.Common.{◌≡◌, ℕ, zero, suc, Bool, true, false, List, [], ◌∷◌, drop, refl, ◌⊎◌, inl, inr}
+use Rattle.std.specs.Prelude.{Some, ◌||◌, ◌&&◌, not}
 use Rattle.std.specs.List.{list_all, slice_get}
 use Rattle.ada_program.specs.declared.program.Exception.{Exception}
 use Rattle.ada_program.specs.declared.program.Program.{Program}
 use Rattle.ada_program.specs.declared.program.VariableKind.{VariableKind}
 use Rattle.ada_program.specs.declared.program.VariableKind.TheVariants as variable
 use Rattle.ada_program.specs.Handling.{is_same, is_taken}
-use Rattle.ada_program.specs.ProgramForm.{TypeForm, VariableForm, BodyForm, program_form, body_forms, seen_by}
+use Rattle.ada_program.specs.ProgramForm.{VariableForm, BodyForm, main_body, program_form, body_forms, seen_by}
 use Rattle.ada_program.specs.WellFormed.{variable_kind}
+use Rattle.ada_program.specs.Form.{StmtsForm, HandlersForm}
+use Rattle.ada_deeds.specs.Implicit.{implicit_of}
 use Rattle.ada_effects.specs.Effects.{no_calls, no_implicit, untaken, declarations_raise, stmts_raise, handlers_raise, body_raises}
 use Rattle.ada_meaning.specs.declared.state.Id.{Id}
 use Rattle.ada_meaning.specs.declared.state.Value.{Value}
 use Rattle.ada_meaning.specs.declared.state.Value.TheVariants.{Names}
+use Rattle.ada_meaning.specs.declared.state.Stage.{Stage}
+use Rattle.ada_meaning.specs.declared.state.Stage.TheVariants.{Building, Existing, Gone}
 use Rattle.ada_meaning.specs.declared.state.Mode.TheVariants.{Running}
-use Rattle.ada_meaning.specs.Frame.{Treatment, begins, ends, Elaborates, Returns}
+use Rattle.ada_meaning.specs.Heap.{finds}
+use Rattle.ada_meaning.specs.Frame.{Treatment, begins, ends, Elaborates, Handles, Closes, Returns}
 use Rattle.ada_meaning.specs.State.{Activation, Master}
 use Rattle.ada_meaning.specs.Step.{blank, blanks, given_places, operating}
-use Rattle.ada_meaning.specs.Named.{Object, State, named, object_at}
+use Rattle.ada_meaning.specs.Named.{Object, State, named, object_at, existing}
 use Rattle.ada_meaning.specs.Run.{Event}
 use Rattle.ada_typed.proofs.Bodies.{seen_as}
 use Rattle.ada_typed.proofs.Kept.{behind_call, behind_treating}
@@ -27,14 +32,20 @@ use Rattle.ada_sound.proofs.Alters.{Alters}
 use Rattle.ada_sound.proofs.Callers.{Suspension, known_in, Stands}
 use Rattle.ada_sound.proofs.Fits.{place_at}
 use Rattle.ada_sound.proofs.Invariant.{Control, TreatsBy}
-use Rattle.ada_sound.proofs.Raising.{or_left, or_right, same_is, declarations_more, stmts_more, handlers_more}
+use Rattle.ada_sound.proofs.Raising.{or_left, or_right, both, same_is, stmts_more}
 use Rattle.ada_sound.proofs.Waiting.{stands_kept}
-use Rattle.ada_sound.proofs.Operating.{Sight, StaysLive, WaitsFor, Holds, HoldScalars, Quietly, Body, Operates, QuietBody, IsCalm, behind_operation}
+use Rattle.ada_sound.proofs.Operating.{Sight, StaysLive, StaysIn, WaitsFor, Holds, HoldScalars, Quietly, Body, lets_out, Operates, PlainBody, IsCalm, behind_operation}
 
 -- Both of two.
 pub apart : (a b : Bool) → (a && b) ≡ true → (a ≡ true) × (b ≡ true)
 apart true b e = (refl, e)
 apart false b e = absurd (cc e)
+
+-- An object that exists is found.
+pub found_by : (x : Object) (stage : Stage) → StaysLive stage → existing x stage ≡ finds x.cell
+found_by x Building live = refl
+found_by x Existing live = refl
+found_by x Gone live = absurd live
 
 -- Integers and Booleans are blank at first.
 blank_holds : (sight : Sight) (kind : VariableKind) → is_elementary kind ≡ true → Holds sight (Some kind) (blank named kind)
@@ -53,62 +64,53 @@ places_hold sight [] reference all formal x = tt
 places_hold sight (v ∷ vs) reference all formal zero = formal
 places_hold sight (v ∷ vs) reference all formal (suc y) = blanks_hold sight vs all y
 
--- What a quiet body may raise its handlers take.
-module _ (types : List TypeForm) (b : BodyForm) (quiet : QuietBody types b) where
-  all : Exception → Bool
-  all e = true
+-- What a block raises its handlers take, or those around it.
+pub block_stays : (sight : Sight) (fs : StmtsForm) (hs : HandlersForm) (k : Control) → ((e : Exception) → stmts_raise no_calls (untaken hs (is_same e)) fs ≡ true → StaysIn sight e k) → (e : Exception) → stmts_raise no_calls (is_same e) fs ≡ true → StaysIn sight e (Handles hs ∷ Closes ∷ k)
+block_stays sight fs hs k passes e may = by (is_taken hs e) refl
+  where
+    by : (is : Bool) → is_taken hs e ≡ is → (is_taken hs e ≡ true) ⊎ StaysIn sight e k
+    by true is = inl is
+    by false is = inr (passes e (stmts_more no_calls tt fs (is_same e) (untaken hs (is_same e)) (λ f same. both (is_same e f) (not (is_taken hs f)) same (rw (← same_is e f same, is) refl)) may))
 
-  raises_none : body_raises no_calls b (λ e. true) ≡ true → ⊥
-  raises_none e = let none = quiet.raises_nothing in cc (none, e)
-
-  no_declaration : (e : Exception) → declarations_raise no_implicit (is_same e) b.declarations ≡ true → ⊥
-  no_declaration e may =
-      let more = declarations_more no_implicit (is_same e) (λ f. true) (λ f is. refl) b.declarations may in
-      raises_none (or_left (declarations_raise no_implicit (λ f. true) b.declarations || stmts_raise no_calls (untaken b.handlers (λ f. true)) b.statements) (handlers_raise no_calls (λ f. true) b.handlers)
-      (or_left (declarations_raise no_implicit (λ f. true) b.declarations) (stmts_raise no_calls (untaken b.handlers (λ f. true)) b.statements) more))
-
-  no_handler : (e : Exception) → handlers_raise no_calls (is_same e) b.handlers ≡ true → ⊥
-  no_handler e may =
-      let more = handlers_more no_calls tt b.handlers (is_same e) (λ f. true) (λ f is. refl) may in
-      raises_none (or_right (declarations_raise no_implicit (λ f. true) b.declarations || stmts_raise no_calls (untaken b.handlers (λ f. true)) b.statements) (handlers_raise no_calls (λ f. true) b.handlers) more)
-
-  taken : (e : Exception) → stmts_raise no_calls (is_same e) b.statements ≡ true → is_taken b.handlers e ≡ true
-  taken e may = by (is_taken b.handlers e) refl
-    where
-      by : (is : Bool) → is_taken b.handlers e ≡ is → is ≡ true
-      by true is = refl
-      by false is =
-          let more = stmts_more no_calls tt b.statements (is_same e) (untaken b.handlers (λ f. true)) (λ f same. rw (← same_is e f same, is) refl) may in
-          absurd (raises_none (or_left (declarations_raise no_implicit (λ f. true) b.declarations || stmts_raise no_calls (untaken b.handlers (λ f. true)) b.statements) (handlers_raise no_calls (λ f. true) b.handlers)
-          (or_right (declarations_raise no_implicit (λ f. true) b.declarations) (stmts_raise no_calls (untaken b.handlers (λ f. true)) b.statements) more)))
-
--- A quiet body begins, in a master of its own.
-starts : (sight : Sight) (b : BodyForm) → sight.program.variables ≡ b.variables → QuietBody sight.program.types b → (behind : Control) (m : Master) → Quietly sight behind (m ∷ []) (Elaborates b.declarations b.statements b.handlers ∷ Returns [] [] ∷ behind)
-starts sight b same quiet behind m = (
+-- A plain body begins, in a master of its own.
+starts : (sight : Sight) (b : BodyForm) → sight.program.variables ≡ b.variables → ((e : Exception) → body_raises no_calls b (is_same e) ≡ true → body_raises no_calls (main_body sight.program) (is_same e) ≡ true) → PlainBody sight.program.types b → (behind : Control) (m : Master) → Quietly sight behind (m ∷ []) (Elaborates b.declarations b.statements b.handlers ∷ Returns [] [] ∷ behind)
+starts sight b same out plain behind m = (
   (
-    rw same quiet.declarations,
-    (λ e may. absurd (no_declaration sight.program.types b quiet e may)),
-    (rw same quiet.statements, (λ e may. inl (taken sight.program.types b quiet e may)), λ out. let none = quiet.none_out in absurd (cc (none, out))),
-    (rw same quiet.handlers, (λ e may. absurd (no_handler sight.program.types b quiet e may)), λ out. let none = quiet.none_on in absurd (cc (none, out))),
+    rw same plain.declarations,
+    (λ e may. out e (or_left (declarations_raise no_implicit (is_same e) b.declarations || stmts_raise no_calls (untaken b.handlers (is_same e)) b.statements) (handlers_raise no_calls (is_same e) b.handlers)
+        (or_left (declarations_raise no_implicit (is_same e) b.declarations) (stmts_raise no_calls (untaken b.handlers (is_same e)) b.statements) may))),
+    (
+      rw same plain.statements,
+      block_stays sight b.statements b.handlers (Returns [] [] ∷ behind)
+          (λ e may. out e (or_left (declarations_raise no_implicit (is_same e) b.declarations || stmts_raise no_calls (untaken b.handlers (is_same e)) b.statements) (handlers_raise no_calls (is_same e) b.handlers)
+          (or_right (declarations_raise no_implicit (is_same e) b.declarations) (stmts_raise no_calls (untaken b.handlers (is_same e)) b.statements) may))),
+      λ leaves. let none = plain.none_out in absurd (cc (none, leaves)),
+    ),
+    (
+      rw same plain.handlers,
+      (λ e may. out e (or_right (declarations_raise no_implicit (is_same e) b.declarations || stmts_raise no_calls (untaken b.handlers (is_same e)) b.statements) (handlers_raise no_calls (is_same e) b.handlers) may)),
+      λ leaves. let none = plain.none_on in absurd (cc (none, leaves)),
+    ),
   ),
   ((refl, refl), refl, refl),
 )
 
 -- No operation but this one runs.
-calm_behind : (o : Id) (treatment : Treatment) (k behind : Control) → WaitsFor o treatment k behind → IsCalm (behind_call k) → IsCalm (behind_call behind)
-calm_behind o (begins by done) k behind (of, part, tasks, is) calm = rw is calm
-calm_behind o (ends cause) k behind (tasks, is) calm = rw (is, behind_treating (Names o) (ends cause) tasks k) calm
+calm_behind : (o : Id) (of : ℕ) (treatment : Treatment) (k behind : Control) → WaitsFor o of treatment k behind → IsCalm (behind_call k) → IsCalm (behind_call behind)
+calm_behind o of (begins by done) k behind (part, tasks, is) calm = rw is calm
+calm_behind o of (ends cause) k behind (tasks, is) calm = rw (is, behind_treating (Names o) (ends cause) tasks k) calm
 
 -- The operation of a part of an object begins: what waits for it is behind the treatment of the object.
-module _ (program : Program) (number : ℕ) (b : BodyForm) (there : slice_get (body_forms program) number ≡ Some b) (quiet : QuietBody (program_form program).types b) (caller : Activation Value) (rest : List (Activation Value)) (gs : List Suspension) (s : State) (stands : Stands program gs (record s { activations = caller ∷ rest })) (o : Id) (treatment : Treatment) (k behind : Control) (reference : Value) where
+module _ (program : Program) (number : ℕ) (b : BodyForm) (there : slice_get (body_forms program) number ≡ Some b) (plain : PlainBody (program_form program).types b) (caller : Activation Value) (rest : List (Activation Value)) (gs : List Suspension) (s : State) (stands : Stands program gs (record s { activations = caller ∷ rest })) (o : Id) (of : ℕ) (treatment : Treatment) (k behind : Control) (reference : Value) where
   abbrev pub sight : Object → Sight
   sight x = record { program = seen_by number b (program_form program); object = o; access = x.cell.access }
 
-  pub operation_begins : (e : Event) (heap : List Object) (x : Object) → object_at heap o ≡ Some x → StaysLive x.stage → Alters s.heap e heap → WaitsFor o treatment k behind
+  pub operation_begins : (e : Event) (heap : List Object) (x : Object) → object_at heap o ≡ Some x → StaysLive x.stage → Alters s.heap e heap → WaitsFor o of treatment k behind
       → TreatsBy (known_in program caller.procedure gs) (Names o) treatment k heap caller.places caller.operands s.masters
       → Holds (sight x) (variable_kind b.variables 0) reference → HoldScalars (sight x) x → IsCalm (behind_call k)
+      → ((e' : Exception) → body_raises no_calls b (is_same e') ≡ true → lets_out (implicit_of (program_form program)) x.cell.access treatment e' ≡ true)
       → Operates program (operating named number b reference behind (record s { activations = caller ∷ rest; heap = heap; mode = Running }))
-  operation_begins e heap x found live alters waits treats formal scalars calm =
+  operation_begins e heap x found live alters waits treats formal scalars calm out =
       let after = operating named number b reference behind (record s { activations = caller ∷ rest; heap = heap; mode = Running }) in
       let body : Body (sight x) behind (record { number = s.next; items = [] } ∷ []) heap (given_places named (reference ∷ []) b.variables) [] Running (Elaborates b.declarations b.statements b.handlers ∷ Returns [] [] ∷ behind) = record {
         x = x;
@@ -116,12 +118,13 @@ module _ (program : Program) (number : ℕ) (b : BodyForm) (there : slice_get (b
         live = live;
         of_access = refl;
         scalars = scalars;
-        holds = places_hold (sight x) b.variables reference quiet.elementary formal;
+        holds = places_hold (sight x) b.variables reference plain.elementary formal;
         own = (tt, tt);
-        comes = inl (tt, tt, starts (sight x) b refl quiet behind (record { number = s.next; items = [] }));
+        comes = inl (tt, tt, starts (sight x) b refl (λ e' may. may) plain behind (record { number = s.next; items = [] }));
       } in
       record {
         procedure = number;
+        is_body = (b, there);
         places = given_places named (reference ∷ []) b.variables;
         operands = [];
         caller = caller;
@@ -134,14 +137,16 @@ module _ (program : Program) (number : ℕ) (b : BodyForm) (there : slice_get (b
         object = o;
         access = x.cell.access;
         body = rw (seen_as (program_form program) number b there) body;
+        treatment = treatment;
         suspended = record {
           suspensions = gs;
-          treatment = treatment;
           after = k;
+          of = of;
           waits = waits;
           treats = treats;
           stands = stands_kept program (record s { activations = caller ∷ rest }) (behind_operation (caller ∷ rest) behind s.masters after) gs stands e
               (record { procedure = refl; suspended = refl }) alters;
-          calm = calm_behind o treatment k behind waits calm;
+          calm = calm_behind o of treatment k behind waits calm;
         };
+        prepared = rw (seen_as (program_form program) number b there) out;
       }

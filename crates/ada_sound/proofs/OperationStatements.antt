@@ -1,16 +1,16 @@
--- The body of a quiet operation comes to a statement, or to what is left of one (7.6).
+-- The body of an operation comes to a statement, or to what is left of one (7.6).
 
-use Rattle.std.proofs.Common.{◌≡◌, ◌≢◌, ℕ, zero, suc, Bool, true, false, List, [], ◌∷◌, ◌++◌, refl, ◌⊎◌, inl, inr}
-use Rattle.std.specs.Prelude.{ℤ, Option, Some, None, ◌||◌, ◌&&◌, not}
+use Rattle.std.proofs.Common.{◌≡◌, ◌≢◌, ℕ, zero, suc, true, List, [], ◌∷◌, ◌++◌, refl, ◌⊎◌, inl, inr}
+use Rattle.std.specs.Prelude.{ℤ, Option, Some, None, ◌||◌, ◌&&◌}
 use Rattle.std.specs.List.{slice_set}
 use Rattle.ada_program.specs.declared.program.TypeDefinition.{TypeDefinition}
 use Rattle.ada_program.specs.declared.program.Exception.{Exception}
 use Rattle.ada_program.specs.declared.program.Exception.TheVariants.{ConstraintError, EndError}
 use Rattle.ada_program.specs.declared.program.VariableKind.{VariableKind}
 use Rattle.ada_program.specs.declared.program.VariableKind.TheVariants as variable
-use Rattle.ada_program.specs.Form.{ExpressionForm, RightForm, nothing, value_of, allocates, allocates_default, computes, StmtForm, skips, assigns, assigns_record, frees, gets, writes, writes_text, chooses, repeats, counts, exits, calls, returns, raises, encloses, StmtsForm, a_stmt, BranchesForm, otherwise, a_branch, HandlersForm}
+use Rattle.ada_program.specs.Form.{ExpressionForm, RightForm, nothing, value_of, allocates, allocates_default, computes, StmtForm, skips, assigns, assigns_record, frees, gets, writes, writes_text, chooses, repeats, counts, exits, calls, returns, raises, encloses, StmtsForm, a_stmt, BranchesForm, otherwise, a_branch}
 use Rattle.ada_program.specs.ProgramForm.{BodyForm}
-use Rattle.ada_program.specs.Handling.{is_same, is_taken}
+use Rattle.ada_program.specs.Handling.{is_same}
 use Rattle.ada_program.specs.WellFormed.{variable_kind, selectors_kind, selected_kind}
 use Rattle.ada_effects.specs.Effects.{no_calls, no_implicit, untaken, path_raises, expression_raises, condition_raises, right_raises, right_starts, declarations_raise, stmt_raises, stmts_raise, branches_raise, handlers_raise}
 use Rattle.ada_flow.specs.Flow.{has_exit, have_exit, branches_have_exit, handlers_have_exit}
@@ -19,7 +19,7 @@ use Rattle.ada_meaning.specs.declared.state.Value.TheVariants.{Null, Names}
 use Rattle.ada_meaning.specs.declared.state.Mode.{Mode}
 use Rattle.ada_meaning.specs.declared.state.Mode.TheVariants.{Running, Raising, Exiting, Returning}
 use Rattle.ada_meaning.specs.Event.{Quiet}
-use Rattle.ada_meaning.specs.Frame.{Does, Decides, Repeats, Ranges, Exits, Handles, Closes, Evaluates, Computes, Stores, Targets, Receives, Writes}
+use Rattle.ada_meaning.specs.Frame.{Does, Decides, Repeats, Ranges, Exits, Evaluates, Computes, Stores, Targets, Receives, Writes}
 use Rattle.ada_meaning.specs.State.{Activation, Master}
 use Rattle.ada_meaning.specs.Step.{assign_next, gets_next, branches_next, exit_next, stmt_next}
 use Rattle.ada_meaning.specs.Named.{State, Next, named, whole}
@@ -29,8 +29,8 @@ use Rattle.ada_owners.proofs.Objects.{read_other}
 use Rattle.ada_quiet.specs.Quiet.{is_near, holds_elementary, is_quiet_path, is_quiet_expression, is_quiet_condition, is_quiet_right, are_quiet_declarations, is_quiet_stmt, are_quiet, are_quiet_branches, are_quiet_handlers}
 use Rattle.ada_sound.proofs.Fits.{place_at}
 use Rattle.ada_sound.proofs.Invariant.{Control}
-use Rattle.ada_sound.proofs.Raising.{or_left, or_right, both, same_here, same_is, stmts_more}
-use Rattle.ada_sound.proofs.OperationStarts.{apart}
+use Rattle.ada_sound.proofs.Raising.{or_left, or_right, same_here}
+use Rattle.ada_sound.proofs.OperationStarts.{apart, block_stays}
 use Rattle.ada_sound.proofs.Operating.{Sight, IsScalar, AreScalars, StaysIn, IsInLoop, Contains, GoesIn, Holds, AllHold, RunsIn, ChoosesIn, EvaluatesIn, Quietly, Finds, Comes, Body}
 use Rattle.ada_sound.proofs.OperationSteps as steps
 use Rattle.ada_sound.proofs.OperationSteps.{acting, IsMild, After, GoesOnIn}
@@ -54,14 +54,6 @@ put_holds sight places x v e is holds y = go (same_or_not y x)
     go : (y ≡ x) ⊎ (y ≢ x) → Holds sight (variable_kind sight.program.variables y) (place_at (slice_set places x v) y)
     go (inl same) = rw same (elim (put_at places x v) [ inl now ↦ rw now (scalar_holds sight (variable_kind sight.program.variables x) v e is) | inr before ↦ rw before (holds x) ])
     go (inr ne) = rw (read_other places x y v Null ne) (holds y)
-
--- What a block raises its handlers take, or those around it.
-block_stays : (fs : StmtsForm) (hs : HandlersForm) (k : Control) → ((e : Exception) → stmts_raise no_calls (untaken hs (is_same e)) fs ≡ true → StaysIn e k) → (e : Exception) → stmts_raise no_calls (is_same e) fs ≡ true → StaysIn e (Handles hs ∷ Closes ∷ k)
-block_stays fs hs k passes e may = by (is_taken hs e) refl
-  where
-    by : (is : Bool) → is_taken hs e ≡ is → (is_taken hs e ≡ true) ⊎ StaysIn e k
-    by true is = inl is
-    by false is = inr (passes e (stmts_more no_calls tt fs (is_same e) (untaken hs (is_same e)) (λ f same. both (is_same e f) (not (is_taken hs f)) same (rw (← same_is e f same, is) refl)) may))
 
 module _ (sight : Sight) (procedure : ℕ) (rest : List (Activation Value)) (lower : List Master) (behind : Control) (tds : List TypeDefinition) (bodies : List BodyForm) (s : State) (ms : List Master) (places vs : List Value) (k : Control) (mode : Mode) (whole_control : Control) (waiting : List Value) (body : Body sight behind ms s.heap places waiting mode whole_control) (q : Quietly sight behind ms k) (all : AreScalars vs) where
   abbrev pub now : State
@@ -102,7 +94,7 @@ module _ (sight : Sight) (procedure : ℕ) (rest : List (Activation Value)) (low
     mild = tt;
   }
 
-  jumps_on : (m : Mode) → GoesIn m k → After sight procedure rest lower behind s.heap Quiet (record now { mode = m; activations = acting sight procedure rest lower behind places [] ∷ rest })
+  jumps_on : (m : Mode) → GoesIn sight m k → After sight procedure rest lower behind s.heap Quiet (record now { mode = m; activations = acting sight procedure rest lower behind places [] ∷ rest })
   jumps_on m goes = on Quiet _ [] tt refl refl refl (inl (tt, goes, q))
 
   -- The object is found in which a component is to get something.
@@ -121,7 +113,7 @@ module _ (sight : Sight) (procedure : ℕ) (rest : List (Activation Value)) (low
   assigns_on (c ∷ d ∷ cs) zero right e into there = absurd (cc e)
   assigns_on (c ∷ cs) (suc x) right e into there = absurd (cc e)
 
-  gets_on : (selectors : List ℕ) (root : ℕ) (input : List ℤ) → (is_near root selectors && holds_elementary (selectors_kind sight.program.types (variable_kind sight.program.variables root) selectors)) ≡ true → StaysIn EndError k → Fine (gets_next named selectors root input now)
+  gets_on : (selectors : List ℕ) (root : ℕ) (input : List ℤ) → (is_near root selectors && holds_elementary (selectors_kind sight.program.types (variable_kind sight.program.variables root) selectors)) ≡ true → StaysIn sight EndError k → Fine (gets_next named selectors root input now)
   gets_on [] root [] e stays = jumps_on (Raising EndError) stays
   gets_on [] root (i ∷ is) e stays = puts_on root (named.integer i) _ e tt refl refl refl (inl (all, tt, q))
   gets_on (c ∷ []) zero input e stays =
@@ -150,7 +142,7 @@ module _ (sight : Sight) (procedure : ℕ) (rest : List (Activation Value)) (low
 -- What is left of the statements that this one begins.
 abbrev pub IsFirst : Sight → StmtForm → Control → Type 0
 IsFirst sight f k =
-    (is_quiet_stmt sight.program.types sight.program.variables f ≡ true) × ((e : Exception) → stmt_raises no_calls (is_same e) f ≡ true → StaysIn e k)
+    (is_quiet_stmt sight.program.types sight.program.variables f ≡ true) × ((e : Exception) → stmt_raises no_calls (is_same e) f ≡ true → StaysIn sight e k)
     × (has_exit f ≡ true → IsInLoop k)
 
 -- A statement, and those behind it.
@@ -174,11 +166,11 @@ module _ (sight : Sight) (procedure : ℕ) (rest : List (Activation Value)) (low
   next_is : (e : Event) (after : State) (ws : List Value) (j : Control) → IsMild sight procedure rest lower behind e → after.activations ≡ acting sight procedure rest lower behind places ws ∷ rest → after.masters ≡ ms ++ lower → after.heap ≡ s.heap → after.mode ≡ Running → after.control ≡ j → AreScalars ws → Quietly sight behind ms j → After sight procedure rest lower behind s.heap e after
   next_is = to sight procedure rest lower behind tds bodies s ms places vs k mode whole_control waiting body q all
 
-  exits_on : (condition : Option ExpressionForm) → is_quiet_condition sight.program.types sight.program.variables condition ≡ true → Contains (condition_raises condition) k → IsInLoop k → Goes (exit_next named condition begun)
+  exits_on : (condition : Option ExpressionForm) → is_quiet_condition sight.program.types sight.program.variables condition ≡ true → Contains sight (condition_raises condition) k → IsInLoop k → Goes (exit_next named condition begun)
   exits_on None quiet stays inside = jumps_on sight procedure rest lower behind tds bodies s ms places vs k mode whole_control waiting body q all Exiting inside
   exits_on (Some e) quiet stays inside = next_is Quiet _ vs (Computes e ∷ Exits ∷ k) tt refl refl refl refl refl all ((quiet, stays), (inside, q))
 
-  right_on : (right : RightForm) (j : Control) → is_quiet_right sight.program.types sight.program.variables right ≡ true → ((e : Exception) → right_raises (is_same e) right ≡ true → StaysIn e j) → EvaluatesIn sight right j
+  right_on : (right : RightForm) (j : Control) → is_quiet_right sight.program.types sight.program.variables right ≡ true → ((e : Exception) → right_raises (is_same e) right ≡ true → StaysIn sight e j) → EvaluatesIn sight right j
   right_on nothing j quiet stays = absurd (cc quiet)
   right_on (value_of path) j quiet stays = absurd (cc quiet)
   right_on (allocates access items) j quiet stays = absurd (cc quiet)
@@ -189,7 +181,7 @@ module _ (sight : Sight) (procedure : ℕ) (rest : List (Activation Value)) (low
   stmt_on skips (quiet, stays, out) = runs Quiet _ vs tt refl refl refl (inl (all, tt, q))
   stmt_on (assigns target right) (quiet, stays, out) =
       let two = apart (is_quiet_path sight.program.types sight.program.variables target) (is_quiet_right sight.program.types sight.program.variables right) quiet in
-      let raised : (e : Exception) → right_raises (is_same e) right ≡ true → StaysIn e k = λ e may. stays e (or_left ((is_same e ConstraintError && path_raises target) || right_raises (is_same e) right) (right_starts no_implicit (is_same e) right) (or_right (is_same e ConstraintError && path_raises target) (right_raises (is_same e) right) may)) in
+      let raised : (e : Exception) → right_raises (is_same e) right ≡ true → StaysIn sight e k = λ e may. stays e (or_left ((is_same e ConstraintError && path_raises target) || right_raises (is_same e) right) (right_starts no_implicit (is_same e) right) (or_right (is_same e ConstraintError && path_raises target) (right_raises (is_same e) right) may)) in
       assigns_on sight procedure rest lower behind tds bodies s ms places vs k mode whole_control waiting body q all target.selectors target.root right two.0
       (right_on right k two.1 raised) (right_on right (Stores target.root ∷ k) two.1 raised)
   stmt_on (assigns_record target items) (quiet, stays, out) = absurd (cc quiet)
@@ -214,7 +206,7 @@ module _ (sight : Sight) (procedure : ℕ) (rest : List (Activation Value)) (low
       let one = apart (holds_elementary (variable_kind sight.program.variables x) && is_quiet_expression sight.program.types sight.program.variables low && is_quiet_expression sight.program.types sight.program.variables high) (are_quiet sight.program.types sight.program.variables fs) quiet in
       let two = apart (holds_elementary (variable_kind sight.program.variables x) && is_quiet_expression sight.program.types sight.program.variables low) (is_quiet_expression sight.program.types sight.program.variables high) one.0 in
       let three = apart (holds_elementary (variable_kind sight.program.variables x)) (is_quiet_expression sight.program.types sight.program.variables low) two.0 in
-      let bounds : (expression_raises low || expression_raises high) ≡ true → StaysIn ConstraintError k = λ may. stays ConstraintError (or_left (expression_raises low || expression_raises high) (stmts_raise no_calls (is_same ConstraintError) fs) may) in
+      let bounds : (expression_raises low || expression_raises high) ≡ true → StaysIn sight ConstraintError k = λ may. stays ConstraintError (or_left (expression_raises low || expression_raises high) (stmts_raise no_calls (is_same ConstraintError) fs) may) in
       next_is Quiet _ vs (Computes low ∷ Computes high ∷ Ranges x fs ∷ k) tt refl refl refl refl refl all (
         (three.1, λ may. bounds (or_left (expression_raises low) (expression_raises high) may)),
         (
@@ -250,7 +242,7 @@ module _ (sight : Sight) (procedure : ℕ) (rest : List (Activation Value)) (low
               (
                 two.0,
                 (λ e may. stays e (or_left (declarations_raise no_implicit (is_same e) ds || stmts_raise no_calls (untaken hs (is_same e)) fs) (handlers_raise no_calls (is_same e) hs) (or_left (declarations_raise no_implicit (is_same e) ds) (stmts_raise no_calls (untaken hs (is_same e)) fs) may))),
-                (two.1, block_stays fs hs k (λ e may. stays e (or_left (declarations_raise no_implicit (is_same e) ds || stmts_raise no_calls (untaken hs (is_same e)) fs) (handlers_raise no_calls (is_same e) hs) (or_right (declarations_raise no_implicit (is_same e) ds) (stmts_raise no_calls (untaken hs (is_same e)) fs) may))), λ o. out (or_left (have_exit fs) (handlers_have_exit hs) o)),
+                (two.1, block_stays sight fs hs k (λ e may. stays e (or_left (declarations_raise no_implicit (is_same e) ds || stmts_raise no_calls (untaken hs (is_same e)) fs) (handlers_raise no_calls (is_same e) hs) (or_right (declarations_raise no_implicit (is_same e) ds) (stmts_raise no_calls (untaken hs (is_same e)) fs) may))), λ o. out (or_left (have_exit fs) (handlers_have_exit hs) o)),
                 (one.1, (λ e may. stays e (or_right (declarations_raise no_implicit (is_same e) ds || stmts_raise no_calls (untaken hs (is_same e)) fs) (handlers_raise no_calls (is_same e) hs) may)), λ o. out (or_right (have_exit fs) (handlers_have_exit hs) o)),
               ),
               q,

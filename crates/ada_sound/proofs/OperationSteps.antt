@@ -1,4 +1,5 @@
--- The body of a quiet operation takes a step (7.6): it reads and writes Integers and Booleans alone, and what it raises its handlers take.
+-- The body of an operation takes a step (7.6): it reads and writes Integers and Booleans alone, and what it raises its handlers take, or
+-- comes out of it.
 
 use Rattle.std.proofs.Common.{◌≡◌, ℕ, zero, suc, ◌+◌, Bool, true, List, [], ◌∷◌, ◌++◌, refl, ◌⊎◌, inl}
 use Rattle.std.specs.Prelude.{Option, Some, None, Result, Ok, Err, ◌&&◌}
@@ -29,8 +30,7 @@ use Rattle.ada_quiet.specs.Quiet.{is_near, holds_elementary, is_quiet_expression
 use Rattle.ada_sound.proofs.Fits.{place_at}
 use Rattle.ada_sound.proofs.Invariant.{Control}
 use Rattle.ada_sound.proofs.Raising.{RaisesOnly, or_left, or_right}
-use Rattle.ada_sound.proofs.OperationCalls.{found_by}
-use Rattle.ada_sound.proofs.OperationStarts.{apart}
+use Rattle.ada_sound.proofs.OperationStarts.{apart, found_by}
 use Rattle.ada_sound.proofs.Operating.{Sight, IsScalar, AreScalars, StaysIn, Contains, Holds, Quietly, Comes, Body}
 
 module _ (sight : Sight) (procedure : ℕ) (rest : List (Activation Value)) (lower : List Master) (behind : Control) where
@@ -122,7 +122,7 @@ module _ (sight : Sight) (procedure : ℕ) (rest : List (Activation Value)) (low
     computes_on e v vs mild is all = on e (now (v ∷ vs)) (v ∷ vs) mild refl refl refl (inl ((is, all), tt, q))
 
     -- Constraint_Error is raised, and taken.
-    pub raises_on : (vs : List Value) → StaysIn ConstraintError k → After s.heap Quiet (raised ConstraintError (now vs))
+    pub raises_on : (vs : List Value) → StaysIn sight ConstraintError k → After s.heap Quiet (raised ConstraintError (now vs))
     raises_on vs stays = on Quiet (raised ConstraintError (now vs)) [] tt refl refl refl (inl (tt, stays, q))
 
     -- The object is found.
@@ -157,7 +157,7 @@ module _ (sight : Sight) (procedure : ℕ) (rest : List (Activation Value)) (low
     reads_on vs all (suc x) (c ∷ cs) e = absurd (cc e)
 
     -- An expression is evaluated next.
-    pub expression_on : (vs : List Value) → AreScalars vs → (e : ExpressionForm) → is_quiet_expression sight.program.types sight.program.variables e ≡ true → Contains (expression_raises e) k → GoesOnIn s.heap (expression_next named e (now vs))
+    pub expression_on : (vs : List Value) → AreScalars vs → (e : ExpressionForm) → is_quiet_expression sight.program.types sight.program.variables e ≡ true → Contains sight (expression_raises e) k → GoesOnIn s.heap (expression_next named e (now vs))
     expression_on vs all (integer i) quiet stays = computes_on Quiet (named.integer i) vs tt tt all
     expression_on vs all (boolean b) quiet stays = computes_on Quiet (named.boolean b) vs tt tt all
     expression_on vs all (reads path) quiet stays = reads_on vs all path.root path.selectors quiet
@@ -171,7 +171,7 @@ module _ (sight : Sight) (procedure : ℕ) (rest : List (Activation Value)) (low
         ((both.0, λ may. stays (or_left (expression_raises e) (links_raise links) may)), ((both.1, λ may. stays (or_right (expression_raises e) (links_raise links) may)), q))
 
     -- An operator gives a value, or raises Constraint_Error.
-    pub outcome_on : (vs : List Value) → AreScalars vs → (may : Bool) → Contains may k → (r : Result Value OperatorFault) → ((v : Value) → r ≡ Ok v → IsScalar v) → RaisesOnly may r → GoesOnIn s.heap (outcome_next named r (now vs))
+    pub outcome_on : (vs : List Value) → AreScalars vs → (may : Bool) → Contains sight may k → (r : Result Value OperatorFault) → ((v : Value) → r ≡ Ok v → IsScalar v) → RaisesOnly may r → GoesOnIn s.heap (outcome_next named r (now vs))
     outcome_on vs all may stays (Ok v) is only = computes_on Quiet v vs tt (is v refl) all
     outcome_on vs all may stays (Err Overflow) is only = raises_on vs (stays only)
     outcome_on vs all may stays (Err DivisionByZero) is only = raises_on vs (stays only)

@@ -1,4 +1,5 @@
--- What overrides an operation is quiet (7.6): so it creates no collection and no record object, calls nothing, and lets no exception out.
+-- What overrides an operation is plain (7.6): so it creates no collection and no record object, and calls nothing. What overrides Adjust or Finalize is quiet: it
+-- lets no exception out either.
 
 use Rattle.std.proofs.Common.{◌≡◌, ℕ, zero, suc, ◌+◌, Bool, true, false, ◌&&◌, if◌then◌else◌, List, [], ◌∷◌, ◌++◌, length, map, refl, sym, ap, ◌∙◌, arith, length-append, ◌⊎◌, inl, inr}
 use Rattle.std.specs.Prelude.{Option, Some, None, not, find}
@@ -20,10 +21,11 @@ use Rattle.ada_effects.specs.Effects.{no_calls, body_raises}
 use Rattle.ada_flow.specs.Flow.{have_exit, handlers_have_exit}
 use Rattle.ada_typed.proofs.Bodies.{seen_as, seen_fits}
 use Rattle.ada_scopes.specs.Scopes.{NestsAnywhere, AllNestAnywhere, OperationsNest}
-use Rattle.ada_quiet.specs.Quiet.{is_quiet_stmt, are_quiet, are_quiet_branches, are_quiet_handlers, are_quiet_declarations, is_quiet_body, is_quiet_procedure, is_quiet_operation, has_quiet_operations, adjusts_access, operations_are_quiet}
+use Rattle.ada_quiet.specs.Quiet.{is_quiet_stmt, are_quiet, are_quiet_branches, are_quiet_handlers, are_quiet_declarations, is_plain_body, is_plain_procedure, is_quiet_procedure, is_plain_operation, is_quiet_operation, uses_operations, adjusts_access, operations_are_in_use}
+use Rattle.ada_quiet.proofs.InUse.{plain_procedure, plain_operation}
 use Rattle.ada_sound.proofs.Exits.{no_exits, no_exit_handlers}
 use Rattle.ada_sound.proofs.OperationStarts.{apart}
-use Rattle.ada_sound.proofs.Operating.{QuietBody}
+use Rattle.ada_sound.proofs.Operating.{PlainBody}
 
 -- Quiet statements create nothing but Integers and Booleans.
 module _ (types : List TypeForm) (variables : List VariableForm) where
@@ -74,15 +76,10 @@ module _ (types : List TypeForm) (variables : List VariableForm) where
       handlers_are around no_handlers quiet = refl
       handlers_are around (a_handler choices fs hs) quiet = let both = apart _ _ quiet in rw (stmts_are around fs both.0, handlers_are around hs both.1) refl
 
--- What is known of a quiet body.
-no_no : (b : Bool) → not b ≡ true → b ≡ false
-no_no true e = absurd (cc e)
-no_no false e = refl
-
-quiet_is : (types : List TypeForm) (b : BodyForm) → is_quiet_body types b ≡ true → have_exit b.statements ≡ false → handlers_have_exit b.handlers ≡ false → QuietBody types b
-quiet_is types b quiet out on =
-    let five = apart _ _ quiet in
-    let four = apart _ _ five.0 in
+-- What is known of a plain body.
+plain_is : (types : List TypeForm) (b : BodyForm) → is_plain_body types b ≡ true → have_exit b.statements ≡ false → handlers_have_exit b.handlers ≡ false → PlainBody types b
+plain_is types b plain out on =
+    let four = apart _ _ plain in
     let three = apart _ _ four.0 in
     let two = apart _ _ three.0 in
     record {
@@ -90,15 +87,13 @@ quiet_is types b quiet out on =
       declarations = two.1;
       statements = three.1;
       handlers = four.1;
-      raises_nothing = no_no (body_raises no_calls b (λ e. true)) five.1;
       none_out = out;
       none_on = on;
     }
 
-body_is : (types : List TypeForm) (callees : Callees) (b : BodyForm) (around : List ℕ) → is_quiet_body types b ≡ true → body_nests types callees b around ≡ true
-body_is types callees b around quiet =
-    let five = apart _ _ quiet in
-    let four = apart _ _ five.0 in
+body_is : (types : List TypeForm) (callees : Callees) (b : BodyForm) (around : List ℕ) → is_plain_body types b ≡ true → body_nests types callees b around ≡ true
+body_is types callees b around plain =
+    let four = apart _ _ plain in
     let three = apart _ _ four.0 in
     let two = apart _ _ three.0 in
     rw (
@@ -107,39 +102,72 @@ body_is types callees b around quiet =
       handlers_are types b.variables callees (collected b.declarations ++ around) b.handlers four.1,
     ) refl
 
--- A procedure overrides one of these operations.
+-- A quiet body raises nothing.
+no_no : (b : Bool) → not b ≡ true → b ≡ false
+no_no true e = absurd (cc e)
+no_no false e = refl
+
+-- A procedure overrides Adjust or Finalize, or one of the three.
+abbrev pub OverridesLater : Operations → ℕ → Type 0
+OverridesLater o number = (procedure_number o.adjust ≡ Some number) ⊎ (procedure_number o.finalize ≡ Some number)
+
 abbrev pub Overrides : Operations → ℕ → Type 0
-Overrides o number =
-    (procedure_number o.initialize ≡ Some number) ⊎ ((procedure_number o.adjust ≡ Some number) ⊎ (procedure_number o.finalize ≡ Some number))
+Overrides o number = (procedure_number o.initialize ≡ Some number) ⊎ OverridesLater o number
 
 module _ (p : ProgramForm) where
+  abbrev IsPlain : ℕ → Type 0
+  IsPlain number = is_plain_procedure p.types (slice_get p.bodies number) ≡ true
+
   abbrev IsQuiet : ℕ → Type 0
   IsQuiet number = is_quiet_procedure p.types (slice_get p.bodies number) ≡ true
+
+  -- What overrides one of these operations is plain, and it is quiet unless that is Initialize alone.
+  abbrev AreUsed : Operations → ℕ → Type 0
+  AreUsed o number = (Overrides o number → IsPlain number) × (OverridesLater o number → IsQuiet number)
+
+  plain_one : (o : Option ProcedureNo) (number : ℕ) → is_plain_operation p o ≡ true → procedure_number o ≡ Some number → IsPlain number
+  plain_one None number plain is = absurd (cc is)
+  plain_one (Some procedure) number plain is = let same : procedure.0 ≡ number = cc is in rw same at plain
 
   quiet_one : (o : Option ProcedureNo) (number : ℕ) → is_quiet_operation p o ≡ true → procedure_number o ≡ Some number → IsQuiet number
   quiet_one None number quiet is = absurd (cc is)
   quiet_one (Some procedure) number quiet is = let same : procedure.0 ≡ number = cc is in rw same at quiet
 
-  quiet_three : (f : Option Finalization) (number : ℕ) → has_quiet_operations p f ≡ true → Overrides (operations_in f) number → IsQuiet number
-  quiet_three None number quiet (inl is) = absurd (cc is)
-  quiet_three None number quiet (inr (inl is)) = absurd (cc is)
-  quiet_three None number quiet (inr (inr is)) = absurd (cc is)
-  quiet_three (Some f) number quiet (inl is) = quiet_one f.operations.initialize number (apart _ _ (apart _ _ quiet).0).0 is
-  quiet_three (Some f) number quiet (inr (inl is)) = quiet_one f.operations.adjust number (apart _ _ (apart _ _ quiet).0).1 is
-  quiet_three (Some f) number quiet (inr (inr is)) = quiet_one f.operations.finalize number (apart _ _ quiet).1 is
+  later_used : (f : Finalization) (number : ℕ) → uses_operations p (Some f) ≡ true → OverridesLater f.operations number → IsQuiet number
+  later_used f number uses (inl is) = quiet_one f.operations.adjust number (apart _ _ (apart _ _ uses).0).1 is
+  later_used f number uses (inr is) = quiet_one f.operations.finalize number (apart _ _ uses).1 is
 
-  quiet_by : (t : TypeDefinition) (number : ℕ) → has_quiet_operations p (finalization_in (Some (type_form t))) ≡ true → Overrides (operations_by (Some t)) number → IsQuiet number
-  quiet_by (definition.Record name parts components finalization) number quiet is = quiet_three finalization number quiet is
-  quiet_by (definition.Access name designated pool) number quiet is = quiet_three None number quiet is
-  quiet_by (definition.Object record_type) number quiet is = quiet_three None number quiet is
+  one_used : (f : Finalization) (number : ℕ) → uses_operations p (Some f) ≡ true → Overrides f.operations number → IsPlain number
+  one_used f number uses (inl is) = plain_one f.operations.initialize number (apart _ _ (apart _ _ uses).0).0 is
+  one_used f number uses (inr later) = plain_procedure p.types (slice_get p.bodies number) (later_used f number uses later)
 
-  quiet_found : (test : TypeDefinition → Bool) (types : List TypeDefinition) (number : ℕ) → list_all (λ t. has_quiet_operations p (finalization_in (Some t)) && not (adjusts_access p t)) (map type_form types) ≡ true → Overrides (operations_by (find test types)) number → IsQuiet number
-  quiet_found test [] number quiet is = quiet_three None number refl is
-  quiet_found test (t ∷ types) number quiet is = by (test t) is (quiet_found test types number (apart _ _ quiet).1)
+  none_used : (number : ℕ) → AreUsed (operations_in None) number
+  none_used number = (none, later)
     where
-      by : (here : Bool) → Overrides (operations_by (if here then Some t else find test types)) number → (Overrides (operations_by (find test types)) number → IsQuiet number) → IsQuiet number
-      by true is' later = quiet_by t number (apart _ _ (apart _ _ quiet).0).0 is'
-      by false is' later = later is'
+      later : OverridesLater (operations_in None) number → IsQuiet number
+      later (inl is) = absurd (cc is)
+      later (inr is) = absurd (cc is)
+
+      none : Overrides (operations_in None) number → IsPlain number
+      none (inl is) = absurd (cc is)
+      none (inr is) = plain_procedure p.types (slice_get p.bodies number) (later is)
+
+  three_used : (f : Option Finalization) (number : ℕ) → uses_operations p f ≡ true → AreUsed (operations_in f) number
+  three_used None number uses = none_used number
+  three_used (Some f) number uses = (one_used f number uses, later_used f number uses)
+
+  used_by : (t : TypeDefinition) (number : ℕ) → uses_operations p (finalization_in (Some (type_form t))) ≡ true → AreUsed (operations_by (Some t)) number
+  used_by (definition.Record name parts components finalization) number uses = three_used finalization number uses
+  used_by (definition.Access name designated pool) number uses = none_used number
+  used_by (definition.Object record_type) number uses = none_used number
+
+  used_found : (test : TypeDefinition → Bool) (types : List TypeDefinition) (number : ℕ) → list_all (λ t. uses_operations p (finalization_in (Some t)) && not (adjusts_access p t)) (map type_form types) ≡ true → AreUsed (operations_by (find test types)) number
+  used_found test [] number uses = none_used number
+  used_found test (t ∷ types) number uses = by (test t) (used_found test types number (apart _ _ uses).1)
+    where
+      by : (here : Bool) → AreUsed (operations_by (find test types)) number → AreUsed (operations_by (if here then Some t else find test types)) number
+      by true later = used_by t number (apart _ _ (apart _ _ uses).0).0
+      by false later = later
 
   -- What overrides is there.
   there_by : (t number : ℕ) (found : Option BodyForm) → slice_get p.bodies number ≡ found → is_operation p.types t (option_map profile_of found) ≡ true → (b : BodyForm) × (slice_get p.bodies number ≡ Some b)
@@ -178,45 +206,54 @@ module _ (p : ProgramForm) where
       let at : length more + i ≡ length before + suc i = omega (arith, length-append before (body_nests p.types before c ∷ [])) in
       (later.0, rw at at later.1)
 
-  nests_there : (number : ℕ) (b : BodyForm) → slice_get p.bodies number ≡ Some b → IsQuiet number → (around : List ℕ) → call_nests (slice_get (callees_of p) number) around ≡ true
-  nests_there number b there quiet around =
+  nests_there : (number : ℕ) (b : BodyForm) → slice_get p.bodies number ≡ Some b → IsPlain number → (around : List ℕ) → call_nests (slice_get (callees_of p) number) around ≡ true
+  nests_there number b there plain around =
       let c = callee_is [] p.bodies number b there in
       let at : zero + number ≡ number = omega arith in
       let found : slice_get (callees_of p) number ≡ Some (body_nests p.types c.0 b) = rw at at c.1 in
-      rw found (body_is p.types c.0 b around (rw there at quiet))
+      rw found (body_is p.types c.0 b around (rw there at plain))
 
-  nests_one : (t : ℕ) (o : Option ProcedureNo) → overrides_rightly p.types (callable_in p) t o ≡ true → is_quiet_operation p o ≡ true → NestsAnywhere (callees_of p) o
-  nests_one t None right quiet = tt
-  nests_one t (Some procedure) right quiet =
+  nests_one : (t : ℕ) (o : Option ProcedureNo) → overrides_rightly p.types (callable_in p) t o ≡ true → is_plain_operation p o ≡ true → NestsAnywhere (callees_of p) o
+  nests_one t None right plain = tt
+  nests_one t (Some procedure) right plain =
       let b = there_one t (Some procedure) procedure.0 right refl in
-      nests_there procedure.0 b.0 b.1 quiet
+      nests_there procedure.0 b.0 b.1 plain
 
-  nests_three : (t : ℕ) (f : Option Finalization) → has_operations p.types (callable_in p) t f ≡ true → has_quiet_operations p f ≡ true → AllNestAnywhere (callees_of p) (operations_in f)
-  nests_three t None right quiet = (tt, tt, tt)
-  nests_three t (Some f) right quiet =
+  nests_three : (t : ℕ) (f : Option Finalization) → has_operations p.types (callable_in p) t f ≡ true → uses_operations p f ≡ true → AllNestAnywhere (callees_of p) (operations_in f)
+  nests_three t None right uses = (tt, tt, tt)
+  nests_three t (Some f) right uses =
       let two = apart _ _ right in
       let three = apart _ _ two.0 in
-      let quiet_two = apart _ _ quiet in
-      let quiet_three = apart _ _ quiet_two.0 in
-      (nests_one t f.operations.initialize three.0 quiet_three.0, nests_one t f.operations.adjust three.1 quiet_three.1, nests_one t f.operations.finalize two.1 quiet_two.1)
+      let uses_two = apart _ _ uses in
+      let uses_three = apart _ _ uses_two.0 in
+      (nests_one t f.operations.initialize three.0 uses_three.0, nests_one t f.operations.adjust three.1 (plain_operation p f.operations.adjust uses_three.1), nests_one t f.operations.finalize two.1 (plain_operation p f.operations.finalize uses_two.1))
 
-  nests_at : (ts : List TypeForm) (n i : ℕ) → have_operations p.types (callable_in p) n ts ≡ true → list_all (λ t. has_quiet_operations p (finalization_in (Some t)) && not (adjusts_access p t)) ts ≡ true → AllNestAnywhere (callees_of p) (operations_in (finalization_in (slice_get ts i)))
-  nests_at [] n i right quiet = (tt, tt, tt)
-  nests_at (t ∷ ts) n zero right quiet = nests_three n (finalization_in (Some t)) (apart _ _ right).0 (apart _ _ (apart _ _ quiet).0).0
-  nests_at (t ∷ ts) n (suc i) right quiet = nests_at ts (1 + n) i (apart _ _ right).1 (apart _ _ quiet).1
+  nests_at : (ts : List TypeForm) (n i : ℕ) → have_operations p.types (callable_in p) n ts ≡ true → list_all (λ t. uses_operations p (finalization_in (Some t)) && not (adjusts_access p t)) ts ≡ true → AllNestAnywhere (callees_of p) (operations_in (finalization_in (slice_get ts i)))
+  nests_at [] n i right uses = (tt, tt, tt)
+  nests_at (t ∷ ts) n zero right uses = nests_three n (finalization_in (Some t)) (apart _ _ right).0 (apart _ _ (apart _ _ uses).0).0
+  nests_at (t ∷ ts) n (suc i) right uses = nests_at ts (1 + n) i (apart _ _ right).1 (apart _ _ uses).1
 
-  pub operations_nest : IsWellFormed p → operations_are_quiet p ≡ true → OperationsNest p
-  operations_nest well quiet t = nests_at p.types 0 t well.operations_fit quiet
+  pub operations_nest : IsWellFormed p → operations_are_in_use p ≡ true → OperationsNest p
+  operations_nest well uses t = nests_at p.types 0 t well.operations_fit uses
 
--- What overrides an operation, by the number of the type among the controlled ones, has a quiet body.
-module _ (program : Program) (well : IsWellFormed (program_form program)) (quiet : operations_are_quiet (program_form program) ≡ true) where
-  pub quiet_body : (of number : ℕ) (b : BodyForm) → Overrides (operations_of program.types.items of) number → slice_get (body_forms program) number ≡ Some b → QuietBody (program_form program).types b
-  quiet_body of number b overrides there =
+-- What overrides an operation, by the number of the type among the controlled ones, has a plain body; what overrides Adjust or Finalize raises nothing.
+module _ (program : Program) (uses : operations_are_in_use (program_form program) ≡ true) where
+  used_of : (of number : ℕ) → AreUsed (program_form program) (operations_of program.types.items of) number
+  used_of of number = used_found (program_form program) (λ t. is_number of (number_by (Some t))) program.types.items number uses
+
+  pub plain_body : IsWellFormed (program_form program) → (of number : ℕ) (b : BodyForm) → Overrides (operations_of program.types.items of) number → slice_get (body_forms program) number ≡ Some b → PlainBody (program_form program).types b
+  plain_body well of number b overrides there =
       let p = program_form program in
-      let quietly : is_quiet_procedure p.types (slice_get p.bodies number) ≡ true = quiet_found p (λ t. is_number of (number_by (Some t))) program.types.items number quiet overrides in
+      let plain : is_plain_procedure p.types (slice_get p.bodies number) ≡ true = (used_of of number).0 overrides in
       let own = seen_in (Some number) p in
       let fits = seen_fits p well (Some number) in
       let seen = seen_as p number b there in
-      quiet_is p.types b (rw there at quietly)
+      plain_is p.types b (rw there at plain)
       (rw seen at (no_exits own.types own.variables own.texts own.exceptions _ own.statements fits.statements_fit))
       (rw seen at (no_exit_handlers own.types own.variables own.texts own.exceptions _ own.handlers fits.handlers_fit))
+
+  pub raises_nothing : (of number : ℕ) (b : BodyForm) → OverridesLater (operations_of program.types.items of) number → slice_get (body_forms program) number ≡ Some b → body_raises no_calls b (λ e. true) ≡ false
+  raises_nothing of number b overrides there =
+      let p = program_form program in
+      let quiet : is_quiet_procedure p.types (slice_get p.bodies number) ≡ true = (used_of of number).1 overrides in
+      no_no (body_raises no_calls b (λ e. true)) (apart _ _ (rw there at quiet)).1

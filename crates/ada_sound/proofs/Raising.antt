@@ -32,7 +32,7 @@ pub or_right : (a b : Bool) → b ≡ true → (a || b) ≡ true
 or_right true b e = refl
 or_right false b e = e
 
-or_map : (a b c d : Bool) → (a ≡ true → c ≡ true) → (b ≡ true → d ≡ true) → (a || b) ≡ true → (c || d) ≡ true
+pub or_map : (a b c d : Bool) → (a ≡ true → c ≡ true) → (b ≡ true → d ≡ true) → (a || b) ≡ true → (c || d) ≡ true
 or_map true b c d f g e = or_left c d (f refl)
 or_map false b c d f g e = or_right c d (g e)
 
@@ -81,7 +81,7 @@ right_more among more m (allocates_default access) is = m StorageError is
 right_more among more m (computes e) is = and_first (among ConstraintError) (expression_raises e) (more ConstraintError) (m ConstraintError) is
 
 -- What is initialized.
-any_more : (among more : Exception → Bool) → IsAmong among more → (es : List Exception) → list_any among es ≡ true → list_any more es ≡ true
+pub any_more : (among more : Exception → Bool) → IsAmong among more → (es : List Exception) → list_any among es ≡ true → list_any more es ≡ true
 any_more among more m [] is = is
 any_more among more m (e ∷ es) is = or_map (among e) (list_any among es) (more e) (list_any more es) (m e) (any_more among more m es) is
 
@@ -176,7 +176,7 @@ mutual
   handlers_more effects all (a_handler choices fs hs) among more m is = or_map (stmts_raise effects among fs) (handlers_raise effects among hs) (stmts_raise effects more fs) (handlers_raise effects more hs) (stmts_more effects all fs among more m) (handlers_more effects all hs among more m) is
 
 -- Of a body, and of all procedures of a program.
-body_more : (effects : Effects) → AllAsk effects.calls → (types : List TypeForm) (b : BodyForm) → AsksEach (effect_of types effects b)
+pub body_more : (effects : Effects) → AllAsk effects.calls → (types : List TypeForm) (b : BodyForm) → AsksEach (effect_of types effects b)
 body_more effects all types b among more m is =
     or_map (declarations_raise effects.implicit among b.declarations || stmts_raise effects (untaken b.handlers among) b.statements) (handlers_raise effects among b.handlers)
     (declarations_raise effects.implicit more b.declarations || stmts_raise effects (untaken b.handlers more) b.statements) (handlers_raise effects more b.handlers)

@@ -2,15 +2,17 @@
 
 use Rattle.std.proofs.Common.{◌≡◌, ℕ, List, [], ◌∷◌, inl, inr}
 use Rattle.std.specs.List.{slice_set}
+use Rattle.ada_program.specs.declared.program.Exception.{Exception}
 use Rattle.ada_flow.specs.declared.rule.Hold.TheVariants as hold
 use Rattle.ada_flow.specs.Flow.{Holds}
 use Rattle.ada_parts.specs.Task.{Task}
 use Rattle.ada_meaning.specs.declared.state.Value.{Value}
-use Rattle.ada_meaning.specs.declared.event.Birth.{Birth}
+use Rattle.ada_meaning.specs.declared.event.Birth.TheVariants.{Creation, Copy, Adjustment}
 use Rattle.ada_meaning.specs.declared.state.Value.TheVariants.{Null, Names, Scalar, Part}
 use Rattle.ada_meaning.specs.declared.state.Mode.{Mode}
 use Rattle.ada_meaning.specs.declared.state.Mode.TheVariants.{Running, Raising, Exiting, Returning}
-use Rattle.ada_meaning.specs.Frame.{Elaborates, Does, Decides, Repeats, Turns, Ranges, Counts, Exits, Handles, Closes, Leaves, Calls, Returns, Evaluates, Computes, TestsNull, Refers, Opens, Continues, Applies, AppliesAlone, Fills, Copies, Stores, StoresIn, StoresRecord, Assigns, Declares, Treats, Writes, Ends, Treatment, begins, ends}
+use Rattle.ada_meaning.specs.Frame as frame
+use Rattle.ada_meaning.specs.Frame.{Frame, Elaborates, Does, Decides, Repeats, Turns, Ranges, Counts, Exits, Handles, Closes, Leaves, Calls, Returns, Evaluates, Computes, TestsNull, Refers, Opens, Continues, Applies, AppliesAlone, Fills, Copies, Stores, StoresIn, StoresRecord, Assigns, Declares, Treats, Writes, Ends, Treatment, begins, ends}
 use Rattle.ada_meaning.specs.Event.{Quiet}
 use Rattle.ada_meaning.specs.State.{Activation, Master}
 use Rattle.ada_meaning.specs.Step.{first_or, older, jumping, treating}
@@ -20,7 +22,7 @@ use Rattle.ada_sound.proofs.Items.{NoMaster}
 use Rattle.ada_sound.proofs.Fits.{MayFollow, weaker_fit, spare_fit, put_lost, going}
 use Rattle.ada_sound.proofs.Orderings.{AsGood}
 use Rattle.ada_sound.proofs.Alters.{alters_same}
-use Rattle.ada_sound.proofs.Invariant.{StoresOn, Caller, below_callers, below, at_end, nowhere, Known, Control, Rooms, Roomed, To, RunsOn, RunsBehind, GoesOn, RaisesAt, CopiesTo, PassesTo, Awaits, IsHolder, Working, Parting, HalfBy, Resumes, NamesTo, BegunTo, EndsTo, StoresBehind, CopiesBehind, TreatsBy, ReadyIn, Ready, Says, Stepped, By, innermost, ways}
+use Rattle.ada_sound.proofs.Invariant.{StoresOn, Caller, below_callers, below, at_end, nowhere, Known, Control, Rooms, Roomed, To, RunsOn, RunsBehind, GoesOn, RaisesAt, CopiesTo, PassesTo, Awaits, IsHolder, Working, Parting, HalfBy, Resumes, NamesTo, BegunTo, EndsTo, StoresBehind, CopiesBehind, TreatsBy, RaisesBy, ReadyIn, Ready, Says, Stepped, By, innermost, ways}
 
 -- The state at work on something, with a running activation; and in another mode.
 abbrev pub running : Control → Activation Value → List (Activation Value) → State → State
@@ -84,20 +86,27 @@ module _ (known : Known) where
 
   pub behind_ready : (k : Control) (heap : List Object) (places operands : List Value) (ms : List Master) → Working known heap places ms (RunsBehind known k) → ReadyIn known Running k heap places operands ms
   behind_ready [] heap places operands ms w = runs_ready [] heap places operands ms (at_less w w.rest)
-  behind_ready (Treats v (begins by done) tasks ∷ k) heap places operands ms w = inl (at_less w w.rest)
+  behind_ready (Treats v (begins Creation done) tasks ∷ k) heap places operands ms w = absurd (w.rest)
+  behind_ready (Treats v (begins Copy done) tasks ∷ k) heap places operands ms w = absurd (w.rest)
+  behind_ready (Treats v (begins (Adjustment number) done) tasks ∷ k) heap places operands ms w = (inl (at_less w w.rest), tt)
   behind_ready (Treats v (ends cause) tasks ∷ k) heap places operands ms w = absurd (w.rest)
   behind_ready (f ∷ k) heap places operands ms w = runs_ready (f ∷ k) heap places operands ms (at_less w w.rest)
 
   -- It does so behind the adjustment of a record, or at once, where nothing is to be adjusted.
-  pub treating_behind : (v : Value) (by : Birth) (tasks : List Task) (k : Control) (rooms : Rooms) (holds : Holds) → To (RunsOn known k rooms) holds → RunsBehind known (treating v (begins by []) tasks k) rooms holds
-  treating_behind v by [] k rooms holds r = runs_behind k rooms holds r
-  treating_behind v by (task ∷ tasks) k rooms holds r = r
+  pub treating_behind : (v : Value) (number : ℕ) (tasks : List Task) (k : Control) (rooms : Rooms) (holds : Holds) → To (RunsOn known k rooms) holds → RunsBehind known (treating v (begins (Adjustment number) []) tasks k) rooms holds
+  treating_behind v number [] k rooms holds r = runs_behind k rooms holds r
+  treating_behind v number (task ∷ tasks) k rooms holds r = r
+
+  -- An exception that passes the frames is on its way: nothing that passes them awaits the body of an operation.
+  pub raises_by : (e : Exception) (f : Frame Value) (k : Control) (heap : List Object) (places : List Value) (ms : List Master) → Working known heap places ms (GoesOn known (Raising e) (f ∷ k)) → RaisesBy known e f k heap places ms
+  raises_by e (frame.Awaits v by done of part tasks) k heap places ms w = absurd (w.rest)
+  raises_by e f k heap places ms w = w
 
   -- What is left goes on in a mode.
   pub goes_ready : (mode : Mode) (k : Control) (heap : List Object) (places operands : List Value) (ms : List Master) → Working known heap places ms (GoesOn known mode k) → ReadyIn known mode k heap places operands ms
   goes_ready Running k heap places operands ms w = runs_ready k heap places operands ms w
   goes_ready (Raising e) [] heap places operands ms w = (w.stored, none_left known (Raising e) ms w.rooms w.holds w.roomed w.rest)
-  goes_ready (Raising e) (f ∷ k) heap places operands ms w = w
+  goes_ready (Raising e) (f ∷ k) heap places operands ms w = raises_by e f k heap places ms w
   goes_ready Exiting [] heap places operands ms w = (w.stored, none_left known Exiting ms w.rooms w.holds w.roomed w.rest)
   goes_ready Exiting (f ∷ k) heap places operands ms w = w
   goes_ready Returning [] heap places operands ms w = (w.stored, none_left known Returning ms w.rooms w.holds w.roomed w.rest)
@@ -161,7 +170,7 @@ module _ (known : Known) where
 
   -- An object is treated first, if anything is to be done.
   pub treats_ready : (v : Value) (treatment : Treatment) (tasks : List Task) (k : Control) (heap : List Object) (places operands : List Value) (ms : List Master) → TreatsBy known v treatment k heap places operands ms → ReadyIn known Running (treating v treatment tasks k) heap places operands ms
-  treats_ready v (begins by done) [] k heap places operands ms r = begun_ready k heap places operands ms r
+  treats_ready v (begins by done) [] k heap places operands ms r = begun_ready k heap places operands ms r.0
   treats_ready v (ends cause) [] k heap places operands ms (inl r) = ends_ready v k heap places operands ms r
   treats_ready v (ends cause) [] k heap places operands ms (inr r) = copies_ready k heap places operands ms r
   treats_ready v treatment (task ∷ tasks) k heap places operands ms r = r

@@ -174,7 +174,7 @@ module _ (known : Known) (a : Activation Value) (rest : List (Activation Value))
         let stores = StoresRecord (whole v) (base v) (width_of types t) ∷ adjusts in
         let holder : IsHolder s.heap (whole u) = rw from there in
         let gets : IsPlainIn known s.heap (whole v) (base v) (width_of types t) = rw (width_is known types reaches k a rest s t kinds is, to) plain in
-        let behind = treating_behind known (whole v) (Adjustment s.next) (record_tasks types t PartsFirst (part_base v)) k w.rooms w.holds w.rest in
+        let behind = treating_behind known (whole v) s.next (record_tasks types t PartsFirst (part_base v)) k w.rooms w.holds w.rest in
         stays known Quiet (assigning named types t v u (running k (record a { operands = below }) rest s)) (
           tt,
           treats_ready known (whole v) (ends (Assigning s.next)) (record_tasks types t WholeFirst (part_base v)) (Copies (base u) t ∷ stores) s.heap a.places (whole u ∷ below) s.masters

@@ -1,6 +1,6 @@
 -- Record objects are declared: each is stored at its own item, and its variable owns it.
 
-use Rattle.std.proofs.Common.{◌≡◌, ℕ, zero, suc, Bool, true, false, ◌||◌, List, [], ◌∷◌, length, take, drop, reverse, map, refl, ap, ◌∙◌, inl}
+use Rattle.std.proofs.Common.{◌≡◌, ℕ, zero, suc, Bool, true, false, ◌&&◌, ◌||◌, List, [], ◌∷◌, length, take, drop, reverse, map, refl, ap, ◌∙◌, inl}
 use Rattle.std.proofs.lemmas.Bool.{eqb-true}
 use Rattle.std.specs.Prelude.{Option, Some, None}
 use Rattle.std.specs.List.{list_any, slice_get, slice_index_or, slice_set}
@@ -21,13 +21,14 @@ use Rattle.ada_program.specs.WellFormed.{access_of, held_kind, kind_among, reach
 use Rattle.ada_flow.specs.declared.rule.Hold.{Hold}
 use Rattle.ada_flow.specs.declared.rule.Hold.TheVariants as hold
 use Rattle.ada_flow.specs.declared.rule.Region.TheVariants.{Whole}
-use Rattle.ada_flow.specs.Flow.{Holds, variable_access, is_owning, owns_at_first, declared_at, copies_to, uses_in_items, using_paths, ends_with}
+use Rattle.ada_flow.specs.Flow.{Holds, Gone, left, is_among, variable_access, is_owning, owns_at_first, declared_at, copies_to, uses_in_items, using_paths, ends_with}
 use Rattle.ada_meaning.specs.declared.state.Id.{Id}
 use Rattle.ada_meaning.specs.declared.state.Value.{Value}
 use Rattle.ada_meaning.specs.declared.state.Value.TheVariants.{Null, Names}
 use Rattle.ada_meaning.specs.Event.{Quiet}
 use Rattle.ada_meaning.specs.declared.event.Birth.{Birth}
-use Rattle.ada_meaning.specs.declared.event.Birth.TheVariants.{Creation, Copy}
+use Rattle.ada_meaning.specs.declared.event.Birth.TheVariants.{Creation, Copy, Adjustment}
+use Rattle.ada_meaning.specs.Heap.{Cell}
 use Rattle.ada_meaning.specs.Frame.{Elaborates, Handles, Closes, Fills, DeclaresRecord, begins}
 use Rattle.ada_meaning.specs.State.{Activation, record_object, Master, height}
 use Rattle.ada_meaning.specs.Step.{all_tasks, owning, made, record_next, record_cell, initial_value, initial_values}
@@ -37,16 +38,20 @@ use Rattle.ada_owners.specs.Places.{Place}
 use Rattle.ada_owners.specs.Reliance.{AreInHand}
 use Rattle.ada_owners.proofs.Kernel.{blank}
 use Rattle.ada_sound.proofs.Items.{HasItem}
-use Rattle.ada_sound.proofs.Stored.{stored_new, stored_owning}
+use Rattle.ada_sound.proofs.Stored.{Stored, stored_new, stored_owning}
 use Rattle.ada_typed.specs.Holding.{Cells, HasKind, HaveKinds, cells_of}
 use Rattle.ada_typed.proofs.Values.{OperandKind, AreComputed, AreHeld, active_placed}
 use Rattle.ada_typed.proofs.Control as typed
-use Rattle.ada_sound.proofs.Fits.{Outsiders, bare, stacked, none_spared, place_at, hold_in, weaker_fit, put_owner, create_fit}
+use Rattle.ada_sound.proofs.Fits.{Outsiders, Fit, bare, stacked, none_spared, place_at, hold_in, weaker_fit, put_lost, put_owner, create_fit}
 use Rattle.ada_sound.proofs.Alters.{alters_new}
-use Rattle.ada_sound.proofs.Invariant.{outers, below, Known, Control, Rooms, Roomed, To, Raised, Doing, Handled, Outside, Elaborating, Giving, MayOwn, Recording, RunsOn, Working, Stepped, Fine, ways}
+use Rattle.ada_sound.proofs.Invariant.{outers, below, Known, Control, Rooms, Roomed, To, Raised, Doing, Handled, Outside, Elaborating, Giving, MayOwn, Recording, RunsOn, StartsTo, MayUndo, Working, Stepped, Fine, ways}
 use Rattle.ada_sound.proofs.Ready.{running, at_work, treats_ready, ready_on}
-use Rattle.ada_sound.proofs.Outcomes.{raised_before, using_goes, ends_goes, loses_to}
-use Rattle.ada_sound.proofs.Raising.{or_left}
+use Rattle.ada_sound.proofs.Outcomes.{to_before, raised_before, using_goes, ends_goes, loses_to}
+use Rattle.ada_sound.proofs.Raising.{or_left, or_right, any_more}
+use Rattle.ada_sound.proofs.Values.{lost_here}
+use Rattle.ada_sound.proofs.Orderings.{good_losing, good_to_lost}
+use Rattle.ada_sound.proofs.Leavings.{left_losing}
+use Rattle.ada_sound.proofs.Undone.{new_may_undo}
 use Rattle.ada_sound.proofs.Followings.{first_kept}
 use Rattle.ada_sound.proofs.Copied.{items_keep, copied_plain}
 use Rattle.ada_sound.proofs.Defaults.{Reaches}
@@ -126,8 +131,19 @@ module _ (known : Known) (rest : List (Activation Value)) (s : State) (types : L
   roomed_more item under [] (gone ∷ rooms) r e = absurd r
   roomed_more item under (m ∷ ms) (gone ∷ rooms) r e = ((e, r.0), r.1)
 
+  -- What comes out of its initialization passes the frames, where its variable is lost (7.6); a copy is never undone.
+  abbrev pub StartsBy : Birth → Control → Rooms → Holds → Type 0
+  StartsBy Creation k rooms holds = StartsTo known t k rooms (slice_set holds x hold.Lost)
+  StartsBy Copy k rooms holds = Unit {0}
+  StartsBy (Adjustment number) k rooms holds = Unit {0}
+
+  may_undo_by : (by : Birth) (k : Control) (cell : Cell Value) (words : ℕ) (places : List Value) (ms : List Master) (rooms : Rooms) (holds : Holds) → cell.access ≡ t → Stored None (create s.heap words cell) ms → Roomed (below known) ms rooms → Fit known.program.types known.program.variables (outers known) none_spared s.heap places (slice_set holds x hold.Lost) → StartsBy by k rooms holds → MayUndo known (created s.heap words) by k (create s.heap words cell) places ms
+  may_undo_by Creation k cell words places ms rooms holds of stored roomed fit starts = new_may_undo known s.heap words cell k places ms rooms (slice_set holds x hold.Lost) stored roomed fit (rw of starts)
+  may_undo_by Copy k cell words places ms rooms holds of stored roomed fit starts = tt
+  may_undo_by (Adjustment number) k cell words places ms rooms holds of stored roomed fit starts = tt
+
   -- An object comes to be whose components name nothing, and its variable owns it.
-  pub made_fine : (by : Birth) (a : Activation Value) (k : Control) (values : List Value) (u : Value) → is_record_object t (variable_kind known.program.variables x) ≡ true → slice_get a.places x ≡ Some u → ((holding : Place → Hold) (kind : ℕ → Option ℕ) → AreInHand s.heap (stacked a.places (outers known)) holding kind 0 values) → Working known s.heap a.places s.masters (λ rooms holds. MayOwn rooms t × To (RunsOn known k rooms) (slice_set holds x (hold.Own Whole))) → Stepped known s.heap Quiet (made named types x t by values (running k a rest s))
+  pub made_fine : (by : Birth) (a : Activation Value) (k : Control) (values : List Value) (u : Value) → is_record_object t (variable_kind known.program.variables x) ≡ true → slice_get a.places x ≡ Some u → ((holding : Place → Hold) (kind : ℕ → Option ℕ) → AreInHand s.heap (stacked a.places (outers known)) holding kind 0 values) → Working known s.heap a.places s.masters (λ rooms holds. MayOwn rooms t × StartsBy by k rooms holds × To (RunsOn known k rooms) (slice_set holds x (hold.Own Whole))) → Stepped known s.heap Quiet (made named types x t by values (running k a rest s))
   made_fine by a k values u is there in_hand w =
       let cell = record_cell named types t (height s.masters) values in
       let words = words_of types t in
@@ -135,32 +151,52 @@ module _ (known : Known) (rest : List (Activation Value)) (s : State) (types : L
       let both = create_fit words cell (in_hand (hold_in (outers known) none_spared w.holds) kinds) w.fit in
       let own : variable_access known.program.variables x ≡ Some t = record_access (variable_kind known.program.variables x) t is in
       let placed = put_there a.places x u (created s.heap words) there in
-      let after : Working known (create s.heap words cell) (slice_set a.places x (created s.heap words)) (owning (record { number = height s.masters; owned = record_object t }) s.masters) (RunsOn known k) = record {
+      let places = slice_set a.places x (created s.heap words) in
+      let ms = owning (record { number = height s.masters; owned = record_object t }) s.masters in
+      let after : Working known (create s.heap words cell) places ms (RunsOn known k) = record {
         rooms = w.rooms;
-        holds = w.rest.1.0;
+        holds = w.rest.2.0;
         stored = stored_new cell (has_own (below known) s.masters w.rooms w.roomed w.rest.0) (stored_owning (record_object t) w.stored);
         roomed = roomed_more (height s.masters) (below known) s.masters w.rooms w.roomed w.rest.0;
-        fit = weaker_fit w.rest.1.0 w.rest.1.1 (put_owner x (created s.heap words) Whole (rw placed tt) (rw own both.1) both.0);
-        rest = w.rest.1.2;
+        fit = weaker_fit w.rest.2.0 w.rest.2.1 (put_owner x (created s.heap words) Whole (rw placed tt) (rw own both.1) both.0);
+        rest = w.rest.2.2;
       } in
       record {
-        ready = (tt, treats_ready known (created s.heap words) (begins by []) (all_tasks types t PartsFirst) k (create s.heap words cell) (slice_set a.places x (created s.heap words)) a.operands (owning (record { number = height s.masters; owned = record_object t }) s.masters) (inl after));
+        ready = (tt, treats_ready known (created s.heap words) (begins by []) (all_tasks types t PartsFirst) k (create s.heap words cell) places a.operands ms (inl after, may_undo_by by k cell words places ms w.rooms w.holds refl after.stored after.roomed (put_lost x (created s.heap words) w.fit) w.rest.1));
         alters = alters_new s.heap Quiet (new_object cell) refl;
         says = tt;
       }
 
 module _ (known : Known) (a : Activation Value) (rest : List (Activation Value)) (s : State) (types : List TypeDefinition) (x t : ℕ) (ds : List DeclarationForm) (fs : StmtsForm) (hs : HandlersForm) (k : Control) where
+  -- What passes the frames with what was known before passes them also where the variable is lost, whose record object goes with the block.
+  raised_losing : (gone : Gone) (rooms : Rooms) (e : Exception) (holds : Holds) → is_among gone.types (variable_access known.program.variables x) ≡ true → To ((Outside known.program.variables gone (ways known k rooms)).raised e) holds → To ((Outside known.program.variables gone (ways known k rooms)).raised e) (slice_set holds x hold.Lost)
+  raised_losing gone rooms e holds among (less, good, goes) =
+      let variables = known.program.variables in (
+        slice_set less x hold.Lost,
+        good_losing x holds (slice_set less x hold.Lost) (lost_here less x) (good_to_lost x holds less good),
+        to_before ((ways known k rooms).raised e) (left variables gone (slice_set less x hold.Lost)) (left variables gone less) (left_losing variables gone less x among) goes,
+      )
+
   -- What is known where a record object comes to be: without an initial value, or behind one.
-  by_default : (holds : Holds) (rooms : Rooms) → RunsOn known (Elaborates (declares_record x t None ∷ ds) fs hs ∷ k) rooms holds → MayOwn rooms t × To (RunsOn known (Elaborates ds fs hs ∷ k) rooms) (slice_set holds x (hold.Own Whole))
-  by_default holds [] e = absurd e
-  by_default holds (gone ∷ rooms) e =
+  by_default : (holds : Holds) (rooms : Rooms) → is_record_object t (variable_kind known.program.variables x) ≡ true → RunsOn known (Elaborates (declares_record x t None ∷ ds) fs hs ∷ k) rooms holds → MayOwn rooms t × StartsTo known t (Elaborates ds fs hs ∷ k) rooms (slice_set holds x hold.Lost) × To (RunsOn known (Elaborates ds fs hs ∷ k) rooms) (slice_set holds x (hold.Own Whole))
+  by_default holds [] is e = absurd e
+  by_default holds (gone ∷ rooms) is e =
       let program = known.program in
       let o = Outside program.variables gone (ways known k rooms) in
       let more = Elaborating known ds (Doing known fs (Handles hs ∷ Closes ∷ k) (Handled known hs (Closes ∷ k) o)) o in
       let among : Exception → Bool = λ e'. declaration_raises known.implicit (is_same e') (declares_record x t None) in
-      let flow = ends_with (initial_raises None || initial_starts known.implicit (λ e'. true) t None) holds (slice_set holds x (hold.Own Whole)) in
+      let may = initial_raises None || initial_starts known.implicit (λ e'. true) t None in
+      let after = slice_set holds x (hold.Own Whole) in
+      let flow = ends_with may holds after in
       let g = loses_to program.variables (λ u. initial_frees known.implicit u t None) flow more (Raised among o) (raised_before among o) e.1 in
-      (e.0.0, (g.0.0, g.0.1, (e.0.1, g.0.2)))
+      let n = ends_goes may holds after (To more) (Raised among o) g in
+      let among_gone : is_among gone.types (variable_access program.variables x) ≡ true = rw (record_access (variable_kind program.variables x) t is) e.0.0 in (
+        e.0.0,
+        (λ e' starts.
+            (let some = any_more (is_same e') (λ e2. true) (λ e2 i. refl) (known.implicit.start_raises t) starts in
+            raised_losing gone rooms e' holds among_gone (n.1 some e' (or_right (is_same e' ConstraintError && initial_raises None) (initial_starts known.implicit (is_same e') t None) starts)))),
+        (n.0.0, n.0.1, (e.0.1, n.0.2)),
+      )
 
   by_items : (items : List ItemForm) (holds : Holds) (rooms : Rooms) → is_record_object t (variable_kind known.program.variables x) ≡ true → RunsOn known (Elaborates (declares_record x t (Some items) ∷ ds) fs hs ∷ k) rooms holds → Giving known items (Elaborates ds fs hs ∷ k) rooms holds × Recording known x t (Elaborates ds fs hs ∷ k) rooms holds
   by_items items holds [] is e = absurd e
@@ -191,7 +227,7 @@ module _ (known : Known) (a : Activation Value) (rest : List (Activation Value))
   pub record_fine : (initial : Option (List ItemForm)) (u : Value) → slice_get a.places x ≡ Some u → is_record_object t (variable_kind known.program.variables x) ≡ true → Working known s.heap a.places s.masters (RunsOn known (Elaborates (declares_record x t initial ∷ ds) fs hs ∷ k)) → Fine known s.heap s.masters (record_next named types x t initial (running (Elaborates ds fs hs ∷ k) a rest s))
   record_fine None u there is w =
       made_fine known rest s types x t Creation a (Elaborates ds fs hs ∷ k) (initial_values named (reached_of types t)) u is there
-      (λ holding kind. initials_in_hand (outers known) s.heap a.places holding kind (reached_of types t)) (at_work w (by_default w.holds w.rooms w.rest))
+      (λ holding kind. initials_in_hand (outers known) s.heap a.places holding kind (reached_of types t)) (at_work w (by_default w.holds w.rooms is w.rest))
   record_fine (Some items) u there is w =
       ready_on known (Fills items ∷ DeclaresRecord x t ∷ Elaborates ds fs hs ∷ k) a rest s a.operands (at_work w (by_items items w.holds w.rooms is w.rest))
 
@@ -204,4 +240,4 @@ recorded_fine known k a rest s types reaches x t kinds (ks, object, cs, is, of, 
     let none = plain_names_nothing known.program.types (cells_of s.heap) cs (reverse (take (length cs) a.operands)) plain have in
     let place = has_place known.program.types (cells_of s.heap) known.program.variables a.places x t held w.rest.1 in
     made_fine known rest s types x t Copy (record a { operands = drop (words_of types t) a.operands }) k (reverse (take (words_of types t) a.operands)) place.0 w.rest.1 place.1
-    (λ holding kind. nothing_in_hand (outers known) s.heap a.places holding kind 0 (reverse (take (words_of types t) a.operands)) (rw counted none)) (at_work w (w.rest.2, w.rest.3))
+    (λ holding kind. nothing_in_hand (outers known) s.heap a.places holding kind 0 (reverse (take (words_of types t) a.operands)) (rw counted none)) (at_work w (w.rest.2, tt, w.rest.3))

@@ -77,7 +77,7 @@ use Rattle.ada_sound.proofs.Treatments.{TellsNothing, Begins, StaysHere, Treated
 use Rattle.ada_sound.proofs.Operating.{Sight, StaysLive, IsCalm, Operates, behind_operation}
 use Rattle.ada_sound.proofs.OperationBegins.{begins_operation}
 use Rattle.ada_sound.proofs.OperationSteps.{acting, Wrote, IsMild}
-use Rattle.ada_sound.proofs.OperationLaw.{operates_on, operation_ends, StepsOn, steps_on}
+use Rattle.ada_sound.proofs.OperationLaw.{operates_on, operation_ends, operation_raises, StepsOn, steps_on}
 
 -- An object whose words are out.
 OutIn : List Object → Id → Type 0
@@ -189,14 +189,14 @@ each_stays s mid (tells request shown after) p r b e = stays_by s mid after p r 
 each_stays s mid (asks request answers) p r b e = λ granted. stays_by s mid (answers granted) p r b (e granted)
 each_stays s mid (picks n taking) p r b e = λ i lt. stays_by s mid (taking i) p r b (e i lt)
 
--- The body of a quiet operation runs behind a step that gives nothing back; and what that does to objects.
+-- The body of an operation runs behind a step that gives nothing back; and what that does to objects.
 pub record InOperation (program : Program) (before : List Object) (e : Event) (after : State) : Type 0 where
   pub operates : Operates program after
   pub alters : Alters before e after.heap
   pub says : (implicit : Implicit) (p : ProgramForm) → Says implicit p e before after
   pub covered : (number : ℕ) → IsCovered program number e
 
--- What a step leads to: the ordinary invariant, or the body of a quiet operation runs.
+-- What a step leads to: the ordinary invariant, or the body of an operation runs.
 abbrev pub Led : Program → List Object → Event → State → Type 0
 Led program before e after = (Crosses program before e after × IsCalm (behind_call after.control)) ⊎ InOperation program before e after
 
@@ -373,7 +373,7 @@ module _ (program : Program) (a : Activation Value) (rest : List (Activation Val
 
     begins_there : (e : Event) (after : State) → next program.types.items (body_forms program) whole ≡ moves e after → Begins treater a rest s program.types.items (body_forms program) k e after → Led program s.heap e after
     begins_there e after is c = inr (record {
-      operates = begins_operation program sound.well sound.quiet a rest o.suspensions s k e after (restand Running (Treats v treatment tasks) o.suspensions o.stands) o.calm
+      operates = begins_operation program sound.well sound.in_use a rest o.suspensions s k e after (restand Running (Treats v treatment tasks) o.suspensions o.stands) o.calm
           (step_typed program sound.well whole after settled e sound.typed (rw is (refl, refl))) c;
       alters = rw c.is c.alters;
       says = told_says e s.heap after c.tells;
@@ -449,7 +449,7 @@ step_by program (Raising e) (f ∷ k) (a ∷ rest) s sound o = raising_step prog
 step_by program Exiting (f ∷ k) (a ∷ rest) s sound o = exiting_step program a rest k s f sound o
 step_by program Returning (f ∷ k) (a ∷ rest) s sound o = returning_step program a rest k s f sound o
 
--- A step of the body of a quiet operation.
+-- A step of the body of an operation.
 module _ (program : Program) (s : State) (o : Operates program s) where
   abbrev sight : Sight
   sight = record { program = seen_in (Some o.procedure) (program_form program); object = o.object; access = o.access }
@@ -496,7 +496,8 @@ module _ (program : Program) (s : State) (o : Operates program s) where
     says = λ implicit p. mild_says implicit p e after a.mild;
     covered = mild_covered e a.mild;
   })
-  led_on (moves e after) (inr (quiet, is)) = rw (quiet, is) (inl (operation_ends program s o, o.suspended.calm))
+  led_on (moves e after) (inr (quiet, inl is)) = rw (quiet, is) (inl (operation_ends program s o, o.suspended.calm))
+  led_on (moves e after) (inr (quiet, inr (x, may, is))) = rw (quiet, is) (inl (operation_raises program s o x may, o.suspended.calm))
   led_on (tells request e after) is = absurd is
   led_on (asks request answered) is = absurd is
   led_on (picks n taken) is = absurd is
@@ -560,7 +561,7 @@ pub sound_step : (program : Program) (s : State) (choice : Choice) (e : Event) (
 sound_step program s choice e after r step = record {
   reached = reached_then program s choice e after r.reached step;
   well = r.well;
-  quiet = r.quiet;
+  in_use = r.in_use;
   frees_own = r.frees_own;
   obeys = r.obeys;
   goes = goes_so program s.heap e after (led program s choice e after r step);

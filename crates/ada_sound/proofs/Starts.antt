@@ -17,7 +17,7 @@ use Rattle.ada_meaning.specs.Named.{State, named}
 use Rattle.ada_meaning.specs.Run.{Event, Run, here, first_state}
 use Rattle.ada_typed.proofs.Kept.{behind_call}
 use Rattle.ada_sound.specs.Agreement.{running_procedure}
-use Rattle.ada_quiet.specs.Quiet.{operations_are_quiet}
+use Rattle.ada_quiet.specs.Quiet.{operations_are_in_use}
 use Rattle.ada_typed.proofs.Bodies.{seen_fits}
 use Rattle.ada_typed.proofs.Control as typed
 use Rattle.ada_typed.proofs.Runs.{first_typed}
@@ -43,11 +43,11 @@ pub record Ordinary (program : Program) (s : State) : Type 0 where
   pub stands : Stands program suspensions s
   pub calm : IsCalm (behind_call s.control)
 
--- What every state of a run keeps: that invariant, or the body of a quiet operation runs; values are of their kinds, and collections nest.
+-- What every state of a run keeps: that invariant, or the body of an operation runs; values are of their kinds, and collections nest.
 pub record Sound (program : Program) (s : State) : Type 0 where
   pub reached : IsReached program s
   pub well : IsWellFormed (program_form program)
-  pub quiet : operations_are_quiet (program_form program) ≡ true
+  pub in_use : operations_are_in_use (program_form program) ≡ true
   pub frees_own : FreesItsOwn (program_form program)
   pub obeys : ObeysRules program
   pub goes : Ordinary program s ⊎ Operates program s
@@ -92,11 +92,11 @@ ready_first program input well obeys =
       },
     )
 
-pub sound_first : (program : Program) (input : List ℤ) → IsWellFormed (program_form program) → operations_are_quiet (program_form program) ≡ true → CollectionsNest (program_form program) → FreesItsOwn (program_form program) → ObeysRules program → Sound program (first_state program input)
-sound_first program input well quiet nest own obeys = record {
+pub sound_first : (program : Program) (input : List ℤ) → IsWellFormed (program_form program) → operations_are_in_use (program_form program) ≡ true → CollectionsNest (program_form program) → FreesItsOwn (program_form program) → ObeysRules program → Sound program (first_state program input)
+sound_first program input well uses nest own obeys = record {
   reached = (input, [], here);
   well = well;
-  quiet = quiet;
+  in_use = uses;
   frees_own = own;
   obeys = obeys;
   goes = inl (record {
@@ -106,5 +106,5 @@ sound_first program input well quiet nest own obeys = record {
     calm = tt;
   });
   typed = first_typed program input well;
-  nested = first_nested program well nest (operations_nest (program_form program) well quiet) input;
+  nested = first_nested program well nest (operations_nest (program_form program) well uses) input;
 }

@@ -13,7 +13,7 @@ use Rattle.ada_program.specs.Handling.{is_same}
 use Rattle.ada_program.specs.Freed.{statement_frees_own, statements_free_own}
 use Rattle.ada_program.specs.Typed.{pool_named}
 use Rattle.ada_program.specs.ProgramForm.{BodyForm}
-use Rattle.ada_effects.specs.Effects.{effects_of, stmt_raises, expression_raises, path_raises, condition_raises, right_raises, right_starts, declaration_raises, ending_frees}
+use Rattle.ada_effects.specs.Effects.{effects_of, stmt_raises, expression_raises, path_raises, condition_raises, right_raises, right_starts, ending_frees}
 use Rattle.ada_flow.specs.Flow.{Holds, uses_in_target, uses_in_start, initializes, ends_with, bounds_flow, gives, gives_path, gets_path, frees_path, leaves_path, clears, begins_pair, exit_of, declared_at, collected, gone_with, computed}
 use Rattle.ada_meaning.specs.declared.state.Value.{Value}
 use Rattle.ada_meaning.specs.declared.state.Mode.TheVariants.{Raising, Exiting, Returning}
@@ -34,7 +34,7 @@ use Rattle.ada_sound.proofs.Copied.{record_there}
 use Rattle.ada_sound.proofs.Records.{has_place, record_fine}
 use Rattle.ada_sound.proofs.Wholes.{record_begins}
 use Rattle.ada_sound.proofs.RecordAssignments.{copy_begins}
-use Rattle.ada_sound.proofs.Invariant.{Spares, owed_in, Known, Where, below, Control, Rooms, Roomed, Goes, To, Raised, Doing, Choosing, TurnsTo, condition_among, component_among, Counting, Elaborating, Handled, Outside, RunsOn, RunsAfter, Deciding, TurningOn, ExitingTo, Computing, IsOne, Pairs, Takes, Working, Resumes, EvaluatesTo, Fine, ways}
+use Rattle.ada_sound.proofs.Invariant.{Spares, owed_in, Known, Where, below, Control, Rooms, Roomed, Goes, To, Raised, Doing, Choosing, TurnsTo, condition_among, assignment_among, component_among, Counting, Elaborating, Handled, Outside, RunsOn, RunsAfter, Deciding, TurningOn, ExitingTo, Computing, IsOne, Pairs, Takes, Working, Resumes, EvaluatesTo, Fine, ways}
 use Rattle.ada_sound.proofs.Ready.{running, at_work, with_less, at_less, stays, lost_stored, ready_on, runs_on, jumps, jumps_less}
 use Rattle.ada_sound.proofs.Nestings.{Starting, starts, others_do, branch_does, chooses_from, repeats_from, turn_runs, counts_from, count_runs, exit_parts, encloses_from}
 use Rattle.ada_sound.proofs.Outcomes.{return_goes, goes_map, to_before, raised_before, raised_less, then_goes, using_goes, computed_goes, initializes_after, finalizes_to}
@@ -51,6 +51,11 @@ free_among path e = is_same e ConstraintError && path_raises path
 
 abbrev get_among : PathForm → Exception → Bool
 get_among target e = is_same e EndError || (is_same e ConstraintError && path_raises target)
+
+-- What is raised where a variable gets a value is among what is raised where a target does.
+component_more : (a b c : Bool) → (b || c) ≡ true → ((a || b) || c) ≡ true
+component_more true b c is = refl
+component_more false b c is = is
 
 -- The target of the first half of a take pair leaves the path alone that is moved.
 another : (a b : ℕ) → not (a == b) ≡ true → a ≢ b
@@ -111,16 +116,14 @@ module _ (known : Known) where
   declares_more heap places x right ds fs hs k holds (gone ∷ rooms) e =
       let o = Outside known.program.variables gone (ways known k rooms) in
       let flow = gives known.program.types known.program.variables (declared_at known.program.variables x) false x right holds in
-      let less : Exception → Bool = λ e'. right_raises (is_same e') right in
-      let among : Exception → Bool = λ e'. declaration_raises known.implicit (is_same e') (declares x right) in (
+      let among = assignment_among known right in (
         tt,
         false,
         (
           declared_at known.program.variables x,
-          initializes_after known right flow (Elaborates ds fs hs ∷ k) (gone ∷ rooms) (Raised less o) (raised_before less o)
+          initializes_after known right flow (Elaborates ds fs hs ∷ k) (gone ∷ rooms) (Raised among o) (raised_before among o)
               (goes_map (initializes known.program.variables known.implicit right flow) (Elaborating known ds (Doing known fs (Handles hs ∷ Closes ∷ k) (Handled known hs (Closes ∷ k) o)) o)
-              (Raised among o) (RunsOn known (Elaborates ds fs hs ∷ k) (gone ∷ rooms)) (Raised less o)
-              (λ h g. (e.0, g)) (λ h r. raised_less among less o (λ e' i. or_left (less e') (right_starts known.implicit (is_same e') right) i) h r) e.1),
+              (Raised among o) (RunsOn known (Elaborates ds fs hs ∷ k) (gone ∷ rooms)) (Raised among o) (λ h g. (e.0, g)) (λ h r. r) e.1),
         ),
         tt,
       )
@@ -185,18 +188,18 @@ module _ (known : Known) where
       declarations_fine types (d ∷ ds) held fits w = declaration_fine types d ds held (and_parts _ _ fits).0 w
 
     -- Paths that are targets, or are freed.
-    assign_fine : (cs : List ℕ) (target : PathForm) (right : RightForm) (fs : StmtsForm) (k : Control) → target.selectors ≡ cs → (target.of_record ≡ true → is_object known.program.variables target.root ≡ true) → Working known s.heap a.places s.masters (λ rooms holds. Goes (gives_path known.program.types known.program.variables (begins_pair (assigns target right) fs) cs target right holds) (RunsAfter known right (Does fs ∷ k) rooms) (Raised (component_among (path_raises target) right) (ways known k rooms))) → Fine known s.heap s.masters (assign_next named cs target.root right (running (Does fs ∷ k) a rest s))
+    assign_fine : (cs : List ℕ) (target : PathForm) (right : RightForm) (fs : StmtsForm) (k : Control) → target.selectors ≡ cs → (target.of_record ≡ true → is_object known.program.variables target.root ≡ true) → Working known s.heap a.places s.masters (λ rooms holds. Goes (gives_path known.program.types known.program.variables (begins_pair (assigns target right) fs) cs target right holds) (RunsAfter known right (Does fs ∷ k) rooms) (Raised (component_among known (path_raises target) right) (ways known k rooms))) → Fine known s.heap s.masters (assign_next named cs target.root right (running (Does fs ∷ k) a rest s))
     assign_fine [] target right fs k is whole w =
         let out = ways known k w.rooms in
         let cleared = begins_pair (assigns target right) fs in
-        let among = component_among (path_raises target) right in
+        let among = component_among known (path_raises target) right in
         ready_on known (Evaluates right ∷ Stores target.root ∷ Does fs ∷ k) a rest s a.operands
         (inl (stores_ready right target.root (Does fs ∷ k) (at_work w (
           cleared,
           (
             target.spot,
-            goes_map (gives known.program.types known.program.variables target.spot cleared target.root right w.holds) (RunsAfter known right (Does fs ∷ k) w.rooms) (Raised among out) (RunsAfter known right (Does fs ∷ k) w.rooms) (Raised (λ e. right_raises (is_same e) right) out)
-                (λ h m. m) (λ h r. raised_less among (λ e. right_raises (is_same e) right) out (λ e may. or_right (is_same e ConstraintError && path_raises target) (right_raises (is_same e) right) may) h r) w.rest,
+            goes_map (gives known.program.types known.program.variables target.spot cleared target.root right w.holds) (RunsAfter known right (Does fs ∷ k) w.rooms) (Raised among out) (RunsAfter known right (Does fs ∷ k) w.rooms) (Raised (assignment_among known right) out)
+                (λ h m. m) (λ h r. raised_less among (assignment_among known right) out (λ e may. component_more (is_same e ConstraintError && path_raises target) (right_raises (is_same e) right) (right_starts known.implicit (is_same e) right) may) h r) w.rest,
           ),
           pairs_variable target right fs k is,
         ))))
@@ -316,10 +319,8 @@ module _ (known : Known) where
         let flow = gives_path types variables (begins_pair (assigns target right) fs) target.selectors target right w.holds in
         let used = using_goes (uses_in_start types variables known.implicit target right) w.holds (initializes variables known.implicit right flow) (RunsOn known (Does fs ∷ k) w.rooms) (Raised among out) w.rest.1 in
         let goes_on = initializes_after known right flow (Does fs ∷ k) w.rooms (Raised among out) (raised_before among out) used.1 in
-        let less = component_among (path_raises target) right in
         assign_fine target.selectors target right fs k refl (root_object types variables target leads.0 leads.1)
-        (at_work w (goes_map flow (RunsAfter known right (Does fs ∷ k) w.rooms) (Raised among out) (RunsAfter known right (Does fs ∷ k) w.rooms) (Raised less out) (λ h m. m)
-        (λ h r. raised_less among less out (λ e i. or_left (less e) (right_starts known.implicit (is_same e) right) i) h r) goes_on))
+        (at_work w goes_on)
     stmt_fine defined bodies calling inside here (assigns_record target items) fs k homes fits own w =
         assigned_fine (has_parts defined target.record_type)
       where

@@ -38,7 +38,7 @@ use Rattle.ada_sound.proofs.Calm.{ends_operation, operation_ends_there}
 use Rattle.ada_sound.proofs.Homes.{Pooled, HaveHomes}
 use Rattle.ada_sound.proofs.Standing.{AllStand, FinalizesBy, FinalizesIn}
 use Rattle.ada_sound.proofs.Invariant.{Known, outers, Control, ReadyBy, ReadyIn, IsActive, Ready, Fine}
-use Rattle.ada_sound.proofs.Ready.{running, at_work, at_less, runs_on}
+use Rattle.ada_sound.proofs.Ready.{running, at_work, at_less, runs_on, goes_in_mode}
 use Rattle.ada_sound.proofs.Raising.{unary_only, binary_only}
 use Rattle.ada_sound.proofs.Expressions.{outcome_fine, null_test_fine, expression_fine, links_fine}
 use Rattle.ada_sound.proofs.Statements.{declarations_fine, repeats_fine, counts_fine, ranges_fine, decided_fine, turned_fine, exited_fine, stmts_fine}
@@ -202,7 +202,7 @@ module _ (known : Known) where
     frame_fine (Treats v treatment tasks) inner t kept well held low r = absurd (cc inner)
     frame_fine (frame.Awaits v by done of part tasks) inner t kept well held low r = absurd (t.1)
     frame_fine frame.Confines inner t kept well held low r = absurd (t.1)
-    frame_fine (frame.Resumes mode) inner t kept well held low r = absurd r
+    frame_fine (frame.Resumes mode) inner t kept well held low r = goes_in_mode known k a rest s mode (at_less r r.rest)
     frame_fine Writes inner t kept well held low r = writes_fine known k a rest s kept.plain (named.reads_integer (first_or Null a.operands)) (older a.operands) r
     frame_fine (Ends v) inner t kept well held low r = ends_fine known a rest s v k r
     frame_fine (GivesBack v cause pool) inner t kept well held low r = backs_fine known a rest s v cause pool k r

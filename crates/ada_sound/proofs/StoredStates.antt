@@ -3,6 +3,7 @@
 use Rattle.std.proofs.Common.{ℕ, List, [], ◌∷◌, ◌⊎◌, inl, inr}
 use Rattle.std.specs.Prelude.{Option, Some, None}
 use Rattle.std.specs.List.{slice_set}
+use Rattle.ada_program.specs.declared.program.Exception.{Exception}
 use Rattle.ada_program.specs.Form.{RightForm, nothing, value_of, allocates, allocates_default, computes}
 use Rattle.ada_flow.specs.Flow.{Holds}
 use Rattle.ada_meaning.specs.declared.state.Id.{Id}
@@ -17,7 +18,7 @@ use Rattle.ada_meaning.specs.Step.{first_or}
 use Rattle.ada_meaning.specs.Named.{Object, State, store}
 use Rattle.ada_sound.proofs.Stored.{Stored}
 use Rattle.ada_sound.proofs.Back.{stored_before}
-use Rattle.ada_sound.proofs.Invariant.{Known, Control, Rooms, Working, HalfBy, Resumes, Clearing, EvaluatesTo, TargetsTo, StoringIn, HalfFollows, NamesTo, BegunTo, EndsTo, CopiesBehind, TreatsBy, EndingBy, BackingBy, ReadyBy, ReadyIn, Ready}
+use Rattle.ada_sound.proofs.Invariant.{Known, Control, Rooms, Working, HalfBy, Resumes, Clearing, EvaluatesTo, TargetsTo, StoringIn, HalfFollows, NamesTo, BegunTo, EndsTo, CopiesBehind, TreatsBy, EndingBy, BackingBy, ReadyBy, RaisesBy, ReadyIn, Ready}
 
 -- Objects are stored, where one at most is under way.
 abbrev pub IsStored : List Object → List Master → Type 0
@@ -110,7 +111,7 @@ module _ (known : Known) where
   copies_stored (f ∷ k) heap places operands ms r = absurd r
 
   treats_stored : (v : Value) (treatment : Treatment) (k : Control) (heap : List Object) (places operands : List Value) (ms : List Master) → TreatsBy known v treatment k heap places operands ms → IsStored heap ms
-  treats_stored v (begins by done) k heap places operands ms r = begun_stored k heap places operands ms r
+  treats_stored v (begins by done) k heap places operands ms r = begun_stored k heap places operands ms r.0
   treats_stored v (ends cause) k heap places operands ms (inl r) = ends_stored v k heap places ms r
   treats_stored v (ends cause) k heap places operands ms (inr r) = copies_stored k heap places operands ms r
 
@@ -154,20 +155,24 @@ module _ (known : Known) where
   frame_stored (Declares x) k heap places operands ms r = (None, r.stored)
   frame_stored (DeclaresRecord x t) k heap places operands ms r = (None, r.stored)
   frame_stored (Treats v treatment tasks) k heap places operands ms r = treats_stored v treatment k heap places operands ms r
-  frame_stored (frame.Awaits v by done of part tasks) k heap places operands ms r = begun_stored k heap places operands ms r.1
+  frame_stored (frame.Awaits v by done of part tasks) k heap places operands ms r = begun_stored k heap places operands ms r.1.0
   frame_stored frame.Confines k heap places operands ms (v, cause, tasks, behind, is, r) = treats_stored v (ends cause) behind heap places operands ms r
-  frame_stored (frame.Resumes mode) k heap places operands ms r = absurd r
+  frame_stored (frame.Resumes mode) k heap places operands ms r = (None, r.stored)
   frame_stored Writes k heap places operands ms r = (None, r.stored)
   frame_stored (Ends v) k heap places operands ms r = value_stored v k heap places ms r
   frame_stored (GivesBack v cause pool) k heap places operands ms r = words_stored v cause pool k heap places ms r
   frame_stored (Clears x) k heap places operands ms r = (None, r.stored)
   frame_stored (ClearsIn o c) k heap places operands ms r = clearing_stored o c k heap places ms r
 
+  raises_stored : (e : Exception) (f : Frame Value) (k : Control) (heap : List Object) (places : List Value) (ms : List Master) → RaisesBy known e f k heap places ms → IsStored heap ms
+  raises_stored e (frame.Awaits v by done of part tasks) k heap places ms r = (None, r.2)
+  raises_stored e f k heap places ms r = (None, r.stored)
+
   mode_stored : (mode : Mode) (k : Control) (heap : List Object) (places operands : List Value) (ms : List Master) → ReadyIn known mode k heap places operands ms → IsStored heap ms
   mode_stored Running [] heap places operands ms r = (None, r.0)
   mode_stored Running (f ∷ k) heap places operands ms r = frame_stored f k heap places operands ms r
   mode_stored (Raising e) [] heap places operands ms r = (None, r.0)
-  mode_stored (Raising e) (f ∷ k) heap places operands ms r = (None, r.stored)
+  mode_stored (Raising e) (f ∷ k) heap places operands ms r = raises_stored e f k heap places ms r
   mode_stored Exiting [] heap places operands ms r = (None, r.0)
   mode_stored Exiting (f ∷ k) heap places operands ms r = (None, r.stored)
   mode_stored Returning [] heap places operands ms r = (None, r.0)

@@ -11,9 +11,8 @@ use Rattle.ada_program.specs.declared.program.VariableKind.TheVariants as held
 use Rattle.ada_program.specs.Form.{PathForm, value_of}
 use Rattle.ada_program.specs.ProgramForm.{TypeForm, VariableForm, ProgramForm}
 use Rattle.ada_text.specs.declared.spot.Spot.{Spot}
-use Rattle.ada_program.specs.Handling.{is_same}
 use Rattle.ada_program.specs.WellFormed.{access_of, selectors_kind, variable_kind, path_access, kind_takes, is_borrower, value_access, path_kind}
-use Rattle.ada_effects.specs.Effects.{follows_value, path_raises, right_raises}
+use Rattle.ada_effects.specs.Effects.{follows_value, path_raises}
 use Rattle.ada_flow.specs.declared.rule.Hold.{Hold}
 use Rattle.ada_flow.specs.declared.rule.Hold.TheVariants as hold
 use Rattle.ada_flow.specs.Flow.{Holds, hold_at, variable_access, uses_in_target, moves_it, left_by_move, gives_component, moved_behind, moved_by, taken_by, lost_by, without_values, variable_of, value_hold, borrows_it, borrowed_hold, ends_with, gives, same_selectors, touched_hold}
@@ -36,10 +35,10 @@ use Rattle.ada_sound.proofs.Objects.{set_here, set_other}
 use Rattle.ada_sound.proofs.Values.{same_or_not}
 use Rattle.ada_sound.proofs.Stored.{Stored, stored_filled}
 use Rattle.ada_sound.proofs.Fits.{Outsiders, Fit, component_access, names_object, is_object, null_object, plain_object, none_spared, place_at, null_fit, lose, put_null, put_alias, root_names, hand_of, move_fit, store_blank, store_owner}
-use Rattle.ada_sound.proofs.Invariant.{Known, Control, Rooms, MayRaise, component_among, Goes, Raised, RunsOn, Takes, Working, ways}
+use Rattle.ada_sound.proofs.Invariant.{Known, Control, Rooms, MayRaise, assignment_among, component_among, Goes, Raised, RunsOn, Takes, Working, ways}
 use Rattle.ada_sound.proofs.Outcomes.{using_goes, ends_goes}
 use Rattle.ada_sound.proofs.Followings.{first_kept, kept_apart}
-use Rattle.ada_sound.proofs.Raising.{or_right}
+use Rattle.ada_sound.proofs.Raising.{or_left, or_right}
 use Rattle.ada_sound.proofs.Assigned.{value_goes, kind_names, selected_of, leads_from}
 
 -- What typing says of a variable and of a component that a value goes to.
@@ -184,18 +183,18 @@ raised_here known k rooms holds whole cs among r is may = r may ConstraintError 
 pub kept_root : (known : Known) (k : Control) (heap : List Object) (places : List Value) (ms : List Master) (whole : Bool) (root c : ℕ) (cs : List ℕ) (spot : Spot) → (w : Working known heap places ms (Takes known heap places (value_of (at_path whole root (c ∷ cs) spot)) k)) → (lost_by (hold_at w.holds root) spot ≡ None) × MayRaise known (follows_value whole (c ∷ cs)) ConstraintError k w.rooms w.holds
 kept_root known [] heap places ms whole root c cs spot w = absurd (w.rest)
 kept_root known (Stores x ∷ k) heap places ms whole root c cs spot w =
-    let among : Exception → Bool = λ e. right_raises (is_same e) (value_of (at_path whole root (c ∷ cs) spot)) in
+    let among = assignment_among known (value_of (at_path whole root (c ∷ cs) spot)) in
     let h = kept_by known.program.types known.program.variables w.rest.1.0 w.rest.0 x whole root c cs spot w.holds (RunsOn known k w.rooms) (Raised among (ways known k w.rooms)) w.rest.1.1 in
-    (h.0, raised_here known k w.rooms w.holds whole (c ∷ cs) among h.1 (λ may. may))
+    (h.0, raised_here known k w.rooms w.holds whole (c ∷ cs) among h.1 (λ may. or_left (follows_value whole (c ∷ cs)) false may))
 kept_root known (Declares x ∷ k) heap places ms whole root c cs spot w =
-    let among : Exception → Bool = λ e. right_raises (is_same e) (value_of (at_path whole root (c ∷ cs) spot)) in
+    let among = assignment_among known (value_of (at_path whole root (c ∷ cs) spot)) in
     let h = kept_by known.program.types known.program.variables w.rest.2.0 w.rest.1 x whole root c cs spot w.holds (RunsOn known k w.rooms) (Raised among (ways known k w.rooms)) w.rest.2.1 in
-    (h.0, raised_here known k w.rooms w.holds whole (c ∷ cs) among h.1 (λ may. may))
+    (h.0, raised_here known k w.rooms w.holds whole (c ∷ cs) among h.1 (λ may. or_left (follows_value whole (c ∷ cs)) false may))
 kept_root known (StoresIn o d ∷ k) heap places ms whole root c cs spot w =
     let g = w.rest.1 in
-    let among = component_among (path_raises g.0) (value_of (at_path whole root (c ∷ cs) spot)) in
+    let among = component_among known (path_raises g.0) (value_of (at_path whole root (c ∷ cs) spot)) in
     let h = value_fills known.program.types g.1 g.0 whole root (c ∷ cs) spot w.holds (RunsOn known k w.rooms) (Raised among (ways known k w.rooms)) g.2 in
-    ((cleared_is g.1 (hold_at w.holds root) spot h.0).1, raised_here known k w.rooms w.holds whole (c ∷ cs) among h.2 (λ may. or_right (path_raises g.0) (follows_value whole (c ∷ cs)) may))
+    ((cleared_is g.1 (hold_at w.holds root) spot h.0).1, raised_here known k w.rooms w.holds whole (c ∷ cs) among h.2 (λ may. or_left (path_raises g.0 || follows_value whole (c ∷ cs)) false (or_right (path_raises g.0) (follows_value whole (c ∷ cs)) may)))
 kept_root known (f ∷ k) heap places ms whole root c cs spot w = absurd (w.rest)
 
 -- A variable that is moved, or lent, is not lost.
@@ -215,14 +214,14 @@ some_by types variables here cleared x whole root spot holds more raised g = go 
 pub some_root : (known : Known) (k : Control) (heap : List Object) (places : List Value) (ms : List Master) (whole : Bool) (root : ℕ) (spot : Spot) → (w : Working known heap places ms (Takes known heap places (value_of (at_path whole root [] spot)) k)) → hold_at w.holds root ≢ hold.Lost
 some_root known [] heap places ms whole root spot w = absurd (w.rest)
 some_root known (Stores x ∷ k) heap places ms whole root spot w =
-    let among : Exception → Bool = λ e. right_raises (is_same e) (value_of (at_path whole root [] spot)) in
+    let among = assignment_among known (value_of (at_path whole root [] spot)) in
     some_by known.program.types known.program.variables w.rest.1.0 w.rest.0 x whole root spot w.holds (RunsOn known k w.rooms) (Raised among (ways known k w.rooms)) w.rest.1.1
 some_root known (Declares x ∷ k) heap places ms whole root spot w =
-    let among : Exception → Bool = λ e. right_raises (is_same e) (value_of (at_path whole root [] spot)) in
+    let among = assignment_among known (value_of (at_path whole root [] spot)) in
     some_by known.program.types known.program.variables w.rest.2.0 w.rest.1 x whole root spot w.holds (RunsOn known k w.rooms) (Raised among (ways known k w.rooms)) w.rest.2.1
 some_root known (StoresIn o d ∷ k) heap places ms whole root spot w =
     let g = w.rest.1 in
-    let among = component_among (path_raises g.0) (value_of (at_path whole root [] spot)) in
+    let among = component_among known (path_raises g.0) (value_of (at_path whole root [] spot)) in
     moved_some (hold_at w.holds root) spot (value_fills known.program.types g.1 g.0 whole root [] spot w.holds (RunsOn known k w.rooms) (Raised among (ways known k w.rooms)) g.2).0
 some_root known (f ∷ k) heap places ms whole root spot w = absurd (w.rest)
 

@@ -9,7 +9,7 @@ use Rattle.ada_program.specs.declared.program.VariableKind.TheVariants as variab
 use Rattle.ada_program.specs.Form.{PathForm, RightForm, nothing, value_of, allocates, allocates_default, computes, StmtsForm, a_stmt, assigns}
 use Rattle.ada_program.specs.ProgramForm.{TypeForm, VariableForm, BodyForm}
 use Rattle.ada_program.specs.Handling.{is_same}
-use Rattle.ada_effects.specs.Effects.{effects_of, path_raises, right_raises, stmt_raises}
+use Rattle.ada_effects.specs.Effects.{effects_of, path_raises, right_raises, right_starts, stmt_raises}
 use Rattle.ada_flow.specs.Flow.{Holds, reads_it, gives_component, gives_path, uses_in_target, uses_in_right, evaluation_raises, ends_with, without_values, moved_by_right}
 use Rattle.ada_meaning.specs.declared.state.Id.{Id}
 use Rattle.ada_meaning.specs.declared.state.Value.{Value}
@@ -88,12 +88,12 @@ module _ (known : Known) (a : Activation Value) (rest : List (Activation Value))
       (λ object. object_there target.root target.spot (rw is at (first_kept w.holds (reads_it target) [] kept).0) (whole object) w.fit) (rw is at may)
 
   -- An assignment to a component begins: its object is found first.
-  pub component_begins : (cleared : Bool) (c : ℕ) (cs : List ℕ) (target : PathForm) (right : RightForm) (fs : StmtsForm) (k : Control) → target.selectors ≡ c ∷ cs → (target.of_record ≡ true → is_object known.program.variables target.root ≡ true) → Working known s.heap a.places s.masters (λ rooms holds. Goes (gives_component known.program.types cleared target right holds) (RunsAfter known right (Does fs ∷ k) rooms) (Raised (component_among (path_raises target) right) (ways known k rooms)) × Pairs cleared right (λ taken. IsOne taken.selectors) (Does fs ∷ k)) → Fine known s.heap s.masters (path_next named (before_last (inside (place_at a.places target.root) c) cs) (begun a.places target) (running (Targets (last_of (inside (place_at a.places target.root) c) cs) right ∷ Does fs ∷ k) a rest s))
+  pub component_begins : (cleared : Bool) (c : ℕ) (cs : List ℕ) (target : PathForm) (right : RightForm) (fs : StmtsForm) (k : Control) → target.selectors ≡ c ∷ cs → (target.of_record ≡ true → is_object known.program.variables target.root ≡ true) → Working known s.heap a.places s.masters (λ rooms holds. Goes (gives_component known.program.types cleared target right holds) (RunsAfter known right (Does fs ∷ k) rooms) (Raised (component_among known (path_raises target) right) (ways known k rooms)) × Pairs cleared right (λ taken. IsOne taken.selectors) (Does fs ∷ k)) → Fine known s.heap s.masters (path_next named (before_last (inside (place_at a.places target.root) c) cs) (begun a.places target) (running (Targets (last_of (inside (place_at a.places target.root) c) cs) right ∷ Does fs ∷ k) a rest s))
   component_begins cleared c cs target right fs k is whole w =
-      let g = target_goes known.program.types cleared target right w.holds (RunsAfter known right (Does fs ∷ k) w.rooms) (Raised (component_among (path_raises target) right) (ways known k w.rooms)) w.rest.0 in
+      let g = target_goes known.program.types cleared target right w.holds (RunsAfter known right (Does fs ∷ k) w.rooms) (Raised (component_among known (path_raises target) right) (ways known k w.rooms)) w.rest.0 in
       finds_fine known a rest s a.operands (Targets (last_of (inside (place_at a.places target.root) c) cs) right ∷ Does fs ∷ k) (before_last (inside (place_at a.places target.root) c) cs) (begun a.places target)
       (at_work w (
-        target_raises c cs target (Does fs ∷ k) is whole w g.0 (λ may. g.2 may ConstraintError (or_left (path_raises target) (right_raises (is_same ConstraintError) right) may)),
+        target_raises c cs target (Does fs ∷ k) is whole w g.0 (λ may. g.2 may ConstraintError (or_left (path_raises target || right_raises (is_same ConstraintError) right) (right_starts known.implicit (is_same ConstraintError) right) (or_left (path_raises target) (right_raises (is_same ConstraintError) right) may))),
         (target, cleared, w.rest.0, w.rest.1, (ap (λ (ds : List ℕ). walk s.heap (begun a.places target) (front (selected named (place_at a.places target.root) ds))) is, ap (λ (ds : List ℕ). final (selected named (place_at a.places target.root) ds)) is)),
       )) (target_follows c cs target is w g.0)
 
@@ -127,7 +127,7 @@ module _ (known : Known) (k : Control) (a : Activation Value) (rest : List (Acti
   -- What goes into the component of the object that was found is evaluated next: null counts as stored already.
   evaluates : (right : RightForm) (o : Id) (object : Object) (c : ℕ) → object_at s.heap o ≡ Some object → object.listed ≡ true → Working known s.heap a.places s.masters (λ rooms holds. FillsIn known right (LeadsTo s.heap a.places (Names o) [] c) rooms holds k) → EvaluatesTo known right (StoresIn (Names o) c ∷ k) s.heap a.places s.masters
   evaluates nothing o object c found listed w =
-      let g = target_goes known.program.types w.rest.1 w.rest.0 nothing w.holds (RunsOn known k w.rooms) (Raised (component_among (path_raises w.rest.0) nothing) (ways known k w.rooms)) w.rest.2 in
+      let g = target_goes known.program.types w.rest.1 w.rest.0 nothing w.holds (RunsOn known k w.rooms) (Raised (component_among known (path_raises w.rest.0) nothing) (ways known k w.rooms)) w.rest.2 in
       ((object, found, listed), blank_works {more = RunsOn known k} o object c Null found (λ p e. cc e) (at_work w g.1))
   evaluates (value_of path) o object c found listed w = at_work w ((object, found, listed), w.rest)
   evaluates (allocates access items) o object c found listed w = at_work w ((object, found, listed), w.rest)

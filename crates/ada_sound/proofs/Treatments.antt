@@ -1,6 +1,6 @@
 -- The controlled parts of an object are initialized or finalized (7.6, 7.6.1): what is relied on stays as it is, and so does what is behind.
 
-use Rattle.std.proofs.Common.{◌≡◌, ◌≢◌, ℕ, zero, suc, ◌≤◌, Bool, true, false, List, [], ◌∷◌, refl, sym, ap, subst, ◌∙◌, ◌⊎◌, inl, inr}
+use Rattle.std.proofs.Common.{◌≡◌, ◌≢◌, ℕ, suc, ◌≤◌, Bool, true, false, List, [], ◌∷◌, refl, sym, ap, subst, ◌∙◌, ◌⊎◌, inl, inr}
 use Rattle.std.specs.Prelude.{◌==◌, if◌then◌else◌, Option, Some, None}
 use Rattle.std.specs.List.{slice_get, slice_set}
 use Rattle.ada_parts.specs.declared.tasks.Next.{Next as Follows}
@@ -12,7 +12,6 @@ use Rattle.ada_program.specs.Controlled.{operations_of, procedure_number, shapes
 use Rattle.ada_program.specs.ProgramForm.{BodyForm}
 use Rattle.ada_flow.specs.Flow.{Holds}
 use Rattle.ada_meaning.specs.declared.event.Birth.{Birth}
-use Rattle.ada_meaning.specs.declared.event.Birth.TheVariants.{Creation, Copy, Adjustment}
 use Rattle.ada_meaning.specs.declared.event.Cause.{Cause}
 use Rattle.ada_meaning.specs.declared.state.Id.{Id}
 use Rattle.ada_meaning.specs.declared.state.Place.{Place}
@@ -28,28 +27,22 @@ use Rattle.ada_meaning.specs.Frame as frame
 use Rattle.ada_meaning.specs.Heap.{PartState, Cell, Found, on_null, on_gone, on_other, finds}
 use Rattle.ada_meaning.specs.State.{Activation, Master, counted}
 use Rattle.ada_meaning.specs.Step.{picked_task, treating, first_or, halts, moves, tells, asks, picks, direction_of, treated_on, beginning, operating, operation_next, part_reference, born_next, begun_next, awaited_next, ended_next, finalized_next, performed_next, treats_next}
-use Rattle.ada_meaning.specs.Named.{Object, State, Next, object_at, existing, seen, look, named, changed, on_object, store, filled, treated, born_part, finalized_part}
+use Rattle.ada_meaning.specs.Named.{Object, State, Next, object_at, existing, seen, look, named, changed, on_object, store, filled, treated, born_part, finalized_part, parted}
 use Rattle.ada_meaning.specs.Run.{Event}
 use Rattle.ada_typed.proofs.Kept.{behind_call, behind_treating}
 use Rattle.ada_owners.specs.Keeping.{IsThere}
 use Rattle.ada_owners.proofs.Kernel.{same_id}
 use Rattle.ada_owners.proofs.Objects.{at_other}
 use Rattle.ada_owners.proofs.Changes.{store_is}
-use Rattle.ada_sound.proofs.Objects.{set_here}
+use Rattle.ada_sound.proofs.Objects.{set_here, set_twice}
 use Rattle.ada_sound.proofs.Stored.{stored_treated}
 use Rattle.ada_sound.proofs.Fits.{treated_fit}
 use Rattle.ada_sound.proofs.Alters.{Alters, alters_same, alters_set}
 use Rattle.ada_sound.proofs.Invariant.{Known, Control, Rooms, RunsOn, Working, IsHolder, IsPlainIn, IsLive, NamesTo, BegunTo, EndsTo, StoresBehind, CopiesBehind, TreatsBy, ThenBack, Ending, ConfinesBy, EndsWell, Stepped, Fine}
 use Rattle.ada_sound.proofs.Ready.{running, at_work, stays, treats_ready}
 use Rattle.ada_sound.proofs.Endings.{swapped, behind_set}
-use Rattle.ada_sound.proofs.Operating.{StaysLive, WaitsFor}
-use Rattle.ada_sound.proofs.QuietOperations.{Overrides}
-
--- What is written twice in one place is what was written last.
-set_twice : {X : Type 0} (xs : List X) (i : ℕ) (x y : X) → slice_set (slice_set xs i x) i y ≡ slice_set xs i y
-set_twice [] i x y = refl
-set_twice (z ∷ xs) zero x y = refl
-set_twice {X} (z ∷ xs) (suc i) x y = ap (λ (zs : List X). z ∷ zs) (set_twice xs i x y)
+use Rattle.ada_sound.proofs.Undone.{undo_set}
+use Rattle.ada_sound.proofs.Operating.{StaysLive, WaitsFor, IsCalled}
 
 -- A part of the object that a value names changes.
 module _ (change : PartState → PartState) (part : ℕ) where
@@ -200,7 +193,11 @@ module _ (change : PartState → PartState) (part : ℕ) where
     copies_set places operands (f ∷ k) r = absurd r
 
     treats_set : (v : Value) (treatment : Treatment) (places operands : List Value) (k : Control) → v ≡ Names o → TreatsBy known v treatment k heap places operands ms → TreatsBy known v treatment k (slice_set heap o.0 (treated change part x)) places operands ms
-    treats_set v (begins by done) places operands k is r = begun_set places operands k r
+    treats_set v (begins by done) places operands k is r = (
+      begun_set places operands k r.0,
+      rw is (undo_set known heap places ms o x (treated change part x) found refl (stored_treated change part o x found)
+          (λ spared holds f. treated_fit change part o (parted x) (set_here heap o.0 x (parted x) found) f) by k (rw is at r.1)),
+    )
     treats_set v (ends cause) places operands k is (inl r) = inl (ends_set heap o x found known ms v places k is r)
     treats_set v (ends cause) places operands k is (inr r) = inr (copies_set places operands k r)
 
@@ -249,7 +246,6 @@ TellsNothing Quiet = Unit {0}
 pub record Begins (known : Known) (a : Activation Value) (rest : List (Activation Value)) (s : State) (types : List TypeDefinition) (bodies : List BodyForm) (k : Control) (e : Event) (after : State) : Type 0 where
   pub of : ℕ
   pub number : ℕ
-  pub overrides : Overrides (operations_of types of) number
   pub b : BodyForm
   pub there : slice_get bodies number ≡ Some b
   pub heap : List Object
@@ -259,8 +255,9 @@ pub record Begins (known : Known) (a : Activation Value) (rest : List (Activatio
   pub live : StaysLive x.stage
   pub place : Place
   pub treatment : Treatment
+  pub called : IsCalled (operations_of types of) treatment number
   pub behind : Control
-  pub waits : WaitsFor o treatment k behind
+  pub waits : WaitsFor o of treatment k behind
   pub treats : TreatsBy known (Names o) treatment k heap a.places a.operands s.masters
   pub alters : Alters s.heap e heap
   pub tells : TellsNothing e
@@ -320,13 +317,12 @@ module _ (known : Known) (a : Activation Value) (rest : List (Activation Value))
       there : IsFound s.heap v cell
       there = object_found s.heap v cell is
 
-      calls_first : (by : Birth) (done : List parts.Part) (of part : ℕ) (tasks : List Task) (p : PartState) (number : ℕ) → Overrides (operations_of types of) number → TreatsBy known v (begins by done) k s.heap a.places a.operands s.masters
+      calls_first : (by : Birth) (done : List parts.Part) (of part : ℕ) (tasks : List Task) (p : PartState) (number : ℕ) → beginning by (operations_of types of) ≡ Some number → TreatsBy known v (begins by done) k s.heap a.places a.operands s.masters
           → (found : Option BodyForm) → slice_get bodies number ≡ found → Treated (operation_next named number found (part_reference named v part p) (frame.Awaits v by done of part tasks ∷ k) Quiet (running k a rest s))
-      calls_first by done of part tasks p number overrides r None at = tt
-      calls_first by done of part tasks p number overrides r (Some b) at = inr (record {
+      calls_first by done of part tasks p number called r None at = tt
+      calls_first by done of part tasks p number called r (Some b) at = inr (record {
         of = of;
         number = number;
-        overrides = overrides;
         b = b;
         there = at;
         heap = s.heap;
@@ -336,21 +332,22 @@ module _ (known : Known) (a : Activation Value) (rest : List (Activation Value))
         live = there.live;
         place = record { component = p.first; part = part };
         treatment = begins by done;
+        called = called;
         behind = frame.Awaits v by done of part tasks ∷ k;
-        waits = (of, part, tasks, ap (λ (u : Value). frame.Awaits u by done of part tasks ∷ k) (there.names));
-        treats = r;
+        waits = (part, tasks, ap (λ (u : Value). frame.Awaits u by done of part tasks ∷ k) (there.names));
+        treats = subst (λ (u : Value). TreatsBy known u (begins by done) k s.heap a.places a.operands s.masters) (there.names) r;
         alters = alters_same s.heap Quiet;
         tells = tt;
         is = ap (λ (u : Value). operating named number b (part_reference named u part p) (frame.Awaits v by done of part tasks ∷ k) (running k a rest s)) (there.names);
       })
 
-      begun_fine : (by : Birth) (done : List parts.Part) (of part : ℕ) (tasks : List Task) (operation : Option ℕ) → ((number : ℕ) → operation ≡ Some number → Overrides (operations_of types of) number) → (state : Option PartState) → TreatsBy known v (begins by done) k s.heap a.places a.operands s.masters
+      begun_fine : (by : Birth) (done : List parts.Part) (of part : ℕ) (tasks : List Task) (operation : Option ℕ) → ((number : ℕ) → operation ≡ Some number → beginning by (operations_of types of) ≡ Some number) → (state : Option PartState) → TreatsBy known v (begins by done) k s.heap a.places a.operands s.masters
           → Treated (begun_next named bodies v by done of part tasks operation state (running k a rest s))
-      begun_fine by done of part tasks operation overrides None r = tt
-      begun_fine by done of part tasks None overrides (Some p) r =
+      begun_fine by done of part tasks operation called None r = tt
+      begun_fine by done of part tasks None called (Some p) r =
           inl (born_fine by done of part tasks p r, (refl, behind_treating v (begins by (record { of = of; number = part } ∷ done)) tasks k))
-      begun_fine by done of part tasks (Some number) overrides (Some p) r =
-          calls_first by done of part tasks p number (overrides number refl) r (slice_get bodies number) refl
+      begun_fine by done of part tasks (Some number) called (Some p) r =
+          calls_first by done of part tasks p number (called number refl) r (slice_get bodies number) refl
 
       -- A value that is finalized exists; Finalize is called for it.
       treats_after : (cause : Cause) (part : ℕ) → TreatsBy known v (ends cause) k s.heap a.places a.operands s.masters → TreatsBy known v (ends cause) k (on_object (treated finalized_part part) s.heap v) a.places a.operands s.masters
@@ -361,14 +358,13 @@ module _ (known : Known) (a : Activation Value) (rest : List (Activation Value))
           subst (λ (u : Value). object_at (on_object (treated finalized_part part) s.heap u) there.o ≡ Some (treated finalized_part part there.x)) (sym (there.names))
           (changed_at (treated finalized_part part) s.heap there.o there.x there.found)
 
-      calls_last : (cause : Cause) (of part : ℕ) (tasks : List Task) (p : PartState) (number : ℕ) → Overrides (operations_of types of) number → TreatsBy known v (ends cause) k s.heap a.places a.operands s.masters
+      calls_last : (cause : Cause) (of part : ℕ) (tasks : List Task) (p : PartState) (number : ℕ) → procedure_number (operations_of types of).finalize ≡ Some number → TreatsBy known v (ends cause) k s.heap a.places a.operands s.masters
           → (found : Option BodyForm) → slice_get bodies number ≡ found
           → Treated (operation_next named number found (part_reference named v part p) (frame.Confines ∷ treating v (ends cause) tasks k) (Finalized v part p.turn of p.number cause) (record (running k a rest s) { heap = on_object (treated finalized_part part) s.heap v }))
-      calls_last cause of part tasks p number overrides r None at = tt
-      calls_last cause of part tasks p number overrides r (Some b) at = inr (record {
+      calls_last cause of part tasks p number called r None at = tt
+      calls_last cause of part tasks p number called r (Some b) at = inr (record {
         of = of;
         number = number;
-        overrides = overrides;
         b = b;
         there = at;
         heap = on_object (treated finalized_part part) s.heap v;
@@ -378,6 +374,7 @@ module _ (known : Known) (a : Activation Value) (rest : List (Activation Value))
         live = there.live;
         place = record { component = p.first; part = part };
         treatment = ends cause;
+        called = called;
         behind = frame.Confines ∷ treating v (ends cause) tasks k;
         waits = (tasks, ap (λ (u : Value). frame.Confines ∷ treating u (ends cause) tasks k) (there.names));
         treats = subst (λ (u : Value). TreatsBy known u (ends cause) k (on_object (treated finalized_part part) s.heap v) a.places a.operands s.masters) (there.names) (treats_after cause part r);
@@ -386,9 +383,9 @@ module _ (known : Known) (a : Activation Value) (rest : List (Activation Value))
         is = ap (λ (u : Value). operating named number b (part_reference named u part p) (frame.Confines ∷ treating v (ends cause) tasks k) (record (running k a rest s) { heap = on_object (treated finalized_part part) s.heap v })) (there.names);
       })
 
-      ended_fine : (cause : Cause) (of part : ℕ) (tasks : List Task) (p : PartState) (operation : Option ℕ) → ((number : ℕ) → operation ≡ Some number → Overrides (operations_of types of) number) → TreatsBy known v (ends cause) k s.heap a.places a.operands s.masters
+      ended_fine : (cause : Cause) (of part : ℕ) (tasks : List Task) (p : PartState) (operation : Option ℕ) → ((number : ℕ) → operation ≡ Some number → procedure_number (operations_of types of).finalize ≡ Some number) → TreatsBy known v (ends cause) k s.heap a.places a.operands s.masters
           → Treated (ended_next named bodies v part p (treating v (ends cause) tasks k) operation (Finalized v part p.turn of p.number cause) (record (running k a rest s) { heap = on_object (treated finalized_part part) s.heap v }))
-      ended_fine cause of part tasks p None overrides r = inl (
+      ended_fine cause of part tasks p None called r = inl (
         record {
           ready = (tt, treats_ready known v (ends cause) tasks k (on_object (treated finalized_part part) s.heap v) a.places a.operands s.masters (treats_after cause part r));
           alters = alters_treated finalized_part part s.heap _ v;
@@ -396,33 +393,28 @@ module _ (known : Known) (a : Activation Value) (rest : List (Activation Value))
         },
         (refl, behind_treating v (ends cause) tasks k),
       )
-      ended_fine cause of part tasks p (Some number) overrides r = calls_last cause of part tasks p number (overrides number refl) r (slice_get bodies number) refl
+      ended_fine cause of part tasks p (Some number) called r = calls_last cause of part tasks p number (called number refl) r (slice_get bodies number) refl
 
-      finalized_fine : (cause : Cause) (of part : ℕ) (tasks : List Task) (operation : Option ℕ) → ((number : ℕ) → operation ≡ Some number → Overrides (operations_of types of) number) → (state : Option PartState)
+      finalized_fine : (cause : Cause) (of part : ℕ) (tasks : List Task) (operation : Option ℕ) → ((number : ℕ) → operation ≡ Some number → procedure_number (operations_of types of).finalize ≡ Some number) → (state : Option PartState)
           → (finalized_next named bodies v cause of part tasks operation state (running k a rest s) ≡ halts (Erroneous FinalizesTwice) → ⊥) → TreatsBy known v (ends cause) k s.heap a.places a.operands s.masters
           → Treated (finalized_next named bodies v cause of part tasks operation state (running k a rest s))
-      finalized_fine cause of part tasks operation overrides None once r = tt
-      finalized_fine cause of part tasks operation overrides (Some p) once r =
+      finalized_fine cause of part tasks operation called None once r = tt
+      finalized_fine cause of part tasks operation called (Some p) once r =
           by p.alive (ended_next named bodies v part p (treating v (ends cause) tasks k) operation (Finalized v part p.turn of p.number cause) (record (running k a rest s) { heap = on_object (treated finalized_part part) s.heap v })) once
-          (ended_fine cause of part tasks p operation overrides r)
+          (ended_fine cause of part tasks p operation called r)
         where
           by : (alive : Bool) (n : Next) → ((if alive then n else halts (Erroneous FinalizesTwice)) ≡ halts (Erroneous FinalizesTwice) → ⊥) → Treated n → Treated (if alive then n else halts (Erroneous FinalizesTwice))
           by true n once' fine = fine
           by false n once' fine = absurd (once' refl)
-
-    begins_by : (by : Birth) (of number : ℕ) → beginning by (operations_of types of) ≡ Some number → Overrides (operations_of types of) number
-    begins_by Creation of number is = inl is
-    begins_by Copy of number is = inr (inl is)
-    begins_by (Adjustment n) of number is = inr (inl is)
 
     performed_fine : (treatment : Treatment) (of part : ℕ) (tasks : List Task) (found : Found (Cell Value)) → look s.heap v ≡ found → (performed_next named types bodies v treatment of part tasks found (running k a rest s) ≡ halts (Erroneous FinalizesTwice) → ⊥) → TreatsBy known v treatment k s.heap a.places a.operands s.masters → Treated (performed_next named types bodies v treatment of part tasks found (running k a rest s))
     performed_fine treatment of part tasks on_null at once r = tt
     performed_fine treatment of part tasks on_gone at once r = absurd (once refl)
     performed_fine treatment of part tasks on_other at once r = tt
     performed_fine (begins by done) of part tasks (finds cell) at once r =
-        begun_fine cell at by done of part tasks (beginning by (operations_of types of)) (begins_by by of) (slice_get cell.parts part) r
+        begun_fine cell at by done of part tasks (beginning by (operations_of types of)) (λ number is. is) (slice_get cell.parts part) r
     performed_fine (ends cause) of part tasks (finds cell) at once r =
-        finalized_fine cell at cause of part tasks (procedure_number (operations_of types of).finalize) (λ number is. inr (inr is)) (slice_get cell.parts part) once r
+        finalized_fine cell at cause of part tasks (procedure_number (operations_of types of).finalize) (λ number is. is) (slice_get cell.parts part) once r
 
     pub treats_fine : (n : Follows) (treatment : Treatment) (tasks : List Task) → (treats_next named types bodies v treatment tasks n (running k a rest s) ≡ halts (Erroneous FinalizesTwice) → ⊥) → TreatsBy known v treatment k s.heap a.places a.operands s.masters → Treated (treats_next named types bodies v treatment tasks n (running k a rest s))
     treats_fine Done treatment tasks once r = inl (goes_on treatment [] r, (refl, refl))

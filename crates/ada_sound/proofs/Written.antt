@@ -1,6 +1,6 @@
 -- An Integer or a Boolean goes into a component of an object while that is treated (7.6): what is behind the treatment stays as it is.
 
-use Rattle.std.proofs.Common.{◌≡◌, ◌≢◌, ℕ, zero, suc, List, [], ◌∷◌, refl, sym, ap, subst, ◌∙◌, ◌⊎◌, inl, inr}
+use Rattle.std.proofs.Common.{◌≡◌, ◌≢◌, ℕ, List, [], ◌∷◌, refl, sym, ap, subst, ◌∙◌, ◌⊎◌, inl, inr}
 use Rattle.std.specs.Prelude.{false, Some}
 use Rattle.std.specs.List.{slice_set}
 use Rattle.ada_flow.specs.Flow.{Holds}
@@ -10,23 +10,18 @@ use Rattle.ada_meaning.specs.declared.state.Value.TheVariants.{Null, Names, Scal
 use Rattle.ada_meaning.specs.Frame.{Copies, Stores, StoresIn, StoresRecord, Declares, Ends, GivesBack, Treatment, begins, ends}
 use Rattle.ada_meaning.specs.State.{Master}
 use Rattle.ada_meaning.specs.Step.{first_or}
-use Rattle.ada_meaning.specs.Named.{Object, object_at, filled, store}
+use Rattle.ada_meaning.specs.Named.{Object, object_at, filled, parted, store}
 use Rattle.ada_owners.specs.Keeping.{IsThere}
 use Rattle.ada_owners.proofs.Kernel.{same_id, same_or_not}
 use Rattle.ada_owners.proofs.Objects.{at_other}
 use Rattle.ada_owners.proofs.Changes.{store_is}
-use Rattle.ada_sound.proofs.Objects.{set_here}
+use Rattle.ada_sound.proofs.Objects.{set_here, set_twice}
 use Rattle.ada_sound.proofs.Stored.{stored_filled}
 use Rattle.ada_sound.proofs.Fits.{store_blank}
 use Rattle.ada_sound.proofs.Invariant.{Known, Control, Rooms, RunsOn, Working, IsHolder, IsPlainIn, NamesTo, BegunTo, EndsTo, StoresBehind, CopiesBehind, TreatsBy, ThenBack, Ending}
 use Rattle.ada_sound.proofs.Ready.{at_work}
 use Rattle.ada_sound.proofs.Endings.{KeepsFit, swapped, behind_set}
-
--- What is written twice in one place is what was written last.
-set_twice : {X : Type 0} (xs : List X) (i : ℕ) (x y : X) → slice_set (slice_set xs i x) i y ≡ slice_set xs i y
-set_twice [] i x y = refl
-set_twice (z ∷ xs) zero x y = refl
-set_twice {X} (z ∷ xs) (suc i) x y = ap (λ (zs : List X). z ∷ zs) (set_twice xs i x y)
+use Rattle.ada_sound.proofs.Undone.{undo_set}
 
 -- This goes into this component.
 module _ (c : ℕ) (v : Value) (nameless : (p : Id) → v ≡ Names p → ⊥) where
@@ -188,6 +183,10 @@ module _ (c : ℕ) (v : Value) (nameless : (p : Id) → v ≡ Names p → ⊥) w
 
     -- Whatever is behind the treatment of the object.
     pub treats_written : (treatment : Treatment) (places operands : List Value) (k : Control) → TreatsBy known (Names o) treatment k heap places operands ms → TreatsBy known (Names o) treatment k (slice_set heap o.0 (wrote x)) places operands ms
-    treats_written (begins by done) places operands k r = begun_set places operands k r
+    treats_written (begins by done) places operands k r = (
+      begun_set places operands k r.0,
+      undo_set known heap places ms o x (wrote x) found refl (stored_filled o x c v found)
+          (wrote_fit known (slice_set heap o.0 (parted x)) places o (parted x) (set_here heap o.0 x (parted x) found)) by k r.1,
+    )
     treats_written (ends cause) places operands k (inl r) = inl (ends_set heap o x found known ms (Names o) places k refl r)
     treats_written (ends cause) places operands k (inr r) = inr (copies_set places operands k r)

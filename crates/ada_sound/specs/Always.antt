@@ -24,7 +24,7 @@ use Rattle.ada_meaning.specs.Run.{Event, Run, Halts, first_state}
 use Rattle.ada_meaning.specs.Law.{IsBackHome, items_of, Falls, MastersFall, GivesBackOf, Happened, IsHoused, HasPool, OwnTwoPools, IsDeclaredPool, IsBack, HasEnded}
 use Rattle.ada_finalized.specs.Law.{NoOperationRuns}
 use Rattle.ada_sound.specs.Agreement.{Agrees, Place, Turning, IsFlowAt, IsBehind, running_procedure}
-use Rattle.ada_quiet.specs.Quiet.{operations_are_quiet}
+use Rattle.ada_quiet.specs.Quiet.{operations_are_in_use}
 
 -- Of the events of each run, and the state that it comes to.
 abbrev pub InEveryRun : Program → (List Event → State → Type 0) → Type 0
@@ -34,8 +34,9 @@ InEveryRun program P = (input : List ℤ) (events : List Event) (last : State) �
 pub record IsChecked (program : Program) : Type 0 where
   -- each number is that of something there, and each form has the types that it wants
   pub well_formed : IsWellFormed (program_form program)
-  -- whatever overrides an operation of a controlled type is quiet: it touches Integers and Booleans alone, calls nothing, and raises no exception (7.6)
-  pub quiet : operations_are_quiet (program_form program) ≡ true
+  -- whatever overrides an operation of a controlled type is plain: it touches Integers and Booleans alone, and calls nothing; and what overrides Adjust or
+  -- Finalize raises no exception (7.6)
+  pub in_use : operations_are_in_use (program_form program) ≡ true
   -- no object lies in a collection that lasts longer than one in which its components' objects lie (3.10.2, 7.6.1)
   pub nests : CollectionsNest (program_form program)
   -- what is freed is freed by the instance for its own access type (13.11.2)
@@ -130,7 +131,7 @@ FinishesAfter seen program = HaltsAfter seen Finished program
 -- The program is well formed, its collections nest, and it frees by the instances for what it frees, but flow refuses it, first by this rule.
 pub record Breaks (rule : Rule) (program : Program) : Type 0 where
   pub well_formed : IsWellFormed (program_form program)
-  pub quiet : operations_are_quiet (program_form program) ≡ true
+  pub in_use : operations_are_in_use (program_form program) ≡ true
   pub nests : CollectionsNest (program_form program)
   pub frees_own : FreesItsOwn (program_form program)
   pub spot : Spot
@@ -139,7 +140,7 @@ pub record Breaks (rule : Rule) (program : Program) : Type 0 where
 -- The program obeys the rules, its collections nest, and it frees by the instances for what it frees, but it is not well formed.
 pub record IsIllFormed (program : Program) : Type 0 where
   pub ill_formed : IsWellFormed (program_form program) → ⊥
-  pub quiet : operations_are_quiet (program_form program) ≡ true
+  pub in_use : operations_are_in_use (program_form program) ≡ true
   pub nests : CollectionsNest (program_form program)
   pub frees_own : FreesItsOwn (program_form program)
   pub obeys : ObeysRules program
@@ -147,7 +148,7 @@ pub record IsIllFormed (program : Program) : Type 0 where
 -- The program is well formed, obeys the rules, and frees by the instances for what it frees, but its collections do not nest.
 pub record IsIllNested (program : Program) : Type 0 where
   pub well_formed : IsWellFormed (program_form program)
-  pub quiet : operations_are_quiet (program_form program) ≡ true
+  pub in_use : operations_are_in_use (program_form program) ≡ true
   pub ill_nested : CollectionsNest (program_form program) → ⊥
   pub frees_own : FreesItsOwn (program_form program)
   pub obeys : ObeysRules program
@@ -155,16 +156,16 @@ pub record IsIllNested (program : Program) : Type 0 where
 -- The program is well formed, its collections nest, and it obeys the rules, but it frees by an instance for another access type.
 pub record FreesOthers (program : Program) : Type 0 where
   pub well_formed : IsWellFormed (program_form program)
-  pub quiet : operations_are_quiet (program_form program) ≡ true
+  pub in_use : operations_are_in_use (program_form program) ≡ true
   pub nests : CollectionsNest (program_form program)
   pub frees_others : FreesItsOwn (program_form program) → ⊥
   pub obeys : ObeysRules program
 
 -- The program is well formed, its collections nest, it frees by the instances for what it frees, and it obeys the rules, but something that overrides an
--- operation of a controlled type is not quiet.
-pub record NotQuiet (program : Program) : Type 0 where
+-- operation of a controlled type is not in use.
+pub record NotInUse (program : Program) : Type 0 where
   pub well_formed : IsWellFormed (program_form program)
-  pub not_quiet : operations_are_quiet (program_form program) ≡ false
+  pub not_in_use : operations_are_in_use (program_form program) ≡ false
   pub nests : CollectionsNest (program_form program)
   pub frees_own : FreesItsOwn (program_form program)
   pub obeys : ObeysRules program

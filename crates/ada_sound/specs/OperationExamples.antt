@@ -1,4 +1,5 @@
--- The operations, the statements and the events of the programs by which the laws show what operations of controlled types do, and that these must be quiet.
+-- The operations, the statements and the events of the programs by which the laws show what operations of controlled types do, where one of them raises an
+-- exception, too, and that others must not be in use.
 
 use Rattle.std.specs.Prelude.{ℕ, List, [], ◌∷◌, ◌++◌, Some, None, false, pos}
 use Rattle.std.proofs.Math.ListN.{replicate}
@@ -14,7 +15,7 @@ use Rattle.ada_program.specs.ProgramForm.{BodyForm}
 use Rattle.ada_meaning.specs.declared.state.Value.{Value}
 use Rattle.ada_meaning.specs.declared.state.Value.TheVariants.{Names}
 use Rattle.ada_meaning.specs.declared.event.Birth.TheVariants.{Creation, Copy, Adjustment}
-use Rattle.ada_meaning.specs.declared.event.Cause.TheVariants.{Leaving, Freeing, Assigning}
+use Rattle.ada_meaning.specs.declared.event.Cause.TheVariants.{Leaving, Freeing, Assigning, Undoing}
 use Rattle.ada_meaning.specs.declared.event.Line.TheVariants.{Image, Literal}
 use Rattle.ada_meaning.specs.Event.{Born, Finalized, Back, Followed, Left, Line}
 use Rattle.ada_meaning.specs.Beginning.{BeginsStatement}
@@ -141,6 +142,62 @@ operating_events =
     ∷ Finalized object_x 0 1 0 4 (Leaving 0 1)
     ∷ finalizes object_x 3 11
     ++ Back object_x 2 0 None None (Leaving 0 1)
+    ∷ Left 0
+    ∷ []
+
+-- type First is new Controlled with record V : Integer; end record; and type Second is new Controlled with record W : Integer; end record; have numbers 0 and
+-- 1. type Both is record A : First; B : Second; end record; has number 2, and type Link is access Both; has number 3. P : Link has number 0 in the main
+-- procedure.
+
+-- First overrides Initialize and Finalize, and Second overrides Initialize, by these procedures.
+abbrev pub first_operations : Operations
+first_operations = record { initialize = Some (record { 0 = 0 }); adjust = None; finalize = Some (record { 0 = 1 }) }
+
+abbrev pub second_operations : Operations
+second_operations = record { initialize = Some (record { 0 = 2 }); adjust = None; finalize = None }
+
+-- procedure Initialize (F : in out First) is begin F.V := 1; end Initialize;
+abbrev pub initialize_first : BodyForm
+initialize_first = operation_body 4 (a_stmt (assigns count_now (computes (integer (pos 1)))) no_stmts) no_handlers
+
+-- procedure Finalize (F : in out First) is begin Put_Line (Integer'Image (F.V)); end Finalize;
+abbrev pub finalize_first : BodyForm
+finalize_first = operation_body 5 (a_stmt (writes (reads count_now)) no_stmts) no_handlers
+
+-- procedure Initialize (S : in out Second) is begin S.W := 2; raise Constraint_Error; end Initialize;
+abbrev pub failing_initialize : BodyForm
+failing_initialize = operation_body 6 (a_stmt (assigns count_now (computes (integer (pos 2)))) (a_stmt (raises ConstraintError) no_stmts)) no_handlers
+
+-- All three, in order.
+abbrev pub failing_bodies : List BodyForm
+failing_bodies = initialize_first ∷ finalize_first ∷ failing_initialize ∷ []
+
+-- begin P := new Both; exception when Constraint_Error => Put_Line (".."); end; Free (P);
+abbrev pub failing_stmts : StmtsForm
+failing_stmts =
+    a_stmt
+    (encloses [] (a_stmt (assigns (example_path 0 []) (allocates_default 3)) no_stmts)
+    (a_handler (choice.Exception ConstraintError ∷ []) (a_stmt (writes_text 0) no_stmts) no_handlers))
+    (a_stmt (frees 3 (example_path 0 [])) no_stmts)
+
+-- The object that is undone.
+abbrev pub failing_object : Value
+failing_object = Names (record { 0 = 0 })
+
+-- The new object is undone: A has begun, and Initialize of B raises the exception, after which A is finalized, which holds 1, and the object goes. Then the
+-- handler writes the text, and Free finds null. Each body is a master, and so is the block.
+abbrev pub failing_events : List Event
+failing_events =
+    replicate 2 (Followed failing_object)
+    ++ Left 2
+    ∷ Born failing_object 0 0 0 1 Creation
+    ∷ replicate 2 (Followed failing_object)
+    ++ Left 3
+    ∷ Finalized failing_object 0 0 0 1 (Undoing 4)
+    ∷ finalizes failing_object 1 5
+    ++ Back failing_object 3 1 (Some 0) None (Undoing 4)
+    ∷ Line (Literal (record { 0 = 0 }))
+    ∷ Left 1
     ∷ Left 0
     ∷ []
 

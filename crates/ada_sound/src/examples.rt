@@ -158,6 +158,20 @@ pub fn operations_are_accepted()
         × IsChecked program × FinishesAfter operation_examples.operating_events program }
 {}
 
+/// Nor are they where an Initialize raises an exception (7.6.1): a program is accepted that allocates an object with two
+/// controlled components, of two types. The first one begins, and holds 1; Initialize of the second one raises
+/// `Constraint_Error`. So the first one is finalized, with its 1, and the words of the object go back; a handler of the
+/// block around the allocator takes the exception, the variable that was to name the object is null still, and the program
+/// finishes.
+pub fn failed_initializations_are_accepted()
+    ensures undoes { (program : Program)
+        × (operations_of program.types.items 0 ≡ operation_examples.first_operations)
+        × (operations_of program.types.items 1 ≡ operation_examples.second_operations)
+        × (body_forms program ≡ operation_examples.failing_bodies)
+        × (stmt_forms program ≡ operation_examples.failing_stmts)
+        × IsChecked program × FinishesAfter operation_examples.failing_events program }
+{}
+
 /// That no operation runs is needed where flow is agreed with, in the main procedure or in one that is called: of a
 /// program that is accepted, three nodes go with their collection, whose Finalize does nothing. The last one is gone, which
 /// the second one names; where the statement in the first one's Finalize begins, the second one is in its collection still.
@@ -203,7 +217,7 @@ pub fn operations_run_apart()
 /// formed, one of another type names what goes with a block. And components name what lasts as long as their objects: of
 /// a program whose collections do not nest, an object outlasts what its component names. And a Free is by the instance for
 /// the access type of what it frees (13.11.2): of a program with two declared pools where it is by that for another access
-/// type, the words of an object are to go back to the pool of the other one. And operations are quiet: the objects of a
+/// type, the words of an object are to go back to the pool of the other one. And operations are in use: the objects of a
 /// collection are finalized in any order (7.6.1), so a Finalize that frees what a component of its object names may find
 /// it gone, and finalizes it twice; and one that only follows the component comes to an object that is gone.
 pub fn rules_are_needed()
@@ -293,10 +307,10 @@ pub fn rules_are_needed()
     ensures frees_gone { (program : Program)
         × (operations_of program.types.items 0 ≡ operation_examples.node_operations)
         × (body_forms program ≡ operation_examples.freeing_finalize ∷ []) × (stmt_forms program ≡ operation_examples.two_nodes)
-        × always.NotQuiet program × always.HaltsAfter operation_examples.node_events (Erroneous FinalizesTwice) program }
+        × always.NotInUse program × always.HaltsAfter operation_examples.node_events (Erroneous FinalizesTwice) program }
     ensures follows_gone { (program : Program)
         × (operations_of program.types.items 0 ≡ operation_examples.node_operations)
         × (body_forms program ≡ operation_examples.following_finalize ∷ []) × (stmt_forms program ≡ operation_examples.two_nodes)
-        × always.NotQuiet program
+        × always.NotInUse program
         × always.HaltsAfter operation_examples.following_events (Erroneous FollowsGone) program }
 {}

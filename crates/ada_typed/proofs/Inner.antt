@@ -357,7 +357,8 @@ module _ (program : Program) (well : IsWellFormed (program_form program)) where
       let number : 0 + part ≡ part = omega arith in
       subst (LiesAt types access n) number (walks_lie access start.0 0 whole_one.0 w first part t n whole_one.1 walks (same_number types t ∙ numbered))
 
-  lies_at : (access of part : ℕ) → Lies forms access of part → LiesAt types access of part
+  -- So does all that lies in the objects of a type.
+  pub lies_at : (access of part : ℕ) → Lies forms access of part → LiesAt types access of part
   lies_at access _ _ (whole n is) = named_lies access n (named_in (slice_get forms access)) refl is
   lies_at access _ _ (placed t n first part is walks) = placed_lies access t n first part (named_in (slice_get forms access)) refl is walks
   lies_at access _ _ (inner of part i c lies at) =

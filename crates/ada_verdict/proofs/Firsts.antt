@@ -20,7 +20,7 @@ use Rattle.ada_operations.specs.declared.fault.OperationFault.TheVariants as ope
 use Rattle.ada_operations.specs.declared.rule.OperationRule.{OperationRule}
 use Rattle.ada_operations.specs.declared.rule.OperationRule.TheVariants.{FinalizeOrder, MayPropagate, FinalizeAllocates}
 use Rattle.ada_operations.specs.Operations.{HasFault, IsFirstFault as IsFirstOf, rule_number}
-use Rattle.ada_quiet.specs.First.{HasUnquiet, HasUntracked, IsFirst as IsFirstPlace}
+use Rattle.ada_quiet.specs.First.{HasUnused, HasUntracked, IsFirst as IsFirstPlace}
 use Rattle.ada_resolve.specs.declared.fault.NameFault.{NameFault}
 use Rattle.ada_resolve.specs.declared.fault.NameFault.TheVariants as names
 use Rattle.ada_resolve.specs.declared.fault.NameRule.{NameRule}
@@ -257,7 +257,7 @@ no_first tokens text tree syntax source (verdict.Operations operations.NoMemory)
 no_first tokens text tree syntax source (verdict.Unused (unused.Adjust spot)) b p a =
     no_place HasUntracked (program_form b.0) (program_form p) spot (one_program tokens tree source b.0 p b.1 a.0) b.2.1 a.1.1
 no_first tokens text tree syntax source (verdict.Unused (unused.Operation spot)) b p a =
-    no_place HasUnquiet (program_form b.0) (program_form p) spot (one_program tokens tree source b.0 p b.1 a.0) b.2.1.2 a.1.3
+    no_place HasUnused (program_form b.0) (program_form p) spot (one_program tokens tree source b.0 p b.1 a.0) b.2.1.2 a.1.3
 no_first tokens text tree syntax source (verdict.Unused unused.NoMemory) b p a = refl
 no_first tokens text tree syntax source (verdict.Flow (flow.Broken spot rule)) b p a =
     obeys_none p spot rule (same_judgement p b.0 (one_program tokens tree source p b.0 a.0 b.1) ∙ b.2.2) a.1.2
@@ -315,7 +315,7 @@ late_one tokens tree source (verdict.Unused (unused.Adjust spot)) (verdict.Unuse
 late_one tokens tree source (verdict.Unused (unused.Operation spot)) (verdict.Unused (unused.Adjust other)) x y a b n m =
     no_place HasUntracked (program_form b.0) (program_form a.0) other (one_program tokens tree source b.0 a.0 b.1 a.1) b.2.1 a.2.1.0
 late_one tokens tree source (verdict.Unused (unused.Operation spot)) (verdict.Unused (unused.Operation other)) x y a b n m =
-    one_place HasUnquiet (program_form a.0) (program_form b.0) spot other (one_program tokens tree source a.0 b.0 a.1 b.1) a.2.1.2 b.2.1.2 rules.NOT_IN_PROFILE.now
+    one_place HasUnused (program_form a.0) (program_form b.0) spot other (one_program tokens tree source a.0 b.0 a.1 b.1) a.2.1.2 b.2.1.2 rules.NOT_IN_PROFILE.now
 late_one tokens tree source (verdict.Unused (unused.Adjust spot)) (verdict.Flow g) x y a b n m =
     no_place HasUntracked (program_form a.0) (program_form b.0) spot (one_program tokens tree source a.0 b.0 a.1 b.1) a.2.1 b.2.1
 late_one tokens tree source (verdict.Unused (unused.Operation spot)) (verdict.Flow (flow.Broken other rule)) x y a b n m =

@@ -11,7 +11,7 @@ use Rattle.ada_program.specs.ProgramForm.{program_form}
 use Rattle.ada_operations.specs.declared.fault.OperationFault.{OperationFault}
 use Rattle.ada_operations.specs.declared.fault.OperationFault.TheVariants as operations
 use Rattle.ada_operations.specs.Operations.{IsFirstFault as IsFirstOf}
-use Rattle.ada_quiet.specs.First.{IsFirstUnquiet, IsFirstUntracked}
+use Rattle.ada_quiet.specs.First.{IsFirstUnused as IsFirstNotInUse, IsFirstUntracked}
 use Rattle.ada_resolve.specs.Resolution.{Resolves}
 use Rattle.ada_resolve.specs.View.{Faults}
 use Rattle.ada_flow.specs.Flow.{ObeysRules}
@@ -42,9 +42,9 @@ OperationsObey program = IsFirstOf (program_form program) None
 abbrev pub AdjustsNoAccess : Program → Type 0
 AdjustsNoAccess program = IsFirstUntracked (program_form program) None
 
--- Each operation is in use: none begins that is not quiet.
+-- Each operation is in use: Initialize is plain, Adjust and Finalize are quiet.
 abbrev pub OperationsAreInUse : Program → Type 0
-OperationsAreInUse program = IsFirstUnquiet (program_form program) None
+OperationsAreInUse program = IsFirstNotInUse (program_form program) None
 
 -- Nothing is wrong with a program, by the phases behind names: its operations obey their rules, flow follows them, it obeys the rules of flow, where what
 -- operations may do that are called implicitly counts, and its operations are in use.
@@ -60,10 +60,10 @@ abbrev pub IsFirstBroken : Program → OperationFault → Type 0
 IsFirstBroken program (operations.Broken spot rule) = IsFirstOf (program_form program) (Some (spot, rule))
 IsFirstBroken program operations.NoMemory = Unit {0}
 
--- The first operation that is not in use: one that flow does not follow, or, where the rules of flow are obeyed, one that is not quiet.
+-- The first operation that is not in use: one that flow does not follow, or, where the rules of flow are obeyed, one that is not plain, or not quiet.
 abbrev pub IsFirstUnused : Program → UnusedFault → Type 0
 IsFirstUnused program (unused.Adjust spot) = IsFirstUntracked (program_form program) (Some spot)
-IsFirstUnused program (unused.Operation spot) = AdjustsNoAccess program × ObeysRules program × IsFirstUnquiet (program_form program) (Some spot)
+IsFirstUnused program (unused.Operation spot) = AdjustsNoAccess program × ObeysRules program × IsFirstNotInUse (program_form program) (Some spot)
 IsFirstUnused program unused.NoMemory = AdjustsNoAccess program × ObeysRules program
 
 -- The first fault of a program, behind names: that of the first phase that has one.

@@ -10,7 +10,7 @@ ghost use Rattle.ada_program.specs.Freed.{FreesItsOwn};
 ghost use Rattle.ada_program.specs.Nested.{CollectionsNest};
 ghost use Rattle.ada_program.specs.ProgramForm.{program_form};
 ghost use Rattle.ada_program.specs.WellFormed.{IsWellFormed};
-ghost use Rattle.ada_quiet.specs.Quiet.{operations_are_quiet};
+ghost use Rattle.ada_quiet.specs.Quiet.{operations_are_in_use};
 ghost use Rattle.ada_sound.specs.Always.{IsChecked};
 ghost use Rattle.ada_tree.specs.StatementView.{unit_of};
 ghost use Rattle.ada_verdict.specs.First.{AdjustsNoAccess, HasNoFault, IsAccepted, IsFirst, IsFirstIn, IsFirstUnused, IsProgramOf, IsSourceOf, OperationsAreInUse, RefusesRightly};
@@ -22,7 +22,7 @@ use ada_flow::{FlowFault, flow};
 use ada_operations::operations;
 use ada_parser::parse;
 use ada_program::Program;
-use ada_quiet::{first_unquiet, first_untracked};
+use ada_quiet::{first_untracked, first_unused};
 use ada_resolve::resolve;
 use ada_sound::laws::rules_imply_safety;
 use ada_tree::unit::Unit;
@@ -57,7 +57,7 @@ impl Accepted {
     pub fn program(&self) -> &Program
         ensures program { result.now ≡ self.now }
         ensures formed { IsWellFormed (program_form self.now) }
-        ensures quiet { operations_are_quiet (program_form self.now) ≡ true }
+        ensures in_use { operations_are_in_use (program_form self.now) ≡ true }
         ensures rules { ObeysRules self.now }
         ensures safe { Safe self.now }
     {
@@ -106,7 +106,7 @@ fn checked(alloc: Global, source: &[u8]) -> Result<Accepted, Verdict>
 fn judge(alloc: Global, program: &Program) -> Result<(), Verdict>
     requires { IsWellFormed (program_form program.now) }
     ensures fine { IfOk result (λ _. HasNoFault program.now) }
-    ensures quiet { IfOk result (λ _. operations_are_quiet (program_form program.now) ≡ true) }
+    ensures in_use { IfOk result (λ _. operations_are_in_use (program_form program.now) ≡ true) }
     ensures refused { IfErr result (λ verdict. IsFirstIn program.now verdict) }
 {
     let implicit = operations(alloc, program)?;
@@ -142,7 +142,7 @@ fn obey(alloc: Global, program: &Program, implicit: &Implicit) -> Result<(), Flo
     flow(alloc, program, implicit)
 }
 
-/// Each operation is in use: it is quiet.
+/// Each operation is in use: Initialize is plain, Adjust and Finalize are quiet.
 ///
 /// # Errors
 /// The first one that is not, or want of memory.
@@ -150,10 +150,10 @@ fn use_all(alloc: Global, program: &Program) -> Result<(), UnusedFault>
     requires followed { AdjustsNoAccess program.now }
     requires obeys { ObeysRules program.now }
     ensures used { IfOk result (λ _. OperationsAreInUse program.now) }
-    ensures quiet { IfOk result (λ _. operations_are_quiet (program_form program.now) ≡ true) }
+    ensures in_use { IfOk result (λ _. operations_are_in_use (program_form program.now) ≡ true) }
     ensures refused { IfErr result (λ fault. IsFirstUnused program.now fault) }
 {
-    match first_unquiet(alloc, program)? {
+    match first_unused(alloc, program)? {
         Some(spot) => Err(UnusedFault::Operation(spot)),
         None => Ok(()),
     }

@@ -60,8 +60,9 @@ pub const TAKE_PAIR: &str = "S3 take-pair";
 /// At the end of a loop's body, or at an exit, less is known of a variable than at the loop's start.
 pub const LOOP_STATE: &str = "S5 loop-state";
 
-/// A component is freed whose path follows a value of the component's own access type, or a variable with which two actual
-/// parameters begin is given for a formal parameter of mode `in out`.
+/// A component is freed whose path follows a value of the component's own access type, a path waits for calls that may free
+/// an object that it leads through, or a variable with which two actual parameters begin is given for a formal parameter of
+/// mode `in out`.
 pub const UNSAFE_PATH: &str = "S6 unsafe-path";
 
 /// At a normal end of a body a formal parameter of mode `in out` may hold a value that it doesn't own.

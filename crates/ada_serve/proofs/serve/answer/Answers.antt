@@ -5,7 +5,7 @@ use Rattle.ada_program.specs.ProgramForm.{body_forms}
 use Rattle.ada_meaning.specs.Pace.{OperationsDeclareNoParts}
 use Rattle.ada_serve.specs.Calls.{IsRead}
 use Rattle.ada_serve.proofs.Answering.{input_unwritten, answers_run}
-use Rattle.ada_serve.proofs.Quiet.{quiet_declare_none}
+use Rattle.ada_serve.proofs.Plain.{used_declare_none}
 use Rattle.ada_serve.proofs.serve.answer.Goals as goal
 
 pub returns-in_err-numbers-clause-writer : goal.returns-in_err-numbers-clause-writer
@@ -21,5 +21,5 @@ pub run-requires : goal.run-requires
 run-requires g c = record {
   operations =
       subst (λ (p : Program). OperationsDeclareNoParts p.types.items (body_forms p)) (sym c.program-program.ensures.program)
-      (quiet_declare_none c.args.accepted.now c.program-program.ensures.quiet);
+      (used_declare_none c.args.accepted.now c.program-program.ensures.in_use);
 }

@@ -126,7 +126,7 @@ returns-clause-frees_gone c = (
   operations.freeing_operations,
   operations.freeing_bodies,
   operations.freeing_form,
-  operations.freeing_not_quiet,
+  operations.freeing_not_in_use,
   operations.frees_gone,
 )
 
@@ -136,6 +136,6 @@ returns-clause-follows_gone c = (
   operations.following_operations,
   operations.following_bodies,
   operations.following_form,
-  operations.following_not_quiet,
+  operations.following_not_in_use,
   operations.follows_gone,
 )

@@ -12,7 +12,7 @@ returns-in_err-judge-clause-refused c =
 pub invariant_of-result : goal.invariant_of-result
 invariant_of-result c = record {
   well_formed = c.in_ok-program.ensures.formed;
-  quiet = c.in_ok-judge.ensures.quiet;
+  in_use = c.in_ok-judge.ensures.in_use;
   nests = c.in_ok-program.ensures.nests;
   frees_own = c.in_ok-program.ensures.frees_own;
   obeys = c.in_ok-judge.ensures.fine.2;
@@ -21,7 +21,7 @@ invariant_of-result c = record {
 pub returns-clause-sound : goal.returns-clause-sound
 returns-clause-sound c = record {
   well_formed = c.in_ok-program.ensures.formed;
-  quiet = c.in_ok-judge.ensures.quiet;
+  in_use = c.in_ok-judge.ensures.in_use;
   nests = c.in_ok-program.ensures.nests;
   frees_own = c.in_ok-program.ensures.frees_own;
   obeys = c.in_ok-judge.ensures.fine.2;

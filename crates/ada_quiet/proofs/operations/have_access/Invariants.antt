@@ -2,7 +2,7 @@ use Rattle.std.proofs.Common.{◌≡◌, map, drop}
 use Rattle.std.specs.List.{list_any}
 use Rattle.ada_program.specs.ProgramForm.{part_form}
 use Rattle.ada_quiet.specs.Quiet.{is_of_access}
-use Rattle.ada_quiet.proofs.first.have_access.Given as goal
+use Rattle.ada_quiet.proofs.operations.have_access.Given as goal
 
 -- what is left tells of all
 abbrev pub invariant-parts : goal.invariant-parts

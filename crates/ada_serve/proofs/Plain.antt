@@ -1,9 +1,8 @@
--- Quiet operations create no objects in their declarations (7.6).
+-- Operations that are in use create no objects in their declarations (7.6).
 
 use Rattle.std.proofs.Common.{◌≡◌, Bool, true, false, not, ◌&&◌, if◌then◌else◌, List, [], ◌∷◌, map, Option, Some, None, refl}
 use Rattle.std.specs.Prelude.{find, drop}
 use Rattle.std.specs.List.{list_all, slice_get}
-use Rattle.ada_effects.specs.Effects.{no_calls, body_raises}
 use Rattle.ada_program.specs.declared.program.Finalization.{Finalization}
 use Rattle.ada_program.specs.declared.program.Operations.{Operations}
 use Rattle.ada_program.specs.declared.program.ProcedureNo.{ProcedureNo}
@@ -15,7 +14,8 @@ use Rattle.ada_program.specs.Form.{RightForm, nothing, value_of, allocates, allo
 use Rattle.ada_program.specs.ProgramForm.{TypeForm, type_form, VariableForm, BodyForm, body_forms, ProgramForm, program_form}
 use Rattle.ada_program.specs.WellFormed.{finalization_in, variable_kind}
 use Rattle.ada_meaning.specs.Pace.{right_creates, declaration_creates, declarations_create, body_creates, operation_creates, OperationsDeclareNoParts}
-use Rattle.ada_quiet.specs.Quiet.{is_elementary, holds_elementary, is_quiet_right, is_quiet_declaration, are_quiet_declarations, are_quiet, are_quiet_handlers, is_quiet_body, is_quiet_procedure, is_quiet_operation, has_quiet_operations, adjusts_access, operations_are_quiet}
+use Rattle.ada_quiet.specs.Quiet.{is_elementary, holds_elementary, is_quiet_right, is_quiet_declaration, are_quiet_declarations, are_quiet, are_quiet_handlers, is_plain_body, is_plain_procedure, is_plain_operation, is_quiet_operation, uses_operations, adjusts_access, operations_are_in_use}
+use Rattle.ada_quiet.proofs.InUse.{plain_operation}
 
 -- Both tests are passed where their conjunction is.
 left_of : (a b : Bool) → (a && b) ≡ true → a ≡ true
@@ -51,51 +51,50 @@ declarations_quiet known variables types (d ∷ ds) quiet =
     let later = are_quiet_declarations known variables ds in
     rw (declaration_quiet known variables types d (left_of here later quiet)) (declarations_quiet known variables types ds (right_of here later quiet))
 
-body_quiet : (known : List TypeForm) (types : List TypeDefinition) (b : BodyForm) → is_quiet_body known b ≡ true → declarations_create types b.declarations ≡ false
-body_quiet known types b quiet =
+-- So do those of a plain body.
+body_plain : (known : List TypeForm) (types : List TypeDefinition) (b : BodyForm) → is_plain_body known b ≡ true → declarations_create types b.declarations ≡ false
+body_plain known types b plain =
     let elementary = list_all (λ (x : VariableForm). is_elementary x.kind) (drop 1 b.variables) in
     let declarations = are_quiet_declarations known b.variables b.declarations in
     let statements = are_quiet known b.variables b.statements in
     let handlers = are_quiet_handlers known b.variables b.handlers in
-    let silent = not (body_raises no_calls b (λ e. true)) in
     declarations_quiet known b.variables types b.declarations
-    (right_of elementary declarations (left_of (elementary && declarations) statements (left_of (elementary && declarations && statements) handlers
-    (left_of (elementary && declarations && statements && handlers) silent quiet))))
+    (right_of elementary declarations (left_of (elementary && declarations) statements (left_of (elementary && declarations && statements) handlers plain)))
 
-procedure_quiet : (known : List TypeForm) (types : List TypeDefinition) (found : Option BodyForm) → is_quiet_procedure known found ≡ true → body_creates types found ≡ false
-procedure_quiet known types None quiet = refl
-procedure_quiet known types (Some b) quiet = body_quiet known types b quiet
+procedure_plain : (known : List TypeForm) (types : List TypeDefinition) (found : Option BodyForm) → is_plain_procedure known found ≡ true → body_creates types found ≡ false
+procedure_plain known types None plain = refl
+procedure_plain known types (Some b) plain = body_plain known types b plain
 
-operation_quiet : (p : ProgramForm) (types : List TypeDefinition) (o : Option ProcedureNo) → is_quiet_operation p o ≡ true → operation_creates types p.bodies o ≡ false
-operation_quiet p types None quiet = refl
-operation_quiet p types (Some procedure) quiet = procedure_quiet p.types types (slice_get p.bodies procedure.0) quiet
+operation_plain : (p : ProgramForm) (types : List TypeDefinition) (o : Option ProcedureNo) → is_plain_operation p o ≡ true → operation_creates types p.bodies o ≡ false
+operation_plain p types None plain = refl
+operation_plain p types (Some procedure) plain = procedure_plain p.types types (slice_get p.bodies procedure.0) plain
 
 -- None of these operations declares an object with controlled parts.
 abbrev DeclareNone : List TypeDefinition → List BodyForm → Operations → Type 0
 DeclareNone types bodies o =
     (operation_creates types bodies o.initialize ≡ false) × (operation_creates types bodies o.adjust ≡ false) × (operation_creates types bodies o.finalize ≡ false)
 
-none_in : (p : ProgramForm) (types : List TypeDefinition) (f : Option Finalization) → has_quiet_operations p f ≡ true → DeclareNone types p.bodies (operations_in f)
-none_in p types None quiet = (refl, refl, refl)
-none_in p types (Some f) quiet =
-    let initialize = is_quiet_operation p f.operations.initialize in
+none_in : (p : ProgramForm) (types : List TypeDefinition) (f : Option Finalization) → uses_operations p f ≡ true → DeclareNone types p.bodies (operations_in f)
+none_in p types None used = (refl, refl, refl)
+none_in p types (Some f) used =
+    let initialize = is_plain_operation p f.operations.initialize in
     let adjust = is_quiet_operation p f.operations.adjust in
     let finalize = is_quiet_operation p f.operations.finalize in
-    let both = left_of (initialize && adjust) finalize quiet in (
-      operation_quiet p types f.operations.initialize (left_of initialize adjust both),
-      operation_quiet p types f.operations.adjust (right_of initialize adjust both),
-      operation_quiet p types f.operations.finalize (right_of (initialize && adjust) finalize quiet),
+    let both = left_of (initialize && adjust) finalize used in (
+      operation_plain p types f.operations.initialize (left_of initialize adjust both),
+      operation_plain p types f.operations.adjust (plain_operation p f.operations.adjust (right_of initialize adjust both)),
+      operation_plain p types f.operations.finalize (plain_operation p f.operations.finalize (right_of (initialize && adjust) finalize used)),
     )
 
--- Whether the operations of a type are quiet, and no Adjust leaves a component of an access type as it is.
-abbrev is_quiet_type : ProgramForm → TypeForm → Bool
-is_quiet_type p t = has_quiet_operations p (finalization_in (Some t)) && not (adjusts_access p t)
+-- Whether the operations of a type are in use, and no Adjust leaves a component of an access type as it is.
+abbrev is_used_type : ProgramForm → TypeForm → Bool
+is_used_type p t = uses_operations p (finalization_in (Some t)) && not (adjusts_access p t)
 
-none_by : (p : ProgramForm) (types : List TypeDefinition) (t : TypeDefinition) → has_quiet_operations p (finalization_in (Some (type_form t))) ≡ true
+none_by : (p : ProgramForm) (types : List TypeDefinition) (t : TypeDefinition) → uses_operations p (finalization_in (Some (type_form t))) ≡ true
     → DeclareNone types p.bodies (operations_by (Some t))
-none_by p types (definition.Record name parts components finalization) quiet = none_in p types finalization quiet
-none_by p types (definition.Access name designated pool) quiet = (refl, refl, refl)
-none_by p types (definition.Object record_type) quiet = (refl, refl, refl)
+none_by p types (definition.Record name parts components finalization) used = none_in p types finalization used
+none_by p types (definition.Access name designated pool) used = (refl, refl, refl)
+none_by p types (definition.Object record_type) used = (refl, refl, refl)
 
 -- So it is with the first of some types that is found.
 found_here : (types : List TypeDefinition) (bodies : List BodyForm) (passes : Bool) (t : TypeDefinition) (found : Option TypeDefinition)
@@ -104,16 +103,16 @@ found_here : (types : List TypeDefinition) (bodies : List BodyForm) (passes : Bo
 found_here types bodies true t found here later = here
 found_here types bodies false t found here later = later
 
-none_found : (p : ProgramForm) (types : List TypeDefinition) (test : TypeDefinition → Bool) (ts : List TypeDefinition) → list_all (is_quiet_type p) (map type_form ts) ≡ true
+none_found : (p : ProgramForm) (types : List TypeDefinition) (test : TypeDefinition → Bool) (ts : List TypeDefinition) → list_all (is_used_type p) (map type_form ts) ≡ true
     → DeclareNone types p.bodies (operations_by (find test ts))
-none_found p types test [] quiet = (refl, refl, refl)
-none_found p types test (t ∷ ts) quiet =
-    let here = is_quiet_type p (type_form t) in
-    let later = list_all (is_quiet_type p) (map type_form ts) in
-    let own = left_of (has_quiet_operations p (finalization_in (Some (type_form t)))) (not (adjusts_access p (type_form t))) (left_of here later quiet) in
-    found_here types p.bodies (test t) t (find test ts) (none_by p types t own) (none_found p types test ts (right_of here later quiet))
+none_found p types test [] used = (refl, refl, refl)
+none_found p types test (t ∷ ts) used =
+    let here = is_used_type p (type_form t) in
+    let later = list_all (is_used_type p) (map type_form ts) in
+    let own = left_of (uses_operations p (finalization_in (Some (type_form t)))) (not (adjusts_access p (type_form t))) (left_of here later used) in
+    found_here types p.bodies (test t) t (find test ts) (none_by p types t own) (none_found p types test ts (right_of here later used))
 
--- Where the operations of a program are quiet, none creates controlled parts in its declarations.
-pub quiet_declare_none : (program : Program) → operations_are_quiet (program_form program) ≡ true → OperationsDeclareNoParts program.types.items (body_forms program)
-quiet_declare_none program quiet n =
-    none_found (program_form program) program.types.items (λ t. is_number n (number_by (Some t))) program.types.items quiet
+-- Where the operations of a program are in use, none creates controlled parts in its declarations.
+pub used_declare_none : (program : Program) → operations_are_in_use (program_form program) ≡ true → OperationsDeclareNoParts program.types.items (body_forms program)
+used_declare_none program used n =
+    none_found (program_form program) program.types.items (λ t. is_number n (number_by (Some t))) program.types.items used

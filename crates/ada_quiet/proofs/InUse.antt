@@ -1,0 +1,57 @@
+-- Operations that are quiet are in use.
+
+use Rattle.std.proofs.Common.{◌≡◌, refl}
+use Rattle.std.specs.Prelude.{Bool, true, false, not, ◌&&◌, List, [], ◌∷◌, Option, Some, None}
+use Rattle.std.specs.List.{list_all, slice_get}
+use Rattle.ada_effects.specs.Effects.{no_calls, body_raises}
+use Rattle.ada_program.specs.declared.program.Finalization.{Finalization}
+use Rattle.ada_program.specs.declared.program.ProcedureNo.{ProcedureNo}
+use Rattle.ada_program.specs.ProgramForm.{TypeForm, BodyForm, ProgramForm}
+use Rattle.ada_program.specs.WellFormed.{finalization_in}
+use Rattle.ada_quiet.specs.Quiet.{is_plain_body, is_plain_procedure, is_quiet_procedure, is_plain_operation, is_quiet_operation, has_quiet_operations, uses_operations, adjusts_access, operations_are_quiet, operations_are_in_use}
+
+-- Of two tests that both hold the first one holds, and so does the second one.
+first_of_both : (a b : Bool) → (a && b) ≡ true → a ≡ true
+first_of_both true b h = refl
+first_of_both false b h = h
+
+second_of_both : (a b : Bool) → (a && b) ≡ true → b ≡ true
+second_of_both true b h = h
+second_of_both false b h = absurd (cc h)
+
+-- The first one may be replaced by what follows from it.
+other_first : (a b c : Bool) → (a ≡ true → b ≡ true) → (a && c) ≡ true → (b && c) ≡ true
+other_first a b c then h = rw (then (first_of_both a c h)) (second_of_both a c h)
+
+-- A quiet body is plain.
+pub plain_procedure : (types : List TypeForm) (o : Option BodyForm) → is_quiet_procedure types o ≡ true → is_plain_procedure types o ≡ true
+plain_procedure types None h = refl
+plain_procedure types (Some b) h = first_of_both (is_plain_body types b) (not (body_raises no_calls b (λ e. true))) h
+
+pub plain_operation : (p : ProgramForm) (o : Option ProcedureNo) → is_quiet_operation p o ≡ true → is_plain_operation p o ≡ true
+plain_operation p None h = refl
+plain_operation p (Some procedure) h = plain_procedure p.types (slice_get p.bodies procedure.0) h
+
+-- Quiet operations of a type are in use.
+pub uses_quiet : (p : ProgramForm) (f : Option Finalization) → has_quiet_operations p f ≡ true → uses_operations p f ≡ true
+uses_quiet p None h = refl
+uses_quiet p (Some f) h =
+    let initialize = is_quiet_operation p f.operations.initialize in
+    let adjust = is_quiet_operation p f.operations.adjust in
+    let finalize = is_quiet_operation p f.operations.finalize in
+    other_first (initialize && adjust) (is_plain_operation p f.operations.initialize && adjust) finalize
+    (other_first initialize (is_plain_operation p f.operations.initialize) adjust (plain_operation p f.operations.initialize)) h
+
+used_in : (p : ProgramForm) (ts : List TypeForm) → list_all (λ t. has_quiet_operations p (finalization_in (Some t)) && not (adjusts_access p t)) ts ≡ true →
+    list_all (λ t. uses_operations p (finalization_in (Some t)) && not (adjusts_access p t)) ts ≡ true
+used_in p [] h = refl
+used_in p (t ∷ ts) h =
+    let quiet = has_quiet_operations p (finalization_in (Some t)) in
+    let leaves = not (adjusts_access p t) in
+    let later = list_all (λ (d : TypeForm). has_quiet_operations p (finalization_in (Some d)) && not (adjusts_access p d)) ts in
+    rw (other_first quiet (uses_operations p (finalization_in (Some t))) leaves (uses_quiet p (finalization_in (Some t))) (first_of_both (quiet && leaves) later h))
+    (used_in p ts (second_of_both (quiet && leaves) later h))
+
+-- Where all operations are quiet, all are in use.
+pub quiet_in_use : (p : ProgramForm) → operations_are_quiet p ≡ true → operations_are_in_use p ≡ true
+quiet_in_use p h = used_in p p.types h
