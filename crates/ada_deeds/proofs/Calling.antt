@@ -1,28 +1,32 @@
 -- The graph of calls, node by node, and what is reached in it.
 
-use Rattle.std.proofs.Common.{◌≡◌, ◌⊎◌, ℕ, ◌+◌, ◌<◌, Bool, true, false, List, [], ◌∷◌, length, refl, sym, ap, ◌∙◌, subst, inl, inr, zero, suc, arith}
+use Rattle.std.proofs.Common.{◌≡◌, ◌⊎◌, ℕ, ◌+◌, ◌<◌, Bool, true, false, List, [], ◌∷◌, length, get_or, refl, sym, ap, ◌∙◌, subst, inl, inr, zero, suc, arith}
 use Rattle.std.proofs.lemmas.Bool.{cases_lt, or_cases, or_left, or_right, eqb-true, eq-eqb}
-use Rattle.std.proofs.lemmas.List.Elements.{Contains-append_left, Contains-push, Contains-push_cases}
 use Rattle.std.specs.List.{Contains, list_any}
 use Rattle.std.specs.Prelude.{Option, Some, None}
 use Rattle.ada_deeds.specs.Does.{callee_does, is_deed_of, Does, does}
-use Rattle.ada_deeds.specs.Graph.{node_count, node_of, with_start, HasNoEdges, AddsCalls, IsGraph, MarksDoers}
-use Rattle.ada_deeds.specs.View.{does_found}
+use Rattle.ada_deeds.specs.Graph.{node_count, node_of, starts_of, HasNoEdges, AddsCalls, AddsStart, AddsStarts, IsGraph, IsSearched, MarksReached, MarksDoers}
+use Rattle.ada_deeds.specs.View.{sought, does_itself, does_found}
+use Rattle.ada_deeds.specs.declared.calls.Calls.{Calls}
 use Rattle.ada_deeds.specs.declared.deed.Callee.{Callee}
 use Rattle.ada_deeds.specs.declared.deed.Deed.{Deed}
+use Rattle.ada_deeds.specs.declared.deed.Deed.TheVariants as deed
 use Rattle.ada_deeds.specs.declared.found.Found.{Found}
+use Rattle.ada_deeds.specs.declared.search.Search.{Search}
 use Rattle.ada_deeds.proofs.Numbering.{one_callee, is_below, has_node}
+use Rattle.ada_effects.specs.Found.{has_number}
+use Rattle.ada_program.specs.declared.program.TypeNo.{TypeNo}
 use Rattle.ada_program.specs.ProgramForm.{ProgramForm}
 use Rattle.ada_program.specs.WellFormed.{is_this}
 use Rattle.ada_reach.specs.Graph.{HasEdge, Reaches, stays, goes, IsReached}
-use Rattle.ada_reach.specs.View.{IsMarked}
+use Rattle.ada_reach.specs.View.{graph_of, IsMarked}
 
 -- At first no node is done.
-pub at_first : (p : ProgramForm) (d : Deed) (procedures types : ℕ) (graph : List (List ℕ)) → length graph ≡ node_count procedures types → HasNoEdges graph →
-    IsGraph p d procedures types 0 graph []
-at_first p d procedures types graph size none = record {
+pub at_first : (p : ProgramForm) (d : Deed) (procedures types : ℕ) (graph : List (List ℕ)) (starts : List ℕ) → length graph ≡ node_count procedures types →
+    HasNoEdges graph → ((n : ℕ) → ¬ Contains starts n) → IsGraph p d procedures types 0 graph starts
+at_first p d procedures types graph starts size none no_starts = record {
   size = size;
-  itself = λ n (k, lt, is) c at known. absurd (omega (arith, lt));
+  itself = λ n has c at known. absurd (no_starts n has);
   calls = λ x y e c at known h. absurd (none x y e);
   all = λ c n at lt known h. absurd (omega (arith, lt));
 }
@@ -44,39 +48,31 @@ contained_any known (c ∷ cs) h = elim (or_cases (known c) (list_any known cs) 
 ]
 
 -- What is found, by its parts.
-itself_does : (f : Found) (known : Callee → Bool) → f.itself ≡ true → does_found f known ≡ true
-unfolding does_found
-itself_does f known h = or_left f.itself (list_any known f.callees.items) h
 
-called_does : (f : Found) (known : Callee → Bool) (c : Callee) → Contains f.callees.items c → known c ≡ true → does_found f known ≡ true
-unfolding does_found
-called_does f known c has h = or_right f.itself (list_any known f.callees.items) (any_contained known f.callees.items c has h)
+abbrev pub own : Found → Deed → Bool
+own f d = does_itself f.itself f.freed.items f.followed.items d
 
-parts_of_found : (f : Found) (known : Callee → Bool) → does_found f known ≡ true → (f.itself ≡ true) ⊎ ((c : Callee) × Contains f.callees.items c × (known c ≡ true))
+itself_does : (f : Found) (d : Deed) (known : Callee → Bool) → own f d ≡ true → does_found f d known ≡ true
 unfolding does_found
-parts_of_found f known h = elim (or_cases f.itself (list_any known f.callees.items) h) [
+itself_does f d known h = or_left (own f d) (list_any known f.callees.items) h
+
+called_does : (f : Found) (d : Deed) (known : Callee → Bool) (c : Callee) → Contains f.callees.items c → known c ≡ true → does_found f d known ≡ true
+unfolding does_found
+called_does f d known c has h = or_right (own f d) (list_any known f.callees.items) (any_contained known f.callees.items c has h)
+
+parts_of_found : (f : Found) (d : Deed) (known : Callee → Bool) → does_found f d known ≡ true → (own f d ≡ true) ⊎ ((c : Callee) × Contains f.callees.items c × (known c ≡ true))
+unfolding does_found
+parts_of_found f d known h = elim (or_cases (own f d) (list_any known f.callees.items) h) [
   | inl is ↦ inl is
   | inr is ↦ inr (contained_any known f.callees.items is)
 ]
 
-start_cases : (b : Bool) (node : ℕ) (starts : List ℕ) (n : ℕ) → Contains (with_start b node starts) n → Contains starts n ⊎ ((node ≡ n) × (b ≡ true))
-start_cases true node starts n has = elim (Contains-push_cases starts node n has) [ inl old ↦ inl old | inr new ↦ inr (new, refl) ]
-start_cases false node starts n has = inl has
-
-start_stays : (b : Bool) (node : ℕ) (starts : List ℕ) (n : ℕ) → Contains starts n → Contains (with_start b node starts) n
-start_stays true node starts n has = Contains-append_left starts (node ∷ []) n has
-start_stays false node starts n has = has
-
-start_added : (b : Bool) (node : ℕ) (starts : List ℕ) → b ≡ true → Contains (with_start b node starts) node
-start_added true node starts h = Contains-push starts node
-start_added false node starts h = absurd (cc h)
-
 -- One node more.
-pub one_more : (p : ProgramForm) (d : Deed) (procedures types node : ℕ) (graph after : List (List ℕ)) (starts : List ℕ) (c : Callee) (f : Found) →
+pub one_more : (p : ProgramForm) (d : Deed) (procedures types node : ℕ) (graph after : List (List ℕ)) (starts more : List ℕ) (c : Callee) (f : Found) →
     IsGraph p d procedures types node graph starts → node_of procedures types c ≡ Some node →
-    ((known : Callee → Bool) → does_found f known ≡ callee_does p known d c) → AddsCalls procedures types node f.callees.items graph after →
-    IsGraph p d procedures types (node + 1) after (with_start f.itself node starts)
-one_more p d procedures types node graph after starts c f g at found a = record {
+    ((known : Callee → Bool) → does_found f d known ≡ callee_does p known d c) → AddsCalls procedures types node f.callees.items graph after →
+    AddsStart (own f d) node starts more → IsGraph p d procedures types (node + 1) after more
+one_more p d procedures types node graph after starts more c f g at found a s = record {
   size = a.size ∙ g.size;
   itself = itself;
   calls = calls;
@@ -87,45 +83,123 @@ one_more p d procedures types node graph after starts c f g at found a = record 
     is_it : (e : Callee) → node_of procedures types e ≡ Some node → c ≡ e
     is_it e there = one_callee procedures types c e node at there
 
-    of_it : (e : Callee) (known : Callee → Bool) → node_of procedures types e ≡ Some node → does_found f known ≡ true → callee_does p known d e ≡ true
+    of_it : (e : Callee) (known : Callee → Bool) → node_of procedures types e ≡ Some node → does_found f d known ≡ true → callee_does p known d e ≡ true
     of_it e known there h = subst (λ (x : Callee). callee_does p known d x ≡ true) (is_it e there) (sym (found known) ∙ h)
 
-    itself : (n : ℕ) → Contains (with_start f.itself node starts) n → (e : Callee) → node_of procedures types e ≡ Some n → (known : Callee → Bool) → callee_does p known d e ≡ true
-    itself n has e there known = elim (start_cases f.itself node starts n has) [
+    itself : (n : ℕ) → Contains more n → (e : Callee) → node_of procedures types e ≡ Some n → (known : Callee → Bool) → callee_does p known d e ≡ true
+    itself n has e there known = elim (s.only n has) [
       | inl old ↦ g.itself n old e there known
-      | inr new ↦ of_it e known (there ∙ ap (λ (m : ℕ). Some m) (sym new.0)) (itself_does f known new.1)
+      | inr new ↦ of_it e known (there ∙ ap (λ (m : ℕ). Some m) new.0) (itself_does f d known new.1)
     ]
 
     calls : (x y : ℕ) → HasEdge after x y → (e : Callee) → node_of procedures types e ≡ Some y → (known : Callee → Bool) →
         ((other : Callee) → node_of procedures types other ≡ Some x → known other ≡ true) → callee_does p known d e ≡ true
     calls x y e it there known h = elim (a.only x y e) [
       | inl old ↦ g.calls x y old it there known h
-      | inr new ↦ of_it it known (there ∙ ap (λ (m : ℕ). Some m) new.0) (called_does f known new.1.0 new.1.1 (h new.1.0 new.1.2))
+      | inr new ↦ of_it it known (there ∙ ap (λ (m : ℕ). Some m) new.0) (called_does f d known new.1.0 new.1.1 (h new.1.0 new.1.2))
     ]
 
     all : (e : Callee) (n : ℕ) → node_of procedures types e ≡ Some n → n < node + 1 → (known : Callee → Bool) → callee_does p known d e ≡ true →
-        Contains (with_start f.itself node starts) n ⊎ ((other : Callee) × (known other ≡ true) × ((x : ℕ) → node_of procedures types other ≡ Some x → HasEdge after x n))
+        Contains more n ⊎ ((other : Callee) × (known other ≡ true) × ((x : ℕ) → node_of procedures types other ≡ Some x → HasEdge after x n))
     all e n there lt known h = elim (cases_lt n node) [
       | inl before ↦ elim (g.all e n there before known h) [
-        | inl is ↦ inl (start_stays f.itself node starts n is)
+        | inl is ↦ inl (s.kept n is)
         | inr is ↦ inr (is.0, is.1, λ x at_x. a.kept x n (is.2 x at_x))
       ]
       | inr behind ↦
           let here : n ≡ node = omega (arith, lt, behind) in
           let there' : node_of procedures types e ≡ Some node = there ∙ ap (λ (m : ℕ). Some m) here in
           let k : callee_does p known d c ≡ true = subst (λ (x : Callee). callee_does p known d x ≡ true) (sym (is_it e there')) h in
-          elim (parts_of_found f known (found known ∙ k)) [
-            | inl is ↦ inl (subst (Contains (with_start f.itself node starts)) (sym here) (start_added f.itself node starts is))
+          elim (parts_of_found f d known (found known ∙ k)) [
+            | inl is ↦ inl (subst (Contains more) (sym here) (s.added is))
             | inr is ↦ inr (
               is.0,
               is.2,
               λ x at_x.
                   let below = is_below procedures types is.0 x at_x in
-                  let s = g.size in
-                  subst (λ (m : ℕ). HasEdge after x m) (sym here) (a.added is.0 x is.1 at_x (omega (arith, below, s))),
+                  let size = g.size in
+                  subst (λ (m : ℕ). HasEdge after x m) (sym here) (a.added is.0 x is.1 at_x (omega (arith, below, size))),
             )
           ]
     ]
+
+-- Where a list of starts is one for each type, the deeds of each type have their starts.
+
+of_one : (ts : List TypeNo) (node t : ℕ) (before after : List (List ℕ)) → AddsStarts ts node before after → t < length before →
+    AddsStart (has_number ts t) node (get_or before t []) (get_or after t [])
+of_one ts node t before after a lt = record {
+  kept = λ n h. a.kept t n h;
+  added = λ h. a.added t h lt;
+  only = λ n h. a.only t n h;
+}
+
+starts_added : (f : Found) (node types : ℕ) (before after : Calls) → length (graph_of before.freeing.items) ≡ types → length (graph_of before.following.items) ≡ types →
+    AddsStart f.itself node before.itself.items after.itself.items → AddsStarts f.freed.items node (graph_of before.freeing.items) (graph_of after.freeing.items) →
+    AddsStarts f.followed.items node (graph_of before.following.items) (graph_of after.following.items) →
+    (p : ProgramForm) → types ≡ length p.types → (d : Deed) → is_deed_of p d ≡ true → AddsStart (own f d) node (starts_of before d) (starts_of after d)
+starts_added f node types before after free_size follow_size i fr fo p ts (deed.Raises e) of = i
+starts_added f node types before after free_size follow_size i fr fo p ts (deed.Frees t) of =
+    of_one f.freed.items node t.0 (graph_of before.freeing.items) (graph_of after.freeing.items) fr (let lt : t.0 < length p.types = grind (arith, of) in omega (arith, lt, ts, free_size))
+starts_added f node types before after free_size follow_size i fr fo p ts (deed.Follows t) of =
+    of_one f.followed.items node t.0 (graph_of before.following.items) (graph_of after.following.items) fo (let lt : t.0 < length p.types = grind (arith, of) in omega (arith, lt, ts, follow_size))
+starts_added f node types before after free_size follow_size i fr fo p ts deed.Allocates of = i
+
+-- One node more of a search.
+pub one_more_searched : (p : ProgramForm) (s : Search) (procedures types node : ℕ) (before after : Calls) (c : Callee) (f : Found) → types ≡ length p.types →
+    IsSearched p s procedures types node before → node_of procedures types c ≡ Some node →
+    ((d : Deed) (known : Callee → Bool) → does_found f (sought s d) known ≡ callee_does p known (sought s d) c) →
+    AddsCalls procedures types node f.callees.items (graph_of before.callers.items) (graph_of after.callers.items) →
+    AddsStart f.itself node before.itself.items after.itself.items → AddsStarts f.freed.items node (graph_of before.freeing.items) (graph_of after.freeing.items) →
+    AddsStarts f.followed.items node (graph_of before.following.items) (graph_of after.following.items) → IsSearched p s procedures types (node + 1) after
+one_more_searched p s procedures types node before after c f ts is at found a i fr fo = record {
+  freeing = fr.size ∙ is.freeing;
+  following = fo.size ∙ is.following;
+  graph = λ d of. one_more p (sought s d) procedures types node (graph_of before.callers.items) (graph_of after.callers.items)
+      (starts_of before (sought s d)) (starts_of after (sought s d)) c f (is.graph d of) at (found d) a
+      (starts_added f node types before after is.freeing is.following i fr fo p ts (sought s d) of);
+}
+
+-- A node is done, where its callee does nothing.
+
+idle_done : (p : ProgramForm) (d : Deed) (procedures types node : ℕ) (graph : List (List ℕ)) (starts : List ℕ) (c : Callee) →
+    IsGraph p d procedures types node graph starts → node_of procedures types c ≡ Some node → ((known : Callee → Bool) → callee_does p known d c ≡ false) →
+    IsGraph p d procedures types (node + 1) graph starts
+idle_done p d procedures types node graph starts c g at idle = record {
+  size = g.size;
+  itself = g.itself;
+  calls = g.calls;
+  all = λ e n there lt known h. elim (cases_lt n node) [
+    | inl before ↦ g.all e n there before known h
+    | inr behind ↦
+        let here : n ≡ node = omega (arith, lt, behind) in
+        let is : c ≡ e = one_callee procedures types c e node at (there ∙ ap (λ (m : ℕ). Some m) here) in
+        absurd (cc (sym (idle known) ∙ ap (λ (x : Callee). callee_does p known d x) is ∙ h))
+  ];
+}
+
+pub idle_searched : (p : ProgramForm) (s : Search) (procedures types node : ℕ) (calls : Calls) (c : Callee) → IsSearched p s procedures types node calls →
+    node_of procedures types c ≡ Some node → ((d : Deed) (known : Callee → Bool) → callee_does p known d c ≡ false) → IsSearched p s procedures types (node + 1) calls
+idle_searched p s procedures types node calls c is at idle = record {
+  freeing = is.freeing;
+  following = is.following;
+  graph = λ d of. idle_done p (sought s d) procedures types node (graph_of calls.callers.items) (starts_of calls (sought s d)) c (is.graph d of) at (idle (sought s d));
+}
+
+-- At first no node of it is done.
+pub searched_at_first : (p : ProgramForm) (s : Search) (procedures types : ℕ) (calls : Calls) → length (graph_of calls.callers.items) ≡ node_count procedures types →
+    length (graph_of calls.freeing.items) ≡ types → length (graph_of calls.following.items) ≡ types → HasNoEdges (graph_of calls.callers.items) →
+    HasNoEdges (graph_of calls.freeing.items) → HasNoEdges (graph_of calls.following.items) → calls.itself.items ≡ [] → IsSearched p s procedures types 0 calls
+searched_at_first p s procedures types calls size free_size follow_size none no_frees no_follows no_itself = record {
+  freeing = free_size;
+  following = follow_size;
+  graph = λ d of. at_first p (sought s d) procedures types (graph_of calls.callers.items) (starts_of calls (sought s d)) size none (no_starts (sought s d));
+}
+  where
+    no_starts : (d : Deed) (n : ℕ) → ¬ Contains (starts_of calls d) n
+    no_starts (deed.Raises e) n = λ has. let (k, lt, is) = has in let l = ap length no_itself in absurd (omega (arith, lt, l))
+    no_starts (deed.Frees t) n = no_frees t.0 n
+    no_starts (deed.Follows t) n = no_follows t.0 n
+    no_starts deed.Allocates n = λ has. let (k, lt, is) = has in let l = ap length no_itself in absurd (omega (arith, lt, l))
 
 -- A callee at a node that is reached does the deed.
 pub reached_does : (p : ProgramForm) (d : Deed) (procedures types done : ℕ) (graph : List (List ℕ)) (starts : List ℕ) → is_deed_of p d ≡ true → IsGraph p d procedures types done graph starts →
@@ -167,15 +241,14 @@ does_reached p d graph starts g c (does of known each h) =
 pub reached_are_doers : (p : ProgramForm) (d : Deed) (procedures types : ℕ) (graph : List (List ℕ)) (starts : List ℕ) (marks : List Bool) →
     procedures ≡ length p.bodies → types ≡ length p.types → is_deed_of p d ≡ true →
     IsGraph p d procedures types (node_count procedures types) graph starts →
-    ((n : ℕ) → IsReached graph starts n → IsMarked marks n) → ((n : ℕ) → IsMarked marks n → IsReached graph starts n) →
-    MarksDoers p d procedures types marks
-reached_are_doers p d procedures types graph starts marks ps ts of g marked only = record {
+    MarksReached graph starts marks → MarksDoers p d procedures types marks
+reached_are_doers p d procedures types graph starts marks ps ts of g reached = record {
   marked = λ c n at h.
       let (m, there, r) = does_reached p d graph starts graph_here c h in
       let same : m ≡ n = cc (sym there ∙ ap (λ (x : ℕ). node_of x (length p.types) c) (sym ps) ∙ ap (λ (x : ℕ). node_of procedures x c) (sym ts) ∙ at) in
-      subst (IsMarked marks) same (marked m r);
+      subst (IsMarked marks) same (reached.marked m r);
   only = λ c n at h.
-      let (start, has, r) = only n h in
+      let (start, has, r) = reached.only n h in
       reached_does p d procedures types (node_count procedures types) graph starts of g start n has r c at;
 }
   where

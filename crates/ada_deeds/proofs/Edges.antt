@@ -1,14 +1,17 @@
 -- Edges that are added.
 
-use Rattle.std.proofs.Common.{◌≡◌, ◌⊎◌, ℕ, zero, suc, ◌+◌, ◌<◌, ◌≤◌, List, [], ◌∷◌, ◌++◌, length, get_or, set, take, refl, sym, ap, ◌∙◌, subst, inl, inr, arith}
-use Rattle.std.proofs.lemmas.Bool.{cases_lt, cases_eq}
+use Rattle.std.proofs.Common.{◌≡◌, ◌⊎◌, ℕ, zero, suc, ◌+◌, ◌<◌, ◌≤◌, ◌==◌, true, false, ◌||◌, List, [], ◌∷◌, ◌++◌, length, get_or, set, take, refl, sym, ap, ◌∙◌, subst, inl, inr, arith}
+use Rattle.std.proofs.lemmas.Bool.{cases_lt, cases_eq, eqb-true, eq-eqb, or_cases, or_left, or_right}
 use Rattle.std.proofs.lemmas.List.{length-set, length_push, get_or-set_same, get_or-set_other, get_or_push, get_or_append_left, get_or_past, map-set, take_more}
 use Rattle.std.proofs.lemmas.List.Elements.{Contains-append_left, Contains-append_right, Contains-append_cases, Contains-push, Contains-push_cases}
+use Rattle.std.proofs.lemmas.List.Folds.{list_any-append}
 use Rattle.std.specs.Global.{Vec}
 use Rattle.std.specs.List.{Contains}
 use Rattle.std.specs.Prelude.{Some, None}
-use Rattle.ada_deeds.specs.Graph.{node_of, HasNoEdges, AddsEdge, AddsCalls}
+use Rattle.ada_deeds.specs.Graph.{node_of, HasNoEdges, AddsEdge, AddsCalls, AddsStarts}
 use Rattle.ada_deeds.specs.declared.deed.Callee.{Callee}
+use Rattle.ada_effects.specs.Found.{has_number}
+use Rattle.ada_program.specs.declared.program.TypeNo.{TypeNo}
 use Rattle.ada_reach.specs.Graph.{HasEdge}
 use Rattle.ada_reach.specs.View.{graph_of}
 
@@ -141,3 +144,53 @@ pub more_called : (p t node : ℕ) (cs : List Callee) (i : ℕ) (c : Callee) (f 
     AddsCalls p t node (take i cs) f g → AddsCalls p t node (get_or cs i c ∷ []) g h → AddsCalls p t node (take (i + 1) cs) f h
 more_called p t node cs i c f g h lt a b =
     subst (λ (xs : List Callee). AddsCalls p t node xs f h) (sym (take_more cs i c lt)) (both_called p t node (take i cs) (get_or cs i c ∷ []) f g h a b)
+
+-- Starts for the types of a list: for none, for one, and for more.
+pub none_started : (node : ℕ) (graph : List (List ℕ)) → AddsStarts [] node graph graph
+none_started node graph = record {
+  size = refl;
+  kept = λ t n h. h;
+  added = λ t has lt. absurd (cc has);
+  only = λ t n h. inl h;
+}
+
+one_started : (x : TypeNo) (node : ℕ) (before after : List (List ℕ)) → AddsEdge x.0 node before after → AddsStarts (x ∷ []) node before after
+one_started x node before after a = record {
+  size = a.size;
+  kept = a.kept;
+  added = λ t has lt.
+      let same : x.0 ≡ t = here x t has in
+      subst (λ (y : ℕ). HasEdge after y node) same (a.added (subst (λ (y : ℕ). y < length before) (sym same) lt));
+  only = λ t n h. elim (a.only t n h) [
+    | inl old ↦ inl old
+    | inr new ↦ inr (new.1, or_left (x.0 == t) false (eq-eqb x.0 t (sym new.0)))
+  ];
+}
+  where
+    here : (x : TypeNo) (t : ℕ) → has_number (x ∷ []) t ≡ true → x.0 ≡ t
+    here x t has = elim (or_cases (x.0 == t) false has) [ inl is ↦ eqb-true x.0 t is | inr none ↦ absurd (cc none) ]
+
+both_started : (node : ℕ) (xs ys : List TypeNo) (f g h : List (List ℕ)) → AddsStarts xs node f g → AddsStarts ys node g h → AddsStarts (xs ++ ys) node f h
+both_started node xs ys f g h a b = record {
+  size = b.size ∙ a.size;
+  kept = λ t n e. b.kept t n (a.kept t n e);
+  added = λ t has lt. elim (or_cases (has_number xs t) (has_number ys t) (sym (both t) ∙ has)) [
+    | inl is ↦ b.kept t node (a.added t is lt)
+    | inr is ↦ b.added t is (let s = a.size in omega (arith, lt, s))
+  ];
+  only = λ t n e. elim (b.only t n e) [
+    | inl before ↦ elim (a.only t n before) [
+      | inl old ↦ inl old
+      | inr new ↦ inr (new.0, both t ∙ or_left (has_number xs t) (has_number ys t) new.1)
+    ]
+    | inr new ↦ inr (new.0, both t ∙ or_right (has_number xs t) (has_number ys t) new.1)
+  ];
+}
+  where
+    both : (t : ℕ) → has_number (xs ++ ys) t ≡ (has_number xs t || has_number ys t)
+    both t = list_any-append (λ (x : TypeNo). x.0 == t) xs ys
+
+pub more_started : (node : ℕ) (xs : List TypeNo) (i : ℕ) (x : TypeNo) (f g h : List (List ℕ)) → i < length xs → AddsStarts (take i xs) node f g →
+    AddsEdge (get_or xs i x).0 node g h → AddsStarts (take (i + 1) xs) node f h
+more_started node xs i x f g h lt a b =
+    subst (λ (ys : List TypeNo). AddsStarts ys node f h) (sym (take_more xs i x lt)) (both_started node (take i xs) (get_or xs i x ∷ []) f g h a (one_started (get_or xs i x) node g h b))

@@ -7,13 +7,11 @@ use Rattle.std.specs.Global.{Vec}
 use Rattle.std.specs.Prelude.{◌↔◌, Option, Some, None}
 use Rattle.ada_deeds.specs.Does.{is_deed_of, Does, does}
 use Rattle.ada_deeds.specs.Graph.{node_of, MarksDoers}
-use Rattle.ada_deeds.specs.Rows.{deed_numbered, deed_count, row_at, is_marked, does_in, RaisesNone, RaisesNoDeclared}
+use Rattle.ada_deeds.specs.Rows.{row_at, is_marked, does_in, RaisesNone, RaisesNoDeclared}
 use Rattle.ada_deeds.specs.declared.deed.Callee.{Callee}
 use Rattle.ada_deeds.specs.declared.deed.Deed.{Deed}
 use Rattle.ada_deeds.specs.declared.deed.Deed.TheVariants as deed
 use Rattle.ada_deeds.specs.declared.deeds.Deeds.{Deeds}
-use Rattle.ada_deeds.specs.declared.deeds.Kind.{Kind}
-use Rattle.ada_deeds.specs.declared.deeds.Kind.TheVariants as kind
 use Rattle.ada_deeds.proofs.Numbering.{has_node}
 use Rattle.ada_program.specs.declared.program.Exception.TheVariants.{ConstraintError, ProgramError, StorageError, EndError, Declared}
 use Rattle.ada_program.specs.ProgramForm.{ProgramForm}
@@ -42,27 +40,20 @@ row_behind rows v n is =
     ∙ get_or_push (map (λ (row : Vec Bool). row.items) rows) v.items [] n (length-map rows (λ (row : Vec Bool). row.items) ∙ is)
 
 -- One row more.
-pub row_more : (p : ProgramForm) (k : Kind) (procedures types number : ℕ) (rows after : List (Vec Bool)) (v : Vec Bool) → length rows ≡ number → after ≡ rows ++ v ∷ [] →
-    ((n : ℕ) → n < number → MarksDoers p (deed_numbered k n) procedures types (row_at rows n)) → MarksDoers p (deed_numbered k number) procedures types v.items →
-    (n : ℕ) → n < number + 1 → MarksDoers p (deed_numbered k n) procedures types (row_at after n)
-row_more p k procedures types number rows after v size is before new n lt =
-    subst (λ (rs : List (Vec Bool)). MarksDoers p (deed_numbered k n) procedures types (row_at rs n)) (sym is)
+pub row_more : (P : ℕ → List Bool → Type 0) (number : ℕ) (rows after : List (Vec Bool)) (v : Vec Bool) → length rows ≡ number → after ≡ rows ++ v ∷ [] →
+    ((n : ℕ) → n < number → P n (row_at rows n)) → P number v.items → (n : ℕ) → n < number + 1 → P n (row_at after n)
+row_more P number rows after v size is before new n lt =
+    subst (λ (rs : List (Vec Bool)). P n (row_at rs n)) (sym is)
     (elim (cases_lt n number) [
-      | inl less ↦ subst (MarksDoers p (deed_numbered k n) procedures types) (sym (row_before rows v n (omega (arith, size, less)))) (before n less)
+      | inl less ↦ subst (P n) (sym (row_before rows v n (omega (arith, size, less)))) (before n less)
       | inr more ↦
           let here : number ≡ n = omega (arith, more, lt) in
-          subst (MarksDoers p (deed_numbered k n) procedures types) (sym (row_behind rows v n (size ∙ here)))
-          (subst (λ (m : ℕ). MarksDoers p (deed_numbered k m) procedures types v.items) here new)
+          subst (P n) (sym (row_behind rows v n (size ∙ here))) (subst (λ (m : ℕ). P m v.items) here new)
     ])
 
--- Is a deed of a number one of the program's?
-pub is_one : (p : ProgramForm) (k : Kind) (n : ℕ) → is_deed_of p (deed_numbered k n) ≡ nat_lt n (deed_count p k)
-is_one p kind.Raises n = refl
-is_one p kind.Frees n = refl
-is_one p kind.Follows n = refl
-
-pub is_counted : (p : ProgramForm) (k : Kind) (n : ℕ) → n < deed_count p k → is_deed_of p (deed_numbered k n) ≡ true
-is_counted p k n lt = let b : nat_lt n (deed_count p k) ≡ true = grind (arith, lt) in is_one p k n ∙ b
+-- A deed of a number below their count is one of the program.
+pub is_counted : (p : ProgramForm) (of : ℕ → Deed) (count n : ℕ) → is_deed_of p (of n) ≡ nat_lt n count → n < count → is_deed_of p (of n) ≡ true
+is_counted p of count n is lt = let b : nat_lt n count ≡ true = grind (arith, lt) in is ∙ b
 
 -- What is marked does the deed, and what does it is marked.
 
@@ -91,14 +82,14 @@ none_marked (Some n) = refl
 is_of : (p : ProgramForm) (d : Deed) (c : Callee) → Does p d c → is_deed_of p d ≡ true
 is_of p d c (does of known each h) = of
 
-pub numbered_exact : (p : ProgramForm) (k : Kind) (procedures types count : ℕ) (rows : List (Vec Bool)) → procedures ≡ length p.bodies → types ≡ length p.types →
-    count ≡ deed_count p k → length rows ≡ count → ((n : ℕ) → n < count → MarksDoers p (deed_numbered k n) procedures types (row_at rows n)) →
-    (n : ℕ) (c : Callee) → (is_marked (row_at rows n) (node_of procedures types c) ≡ true) ↔ Does p (deed_numbered k n) c
-numbered_exact p k procedures types count rows ps ts all size each n c = elim (cases_lt n count) [
-  | inl lt ↦ row_exact p (deed_numbered k n) procedures types (row_at rows n) ps ts (each n lt) c
+pub numbered_exact : (p : ProgramForm) (of : ℕ → Deed) (procedures types count : ℕ) (rows : List (Vec Bool)) → procedures ≡ length p.bodies → types ≡ length p.types →
+    ((n : ℕ) → is_deed_of p (of n) ≡ nat_lt n count) → length rows ≡ count → ((n : ℕ) → n < count → MarksDoers p (of n) procedures types (row_at rows n)) →
+    (n : ℕ) (c : Callee) → (is_marked (row_at rows n) (node_of procedures types c) ≡ true) ↔ Does p (of n) c
+numbered_exact p of procedures types count rows ps ts deeds size each n c = elim (cases_lt n count) [
+  | inl lt ↦ row_exact p (of n) procedures types (row_at rows n) ps ts (each n lt) c
   | inr le ↦ (
     (λ h. absurd (cc (sym (ap (λ (xs : List Bool). is_marked xs (node_of procedures types c)) (row_past rows n (omega (arith, size, le))) ∙ none_marked (node_of procedures types c)) ∙ h))),
-    (λ h. let b : nat_lt n (deed_count p k) ≡ true = sym (is_one p k n) ∙ is_of p (deed_numbered k n) c h in absurd (beyond n (deed_count p k) b (omega (arith, all, le)))),
+    (λ h. let b : nat_lt n count ≡ true = sym (deeds n) ∙ is_of p (of n) c h in absurd (beyond n count b le)),
   )
 ]
   where
@@ -114,9 +105,9 @@ pub record AreRows (deeds : Deeds) (p : ProgramForm) : Type 0 where
   pub storage_error : MarksDoers p (deed.Raises StorageError) deeds.nodes.procedures deeds.nodes.types deeds.storage_error.items
   pub end_error : MarksDoers p (deed.Raises EndError) deeds.nodes.procedures deeds.nodes.types deeds.end_error.items
   pub allocates : MarksDoers p deed.Allocates deeds.nodes.procedures deeds.nodes.types deeds.allocates.items
-  pub declared : (n : ℕ) (c : Callee) → (is_marked (row_at deeds.declared.items n) (node_of deeds.nodes.procedures deeds.nodes.types c) ≡ true) ↔ Does p (deed_numbered kind.Raises n) c
-  pub frees : (n : ℕ) (c : Callee) → (is_marked (row_at deeds.frees.items n) (node_of deeds.nodes.procedures deeds.nodes.types c) ≡ true) ↔ Does p (deed_numbered kind.Frees n) c
-  pub follows : (n : ℕ) (c : Callee) → (is_marked (row_at deeds.follows.items n) (node_of deeds.nodes.procedures deeds.nodes.types c) ≡ true) ↔ Does p (deed_numbered kind.Follows n) c
+  pub declared : (n : ℕ) (c : Callee) → (is_marked (row_at deeds.declared.items n) (node_of deeds.nodes.procedures deeds.nodes.types c) ≡ true) ↔ Does p (deed.Raises (Declared (record { 0 = n }))) c
+  pub frees : (n : ℕ) (c : Callee) → (is_marked (row_at deeds.frees.items n) (node_of deeds.nodes.procedures deeds.nodes.types c) ≡ true) ↔ Does p (deed.Frees (record { 0 = n })) c
+  pub follows : (n : ℕ) (c : Callee) → (is_marked (row_at deeds.follows.items n) (node_of deeds.nodes.procedures deeds.nodes.types c) ≡ true) ↔ Does p (deed.Follows (record { 0 = n })) c
 
 pub exact : (deeds : Deeds) (p : ProgramForm) → AreRows deeds p → (d : Deed) (c : Callee) → (does_in deeds d c ≡ true) ↔ Does p d c
 unfolding does_in

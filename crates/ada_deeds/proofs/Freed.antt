@@ -47,7 +47,7 @@ abbrev pub deed : (access : ℕ) → Deed
 deed t = Frees (record { 0 = t })
 
 -- A record type is its own record type.
-own_record : (u : ℕ) (o : Option TypeForm) → is_some (components_in o) ≡ true → record_in u o ≡ Some u
+pub own_record : (u : ℕ) (o : Option TypeForm) → is_some (components_in o) ≡ true → record_in u o ≡ Some u
 own_record u None is = absurd (cc is)
 own_record u (Some (record_of name parts components finalization)) is = refl
 own_record u (Some (access_to name designated pool)) is = absurd (cc is)
@@ -58,12 +58,12 @@ number_there : (types : List TypeForm) (a : ℕ) (o : Option TypeForm) → slice
 number_there types a None at is = absurd (cc is)
 number_there types a (Some form) at is = lt-ltb a (length types) (slice_get_within types a form at)
 
-filled_some : (types : List TypeForm) (variables : List VariableForm) (components : Option (List ComponentKind)) (items : List ItemForm) →
+pub filled_some : (types : List TypeForm) (variables : List VariableForm) (components : Option (List ComponentKind)) (items : List ItemForm) →
     is_filled types variables components items ≡ true → is_some components ≡ true
 filled_some types variables None items is = absurd (cc is)
 filled_some types variables (Some components) items is = refl
 
-object_named_in : (o : Option TypeForm) → is_some (object_in o) ≡ true → named_in o ≡ object_in o
+pub object_named_in : (o : Option TypeForm) → is_some (object_in o) ≡ true → named_in o ≡ object_in o
 object_named_in None is = absurd (cc is)
 object_named_in (Some (record_of name parts components finalization)) is = absurd (cc is)
 object_named_in (Some (access_to name designated pool)) is = absurd (cc is)

@@ -1,11 +1,15 @@
 -- where more is known, more is done
 pub mod More
+-- what is found of deeds that are no exceptions
+pub mod Seeking
 -- the nodes of callees
 pub mod Numbering
 -- edges that are added
 pub mod Edges
 -- the graph of calls, node by node, and what is reached in it
 pub mod Calling
+-- nothing does a deed that no body does itself
+pub mod Begun
 -- the marks of all deeds of a program
 pub mod Exact
 -- a set that grows round by round
@@ -28,3 +32,15 @@ pub mod Parted
 pub mod Freed
 -- what is known of the calls of procedures is done
 pub mod Known
+-- what is known of each procedure is told by its body
+pub mod Told
+-- what comes out of a form is known
+pub mod RaisesKnown
+-- what a form frees is known
+pub mod FreesKnown
+-- what comes out of no Adjust and no Finalize
+pub mod Kept
+-- what procedures do is known of their calls
+pub mod Conversely
+-- the examples of what procedures do and effects know
+pub mod KnownExamples

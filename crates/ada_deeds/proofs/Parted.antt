@@ -43,7 +43,7 @@ module _ (types : List TypeForm) (types_fit : list_all (type_fits types) types �
       right_holds (kinds && first) said (left_holds (kinds && first && said) (is_numbered_alone types f) (ap (type_fits types) (sym is) ∙ fits))
 
   -- A type whose objects have controlled parts counts some.
-  counts_in : (u : ℕ) (o : Option TypeForm) → slice_get types u ≡ o → is_some (finalization_in o) ≡ true → 0 < count_said (finalization_in o)
+  pub counts_in : (u : ℕ) (o : Option TypeForm) → slice_get types u ≡ o → is_some (finalization_in o) ≡ true → 0 < count_said (finalization_in o)
   counts_in u None at is = absurd (cc is)
   counts_in u (Some (record_of name ps components None)) at is = absurd (cc is)
   counts_in u (Some (record_of name ps components (Some f))) at is =

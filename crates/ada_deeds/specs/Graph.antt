@@ -1,16 +1,22 @@
 -- The graph of calls: its edges lead from what is called to what calls it.
 
-use Rattle.std.specs.Prelude.{◌≡◌, ◌⊎◌, ℕ, ◌+◌, ◌<◌, Bool, true, nat_lt, if◌then◌else◌, List, [], ◌∷◌, ◌++◌, length, Option, Some, None}
+use Rattle.std.specs.Prelude.{◌≡◌, ◌⊎◌, ℕ, ◌+◌, ◌<◌, Bool, true, nat_lt, if◌then◌else◌, List, [], length, slice_index_or, Option, Some, None}
 use Rattle.std.specs.List.{Contains}
 use Rattle.ada_deeds.specs.declared.deed.Callee.{Callee}
 use Rattle.ada_deeds.specs.declared.deed.Callee.TheVariants as callee
+use Rattle.ada_deeds.specs.declared.calls.Calls.{Calls}
 use Rattle.ada_deeds.specs.declared.deed.Deed.{Deed}
+use Rattle.ada_deeds.specs.declared.deed.Deed.TheVariants as deed
 use Rattle.ada_deeds.specs.declared.deed.Operation.{Operation}
 use Rattle.ada_deeds.specs.declared.deed.Operation.TheVariants.{Initialize, Adjust, Finalize}
-use Rattle.ada_deeds.specs.Does.{callee_does, Does}
+use Rattle.ada_deeds.specs.declared.search.Search.{Search}
+use Rattle.ada_deeds.specs.Does.{callee_does, is_deed_of, Does}
+use Rattle.ada_deeds.specs.View.{sought}
+use Rattle.ada_effects.specs.Found.{has_number}
+use Rattle.ada_program.specs.declared.program.TypeNo.{TypeNo}
 use Rattle.ada_program.specs.ProgramForm.{ProgramForm}
-use Rattle.ada_reach.specs.Graph.{HasEdge}
-use Rattle.ada_reach.specs.View.{IsMarked}
+use Rattle.ada_reach.specs.Graph.{HasEdge, IsReached}
+use Rattle.ada_reach.specs.View.{graph_of, IsMarked}
 
 -- Where the types begin among the nodes, for an operation: behind the procedures, and behind the types for the operations before it.
 abbrev pub first_node : (procedures types : ℕ) → Operation → ℕ
@@ -46,9 +52,25 @@ pub record AddsCalls (procedures types : ℕ) (node : ℕ) (callees : List Calle
   pub only : (x y : ℕ) → HasEdge after x y →
       HasEdge before x y ⊎ ((y ≡ node) × ((c : Callee) × Contains callees c × (node_of procedures types c ≡ Some x)))
 
--- A node is a start, if it does the deed itself.
-abbrev pub with_start : (itself : Bool) → (node : ℕ) → List ℕ → List ℕ
-with_start itself node starts = if itself then starts ++ node ∷ [] else starts
+-- A node is a start besides, if it does the deed itself.
+pub record AddsStart (itself : Bool) (node : ℕ) (before after : List ℕ) : Type 0 where
+  pub kept : (n : ℕ) → Contains before n → Contains after n
+  pub added : itself ≡ true → Contains after node
+  pub only : (n : ℕ) → Contains after n → Contains before n ⊎ ((n ≡ node) × (itself ≡ true))
+
+-- A node is listed besides for each of these types that has a list.
+pub record AddsStarts (types : List TypeNo) (node : ℕ) (before after : List (List ℕ)) : Type 0 where
+  pub size : length after ≡ length before
+  pub kept : (t n : ℕ) → HasEdge before t n → HasEdge after t n
+  pub added : (t : ℕ) → has_number types t ≡ true → t < length before → HasEdge after t node
+  pub only : (t n : ℕ) → HasEdge after t n → HasEdge before t n ⊎ ((n ≡ node) × (has_number types t ≡ true))
+
+-- The nodes that do a deed themselves, as the code keeps them.
+abbrev pub starts_of : Calls → Deed → List ℕ
+starts_of calls (deed.Raises e) = calls.itself.items
+starts_of calls (deed.Frees t) = slice_index_or (graph_of calls.freeing.items) t.0 []
+starts_of calls (deed.Follows t) = slice_index_or (graph_of calls.following.items) t.0 []
+starts_of calls deed.Allocates = calls.itself.items
 
 -- Each callee of the first nodes has its edges, and is a start, if it does the deed whatever it calls; there are no others.
 pub record IsGraph (p : ProgramForm) (d : Deed) (procedures types done : ℕ) (graph : List (List ℕ)) (starts : List ℕ) : Type 0 where
@@ -61,6 +83,18 @@ pub record IsGraph (p : ProgramForm) (d : Deed) (procedures types done : ℕ) (g
   -- what does the deed is a start, or calls something that does
   pub all : (c : Callee) (n : ℕ) → node_of procedures types c ≡ Some n → n < done → (known : Callee → Bool) → callee_does p known d c ≡ true →
       Contains starts n ⊎ ((other : Callee) × (known other ≡ true) × ((x : ℕ) → node_of procedures types other ≡ Some x → HasEdge graph x n))
+
+-- This is the graph of a search, as far as the first nodes: for each deed of the program that is sought. Each type has its lists.
+pub record IsSearched (p : ProgramForm) (s : Search) (procedures types done : ℕ) (calls : Calls) : Type 0 where
+  pub freeing : length (graph_of calls.freeing.items) ≡ types
+  pub following : length (graph_of calls.following.items) ≡ types
+  pub graph : (d : Deed) → is_deed_of p (sought s d) ≡ true →
+      IsGraph p (sought s d) procedures types done (graph_of calls.callers.items) (starts_of calls (sought s d))
+
+-- The nodes that are reached from those that do a deed themselves are marked, and no others.
+pub record MarksReached (graph : List (List ℕ)) (starts : List ℕ) (marks : List Bool) : Type 0 where
+  pub marked : (n : ℕ) → IsReached graph starts n → IsMarked marks n
+  pub only : (n : ℕ) → IsMarked marks n → IsReached graph starts n
 
 -- The nodes of the callees that do a deed are marked, and no others.
 pub record MarksDoers (p : ProgramForm) (d : Deed) (procedures types : ℕ) (marks : List Bool) : Type 0 where

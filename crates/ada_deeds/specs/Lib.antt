@@ -6,12 +6,18 @@ pub mod Follows
 pub mod Forms
 -- what does a deed
 pub mod Does
+-- where a deed begins
+pub mod Begins
 -- what does one within so many calls of calls
 pub mod Within
 -- what implicit calls may do
 pub mod Implicit
+-- aggregates that give no record controlled parts which its type has not
+pub mod Aggregates
 -- laws of what does a deed
 pub mod Laws
+-- what procedures do and effects know, by examples
+pub mod KnownExamples
 -- two procedures that call one another, and a third one
 pub mod Example
 -- what the values of the code stand for

@@ -1,6 +1,6 @@
 -- What the code keeps of the deeds of a program: for each deed the marks of the callees that do it.
 
-use Rattle.std.specs.Prelude.{◌≡◌, ◌↔◌, ℕ, Bool, true, false, List, [], length, map, slice_index_or, Option, Some, None}
+use Rattle.std.specs.Prelude.{◌≡◌, ◌↔◌, ℕ, Bool, true, false, ◌||◌, List, [], ◌∷◌, map, slice_index_or, Option, Some, None}
 use Rattle.std.specs.Global.{Vec}
 use Rattle.ada_deeds.specs.declared.deed.Callee.{Callee}
 use Rattle.ada_deeds.specs.declared.deed.Deed.{Deed}
@@ -14,17 +14,10 @@ use Rattle.ada_program.specs.declared.program.Exception.{Exception}
 use Rattle.ada_program.specs.declared.program.Exception.TheVariants.{ConstraintError, ProgramError, StorageError, EndError, Declared}
 use Rattle.ada_program.specs.ProgramForm.{ProgramForm}
 
--- The deed of a number.
+-- The deed of an access type.
 abbrev pub deed_numbered : Kind → ℕ → Deed
-deed_numbered kind.Raises n = deed.Raises (Declared (record { 0 = n }))
 deed_numbered kind.Frees n = deed.Frees (record { 0 = n })
 deed_numbered kind.Follows n = deed.Follows (record { 0 = n })
-
--- How many deeds of a kind a program has.
-abbrev pub deed_count : ProgramForm → Kind → ℕ
-deed_count p kind.Raises = length p.exceptions
-deed_count p kind.Frees = length p.types
-deed_count p kind.Follows = length p.types
 
 -- The marks of a number: none, if there is no such deed.
 unfoldable pub row_at : List (Vec Bool) → ℕ → List Bool
@@ -49,6 +42,23 @@ row_of deeds deed.Allocates = deeds.allocates.items
 abbrev pub is_marked : List Bool → Option ℕ → Bool
 is_marked marks None = false
 is_marked marks (Some n) = slice_index_or marks n false
+
+-- Is a mark kept at all? Where none is, no callee does the deed.
+abbrev pub has_marks : List Bool → Bool
+has_marks [] = false
+has_marks (mark ∷ marks) = true
+
+-- May this exception come out of something, as the code keeps it?
+abbrev pub is_raised : Deeds → Exception → Bool
+is_raised deeds e = has_marks (row_of deeds (deed.Raises e))
+
+-- May something free objects of this access type?
+abbrev pub is_freed : Deeds → (access : ℕ) → Bool
+is_freed deeds t = has_marks (row_of deeds (deed.Frees (record { 0 = t })))
+
+-- May something free them, or follow its values?
+abbrev pub is_used : Deeds → (access : ℕ) → Bool
+is_used deeds t = is_freed deeds t || has_marks (row_of deeds (deed.Follows (record { 0 = t })))
 
 -- Does a callee do a deed, as the code keeps it?
 unfoldable pub does_in : Deeds → Deed → Callee → Bool

@@ -22,7 +22,11 @@ pub(crate) fn no_edges(alloc: Global, count: usize) -> Result<Vec<Vec<usize>>, A
 }
 
 /// An edge leads from one node to another.
-fn add_edge(lists: &mut Vec<Vec<usize>>, from: usize, to: usize) -> Result<(), AllocError>
+pub(crate) fn add_edge(
+    lists: &mut Vec<Vec<usize>>,
+    from: usize,
+    to: usize,
+) -> Result<(), AllocError>
     ensures { OnOk result (AddsEdge from to (graph_of lists.old.items) (graph_of lists.new.items)) }
 {
     match lists.get_mut(from) {

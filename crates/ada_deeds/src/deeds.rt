@@ -1,27 +1,30 @@
 //! Which procedures do which deeds, all found at once.
 
 ghost use Rattle.std.specs.Prelude.{◌≡◌, ◌<◌, ℕ, false, length, slice_index_or, IfOk};
-ghost use Rattle.ada_deeds.specs.Graph.{MarksDoers};
-ghost use Rattle.ada_deeds.specs.Rows.{deed_numbered, deed_count, row_at};
+ghost use Rattle.ada_deeds.specs.Graph.{starts_of, MarksDoers, MarksReached};
+ghost use Rattle.ada_deeds.specs.Rows.{deed_numbered, has_marks, row_at};
+ghost use Rattle.ada_deeds.specs.declared.deed.Deed.TheVariants as deed;
+ghost use Rattle.ada_program.specs.declared.program.Exception.TheVariants.{Declared};
 ghost use Rattle.ada_program.specs.ProgramForm.{program_form};
+ghost use Rattle.ada_reach.specs.View.{graph_of};
 
+use crate::calls::Calls;
 use crate::deed::{Callee, Deed, Operation};
-use crate::doers::doers;
 use crate::nodes::Nodes;
+use crate::raisers::raisers;
+use crate::search::Search;
 use ada_program::program::{Exception, ExceptionNo};
 use ada_program::{ProcedureNo, Program, TypeNo};
 use std::alloc::{AllocError, Global};
 
-/// The deeds that have numbers.
+/// The deeds of access types.
 #[derive(Clone, Copy)]
 pub(crate) enum Kind {
-    /// A declared exception comes out.
-    Raises,
     Frees,
     Follows,
 }
 
-/// For each deed of a program, which callees do it: a mark for each node.
+/// For each deed of a program, which callees do it: a mark for each node, and no marks where nothing does it.
 #[derive(Drop)]
 pub struct Deeds {
     nodes: Nodes,
@@ -36,35 +39,57 @@ pub struct Deeds {
     follows: Vec<Vec<bool>>,
 }
 
-/// The deed of a number.
+/// The deed of an access type.
 fn numbered(kind: Kind, number: usize) -> Deed
     ensures { result ≡ deed_numbered kind number }
 {
     match kind {
-        Kind::Raises => Deed::Raises(Exception::Declared(ExceptionNo(number))),
         Kind::Frees => Deed::Frees(TypeNo(number)),
         Kind::Follows => Deed::Follows(TypeNo(number)),
     }
 }
 
-/// The marks for each deed of a kind.
-fn rows(
+/// The marks for each declared exception.
+fn raised_rows(
     alloc: Global,
     program: &Program,
     nodes: Nodes,
-    kind: Kind,
     count: usize,
 ) -> Result<Vec<Vec<bool>>, AllocError>
     requires procedures { nodes.procedures ≡ length program.now.procedures.items }
     requires types { nodes.types ≡ length program.now.types.items }
-    requires count { count ≡ deed_count (program_form program.now) kind }
+    requires count { count ≡ length (program_form program.now).exceptions }
     ensures size { IfOk result (λ rows. length rows.items ≡ count) }
-    ensures rows { IfOk result (λ rows. (n : ℕ) → n < count →
-        MarksDoers (program_form program.now) (deed_numbered kind n) nodes.procedures nodes.types (row_at rows.items n)) }
+    ensures rows { IfOk result (λ rows. (n : ℕ) → n < count → MarksDoers (program_form program.now)
+        (deed.Raises (Declared (record { 0 = n }))) nodes.procedures nodes.types (row_at rows.items n)) }
 {
     let mut rows = Vec::new(alloc);
     'numbers: for number in 0..count {
-        let row = doers(alloc, program, nodes, numbered(kind, number))?;
+        let row = raisers(
+            alloc,
+            program,
+            nodes,
+            Exception::Declared(ExceptionNo(number)),
+        )?;
+        rows.push(row)?;
+    }
+    Ok(rows)
+}
+
+/// The marks for a deed of each type.
+fn rows_of(
+    alloc: Global,
+    calls: &Calls,
+    kind: Kind,
+    count: usize,
+) -> Result<Vec<Vec<bool>>, AllocError>
+    ensures size { IfOk result (λ rows. length rows.items ≡ count) }
+    ensures rows { IfOk result (λ rows. (n : ℕ) → n < count → MarksReached (graph_of calls.now.callers.items)
+        (starts_of calls.now (deed_numbered kind n)) (row_at rows.items n)) }
+{
+    let mut rows = Vec::new(alloc);
+    'numbers: for number in 0..count {
+        let row = calls.doers(alloc, numbered(kind, number))?;
         rows.push(row)?;
     }
     Ok(rows)
@@ -82,10 +107,11 @@ fn row_at(rows: &[Vec<bool>], number: usize) -> &[bool]
 
 impl Deeds {
     ghost use Rattle.std.specs.Prelude.{true};
-    ghost use Rattle.ada_deeds.specs.Rows.{does_in, row_of, exception_row, KnowsDeeds, RaisesSome, RaisesNone, RaisesNoDeclared};
+    ghost use Rattle.ada_deeds.specs.Rows.{does_in, is_raised, is_freed, is_used, row_of, exception_row, KnowsDeeds, RaisesSome, RaisesNone, RaisesNoDeclared};
     ghost use Rattle.ada_deeds.specs.declared.deed.Callee.TheVariants as callee;
 
-    /// Finds which callees of a program do which deeds. For each deed the program is read once.
+    /// Finds which callees of a program do which deeds. The bodies are read once for each exception, and once for all other deeds;
+    /// besides, each deed that some body does takes time and memory linear in the graph of calls.
     ///
     /// # Errors
     /// `AllocError` where memory was refused.
@@ -95,19 +121,15 @@ impl Deeds {
         let nodes = Nodes::of(program)?;
         let exceptions = program.exceptions.len();
         let types = program.types.len();
-        let constraint_error = doers(
-            alloc,
-            program,
-            nodes,
-            Deed::Raises(Exception::ConstraintError),
-        )?;
-        let program_error = doers(alloc, program, nodes, Deed::Raises(Exception::ProgramError))?;
-        let storage_error = doers(alloc, program, nodes, Deed::Raises(Exception::StorageError))?;
-        let end_error = doers(alloc, program, nodes, Deed::Raises(Exception::EndError))?;
-        let allocates = doers(alloc, program, nodes, Deed::Allocates)?;
-        let declared = rows(alloc, program, nodes, Kind::Raises, exceptions)?;
-        let frees = rows(alloc, program, nodes, Kind::Frees, types)?;
-        let follows = rows(alloc, program, nodes, Kind::Follows, types)?;
+        let constraint_error = raisers(alloc, program, nodes, Exception::ConstraintError)?;
+        let program_error = raisers(alloc, program, nodes, Exception::ProgramError)?;
+        let storage_error = raisers(alloc, program, nodes, Exception::StorageError)?;
+        let end_error = raisers(alloc, program, nodes, Exception::EndError)?;
+        let declared = raised_rows(alloc, program, nodes, exceptions)?;
+        let calls = Calls::of(alloc, program, nodes, Search::Others)?;
+        let allocates = calls.doers(alloc, Deed::Allocates)?;
+        let frees = rows_of(alloc, &calls, Kind::Frees, types)?;
+        let follows = rows_of(alloc, &calls, Kind::Follows, types)?;
         Ok(Deeds {
             nodes,
             constraint_error,
@@ -174,6 +196,27 @@ impl Deeds {
         }
     }
 
+    /// Whether an exception may come out of something.
+    pub(crate) fn is_raised(&self, exception: Exception) -> bool
+        ensures { result ≡ is_raised self.now exception }
+    {
+        has_marks(self.exception_row(exception))
+    }
+
+    /// Whether something may free objects of an access type.
+    pub(crate) fn is_freed(&self, access: TypeNo) -> bool
+        ensures { result ≡ is_freed self.now access.0 }
+    {
+        has_marks(row_at(&self.frees, access.0))
+    }
+
+    /// Whether something may free them, or follow its values.
+    pub(crate) fn is_used(&self, access: TypeNo) -> bool
+        ensures { result ≡ is_used self.now access.0 }
+    {
+        self.is_freed(access) || has_marks(row_at(&self.follows, access.0))
+    }
+
     /// The marks of a deed.
     fn row(&self, deed: Deed) -> &[bool]
         ensures { result.now ≡ row_of self.now deed }
@@ -197,6 +240,16 @@ impl Deeds {
             Exception::EndError => &self.end_error,
             Exception::Declared(number) => row_at(&self.declared, number.0),
         }
+    }
+}
+
+/// Whether a mark is kept.
+fn has_marks(marks: &[bool]) -> bool
+    ensures { result ≡ has_marks marks.now }
+{
+    match marks.get(0) {
+        None => false,
+        Some(_) => true,
     }
 }
 

@@ -1,23 +1,29 @@
 //! What forms do themselves, whatever they call.
 
-ghost use Rattle.std.specs.Prelude.{◌≡◌, map};
+ghost use Rattle.std.specs.Prelude.{◌≡◌, ◌||◌, ◌&&◌, Bool, OnOk, map};
 ghost use Rattle.ada_deeds.specs.Forms as rules;
+ghost use Rattle.ada_deeds.specs.View.{does_found, sought, Finds};
+ghost use Rattle.ada_deeds.specs.declared.deed.Callee.{Callee};
+ghost use Rattle.ada_deeds.specs.declared.deed.Deed.{Deed};
+ghost use Rattle.ada_deeds.specs.declared.deed.Deed.TheVariants as deed;
+ghost use Rattle.ada_program.specs.declared.program.Exception.TheVariants.{ConstraintError};
 ghost use Rattle.ada_program.specs.Form.{actual_form, condition_form, expression_form, handlers_form, path_form, record_path_form};
 ghost use Rattle.ada_program.specs.Handling as handling;
 ghost use Rattle.ada_program.specs.Kept.{types_in, variables_in};
 
-use crate::deed::Deed;
 use crate::follows::{
-    actuals_follow, condition_follows, expression_follows, path_follows, record_path_follows,
+    follow_actuals, follow_condition, follow_expression, follow_path, follow_record_path,
 };
+use crate::found::Found;
+use crate::search::Search;
 use ada_effects::{
     actuals_raise, condition_raises, expression_raises, path_raises, record_path_raises,
 };
-use ada_program::Path;
-use ada_program::lookup::is_this;
 use ada_program::program::{
     Actual, Choice, Exception, Expression, Handler, RecordPath, TypeDefinition, Variable,
 };
+use ada_program::{Path, TypeNo};
+use std::alloc::AllocError;
 
 /// Whether two exceptions are one.
 fn is_same(exception: Exception, other: Exception) -> bool
@@ -33,133 +39,175 @@ fn is_same(exception: Exception, other: Exception) -> bool
     }
 }
 
-/// Whether the deed is that this exception comes out.
-pub(crate) fn is_raising(exception: Exception, deed: Deed) -> bool
-    ensures { result ≡ rules.is_raising exception deed }
-{
-    match deed {
-        Deed::Raises(other) => is_same(exception, other),
-        Deed::Frees(_) | Deed::Follows(_) | Deed::Allocates => false,
+impl Found {
+    /// An exception that is sought comes out of a part, or does not.
+    #[tactic(auto, unfolding(crate::specs::View::does_found))]
+    fn note(&mut self, exception: Exception, raised: bool)
+        ensures { (known : Callee → Bool) → does_found self.new (deed.Raises exception) known
+            ≡ (does_found self.old (deed.Raises exception) known || raised) }
+    {
+        if raised {
+            self.itself = true;
+        }
+    }
+
+    /// An exception that is sought comes out of an evaluation, if that may raise Constraint_Error (11.5).
+    fn fail(&mut self, exception: Exception, fails: bool)
+        ensures { (known : Callee → Bool) → does_found self.new (deed.Raises exception) known
+            ≡ (does_found self.old (deed.Raises exception) known
+            || (handling.is_same ConstraintError exception && fails)) }
+    {
+        self.note(
+            exception,
+            is_same(Exception::ConstraintError, exception) && fails,
+        );
+    }
+
+    /// An exception is raised (11.3).
+    pub(crate) fn raise(&mut self, search: Search, raised: Exception)
+        ensures { (d : Deed) (known : Callee → Bool) → does_found self.new (sought search d) known
+            ≡ (does_found self.old (sought search d) known || rules.is_raising raised (sought search d)) }
+    {
+        match search {
+            Search::Exception(exception) => self.note(exception, is_same(raised, exception)),
+            Search::Others => (),
+        }
+    }
+
+    /// An allocator creates an object, and may want storage (4.8, 11.1).
+    pub(crate) fn allocate(&mut self, search: Search)
+        ensures { (d : Deed) (known : Callee → Bool) → does_found self.new (sought search d) known
+            ≡ (does_found self.old (sought search d) known || rules.allocation_does (sought search d)) }
+    {
+        match search {
+            Search::Exception(exception) => {
+                self.note(exception, is_same(Exception::StorageError, exception))
+            }
+            Search::Others => self.itself = true,
+        }
+    }
+
+    /// An object of an access type is freed (13.11.2).
+    pub(crate) fn free(&mut self, search: Search, access: Option<usize>) -> Result<(), AllocError>
+        ensures { Finds result search self.old self.new (λ d known. rules.freeing_does d access) }
+    {
+        match (search, access) {
+            (Search::Others, Some(number)) => {
+                self.freed.push(TypeNo(number))?;
+                Ok(())
+            }
+            _ => Ok(()),
+        }
     }
 }
 
-/// Whether a path does the deed: it may find null, and follows access values (4.1).
-pub(crate) fn path_does(
+/// What a path does: it may find null, and follows access values (4.1).
+pub(crate) fn find_path(
     types: &[TypeDefinition],
     variables: &[Variable],
-    deed: Deed,
+    search: Search,
     path: &Path,
-) -> bool
-    ensures { result ≡ rules.path_does (types_in types.now) (variables_in variables.now) deed (path_form path.now) }
+    found: &mut Found,
+) -> Result<(), AllocError>
+    ensures { Finds result search found.old found.new
+        (λ d known. rules.path_does (types_in types.now) (variables_in variables.now) d (path_form path.now)) }
 {
-    match deed {
-        Deed::Raises(exception) => is_same(Exception::ConstraintError, exception)
-            && path_raises(path),
-        Deed::Follows(access) => path_follows(types, variables, access, path),
-        Deed::Frees(_) | Deed::Allocates => false,
+    match search {
+        Search::Exception(exception) => {
+            found.fail(exception, path_raises(path));
+            Ok(())
+        }
+        Search::Others => follow_path(types, variables, path, &mut found.followed),
     }
 }
 
-/// Whether a path to a record does (4.1).
-pub(crate) fn record_path_does(
+/// What a path to a record does (4.1).
+pub(crate) fn find_record_path(
     types: &[TypeDefinition],
     variables: &[Variable],
-    deed: Deed,
+    search: Search,
     path: &RecordPath,
-) -> bool
-    ensures { result ≡ rules.record_path_does
-        (types_in types.now) (variables_in variables.now) deed (record_path_form path.now) }
+    found: &mut Found,
+) -> Result<(), AllocError>
+    ensures { Finds result search found.old found.new
+        (λ d known. rules.record_path_does (types_in types.now) (variables_in variables.now) d (record_path_form path.now)) }
 {
-    match deed {
-        Deed::Raises(exception) => is_same(Exception::ConstraintError, exception)
-            && record_path_raises(path),
-        Deed::Follows(access) => record_path_follows(types, variables, access, path),
-        Deed::Frees(_) | Deed::Allocates => false,
+    match search {
+        Search::Exception(exception) => {
+            found.fail(exception, record_path_raises(path));
+            Ok(())
+        }
+        Search::Others => follow_record_path(types, variables, path, &mut found.followed),
     }
 }
 
-/// Whether an expression does (4.4).
-pub(crate) fn expression_does(
+/// What an expression does (4.4).
+pub(crate) fn find_expression(
     types: &[TypeDefinition],
     variables: &[Variable],
-    deed: Deed,
+    search: Search,
     expression: &Expression,
-) -> bool
-    ensures { result ≡ rules.expression_does
-        (types_in types.now) (variables_in variables.now) deed (expression_form expression.now) }
+    found: &mut Found,
+) -> Result<(), AllocError>
+    ensures { Finds result search found.old found.new
+        (λ d known. rules.expression_does (types_in types.now) (variables_in variables.now) d (expression_form expression.now)) }
 {
-    match deed {
-        Deed::Raises(exception) => is_same(Exception::ConstraintError, exception)
-            && expression_raises(expression),
-        Deed::Follows(access) => expression_follows(types, variables, access, expression),
-        Deed::Frees(_) | Deed::Allocates => false,
+    match search {
+        Search::Exception(exception) => {
+            found.fail(exception, expression_raises(expression));
+            Ok(())
+        }
+        Search::Others => follow_expression(types, variables, expression, &mut found.followed),
     }
 }
 
-/// Whether a condition does, where there is one.
-pub(crate) fn condition_does(
+/// What a condition does, where there is one.
+pub(crate) fn find_condition(
     types: &[TypeDefinition],
     variables: &[Variable],
-    deed: Deed,
+    search: Search,
     condition: &Option<Expression>,
-) -> bool
-    ensures { result ≡ rules.condition_does
-        (types_in types.now) (variables_in variables.now) deed (condition_form condition.now) }
+    found: &mut Found,
+) -> Result<(), AllocError>
+    ensures { Finds result search found.old found.new
+        (λ d known. rules.condition_does (types_in types.now) (variables_in variables.now) d (condition_form condition.now)) }
 {
-    match deed {
-        Deed::Raises(exception) => is_same(Exception::ConstraintError, exception)
-            && condition_raises(condition),
-        Deed::Follows(access) => condition_follows(types, variables, access, condition),
-        Deed::Frees(_) | Deed::Allocates => false,
+    match search {
+        Search::Exception(exception) => {
+            found.fail(exception, condition_raises(condition));
+            Ok(())
+        }
+        Search::Others => follow_condition(types, variables, condition, &mut found.followed),
     }
 }
 
-/// Whether the evaluation of actual parameters does (6.4.1).
-pub(crate) fn actuals_do(
+/// What the evaluation of actual parameters does (6.4.1).
+pub(crate) fn find_actuals(
     types: &[TypeDefinition],
     variables: &[Variable],
-    deed: Deed,
+    search: Search,
     actuals: &[Actual],
-) -> bool
-    ensures { result ≡ rules.actuals_do
-        (types_in types.now) (variables_in variables.now) deed (map actual_form actuals.now) }
+    found: &mut Found,
+) -> Result<(), AllocError>
+    ensures { Finds result search found.old found.new
+        (λ d known. rules.actuals_do (types_in types.now) (variables_in variables.now) d (map actual_form actuals.now)) }
 {
-    match deed {
-        Deed::Raises(exception) => is_same(Exception::ConstraintError, exception)
-            && actuals_raise(actuals),
-        Deed::Follows(access) => actuals_follow(types, variables, access, actuals),
-        Deed::Frees(_) | Deed::Allocates => false,
-    }
-}
-
-/// Whether an allocator does: it creates an object, and may want storage (4.8, 11.1).
-pub(crate) fn allocation_does(deed: Deed) -> bool
-    ensures { result ≡ rules.allocation_does deed }
-{
-    match deed {
-        Deed::Raises(exception) => is_same(Exception::StorageError, exception),
-        Deed::Frees(_) | Deed::Follows(_) => false,
-        Deed::Allocates => true,
-    }
-}
-
-/// Whether a Free of what has this access type does (13.11.2).
-pub(crate) fn freeing_does(deed: Deed, access: Option<usize>) -> bool
-    ensures { result ≡ rules.freeing_does deed access }
-{
-    match deed {
-        Deed::Frees(freed) => is_this(freed.0, access),
-        Deed::Raises(_) | Deed::Follows(_) | Deed::Allocates => false,
+    match search {
+        Search::Exception(exception) => {
+            found.fail(exception, actuals_raise(actuals));
+            Ok(())
+        }
+        Search::Others => follow_actuals(types, variables, actuals, &mut found.followed),
     }
 }
 
 /// Whether what statements do leaves them by their handlers: an exception that one of these takes does not (11.4).
-pub(crate) fn is_left(handlers: &[Handler], deed: Deed) -> bool
-    ensures { result ≡ rules.is_left (handlers_form handlers.now) deed }
+pub(crate) fn is_left(handlers: &[Handler], search: Search) -> bool
+    ensures { (d : Deed) → rules.is_left (handlers_form handlers.now) (sought search d) ≡ result }
 {
-    match deed {
-        Deed::Raises(exception) => !is_taken(handlers, exception),
-        Deed::Frees(_) | Deed::Follows(_) | Deed::Allocates => true,
+    match search {
+        Search::Exception(exception) => !is_taken(handlers, exception),
+        Search::Others => true,
     }
 }
 

@@ -1,16 +1,19 @@
-//! Of which access types the evaluation of a form follows values (4.1).
+//! Of which access types the evaluation of a form follows values (4.1): they are listed.
 
-ghost use Rattle.std.specs.Prelude.{◌≡◌, map};
+ghost use Rattle.std.specs.Prelude.{◌≡◌, ◌||◌, ℕ, OnOk, map};
 ghost use Rattle.ada_deeds.specs.Follows as rules;
+ghost use Rattle.ada_deeds.specs.View.{Lists};
+ghost use Rattle.ada_effects.specs.Found.{has_number};
 ghost use Rattle.ada_program.specs.Form.{actual_form, condition_form, expression_form, links_form, path_form, record_path_form};
 ghost use Rattle.ada_program.specs.Kept.{types_in, variables_in};
 ghost use Rattle.ada_program.specs.WellFormed as fits;
 
-use ada_program::lookup::{is_this, path_access, selected_kind, variable_kind};
+use ada_program::lookup::{path_access, selected_kind, variable_kind};
 use ada_program::program::{
     Actual, Expression, Link, RecordPath, TypeDefinition, Variable, VariableKind,
 };
 use ada_program::{Path, TypeNo};
+use std::alloc::AllocError;
 
 /// The access type of an access value: none, if a value is an Integer or a Boolean, or a record object.
 fn value_access(kind: Option<VariableKind>) -> Option<usize>
@@ -24,140 +27,147 @@ fn value_access(kind: Option<VariableKind>) -> Option<usize>
     }
 }
 
-/// Whether a path follows a value of an access type: each selector follows the value before it, but the first one behind a record
-/// object.
-pub(crate) fn path_follows(
+/// An access type is one more, where there is one.
+fn add(access: Option<usize>, followed: &mut Vec<TypeNo>) -> Result<(), AllocError>
+    ensures { Lists result followed.old.items followed.new.items (λ t. fits.is_this t access) }
+{
+    match access {
+        None => Ok(()),
+        Some(number) => {
+            followed.push(TypeNo(number))?;
+            Ok(())
+        }
+    }
+}
+
+/// Those of a path: each selector follows the value before it, but the first one behind a record object.
+pub(crate) fn follow_path(
     types: &[TypeDefinition],
     variables: &[Variable],
-    access: TypeNo,
     path: &Path,
-) -> bool
-    ensures { result ≡ rules.path_follows (types_in types.now) (variables_in variables.now) access.0 (path_form path.now) }
+    followed: &mut Vec<TypeNo>,
+) -> Result<(), AllocError>
+    ensures { Lists result followed.old.items followed.new.items
+        (λ t. rules.path_follows (types_in types.now) (variables_in variables.now) t (path_form path.now)) }
 {
     let mut kind = variable_kind(variables, path.root.0);
     'selectors: for component in &path.selectors {
-        if is_this(access.0, value_access(kind)) {
-            return true;
-        }
+        add(value_access(kind), followed)?;
         kind = selected_kind(types, kind, component.0);
     }
-    false
+    Ok(())
 }
 
-/// Whether a path to a record does, the access value of its object included.
-pub(crate) fn record_path_follows(
+/// Those of a path to a record, the access value of its object included.
+pub(crate) fn follow_record_path(
     types: &[TypeDefinition],
     variables: &[Variable],
-    access: TypeNo,
     path: &RecordPath,
-) -> bool
-    ensures { result ≡ rules.record_path_follows
-        (types_in types.now) (variables_in variables.now) access.0 (record_path_form path.now) }
+    followed: &mut Vec<TypeNo>,
+) -> Result<(), AllocError>
+    ensures { Lists result followed.old.items followed.new.items
+        (λ t. rules.record_path_follows (types_in types.now) (variables_in variables.now) t (record_path_form path.now)) }
 {
-    path_follows(types, variables, access, &path.object)
-        || is_this(access.0, path_access(types, variables, &path.object))
+    follow_path(types, variables, &path.object, followed)?;
+    add(path_access(types, variables, &path.object), followed)
 }
 
-/// Whether the evaluation of an expression does.
+/// Those of an expression.
 #[cycle(evaluation)]
 #[tactic(auto, using(std::proofs::lemmas::Grind::common_steps, ada_program::specs::Form::expression_rules))]
-pub(crate) fn expression_follows(
+pub(crate) fn follow_expression(
     types: &[TypeDefinition],
     variables: &[Variable],
-    access: TypeNo,
     expression: &Expression,
-) -> bool
-    ensures { result ≡ rules.expression_follows
-        (types_in types.now) (variables_in variables.now) access.0 (expression_form expression.now) }
+    followed: &mut Vec<TypeNo>,
+) -> Result<(), AllocError>
+    ensures { Lists result followed.old.items followed.new.items
+        (λ t. rules.expression_follows (types_in types.now) (variables_in variables.now) t (expression_form expression.now)) }
 {
     match expression {
-        Expression::Integer(_) | Expression::Boolean(_) => false,
+        Expression::Integer(_) | Expression::Boolean(_) => Ok(()),
         Expression::Path(path) | Expression::NullTest { path, equal: _ } => {
-            path_follows(types, variables, access, path)
+            follow_path(types, variables, path, followed)
         }
         Expression::Unary {
             operator: _,
             operand,
-        } => expression_follows(types, variables, access, operand),
+        } => follow_expression(types, variables, operand, followed),
         Expression::Chain { first, links } => {
-            expression_follows(types, variables, access, first)
-                || links_follow(types, variables, access, links)
+            follow_expression(types, variables, first, followed)?;
+            follow_links(types, variables, links, followed)
         }
     }
 }
 
-/// Whether that of the right operands of operators does.
+/// Those of the right operands of operators.
 #[cycle(evaluation)]
-fn links_follow(
+fn follow_links(
     types: &[TypeDefinition],
     variables: &[Variable],
-    access: TypeNo,
     links: &[Link],
-) -> bool
-    ensures { result ≡ rules.links_follow
-        (types_in types.now) (variables_in variables.now) access.0 (links_form links.now) }
+    followed: &mut Vec<TypeNo>,
+) -> Result<(), AllocError>
+    ensures { Lists result followed.old.items followed.new.items
+        (λ t. rules.links_follow (types_in types.now) (variables_in variables.now) t (links_form links.now)) }
 {
     'links: for link in links {
-        if expression_follows(types, variables, access, &link.operand) {
-            return true;
-        }
+        follow_expression(types, variables, &link.operand, followed)?;
     }
-    false
+    Ok(())
 }
 
-/// Whether that of a condition does, where there is one.
-pub(crate) fn condition_follows(
+/// Those of a condition, where there is one.
+pub(crate) fn follow_condition(
     types: &[TypeDefinition],
     variables: &[Variable],
-    access: TypeNo,
     condition: &Option<Expression>,
-) -> bool
-    ensures { result ≡ rules.condition_follows
-        (types_in types.now) (variables_in variables.now) access.0 (condition_form condition.now) }
+    followed: &mut Vec<TypeNo>,
+) -> Result<(), AllocError>
+    ensures { Lists result followed.old.items followed.new.items
+        (λ t. rules.condition_follows (types_in types.now) (variables_in variables.now) t (condition_form condition.now)) }
 {
     match condition {
-        None => false,
-        Some(expression) => expression_follows(types, variables, access, expression),
+        None => Ok(()),
+        Some(expression) => follow_expression(types, variables, expression, followed),
     }
 }
 
-/// Whether that of an actual parameter does (6.4.1).
-fn actual_follows(
+/// Those of an actual parameter (6.4.1).
+fn follow_actual(
     types: &[TypeDefinition],
     variables: &[Variable],
-    access: TypeNo,
     actual: &Actual,
-) -> bool
-    ensures { result ≡ rules.actual_follows
-        (types_in types.now) (variables_in variables.now) access.0 (actual_form actual.now) }
+    followed: &mut Vec<TypeNo>,
+) -> Result<(), AllocError>
+    ensures { Lists result followed.old.items followed.new.items
+        (λ t. rules.actual_follows (types_in types.now) (variables_in variables.now) t (actual_form actual.now)) }
 {
     match actual {
-        Actual::In(value) => expression_follows(types, variables, access, value),
-        Actual::InNull => false,
+        Actual::In(value) => follow_expression(types, variables, value, followed),
+        Actual::InNull => Ok(()),
         Actual::InAccess(path)
         | Actual::InOut(path)
         | Actual::InOutAccess(path)
-        | Actual::InOutComponent(path) => path_follows(types, variables, access, path),
+        | Actual::InOutComponent(path) => follow_path(types, variables, path, followed),
         Actual::InRecord(path) | Actual::InOutRecord(path) => {
-            record_path_follows(types, variables, access, path)
+            follow_record_path(types, variables, path, followed)
         }
     }
 }
 
-/// Whether that of one of these actual parameters does.
-pub(crate) fn actuals_follow(
+/// Those of actual parameters.
+pub(crate) fn follow_actuals(
     types: &[TypeDefinition],
     variables: &[Variable],
-    access: TypeNo,
     actuals: &[Actual],
-) -> bool
-    ensures { result ≡ rules.actuals_follow
-        (types_in types.now) (variables_in variables.now) access.0 (map actual_form actuals.now) }
+    followed: &mut Vec<TypeNo>,
+) -> Result<(), AllocError>
+    ensures { Lists result followed.old.items followed.new.items
+        (λ t. rules.actuals_follow (types_in types.now) (variables_in variables.now) t (map actual_form actuals.now)) }
 {
     'actuals: for actual in actuals {
-        if actual_follows(types, variables, access, actual) {
-            return true;
-        }
+        follow_actual(types, variables, actual, followed)?;
     }
-    false
+    Ok(())
 }

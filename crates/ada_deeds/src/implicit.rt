@@ -5,8 +5,8 @@ ghost use Rattle.std.specs.List.{filter, slice_get};
 ghost use Rattle.ada_deeds.specs.Forms as rules;
 ghost use Rattle.ada_deeds.specs.Implicit as table;
 ghost use Rattle.ada_deeds.specs.Implicit.{implicit_of};
-ghost use Rattle.ada_deeds.specs.Rows.{does_in, KnowsDeeds};
-ghost use Rattle.ada_deeds.specs.Table.{comes_out, coming_out, is_in, is_in_among, IsStart, IsListed};
+ghost use Rattle.ada_deeds.specs.Rows.{does_in, is_raised, KnowsDeeds};
+ghost use Rattle.ada_deeds.specs.Table.{coming_out, is_in, is_in_among, raised_among, is_freed_among, is_used_among, IsStart, IsListed};
 ghost use Rattle.ada_deeds.specs.declared.deed.Deed.TheVariants as deed;
 ghost use Rattle.ada_deeds.specs.declared.implicit.Column.TheVariants as column;
 ghost use Rattle.ada_effects.specs.Found.{implicit_in, has_number};
@@ -48,8 +48,8 @@ fn record_at(types: &[TypeDefinition], number: usize) -> Option<usize>
 }
 
 impl Deeds {
-    /// What implicit calls may do in a program whose deeds these are. For each type it asks for each exception and each access
-    /// type, so it is meant for programs in which some operation is not quiet.
+    /// What implicit calls may do in a program whose deeds these are. For each type it asks for each exception and each access type
+    /// of which something does a deed; of the others nothing is asked.
     ///
     /// # Errors
     /// `AllocError` where memory was refused.
@@ -57,10 +57,13 @@ impl Deeds {
         requires { KnowsDeeds self.now (program_form program.now) }
         ensures { IfOk result (λ known. implicit_in known ≡ implicit_of (program_form program.now)) }
     {
-        let starts = self.start_rows(alloc, program)?;
-        let adjusts = self.column_rows(alloc, program, Column::Adjusts)?;
-        let ends = self.column_rows(alloc, program, Column::Ends)?;
-        let reached = self.column_rows(alloc, program, Column::Reached)?;
+        let raised = self.raised(alloc, program.exceptions.len())?;
+        let freed = self.freed(alloc, program.types.len())?;
+        let used = self.used(alloc, program.types.len())?;
+        let starts = self.start_rows(alloc, program, &raised, &freed)?;
+        let adjusts = self.column_rows(alloc, program, &freed, Column::Adjusts)?;
+        let ends = self.column_rows(alloc, program, &freed, Column::Ends)?;
+        let reached = self.column_rows(alloc, program, &used, Column::Reached)?;
         Ok(Implicit {
             starts,
             adjusts,
@@ -69,39 +72,97 @@ impl Deeds {
         })
     }
 
-    /// For each type, what may happen where an object is created without an initial value.
-    fn start_rows(&self, alloc: Global, program: &Program) -> Result<Vec<Effect>, AllocError>
+    /// The exceptions that may come out of something, each once: the predefined ones, and so many declared ones.
+    fn raised(&self, alloc: Global, exceptions: usize) -> Result<Vec<Exception>, AllocError>
+        ensures { IfOk result (λ list. list.items ≡ raised_among exceptions self.now) }
+    {
+        let mut list = Vec::new(alloc);
+        self.add_raised(Exception::ConstraintError, &mut list)?;
+        self.add_raised(Exception::ProgramError, &mut list)?;
+        self.add_raised(Exception::StorageError, &mut list)?;
+        self.add_raised(Exception::EndError, &mut list)?;
+        'numbers: for number in 0..exceptions {
+            self.add_raised(Exception::Declared(ExceptionNo(number)), &mut list)?;
+        }
+        Ok(list)
+    }
+
+    /// One more of them, if it may.
+    fn add_raised(&self, exception: Exception, list: &mut Vec<Exception>) -> Result<(), AllocError>
+        ensures { OnOk result (list.new.items
+            ≡ list.old.items ++ filter (is_raised self.now) (exception ∷ [])) }
+    {
+        if self.is_raised(exception) {
+            list.push(exception)?;
+        }
+        Ok(())
+    }
+
+    /// The access types of which something may free objects, each once.
+    fn freed(&self, alloc: Global, types: usize) -> Result<Vec<TypeNo>, AllocError>
+        ensures { IfOk result (λ list. (t : ℕ) → has_number list.items t ≡ is_freed_among types self.now t) }
+    {
+        let mut list = Vec::new(alloc);
+        'numbers: for number in 0..types {
+            if self.is_freed(TypeNo(number)) {
+                list.push(TypeNo(number))?;
+            }
+        }
+        Ok(list)
+    }
+
+    /// Those of which something may free objects, or follow values, each once.
+    fn used(&self, alloc: Global, types: usize) -> Result<Vec<TypeNo>, AllocError>
+        ensures { IfOk result (λ list. (t : ℕ) → has_number list.items t ≡ is_used_among types self.now t) }
+    {
+        let mut list = Vec::new(alloc);
+        'numbers: for number in 0..types {
+            if self.is_used(TypeNo(number)) {
+                list.push(TypeNo(number))?;
+            }
+        }
+        Ok(list)
+    }
+
+    /// For each type, what may happen where an object is created without an initial value: of these exceptions and access types.
+    fn start_rows(
+        &self,
+        alloc: Global,
+        program: &Program,
+        raised: &[Exception],
+        used: &[TypeNo],
+    ) -> Result<Vec<Effect>, AllocError>
         ensures { IfOk result (λ rows. (u : ℕ) →
-            IsStart (length program.now.exceptions.items) (length program.now.types.items) (does_in self.now)
+            IsStart raised.now (has_number used.now) (does_in self.now)
             (table.record_at (types_in program.now.types.items) u) (slice_get rows.items u)) }
     {
         let types = program.types.len();
-        let exceptions = program.exceptions.len();
         let mut rows = Vec::new(alloc);
         'numbers: for number in 0..types {
             let record_type = record_at(&program.types, number);
-            let row = self.start_row(alloc, exceptions, types, record_type)?;
+            let row = self.start_row(alloc, raised, used, record_type)?;
             rows.push(row)?;
         }
         Ok(rows)
     }
 
-    /// For each type, the access types of another column.
+    /// For each type, those of these access types that stand in another column.
     fn column_rows(
         &self,
         alloc: Global,
         program: &Program,
+        used: &[TypeNo],
         column: Column,
     ) -> Result<Vec<AccessTypes>, AllocError>
         ensures { IfOk result (λ rows. (u : ℕ) →
-            IsListed (length program.now.types.items) (does_in self.now)
+            IsListed (has_number used.now) (does_in self.now)
             (table.record_at (types_in program.now.types.items) u) column (slice_get rows.items u)) }
     {
         let types = program.types.len();
         let mut rows = Vec::new(alloc);
         'numbers: for number in 0..types {
             let record_type = record_at(&program.types, number);
-            let list = self.access_types(alloc, types, record_type, column)?;
+            let list = self.access_types(alloc, used, record_type, column)?;
             rows.push(AccessTypes { list })?;
         }
         Ok(rows)
@@ -111,74 +172,52 @@ impl Deeds {
     fn start_row(
         &self,
         alloc: Global,
-        exceptions: usize,
-        types: usize,
+        raised: &[Exception],
+        used: &[TypeNo],
         record_type: Option<usize>,
     ) -> Result<Effect, AllocError>
-        ensures raises { IfOk result (λ row. row.raises.items ≡ coming_out (does_in self.now) record_type exceptions) }
+        ensures raises { IfOk result (λ row. row.raises.items ≡ coming_out (does_in self.now) record_type raised.now) }
         ensures frees { IfOk result (λ row. (t : ℕ) → has_number row.frees.items t
-            ≡ is_in_among types (does_in self.now) record_type column.Starts t) }
+            ≡ is_in_among (has_number used.now) (does_in self.now) record_type column.Starts t) }
     {
-        let raises = self.start_exceptions(alloc, exceptions, record_type)?;
-        let frees = self.access_types(alloc, types, record_type, Column::Starts)?;
+        let raises = self.start_exceptions(alloc, raised, record_type)?;
+        let frees = self.access_types(alloc, used, record_type, Column::Starts)?;
         Ok(Effect { raises, frees })
     }
 
-    /// The exceptions that may come out there, each once.
+    /// Those of these exceptions that may come out there.
     fn start_exceptions(
         &self,
         alloc: Global,
-        exceptions: usize,
+        raised: &[Exception],
         record_type: Option<usize>,
     ) -> Result<Vec<Exception>, AllocError>
-        ensures { IfOk result (λ list. list.items ≡ coming_out (does_in self.now) record_type exceptions) }
+        ensures { IfOk result (λ list. list.items ≡ coming_out (does_in self.now) record_type raised.now) }
     {
         let mut list = Vec::new(alloc);
-        self.add_if_raised(record_type, Exception::ConstraintError, &mut list)?;
-        self.add_if_raised(record_type, Exception::ProgramError, &mut list)?;
-        self.add_if_raised(record_type, Exception::StorageError, &mut list)?;
-        self.add_if_raised(record_type, Exception::EndError, &mut list)?;
-        'numbers: for number in 0..exceptions {
-            self.add_if_raised(
-                record_type,
-                Exception::Declared(ExceptionNo(number)),
-                &mut list,
-            )?;
+        'exceptions: for exception in raised {
+            if self.creation_does(record_type, Deed::Raises(*exception)) {
+                list.push(*exception)?;
+            }
         }
         Ok(list)
     }
 
-    /// One more of them, if it may.
-    fn add_if_raised(
-        &self,
-        record_type: Option<usize>,
-        exception: Exception,
-        list: &mut Vec<Exception>,
-    ) -> Result<(), AllocError>
-        ensures { OnOk result (list.new.items
-            ≡ list.old.items ++ filter (comes_out (does_in self.now) record_type) (exception ∷ [])) }
-    {
-        if self.creation_does(record_type, Deed::Raises(exception)) {
-            list.push(exception)?;
-        }
-        Ok(())
-    }
-
-    /// The access types of a column, each once.
+    /// Those of these access types that are in a column.
     fn access_types(
         &self,
         alloc: Global,
-        types: usize,
+        used: &[TypeNo],
         record_type: Option<usize>,
         column: Column,
     ) -> Result<Vec<TypeNo>, AllocError>
         ensures { IfOk result (λ list. (t : ℕ) → has_number list.items t
-            ≡ is_in_among types (does_in self.now) record_type column t) }
+            ≡ is_in_among (has_number used.now) (does_in self.now) record_type column t) }
     {
         let mut list = Vec::new(alloc);
-        'numbers: for number in 0..types {
-            if self.is_in_column(record_type, column, TypeNo(number)) {
-                list.push(TypeNo(number))?;
+        'types: for access in used {
+            if self.is_in_column(record_type, column, *access) {
+                list.push(*access)?;
             }
         }
         Ok(list)

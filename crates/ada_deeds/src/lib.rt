@@ -5,17 +5,20 @@
 //! `Deeds::implicit` gathers from it, for each type, what the operations may do that are called implicitly.
 #![tactic(auto)]
 
+mod begins;
 mod callees;
 mod callers;
+mod calls;
 mod deed;
 mod deeds;
-mod doers;
 mod evaluations;
 mod follows;
 mod found;
 mod implicit;
 pub mod laws;
 mod nodes;
+mod raisers;
+mod search;
 mod statements;
 mod walk;
 

@@ -11,6 +11,7 @@ ghost use Rattle.ada_program.specs.Kept.{types_in, variables_in};
 use crate::deed::{Callee, Deed};
 use crate::deeds::Deeds;
 use crate::found::Found;
+use crate::search::Search;
 use crate::walk::{find_in_declaration, find_in_ending, find_in_statement};
 use ada_program::Stmt;
 use ada_program::program::{Declaration, TypeDefinition, Variable};
@@ -19,9 +20,9 @@ use std::alloc::{AllocError, Global};
 /// Whether what is found does a deed: itself, or something that it calls.
 #[tactic(auto, unfolding(crate::specs::View::does_found))]
 fn is_done(deeds: &Deeds, deed: Deed, found: &Found) -> bool
-    ensures { result ≡ does_found found.now (does_in deeds.now deed) }
+    ensures { result ≡ does_found found.now deed (does_in deeds.now deed) }
 {
-    found.itself || some_does(deeds, deed, &found.callees)
+    found.does_itself(deed) || some_does(deeds, deed, &found.callees)
 }
 
 /// Whether one of these callees does a deed.
@@ -52,7 +53,7 @@ pub fn statement_does(
         (types_in types.now) (variables_in variables.now) (does_in deeds.now deed) deed (stmt_form statement.now)) }
 {
     let mut found = Found::nothing(alloc);
-    find_in_statement(types, variables, deed, statement, &mut found)?;
+    find_in_statement(types, variables, Search::of(deed), statement, &mut found)?;
     Ok(is_done(deeds, deed, &found))
 }
 
@@ -72,7 +73,7 @@ pub fn declaration_does(
         (types_in types.now) (variables_in variables.now) (does_in deeds.now deed) deed (declaration_form declaration.now)) }
 {
     let mut found = Found::nothing(alloc);
-    find_in_declaration(types, variables, deed, declaration, &mut found)?;
+    find_in_declaration(types, variables, Search::of(deed), declaration, &mut found)?;
     Ok(is_done(deeds, deed, &found))
 }
 

@@ -1,25 +1,27 @@
-//! What forms do and call, found in one walk.
+//! What forms do, of the deeds that are sought, and call, found in one walk.
 
 ghost use Rattle.std.specs.Prelude.{◌≡◌, ◌||◌, ◌&&◌, Bool, OnOk, map};
 ghost use Rattle.std.specs.List.{slice_get};
 ghost use Rattle.ada_deeds.specs.Forms as rules;
-ghost use Rattle.ada_deeds.specs.View.{does_found, Finds};
+ghost use Rattle.ada_deeds.specs.View.{does_found, sought, Calls, Finds};
 ghost use Rattle.ada_deeds.specs.declared.deed.Callee.{Callee};
-ghost use Rattle.ada_program.specs.Form.{StmtsForm, item_form, right_form, initial_items, declaration_form, stmt_form, stmts_form, branches_form, handlers_form};
+ghost use Rattle.ada_deeds.specs.declared.deed.Deed.{Deed};
+ghost use Rattle.ada_deeds.specs.declared.deed.Operation.TheVariants.{Finalize};
+ghost use Rattle.ada_program.specs.Form.{StmtsForm, item_form, path_form, right_form, initial_items, declaration_form, stmt_form, stmts_form, branches_form, handlers_form};
 ghost use Rattle.ada_program.specs.Kept.{types_in, variables_in};
 ghost use Rattle.ada_program.specs.WellFormed as fits;
 
-use crate::deed::{Callee, Deed, Operation};
+use crate::deed::{Callee, Operation};
 use crate::evaluations::{
-    actuals_do, allocation_does, condition_does, expression_does, freeing_does, is_left,
-    is_raising, path_does, record_path_does,
+    find_actuals, find_condition, find_expression, find_path, find_record_path, is_left,
 };
 use crate::found::Found;
-use ada_program::Stmt;
+use crate::search::Search;
 use ada_program::lookup::path_access;
 use ada_program::program::{
     Branch, Declaration, Exception, Handler, Item, Right, TypeDefinition, Variable,
 };
+use ada_program::{Path, Stmt};
 use std::alloc::AllocError;
 
 /// The type that an access type designates (3.10).
@@ -59,25 +61,19 @@ fn record_of(types: &[TypeDefinition], object: usize) -> Option<usize>
 fn find_in_item(
     types: &[TypeDefinition],
     variables: &[Variable],
-    deed: Deed,
+    search: Search,
     item: &Item,
     found: &mut Found,
 ) -> Result<(), AllocError>
-    ensures { Finds result found.old found.new (λ known. rules.item_does
-        (types_in types.now) (variables_in variables.now) known deed (item_form item.now)) }
+    ensures { Finds result search found.old found.new (λ d known. rules.item_does
+        (types_in types.now) (variables_in variables.now) known d (item_form item.now)) }
 {
     match item {
         Item::Null => Ok(()),
-        Item::Path(path) => {
-            found.note(path_does(types, variables, deed, path));
-            Ok(())
-        }
-        Item::Value(expression) => {
-            found.note(expression_does(types, variables, deed, expression));
-            Ok(())
-        }
+        Item::Path(path) => find_path(types, variables, search, path, found),
+        Item::Value(expression) => find_expression(types, variables, search, expression, found),
         Item::Record(path) => {
-            found.note(record_path_does(types, variables, deed, path));
+            find_record_path(types, variables, search, path, found)?;
             found.call(Callee::Parts(Operation::Adjust, path.record))
         }
     }
@@ -87,15 +83,15 @@ fn find_in_item(
 fn find_in_items(
     types: &[TypeDefinition],
     variables: &[Variable],
-    deed: Deed,
+    search: Search,
     items: &[Item],
     found: &mut Found,
 ) -> Result<(), AllocError>
-    ensures { Finds result found.old found.new (λ known. rules.items_do
-        (types_in types.now) (variables_in variables.now) known deed (map item_form items.now)) }
+    ensures { Finds result search found.old found.new (λ d known. rules.items_do
+        (types_in types.now) (variables_in variables.now) known d (map item_form items.now)) }
 {
     'items: for item in items {
-        find_in_item(types, variables, deed, item, found)?;
+        find_in_item(types, variables, search, item, found)?;
     }
     Ok(())
 }
@@ -104,32 +100,26 @@ fn find_in_items(
 fn find_in_right(
     types: &[TypeDefinition],
     variables: &[Variable],
-    deed: Deed,
+    search: Search,
     right: &Right,
     found: &mut Found,
 ) -> Result<(), AllocError>
-    ensures { Finds result found.old found.new (λ known. rules.right_does
-        (types_in types.now) (variables_in variables.now) known deed (right_form right.now)) }
+    ensures { Finds result search found.old found.new (λ d known. rules.right_does
+        (types_in types.now) (variables_in variables.now) known d (right_form right.now)) }
 {
     match right {
         Right::Null => Ok(()),
-        Right::Path(path) => {
-            found.note(path_does(types, variables, deed, path));
-            Ok(())
-        }
+        Right::Path(path) => find_path(types, variables, search, path, found),
         Right::Allocator { access, items } => {
-            found.note(allocation_does(deed));
-            find_in_items(types, variables, deed, items, found)?;
+            found.allocate(search);
+            find_in_items(types, variables, search, items, found)?;
             found.create(designated_type(types, access.0))
         }
         Right::Default(access) => {
-            found.note(allocation_does(deed));
+            found.allocate(search);
             found.create(designated_type(types, access.0))
         }
-        Right::Value(expression) => {
-            found.note(expression_does(types, variables, deed, expression));
-            Ok(())
-        }
+        Right::Value(expression) => find_expression(types, variables, search, expression, found),
     }
 }
 
@@ -137,17 +127,17 @@ fn find_in_right(
 fn find_in_initial(
     types: &[TypeDefinition],
     variables: &[Variable],
-    deed: Deed,
+    search: Search,
     record_type: Option<usize>,
     initial: &Option<Vec<Item>>,
     found: &mut Found,
 ) -> Result<(), AllocError>
-    ensures { Finds result found.old found.new (λ known. rules.initial_does
-        (types_in types.now) (variables_in variables.now) known deed record_type (initial_items initial.now)) }
+    ensures { Finds result search found.old found.new (λ d known. rules.initial_does
+        (types_in types.now) (variables_in variables.now) known d record_type (initial_items initial.now)) }
 {
     match initial {
         None => found.create(record_type),
-        Some(items) => find_in_items(types, variables, deed, items, found),
+        Some(items) => find_in_items(types, variables, search, items, found),
     }
 }
 
@@ -155,12 +145,12 @@ fn find_in_initial(
 pub(crate) fn find_in_declaration(
     types: &[TypeDefinition],
     variables: &[Variable],
-    deed: Deed,
+    search: Search,
     declaration: &Declaration,
     found: &mut Found,
 ) -> Result<(), AllocError>
-    ensures { Finds result found.old found.new (λ known. rules.declaration_does
-        (types_in types.now) (variables_in variables.now) known deed (declaration_form declaration.now)) }
+    ensures { Finds result search found.old found.new (λ d known. rules.declaration_does
+        (types_in types.now) (variables_in variables.now) known d (declaration_form declaration.now)) }
 {
     match declaration {
         Declaration::Pool(_)
@@ -172,7 +162,7 @@ pub(crate) fn find_in_declaration(
         Declaration::Variable {
             variable: _,
             initial: Some(right),
-        } => find_in_right(types, variables, deed, right, found),
+        } => find_in_right(types, variables, search, right, found),
         Declaration::Record {
             variable: _,
             object,
@@ -180,7 +170,7 @@ pub(crate) fn find_in_declaration(
         } => find_in_initial(
             types,
             variables,
-            deed,
+            search,
             record_of(types, object.0),
             initial,
             found,
@@ -192,15 +182,15 @@ pub(crate) fn find_in_declaration(
 pub(crate) fn find_in_declarations(
     types: &[TypeDefinition],
     variables: &[Variable],
-    deed: Deed,
+    search: Search,
     declarations: &[Declaration],
     found: &mut Found,
 ) -> Result<(), AllocError>
-    ensures { Finds result found.old found.new (λ known. rules.declarations_do
-        (types_in types.now) (variables_in variables.now) known deed (map declaration_form declarations.now)) }
+    ensures { Finds result search found.old found.new (λ d known. rules.declarations_do
+        (types_in types.now) (variables_in variables.now) known d (map declaration_form declarations.now)) }
 {
     'declarations: for declaration in declarations {
-        find_in_declaration(types, variables, deed, declaration, found)?;
+        find_in_declaration(types, variables, search, declaration, found)?;
     }
     Ok(())
 }
@@ -211,7 +201,7 @@ pub(crate) fn find_in_ending(
     declaration: &Declaration,
     found: &mut Found,
 ) -> Result<(), AllocError>
-    ensures { Finds result found.old found.new (λ known. rules.ending_does
+    ensures { Calls result found.old found.new (λ known. rules.ending_does
         (types_in types.now) known (declaration_form declaration.now)) }
 {
     match declaration {
@@ -237,7 +227,7 @@ pub(crate) fn find_in_leaving(
     declarations: &[Declaration],
     found: &mut Found,
 ) -> Result<(), AllocError>
-    ensures { Finds result found.old found.new (λ known. rules.leaving_does
+    ensures { Calls result found.old found.new (λ known. rules.leaving_does
         (types_in types.now) known (map declaration_form declarations.now)) }
 {
     'declarations: for declaration in declarations {
@@ -246,59 +236,70 @@ pub(crate) fn find_in_leaving(
     Ok(())
 }
 
+/// A Free does: it frees an object, which is finalized (13.11.2).
+fn find_freeing(
+    types: &[TypeDefinition],
+    variables: &[Variable],
+    search: Search,
+    path: &Path,
+    found: &mut Found,
+) -> Result<(), AllocError>
+    ensures { Finds result search found.old found.new (λ d known.
+        rules.path_does (types_in types.now) (variables_in variables.now) d (path_form path.now)
+        || rules.freeing_does d (fits.path_access (types_in types.now) (variables_in variables.now) (path_form path.now))
+        || rules.parts_do known Finalize (rules.designated_by (types_in types.now)
+        (fits.path_access (types_in types.now) (variables_in variables.now) (path_form path.now)))) }
+{
+    let access = path_access(types, variables, path);
+    find_path(types, variables, search, path, found)?;
+    found.free(search, access)?;
+    found.call_parts(Operation::Finalize, designated_by(types, access))
+}
+
 /// A statement does.
 #[cycle(walking)]
 #[tactic(auto, using(std::proofs::lemmas::Grind::common_steps, ada_program::specs::Form::statement_rules))]
 pub(crate) fn find_in_statement(
     types: &[TypeDefinition],
     variables: &[Variable],
-    deed: Deed,
+    search: Search,
     statement: &Stmt,
     found: &mut Found,
 ) -> Result<(), AllocError>
-    ensures { Finds result found.old found.new (λ known. rules.stmt_does
-        (types_in types.now) (variables_in variables.now) known deed (stmt_form statement.now)) }
+    ensures { Finds result search found.old found.new (λ d known. rules.stmt_does
+        (types_in types.now) (variables_in variables.now) known d (stmt_form statement.now)) }
 {
     match statement {
         Stmt::Null | Stmt::PutText(_) | Stmt::Return(_) => Ok(()),
         Stmt::Assign { target, value } => {
-            found.note(path_does(types, variables, deed, target));
-            find_in_right(types, variables, deed, value, found)
+            find_path(types, variables, search, target, found)?;
+            find_in_right(types, variables, search, value, found)
         }
         Stmt::AssignRecord { target, items } => {
-            found.note(record_path_does(types, variables, deed, target));
-            find_in_items(types, variables, deed, items, found)?;
+            find_record_path(types, variables, search, target, found)?;
+            find_in_items(types, variables, search, items, found)?;
             found.assign(target.record)
         }
-        Stmt::Free { access: _, path } => {
-            let access = path_access(types, variables, path);
-            found.note(path_does(types, variables, deed, path));
-            found.note(freeing_does(deed, access));
-            found.call_parts(Operation::Finalize, designated_by(types, access))
-        }
+        Stmt::Free { access: _, path } => find_freeing(types, variables, search, path, found),
         Stmt::Get(target) => {
-            found.note(is_raising(Exception::EndError, deed));
-            found.note(path_does(types, variables, deed, target));
-            Ok(())
+            found.raise(search, Exception::EndError);
+            find_path(types, variables, search, target, found)
         }
-        Stmt::PutImage(expression) => {
-            found.note(expression_does(types, variables, deed, expression));
-            Ok(())
-        }
+        Stmt::PutImage(expression) => find_expression(types, variables, search, expression, found),
         Stmt::If {
             branches,
             otherwise,
         } => {
-            find_in_branches(types, variables, deed, branches, found)?;
-            find_in_statements(types, variables, deed, otherwise, found)
+            find_in_branches(types, variables, search, branches, found)?;
+            find_in_statements(types, variables, search, otherwise, found)
         }
         Stmt::Loop {
             condition,
             statements,
             end: _,
         } => {
-            found.note(condition_does(types, variables, deed, condition));
-            find_in_statements(types, variables, deed, statements, found)
+            find_condition(types, variables, search, condition, found)?;
+            find_in_statements(types, variables, search, statements, found)
         }
         Stmt::For {
             parameter: _,
@@ -307,20 +308,19 @@ pub(crate) fn find_in_statement(
             statements,
             end: _,
         } => {
-            found.note(expression_does(types, variables, deed, first));
-            found.note(expression_does(types, variables, deed, last));
-            find_in_statements(types, variables, deed, statements, found)
+            find_expression(types, variables, search, first, found)?;
+            find_expression(types, variables, search, last, found)?;
+            find_in_statements(types, variables, search, statements, found)
         }
         Stmt::Exit { condition, spot: _ } => {
-            found.note(condition_does(types, variables, deed, condition));
-            Ok(())
+            find_condition(types, variables, search, condition, found)
         }
         Stmt::Call { procedure, actuals } => {
-            found.note(actuals_do(types, variables, deed, actuals));
+            find_actuals(types, variables, search, actuals, found)?;
             found.call_procedure(*procedure)
         }
         Stmt::Raise(exception) => {
-            found.note(is_raising(*exception, deed));
+            found.raise(search, *exception);
             Ok(())
         }
         Stmt::Block {
@@ -328,9 +328,9 @@ pub(crate) fn find_in_statement(
             statements,
             handlers,
         } => {
-            find_in_declarations(types, variables, deed, declarations, found)?;
-            find_handled(types, variables, deed, statements, handlers, found)?;
-            find_in_handlers(types, variables, deed, handlers, found)?;
+            find_in_declarations(types, variables, search, declarations, found)?;
+            find_handled(types, variables, search, statements, handlers, found)?;
+            find_in_handlers(types, variables, search, handlers, found)?;
             find_in_leaving(types, declarations, found)
         }
     }
@@ -341,15 +341,15 @@ pub(crate) fn find_in_statement(
 fn find_in_statements(
     types: &[TypeDefinition],
     variables: &[Variable],
-    deed: Deed,
+    search: Search,
     statements: &[Stmt],
     found: &mut Found,
 ) -> Result<(), AllocError>
-    ensures { Finds result found.old found.new (λ known. rules.stmts_do
-        (types_in types.now) (variables_in variables.now) known deed (stmts_form statements.now)) }
+    ensures { Finds result search found.old found.new (λ d known. rules.stmts_do
+        (types_in types.now) (variables_in variables.now) known d (stmts_form statements.now)) }
 {
     'statements: for statement in statements {
-        find_in_statement(types, variables, deed, statement, found)?;
+        find_in_statement(types, variables, search, statement, found)?;
     }
     Ok(())
 }
@@ -359,17 +359,19 @@ fn find_in_statements(
 fn find_in_branches(
     types: &[TypeDefinition],
     variables: &[Variable],
-    deed: Deed,
+    search: Search,
     branches: &[Branch],
     found: &mut Found,
 ) -> Result<(), AllocError>
-    ensures { OnOk result ((others : StmtsForm) (known : Callee → Bool) →
-        (does_found found.old known || rules.branches_do (types_in types.now) (variables_in variables.now) known deed (branches_form branches.now others))
-        ≡ (does_found found.new known || rules.stmts_do (types_in types.now) (variables_in variables.now) known deed others)) }
+    ensures { OnOk result ((others : StmtsForm) (d : Deed) (known : Callee → Bool) →
+        (does_found found.old (sought search d) known || rules.branches_do
+        (types_in types.now) (variables_in variables.now) known (sought search d) (branches_form branches.now others))
+        ≡ (does_found found.new (sought search d) known || rules.stmts_do
+        (types_in types.now) (variables_in variables.now) known (sought search d) others)) }
 {
     'branches: for branch in branches {
-        found.note(expression_does(types, variables, deed, &branch.condition));
-        find_in_statements(types, variables, deed, &branch.statements, found)?;
+        find_expression(types, variables, search, &branch.condition, found)?;
+        find_in_statements(types, variables, search, &branch.statements, found)?;
     }
     Ok(())
 }
@@ -379,35 +381,35 @@ fn find_in_branches(
 pub(crate) fn find_in_handlers(
     types: &[TypeDefinition],
     variables: &[Variable],
-    deed: Deed,
+    search: Search,
     handlers: &[Handler],
     found: &mut Found,
 ) -> Result<(), AllocError>
-    ensures { Finds result found.old found.new (λ known. rules.handlers_do
-        (types_in types.now) (variables_in variables.now) known deed (handlers_form handlers.now)) }
+    ensures { Finds result search found.old found.new (λ d known. rules.handlers_do
+        (types_in types.now) (variables_in variables.now) known d (handlers_form handlers.now)) }
 {
     'handlers: for handler in handlers {
-        find_in_statements(types, variables, deed, &handler.statements, found)?;
+        find_in_statements(types, variables, search, &handler.statements, found)?;
     }
     Ok(())
 }
 
-/// Statements with handlers do: nothing is found in them, if the deed is an exception that a handler takes.
+/// Statements with handlers do: nothing is found in them, if an exception is sought that a handler takes.
 #[cycle(walking)]
 pub(crate) fn find_handled(
     types: &[TypeDefinition],
     variables: &[Variable],
-    deed: Deed,
+    search: Search,
     statements: &[Stmt],
     handlers: &[Handler],
     found: &mut Found,
 ) -> Result<(), AllocError>
-    ensures { Finds result found.old found.new (λ known.
-        rules.is_left (handlers_form handlers.now) deed
-        && rules.stmts_do (types_in types.now) (variables_in variables.now) known deed (stmts_form statements.now)) }
+    ensures { Finds result search found.old found.new (λ d known.
+        rules.is_left (handlers_form handlers.now) d
+        && rules.stmts_do (types_in types.now) (variables_in variables.now) known d (stmts_form statements.now)) }
 {
-    if !is_left(handlers, deed) {
+    if !is_left(handlers, search) {
         return Ok(());
     }
-    find_in_statements(types, variables, deed, statements, found)
+    find_in_statements(types, variables, search, statements, found)
 }

@@ -8,7 +8,11 @@ pub mod Using
 pub mod Checking
 -- what quiet bodies do
 pub mod Silence
+-- what implicit calls may do
+pub mod Parts
 -- the laws
 pub mod Proved
 -- the examples
 pub mod Shown
+-- the example of a part within a part
+pub mod Nested

@@ -1,12 +1,21 @@
--- Laws of the rules on operations.
+-- Laws of the rules on operations, and of what implicit calls may do.
 
-use Rattle.std.specs.Prelude.{◌≡◌, true, Option, None}
+use Rattle.std.specs.Prelude.{◌≡◌, ◌↔◌, ◌⊎◌, ℕ, true, List, Option, Some, None}
+use Rattle.std.specs.List.{Contains, slice_get}
+use Rattle.ada_deeds.specs.Does.{Does}
 use Rattle.ada_deeds.specs.Implicit.{implicit_of}
+use Rattle.ada_deeds.specs.declared.deed.Callee.TheVariants as callee
+use Rattle.ada_deeds.specs.declared.deed.Deed.{Deed}
+use Rattle.ada_deeds.specs.declared.deed.Deed.TheVariants.{Raises, Frees, Follows}
+use Rattle.ada_deeds.specs.declared.deed.Operation.{Operation}
+use Rattle.ada_deeds.specs.declared.deed.Operation.TheVariants.{Initialize, Adjust, Finalize}
 use Rattle.ada_effects.specs.Effects.{no_implicit}
-use Rattle.ada_operations.specs.Operations.{IsFirstFault}
+use Rattle.ada_operations.specs.Operations.{Overrides, HasPart, IsFirstFault}
 use Rattle.ada_operations.specs.declared.rule.OperationRule.{OperationRule}
-use Rattle.ada_program.specs.ProgramForm.{ProgramForm}
-use Rattle.ada_program.specs.WellFormed.{IsWellFormed}
+use Rattle.ada_program.specs.declared.program.Exception.{Exception}
+use Rattle.ada_program.specs.declared.program.ProcedureNo.{ProcedureNo}
+use Rattle.ada_program.specs.ProgramForm.{TypeForm, ProgramForm}
+use Rattle.ada_program.specs.WellFormed.{IsWellFormed, designated_type, is_record, object_in}
 use Rattle.ada_quiet.specs.Quiet.{operations_are_quiet}
 use Rattle.ada_text.specs.declared.spot.Spot.{Spot}
 
@@ -21,3 +30,45 @@ QuietOperationsObey = (p : ProgramForm) → IsWellFormed p → operations_are_qu
 -- And implicit calls raise, free and follow nothing.
 abbrev pub QuietOperationsDoNothing : Type 0
 QuietOperationsDoNothing = (p : ProgramForm) → IsWellFormed p → operations_are_quiet p ≡ true → implicit_of p ≡ no_implicit
+
+-- What implicit calls may do.
+
+-- The record type of the objects of a type: the type itself (3.8), the one that an access type designates (3.10), or that of the one record object that is
+-- known by the type (3.3.1).
+abbrev pub HasObjectsOf : List TypeForm → (type_number whole : ℕ) → Type 0
+HasObjectsOf types u whole =
+    ((u ≡ whole) × (is_record types u ≡ true)) ⊎ (designated_type types u ≡ Some whole) ⊎ (object_in (slice_get types u) ≡ Some whole)
+
+-- An operation does a deed for some part of the objects of a record type, at any depth: the procedure does that overrides it for the type of the part (7.6).
+abbrev pub SomePartDoes : ProgramForm → Operation → Deed → (whole : ℕ) → Type 0
+SomePartDoes p operation d whole =
+    (r : ℕ) × (procedure : ProcedureNo) × HasPart p.types r whole × Overrides p procedure operation r × Does p d (callee.Procedure procedure)
+
+-- It does for some part of the objects of the type of a number.
+abbrev pub OperationDoes : ProgramForm → Operation → Deed → (type_number : ℕ) → Type 0
+OperationDoes p operation d u = (whole : ℕ) × HasObjectsOf p.types u whole × SomePartDoes p operation d whole
+
+-- Where an object is created without an initial value, Initialize does, or Finalize, which is called where an Initialize raises an exception (7.6).
+abbrev pub CreationDoes : ProgramForm → Deed → (type_number : ℕ) → Type 0
+CreationDoes p d u = OperationDoes p Initialize d u ⊎ OperationDoes p Finalize d u
+
+-- What is known to come out where an object is created without an initial value is what the operations raise that are called there.
+abbrev pub StartsRaiseWhatPartsRaise : Type 0
+StartsRaiseWhatPartsRaise = (p : ProgramForm) (u : ℕ) (e : Exception) → Contains ((implicit_of p).start_raises u) e ↔ CreationDoes p (Raises e) u
+
+-- What is known to be freed there is what they free.
+abbrev pub StartsFreeWhatPartsFree : Type 0
+StartsFreeWhatPartsFree = (p : ProgramForm) (u t : ℕ) → ((implicit_of p).start_frees u t ≡ true) ↔ CreationDoes p (Frees (record { 0 = t })) u
+
+-- What is known to be freed where an object is copied is what Adjust frees.
+abbrev pub AdjustsFreeWhatPartsFree : Type 0
+AdjustsFreeWhatPartsFree = (p : ProgramForm) (u t : ℕ) → ((implicit_of p).adjust_frees u t ≡ true) ↔ OperationDoes p Adjust (Frees (record { 0 = t })) u
+
+-- What is known to be freed where an object ends is what Finalize frees.
+abbrev pub EndsFreeWhatPartsFree : Type 0
+EndsFreeWhatPartsFree = (p : ProgramForm) (u t : ℕ) → ((implicit_of p).end_frees u t ≡ true) ↔ OperationDoes p Finalize (Frees (record { 0 = t })) u
+
+-- What is known to be reached there is what Finalize frees or follows.
+abbrev pub EndsReachWhatPartsUse : Type 0
+EndsReachWhatPartsUse = (p : ProgramForm) (u t : ℕ) →
+    ((implicit_of p).end_reaches u t ≡ true) ↔ (OperationDoes p Finalize (Frees (record { 0 = t })) u ⊎ OperationDoes p Finalize (Follows (record { 0 = t })) u)

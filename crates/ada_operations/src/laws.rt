@@ -1,7 +1,10 @@
-//! Laws of the rules on operations, by the definitions alone. Each is a function that does nothing, and whose contract is the theorem.
+//! Laws of the rules on operations, and of what implicit calls may do, by the definitions alone. Each is a
+//! function that does nothing, and whose contract is the theorem.
 
-ghost use Rattle.ada_operations.specs.Example.{AllAreBroken, NoneIsBroken};
+ghost use Rattle.ada_operations.specs.Example.{AllAreBroken, NoneIsBroken, PartsOfPartsCount};
 ghost use Rattle.ada_operations.specs.Laws.{OneIsFirst, QuietOperationsDoNothing, QuietOperationsObey};
+ghost use Rattle.ada_operations.specs.Laws.{AdjustsFreeWhatPartsFree, EndsFreeWhatPartsFree, EndsReachWhatPartsUse};
+ghost use Rattle.ada_operations.specs.Laws.{StartsFreeWhatPartsFree, StartsRaiseWhatPartsRaise};
 
 /// A program has its first fault, or none: not two of these.
 pub fn one_is_first()
@@ -22,4 +25,19 @@ pub fn quiet_operations_do_nothing()
 pub fn neither_all_nor_none()
     ensures all { AllAreBroken }
     ensures none { NoneIsBroken }
+{}
+
+/// Implicit calls may do what the procedures do that override the operations of parts, at any depth, and nothing else. What is
+/// no type has no objects, so for it they do nothing.
+pub fn implicit_calls_are_those_of_all_parts()
+    ensures start_raises { StartsRaiseWhatPartsRaise }
+    ensures start_frees { StartsFreeWhatPartsFree }
+    ensures adjust_frees { AdjustsFreeWhatPartsFree }
+    ensures end_frees { EndsFreeWhatPartsFree }
+    ensures end_reaches { EndsReachWhatPartsUse }
+{}
+
+/// That is not empty: the operations of a part that lies within a part count, each for itself.
+pub fn parts_of_parts_count()
+    ensures { PartsOfPartsCount }
 {}

@@ -8,6 +8,7 @@ use Rattle.ada_deeds.specs.Rows.{does_in}
 use Rattle.ada_deeds.specs.Table.{IsStart}
 use Rattle.ada_deeds.proofs.Table.{rows_more, start_here, starts_all}
 use Rattle.ada_effects.specs.declared.effect.Effect.{Effect}
+use Rattle.ada_effects.specs.Found.{has_number}
 use Rattle.ada_program.specs.declared.program.TypeDefinition.{TypeDefinition}
 use Rattle.ada_program.specs.Kept.{types_in}
 use Rattle.ada_deeds.proofs.deeds.Deeds.start_rows.Goals as goal
@@ -16,30 +17,26 @@ use Rattle.ada_deeds.proofs.deeds.Deeds.start_rows.Goals as goal
 pub numbers-preserved : goal.numbers-preserved
 numbers-preserved c =
     let does = does_in c.args.self.now in
-    let exceptions = c.args.program.now.exceptions.items in
     let types = c.args.program.now.types.items in
     let i = c.numbers.invariant in
     let n = c.numbers.number in
     let rows = c.numbers.rows.items in
     let row = c.in_ok-row.row in
     let pushed = c.in_ok-push.ensures.items in
-    let P : ℕ → Option Effect → Type 0 = λ u x. IsStart (length exceptions) (length types) does (record_at (types_in types) u) x in
-    let same_exceptions : c.len-exceptions.result ≡ length exceptions = grind (arith, common_steps) in
-    let same_types : c.len-types.result ≡ length types = grind (arith, common_steps) in
+    let P : ℕ → Option Effect → Type 0 = λ u x. IsStart c.args.raised.now (has_number c.args.used.now) does (record_at (types_in types) u) x in
     let same_record : c.record_at-record_type.result ≡ record_at (types_in types) n =
     c.record_at-record_type.ensures ∙ ap (λ (ts : List TypeDefinition). record_at (types_in ts) n) c.deref.ensures.value in
     record {
       size = let l = ap length pushed in let m = length_push rows row in let s = i.size in omega (arith, l, m, s);
       rows = λ u lt. subst (λ (xs : List Effect). P u (slice_get xs u)) (sym pushed)
-          (rows_more P n rows row i.size i.rows (start_here row same_exceptions same_types same_record c.in_ok-row.ensures.raises c.in_ok-row.ensures.frees) u lt);
+          (rows_more P n rows row i.size i.rows (start_here row same_record c.in_ok-row.ensures.raises c.in_ok-row.ensures.frees) u lt);
     }
 
 -- at last all have
 pub returns : goal.returns
 returns c =
-    let exceptions = c.args.program.now.exceptions.items in
     let types = c.args.program.now.types.items in
     let i = c.numbers.invariant in
     let le = c.numbers-test.false in
     let same_types : c.len-types.result ≡ length types = grind (arith, common_steps) in
-    starts_all (length exceptions) (does_in c.args.self.now) types c.numbers.number c.numbers.rows.items i.size (omega (arith, le, same_types)) i.rows
+    starts_all c.args.raised.now (has_number c.args.used.now) (does_in c.args.self.now) types c.numbers.number c.numbers.rows.items i.size (omega (arith, le, same_types)) i.rows

@@ -1,0 +1,8 @@
+use Rattle.std.proofs.Common.{◌≡◌, ℕ}
+use Rattle.ada_deeds.specs.Table.{is_used_among}
+use Rattle.ada_effects.specs.Found.{has_number}
+use Rattle.ada_deeds.proofs.deeds.Deeds.used.Given as goal
+
+-- those of the numbers so far are in the list
+abbrev pub invariant-numbers : goal.invariant-numbers
+invariant-numbers l = (t : ℕ) → has_number l.list.items t ≡ is_used_among l.number l.self t
