@@ -65,6 +65,7 @@ pub record Agrees (k : Known) (place : Place) : Type 0 where
   pub limited : (t : ℕ) → is_one_of t place.limited ≡ is_among t k.limited
   pub specified : (o : Operation) (t : ℕ) → formal_among o t place.specified ≡ formal_specified t (specified_for o k.here.specified)
   pub overridden : (o : Operation) (t : ℕ) → overrider o k.types t ≡ procedure_among o t place.overridden
+  pub kept : place.keeps_operand ≡ k.here.keeps_operand
 
 -- the tables of what is known are beginnings of those of the program, but that types may get pools
 pub record Ahead (k : Known) (p : Context) : Type 0 where
@@ -244,6 +245,39 @@ parameter_visible k p w text x is =
     let n = parameter_named (named_in text (parts k)) (meaning_at p.place text) x (stands_among k p.place w text) is in
     (n.0, n.1, ap (λ (o : Option Entity). inner_first o (bytes_eq text k.procedure) (outermost k.withs text)) n.2)
 
+-- what is bound to a variable stands for it
+variable_is : (e : Entity) (x : ℕ) → bound_to e ≡ Some (a_variable x) → (n : VariableNo) × (kind : VariableKind) × (e ≡ entity.Variable n kind) × (n.0 ≡ x)
+variable_is (entity.Variable n kind) x same = (n, kind, refl, cc same)
+variable_is (entity.Parameter n kind) x same = absurd (cc same)
+variable_is (entity.Callable n) x same = absurd (cc same)
+variable_is (entity.Outer kind role) x same = absurd (cc same)
+variable_is (entity.Incomplete t) x same = absurd (cc same)
+variable_is (entity.Record t size) x same = absurd (cc same)
+variable_is (entity.Access t) x same = absurd (cc same)
+variable_is (entity.Number n) x same = absurd (cc same)
+variable_is (entity.Exception (exception.Declared n)) x same = absurd (cc same)
+variable_is (entity.Exception exception.ConstraintError) x same = absurd (cc same)
+variable_is (entity.Exception exception.ProgramError) x same = absurd (cc same)
+variable_is (entity.Exception exception.StorageError) x same = absurd (cc same)
+variable_is (entity.Exception exception.EndError) x same = absurd (cc same)
+variable_is (entity.Pool n) x same = absurd (cc same)
+variable_is (entity.Instance t) x same = absurd (cc same)
+variable_is entity.Integer x same = absurd (cc same)
+variable_is entity.Boolean x same = absurd (cc same)
+variable_is (entity.Truth b) x same = absurd (cc same)
+variable_is entity.Procedure x same = absurd (cc same)
+variable_is entity.LibraryUnit x same = absurd (cc same)
+
+variable_named : (o : Option Entity) (m : Option Meaning) (x : ℕ) → Stands o m → m ≡ Some (a_variable x) → (n : VariableNo) × (kind : VariableKind) × (o ≡ Some (entity.Variable n kind)) × (n.0 ≡ x)
+variable_named None m x s is = let no : None ≡ Some (a_variable x) = sym s ∙ is in absurd (cc no)
+variable_named (Some e) m x s is = let n = variable_is e x (s.1 ∙ (sym s.2 ∙ is)) in (n.0, n.1, ap (λ (v : Entity). Some v) n.2, n.3)
+
+pub variable_visible : (k : Known) (p : Context) → Agrees k p.place → (text : List ℕ) (x : ℕ) → IsBound p text (a_variable x) → (n : VariableNo) × (kind : VariableKind) × (visible k text ≡ Some (entity.Variable n kind)) × (n.0 ≡ x)
+unfolding visible
+variable_visible k p w text x is =
+    let n = variable_named (named_in text (parts k)) (meaning_at p.place text) x (stands_among k p.place w text) is in
+    (n.0, n.1, ap (λ (o : Option Entity). inner_first o (bytes_eq text k.procedure) (outermost k.withs text)) n.2, n.3)
+
 -- one more name
 pub stands_more : (b : Bool) (e : Entity) (meaning : Meaning) (o : Option Entity) (m : Option Meaning) → bound_to e ≡ Some meaning → Stands o m → Stands (cond b (Some e) o) (cond b (Some meaning) m)
 stands_more true e meaning o m own old = (meaning, own, refl)
@@ -260,8 +294,8 @@ outer_same k m place around outer w text =
     (subst (λ (ps : List Part). Stands (from_part k.here.around (named_in text ps)) (meaning_among text place.outer)) (sym outer) (w.outer text))
 
 -- what a part elaborates is no name
-pub agrees_same : (k m : Known) (place : Place) → m.here.names ≡ k.here.names → m.here.first_type ≡ k.here.first_type → m.here.around ≡ k.here.around → m.outer ≡ k.outer → length m.types ≡ length k.types → length m.bodies ≡ length k.bodies → length m.variables ≡ length k.variables → length m.exceptions ≡ length k.exceptions → length m.texts ≡ length k.texts → length m.pools ≡ length k.pools → ((t : ℕ) → pool_of m.types t ≡ pool_of k.types t) → m.controlled ≡ k.controlled → m.limited ≡ k.limited → m.here.specified ≡ k.here.specified → ((o : Operation) (t : ℕ) → overrider o m.types t ≡ overrider o k.types t) → Agrees k place → Agrees m place
-agrees_same k m place names first around outer types bodies variables exceptions texts pools placed controlled limited specified overridden w = record {
+pub agrees_same : (k m : Known) (place : Place) → m.here.names ≡ k.here.names → m.here.first_type ≡ k.here.first_type → m.here.keeps_operand ≡ k.here.keeps_operand → m.here.around ≡ k.here.around → m.outer ≡ k.outer → length m.types ≡ length k.types → length m.bodies ≡ length k.bodies → length m.variables ≡ length k.variables → length m.exceptions ≡ length k.exceptions → length m.texts ≡ length k.texts → length m.pools ≡ length k.pools → ((t : ℕ) → pool_of m.types t ≡ pool_of k.types t) → m.controlled ≡ k.controlled → m.limited ≡ k.limited → m.here.specified ≡ k.here.specified → ((o : Operation) (t : ℕ) → overrider o m.types t ≡ overrider o k.types t) → Agrees k place → Agrees m place
+agrees_same k m place names first kept around outer types bodies variables exceptions texts pools placed controlled limited specified overridden w = record {
   here = λ text. subst (λ (ns : List Named). Stands (named text ns) (meaning_among text place.here)) (sym names) (w.here text);
   outer = λ text. outer_same k m place around outer w text;
   bodies = w.bodies ∙ sym bodies;
@@ -276,6 +310,7 @@ agrees_same k m place names first around outer types bodies variables exceptions
   limited = λ t. w.limited t ∙ ap (λ (ts : List ℕ). is_among t ts) (sym limited);
   specified = λ o t. w.specified o t ∙ ap (λ (ss : Specifications). formal_specified t (specified_for o ss)) (sym specified);
   overridden = λ o t. overridden o t ∙ w.overridden o t;
+  kept = w.kept ∙ sym kept;
 }
 
 -- nothing is specified at first
@@ -301,6 +336,7 @@ agrees_inside k place w = record {
   limited = w.limited;
   specified = none_specified;
   overridden = w.overridden;
+  kept = w.kept;
 }
 
 -- the part of a loop parameter
@@ -320,11 +356,12 @@ agrees_parameter k place name w = record {
   limited = w.limited;
   specified = none_specified;
   overridden = w.overridden;
+  kept = w.kept;
 }
 
 -- an inner part ends
-pub agrees_behind : (k m z : Known) (place end : Place) → z.here.names ≡ k.here.names → z.here.first_type ≡ k.here.first_type → z.here.around ≡ k.here.around → z.outer ≡ k.outer → length z.types ≡ length m.types → length z.bodies ≡ length m.bodies → length z.variables ≡ length m.variables → length z.exceptions ≡ length m.exceptions → length z.texts ≡ length m.texts → length z.pools ≡ length m.pools → ((t : ℕ) → pool_of z.types t ≡ pool_of m.types t) → z.controlled ≡ m.controlled → z.limited ≡ m.limited → z.here.specified ≡ k.here.specified → ((o : Operation) (t : ℕ) → overrider o z.types t ≡ overrider o m.types t) → Agrees k place → Agrees m end → Agrees z (behind place end)
-agrees_behind k m z place end names first around outer types bodies variables exceptions texts pools placed controlled limited specified overridden w v = record {
+pub agrees_behind : (k m z : Known) (place end : Place) → z.here.names ≡ k.here.names → z.here.first_type ≡ k.here.first_type → z.here.keeps_operand ≡ k.here.keeps_operand → z.here.around ≡ k.here.around → z.outer ≡ k.outer → length z.types ≡ length m.types → length z.bodies ≡ length m.bodies → length z.variables ≡ length m.variables → length z.exceptions ≡ length m.exceptions → length z.texts ≡ length m.texts → length z.pools ≡ length m.pools → ((t : ℕ) → pool_of z.types t ≡ pool_of m.types t) → z.controlled ≡ m.controlled → z.limited ≡ m.limited → z.here.specified ≡ k.here.specified → ((o : Operation) (t : ℕ) → overrider o z.types t ≡ overrider o m.types t) → Agrees k place → Agrees m end → Agrees z (behind place end)
+agrees_behind k m z place end names first kept around outer types bodies variables exceptions texts pools placed controlled limited specified overridden w v = record {
   here = λ text. subst (λ (ns : List Named). Stands (named text ns) (meaning_among text place.here)) (sym names) (w.here text);
   outer = λ text. outer_same k z place around outer w text;
   bodies = v.bodies ∙ sym bodies;
@@ -339,4 +376,5 @@ agrees_behind k m z place end names first around outer types bodies variables ex
   limited = λ t. v.limited t ∙ ap (λ (ts : List ℕ). is_among t ts) (sym limited);
   specified = λ o t. w.specified o t ∙ ap (λ (ss : Specifications). formal_specified t (specified_for o ss)) (sym specified);
   overridden = λ o t. overridden o t ∙ v.overridden o t;
+  kept = w.kept ∙ sym kept;
 }

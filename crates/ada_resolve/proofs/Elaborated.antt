@@ -106,7 +106,7 @@ unfolding after_types
 after_agrees k place w = by_end (types_go_on k)
   where
     by_end : (b : Bool) → Agrees (ends_types b k) place
-    by_end true = agrees_same k (ends_types true k) place refl refl refl refl refl refl refl refl refl refl (λ t. refl) refl refl refl (λ o t. refl) w
+    by_end true = agrees_same k (ends_types true k) place refl refl refl refl refl refl refl refl refl refl refl (λ t. refl) refl refl refl (λ o t. refl) w
     by_end false = w
 
 pub after_full : (k : Known) → types_go_on k ≡ false → after_types k ≡ k
@@ -150,6 +150,7 @@ agrees_declared k place name e meaning types variables exceptions frozen elabora
   limited = w.limited;
   specified = w.specified;
   overridden = λ o u. more o u ∙ w.overridden o u;
+  kept = w.kept;
 }
 
 one_longer : {X : Type 0} (xs : List X) (x : X) (n : ℕ) → n ≡ length xs → n + 1 ≡ length (xs ++ x ∷ [])
@@ -685,6 +686,7 @@ agrees_complete k final ls ts place limits w = record {
   limited = limits;
   specified = w.specified;
   overridden = w.overridden;
+  kept = w.kept;
 }
 
 -- an aspect names the pool of its type
@@ -1019,6 +1021,7 @@ pool_agrees k place name size w = record {
   limited = w.limited;
   specified = w.specified;
   overridden = w.overridden;
+  kept = w.kept;
 }
 
 collected_pool : (es : List DeclarationForm) (n u : ℕ) → is_collected u (es ++ creates_pool n ∷ []) ≡ is_collected u es
@@ -1070,6 +1073,7 @@ placed_agrees k place t pool is none w = record {
   limited = w.limited;
   specified = w.specified;
   overridden = λ o u. overrider_placed pool.0 k.types t.0 o u ∙ w.overridden o u;
+  kept = w.kept;
 }
 
 clause_named : (k m : Known) (p : Context) (spot : Spot) (name attribute pool_name : Ident) (t : TypeNo) → Sound k → Agrees k p.place → is_storage_pool attribute ≡ true → EntityFits k.types k.variables name.text (entity.Access t) → EntityRead p name.text (entity.Access t) → Quiet (clause_place_remark k (Some t) spot) → PoolRead k p pool_name → m ≡ placed_if (Some t) (pool_found k pool_name) k → ClauseDone k m p name attribute (named_size pool_name)

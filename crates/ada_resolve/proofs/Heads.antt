@@ -1,7 +1,7 @@
 -- The bodies of procedures are read as they are written: their heads, and what is bound behind them.
 
 use Rattle.std.proofs.Common.{◌≡◌, ◌∙◌, ℕ, ◌+◌, Bool, true, false, cond, List, [], ◌∷◌, ◌++◌, length, length-append, refl, sym, ap, subst}
-use Rattle.std.specs.Prelude.{Option, Some, None, bytes_eq, codes, map, option_map, is_some}
+use Rattle.std.specs.Prelude.{Option, Some, None, bytes_eq, codes, map, not, option_map, is_some}
 use Rattle.std.specs.List.{slice_get}
 use Rattle.std.proofs.lemmas.List.{append-nil, append_assoc}
 use Rattle.ada_text.specs.declared.spot.Spot.{Spot}
@@ -24,12 +24,12 @@ use Rattle.ada_resolve.specs.declared.scope.Entity.{Entity}
 use Rattle.ada_resolve.specs.declared.scope.Entity.TheVariants as entity
 use Rattle.ada_resolve.specs.declared.primitives.Operation.{Operation}
 use Rattle.ada_resolve.specs.declared.primitives.Operation.TheVariants.{Initialize, Adjust, Finalize}
-use Rattle.ada_resolve.specs.Primitives.{answered, declared_unless, formal_specified, operand_of, operation_named, overridden, overridden_if, overrider, specified_for}
+use Rattle.ada_resolve.specs.Primitives.{answered, declared_unless, formal_specified, operand_kept, operand_of, operation_named, overridden, overridden_if, overrider, specified_for}
 use Rattle.ada_resolve.specs.Known.{Known, Named, Specified, Specifications, declared, entered, first_named, from_within, named, named_in, next_procedure, parts, visible}
-use Rattle.ada_resolve.specs.Procedures.{Formals, no_formals, formal_type, formal_types, formal_kind, known_by, formal_mode, formal_entity, formal_type_wanted, formal_remark, formals_remark, mode_remark, with_formal, with_formals, overriding_remark, overriding_unless, body_head_remark, closed, head_name_remark, head_operand, operand_wanted, with_body, behind_head, body_of, body_ended}
+use Rattle.ada_resolve.specs.Procedures.{Formals, keeps_its_operand, no_formals, formal_type, formal_types, formal_kind, known_by, formal_mode, formal_entity, formal_type_wanted, formal_remark, formals_remark, mode_remark, with_formal, with_formals, overriding_remark, overriding_unless, body_head_remark, closed, head_name_remark, head_operand, operand_wanted, with_body, behind_head, body_of, body_ended}
 use Rattle.ada_resolve.specs.Spots.{head_spot}
 use Rattle.ada_resolve.specs.Naming.{Context, Place, Specification, Overriding, Binding, Meaning, a_parameter, a_variable, a_procedure, a_procedure_around, a_type, meaning_among, is_one_of, IsBound, IsAccessNamed, IsFullRecordNamed}
-use Rattle.ada_resolve.specs.Reading.{read_at, with_binding, with_named_formal, with_own_type, with_new_formal, from_body, bound_outside, body_place, names_around, behind_body, in_body, in_profile, formal_among, procedure_among, is_this_operation, IsHeadRead, IsModeRead, IsFormalNamed, AreFormalsRead}
+use Rattle.ada_resolve.specs.Reading.{read_at, with_binding, with_named_formal, with_own_type, with_new_formal, from_body, bound_outside, body_place, names_around, behind_body, in_body, in_profile, formal_among, procedure_among, is_this_operation, keeps_own, IsHeadRead, IsModeRead, IsFormalNamed, AreFormalsRead}
 use Rattle.ada_resolve.specs.Clauses.{pool_of}
 use Rattle.ada_resolve.proofs.WellFormed.Forms.{AreIn, forms, forms_in, forms_length, access_stays, object_stays, record_stays}
 use Rattle.ada_resolve.proofs.WellFormed.Placed.{none_more}
@@ -110,6 +110,7 @@ named_agrees k place name e meaning own w = record {
   limited = w.limited;
   specified = w.specified;
   overridden = w.overridden;
+  kept = w.kept;
 }
 
 around_agrees : (k : Known) (place : Place) (name : Ident) (o : Option Operation) (overrides : Option (Operation × ℕ)) → IsOf o overrides → Agrees k place → Agrees (declared_unless o k name.text entity.Procedure) (around_place overrides name place)
@@ -119,8 +120,8 @@ around_agrees k place name None (Some which) is w = absurd is
 around_agrees k place name (Some o) None is w = absurd is
 
 -- where its body begins, before its formals
-body_agrees : (k : Known) (place : Place) (head : HeadTree) (overrides : Option (Operation × ℕ)) → IsOf (operation_named head.name.text) overrides → Agrees k place → Agrees (with_body no_formals (around_body k head)) (body_place overrides head.name place)
-body_agrees k place head overrides is w =
+body_agrees : (k : Known) (place : Place) (head : HeadTree) (overrides : Option (Operation × ℕ)) (b : Bool) → IsOf (operation_named head.name.text) overrides → keeps_own overrides place.limited ≡ b → Agrees k place → Agrees (with_body b no_formals (around_body k head)) (body_place overrides head.name place)
+body_agrees k place head overrides b is kept w =
     let none = ap (λ (ts : List TypeForm). length ts) (sym (append-nil k.types)) in
     let around = around_body k head in
     let all = names_around overrides head.name place in
@@ -145,6 +146,7 @@ body_agrees k place head overrides is w =
       limited = w.limited;
       specified = none_specified;
       overridden = λ o t. ap (λ (ts : List TypeForm). overrider o ts t) (append-nil k.types) ∙ w.overridden o t;
+      kept = kept;
     }
 
 -- what a formal of a mode is bound to
@@ -208,17 +210,18 @@ record SamePlace (p q : Place) : Type 0 where
   limited : p.limited ≡ q.limited
   specified : p.specified ≡ q.specified
   overridden : p.overridden ≡ q.overridden
+  kept : p.keeps_operand ≡ q.keeps_operand
 
 own_same : (kind : VariableKind) (place : Place) → SamePlace (with_own_type kind place) place
-own_same variable.Integer place = record { here = refl; outer = refl; pools = refl; placed = refl; bodies = refl; exceptions = refl; texts = refl; controlled = refl; limited = refl; specified = refl; overridden = refl }
-own_same variable.Boolean place = record { here = refl; outer = refl; pools = refl; placed = refl; bodies = refl; exceptions = refl; texts = refl; controlled = refl; limited = refl; specified = refl; overridden = refl }
-own_same (variable.Access t) place = record { here = refl; outer = refl; pools = refl; placed = refl; bodies = refl; exceptions = refl; texts = refl; controlled = refl; limited = refl; specified = refl; overridden = refl }
-own_same (variable.Record object) place = record { here = refl; outer = refl; pools = refl; placed = refl; bodies = refl; exceptions = refl; texts = refl; controlled = refl; limited = refl; specified = refl; overridden = refl }
+own_same variable.Integer place = record { here = refl; outer = refl; pools = refl; placed = refl; bodies = refl; exceptions = refl; texts = refl; controlled = refl; limited = refl; specified = refl; overridden = refl; kept = refl }
+own_same variable.Boolean place = record { here = refl; outer = refl; pools = refl; placed = refl; bodies = refl; exceptions = refl; texts = refl; controlled = refl; limited = refl; specified = refl; overridden = refl; kept = refl }
+own_same (variable.Access t) place = record { here = refl; outer = refl; pools = refl; placed = refl; bodies = refl; exceptions = refl; texts = refl; controlled = refl; limited = refl; specified = refl; overridden = refl; kept = refl }
+own_same (variable.Record object) place = record { here = refl; outer = refl; pools = refl; placed = refl; bodies = refl; exceptions = refl; texts = refl; controlled = refl; limited = refl; specified = refl; overridden = refl; kept = refl }
 
 -- a formal is the next variable, and, where it is a record, is known by the next type
-formal_agrees : (k m : Known) (place : Place) (f : FormalTree) (before : Formals) → Agrees (with_body before m) place → Agrees (with_body (with_formal k f before) m) (with_new_formal (formal_mode f.input f.output) (formal_kind (known_by k before) (formal_type k before f.type_name)) f.name place)
+formal_agrees : (k m : Known) (place : Place) (f : FormalTree) (before : Formals) (b : Bool) → Agrees (with_body b before m) place → Agrees (with_body b (with_formal k f before) m) (with_new_formal (formal_mode f.input f.output) (formal_kind (known_by k before) (formal_type k before f.type_name)) f.name place)
 unfolding with_formal
-formal_agrees k m place f before w =
+formal_agrees k m place f before b w =
     let o = formal_type k before f.type_name in
     let mode = formal_mode f.input f.output in
     let kind = formal_kind (known_by k before) o in
@@ -228,7 +231,7 @@ formal_agrees k m place f before w =
     let same = own_same kind place in
     let types : next.types ≡ length (m.types ++ (before.types ++ formal_types o)) =
     own_types_count (known_by k before) o (m.types ++ before.types) place w.types ∙ ap (λ (ts : List TypeForm). length ts) (append_assoc m.types before.types (formal_types o)) in
-    subst (λ (p : Place). Agrees (with_body (with_formal k f before) m) p) (sym (formal_place mode kind f.name place)) (record {
+    subst (λ (p : Place). Agrees (with_body b (with_formal k f before) m) p) (sym (formal_place mode kind f.name place)) (record {
       here = stands_entered before.names next.here f.name (formal_entity mode x kind) (meaning_of mode place.variables)
           (formal_bound mode x kind place.variables w.variables)
           (subst (λ (bs : List Binding). (text : List ℕ) → Stands (named text before.names) (meaning_among text bs)) (sym same.here) w.here);
@@ -249,6 +252,7 @@ formal_agrees k m place f before w =
       overridden = λ a t.
           ap (λ (ts : List TypeForm). overrider a ts t) (sym (append_assoc m.types before.types (formal_types o))) ∙ (own_types_override o (m.types ++ before.types) a t ∙
           (w.overridden a t ∙ ap (λ (os : List Overriding). procedure_among a t os) (sym same.overridden)));
+      kept = same.kept ∙ w.kept;
     })
 
 formal_modes : (k : Known) (f : FormalTree) (before : Formals) → (with_formal k f before).modes ≡ before.modes ++ formal_mode f.input f.output ∷ []
@@ -359,17 +363,17 @@ pub record FormalsRead (p : Context) (around : Place) (fs : List FormalTree) (be
   pub in_all : all ≡ before ++ modes
   pub agrees : Agrees m end
 
-formals_read : (k m : Known) (p : Context) (around : Place) (fs : List FormalTree) (before : Formals) → Sound k → FormalsSound before → Agrees k around → m.types ≡ k.types → Agrees (with_body before m) p.place → AreIn (forms (k.types ++ (with_formals k fs before).types)) (forms p.types) → Quiet (formals_remark k before fs) → ((x : ℕ) (v : VariableForm) → slice_get (with_formals k fs before).variables x ≡ Some v → slice_get p.variables x ≡ Some v) → FormalsRead p around fs before.modes (with_formals k fs before).modes (with_body (with_formals k fs before) m)
+formals_read : (k m : Known) (p : Context) (around : Place) (fs : List FormalTree) (before : Formals) (b : Bool) → Sound k → FormalsSound before → Agrees k around → m.types ≡ k.types → Agrees (with_body b before m) p.place → AreIn (forms (k.types ++ (with_formals k fs before).types)) (forms p.types) → Quiet (formals_remark k before fs) → ((x : ℕ) (v : VariableForm) → slice_get (with_formals k fs before).variables x ≡ Some v → slice_get p.variables x ≡ Some v) → FormalsRead p around fs before.modes (with_formals k fs before).modes (with_body b (with_formals k fs before) m)
 unfolding formal_remark
-formals_read k m p around [] before s g v alike w types q ahead = record { end = p.place; modes = []; read = refl; in_all = sym (append-nil before.modes); agrees = w }
-formals_read k m p around (f ∷ fs) before s g v alike w types q ahead =
+formals_read k m p around [] before b s g v alike w types q ahead = record { end = p.place; modes = []; read = refl; in_all = sym (append-nil before.modes); agrees = w }
+formals_read k m p around (f ∷ fs) before b s g v alike w types q ahead =
     let more = with_formal k f before in
     let mode = formal_mode f.input f.output in
     let found = formal_type k before f.type_name in
     let number = known_by k before in
     let kind = formal_kind number found in
     let next = with_new_formal mode kind f.name p.place in
-    let rest = formals_read k m (read_at next p) around fs more s (formal_sound k f before g) v alike (formal_agrees k m p.place f before w) types q.1 ahead in
+    let rest = formals_read k m (read_at next p) around fs more b s (formal_sound k f before g) v alike (formal_agrees k m p.place f before b w) types q.1 ahead in
     let there : slice_get p.variables (length before.variables) ≡ Some (record { name = f.name.text; spot = f.name.spot; kind = kind; borrows = false }) =
     ahead (length before.variables) (record { name = f.name.text; spot = f.name.spot; kind = kind; borrows = false })
     (formals_grow k fs more (length before.variables) (record { name = f.name.text; spot = f.name.spot; kind = kind; borrows = false }) (formal_there k f before)) in
@@ -460,13 +464,28 @@ head_said k p head h s w stays r q = by_name (operation_named head.name.text) h.
     by_name None (Some which) name_is is same r q = absurd same
     by_name (Some o) None name_is is same r q = absurd same
 
+-- whether it keeps its operand
+operand_kept_so : (k : Known) (place : Place) (head : HeadTree) (h : HeadNamed k head) → Agrees k place → keeps_own h.overrides place.limited ≡ keeps_its_operand (operation_named head.name.text) k (with_formals k head.formals no_formals)
+operand_kept_so k place head h w = by_overrides h.overrides refl (operation_named head.name.text) refl h.is_of
+  where
+    by_overrides : (overrides : Option (Operation × ℕ)) → h.overrides ≡ overrides → (o : Option Operation) → operation_named head.name.text ≡ o → IsOf o overrides → keeps_own overrides place.limited ≡ keeps_its_operand o k (with_formals k head.formals no_formals)
+    by_overrides None is None named_is of = refl
+    by_overrides (Some which) is (Some o) named_is of =
+        let found = h.operand which is in
+        let own : head_operand (Some o) k head ≡ Some which.1 = subst (λ (x : Operation). head_operand (Some x) k head ≡ Some which.1) (sym of) found.1 in
+        ap not (w.limited which.1) ∙ ap (λ (t : Option ℕ). operand_kept k t) (sym own)
+    by_overrides None is (Some o) named_is of = absurd of
+    by_overrides (Some which) is None named_is of = absurd of
+
 pub head_read : (k : Known) (p : Context) (head : HeadTree) (b : BodyForm) (h : HeadNamed k head) → Sound k → Agrees k p.place → Quiet (body_head_remark k head) → Ahead (behind_head k head) (in_body h.overrides head.name b p) → HeadRead p head h.overrides b (behind_head k head)
 unfolding body_head_remark behind_head
 head_read k p head b h s w q ahead =
     let around = around_body k head in
-    let more = (with_formals k head.formals no_formals).types in
-    let r = formals_read k around (in_body h.overrides head.name b p) p.place head.formals no_formals s no_formal w refl
-    (body_agrees k p.place head h.overrides h.is_of w) ahead.types q.1.1.1.0 ahead.variables in
+    let formals = with_formals k head.formals no_formals in
+    let more = formals.types in
+    let keeps = keeps_its_operand (operation_named head.name.text) k formals in
+    let r = formals_read k around (in_body h.overrides head.name b p) p.place head.formals no_formals keeps s no_formal w refl
+    (body_agrees k p.place head h.overrides keeps h.is_of (operand_kept_so k p.place head h w) w) ahead.types q.1.1.1.0 ahead.variables in
     let old : AreIn (forms k.types) (forms p.types) = λ n form is. ahead.types n form (forms_in k.types (k.types ++ more) (λ i x there. get_front k.types more i x there) n form is) in
     record {
       end = r.end;
@@ -523,6 +542,7 @@ closed_agrees k z name b None None t place done is there w v = record {
   limited = v.limited;
   specified = w.specified;
   overridden = v.overridden;
+  kept = w.kept;
 }
 closed_agrees k z name b (Some o) (Some which) t place done same there w v =
     let n : ProcedureNo = record { 0 = length z.bodies } in
@@ -548,6 +568,7 @@ closed_agrees k z name b (Some o) (Some which) t place done same there w v =
           ap (λ (ts : List TypeForm). overrider a ts u) now ∙ (overrider_now which.0 n z.types which.1 f.0 f.1 f.2 f.3 f.4 a u ∙
           (ap (λ (i : ℕ). cond (is_this_operation a which.0 u which.1) (Some (record { 0 = i })) (overrider a z.types u)) (sym v.bodies) ∙
           ap (λ (x : Option ProcedureNo). cond (is_this_operation a which.0 u which.1) (Some m) x) (v.overridden a u)));
+      kept = w.kept;
     }
 closed_agrees k z name b None (Some which) t place done is there w v = absurd is
 closed_agrees k z name b (Some o) None t place done is there w v = absurd is

@@ -141,6 +141,7 @@ specified_agrees k place o t formal w = record {
   limited = w.limited;
   specified = λ a u. ap (λ (f : Option (List ℕ)). cond (is_this_operation a o u t) (Some formal) f) (w.specified a u) ∙ sym (specified_now o t formal k.here.specified a u);
   overridden = w.overridden;
+  kept = w.kept;
 }
 
 -- the body of an operation

@@ -41,7 +41,7 @@ use Rattle.ada_resolve.specs.declared.fault.NameRule.{NameRule}
 use Rattle.ada_resolve.specs.declared.fault.NameRule.TheVariants.{UnknownName, WrongType, NotInProfile}
 use Rattle.ada_resolve.specs.Known.{Known, parts, visible, is_empty, is_with, if_with, parts_of, library_wrong, library_remark, library_found, library_path_remark, library_path_found}
 use Rattle.ada_resolve.specs.Library.{is_library_root, library_name}
-use Rattle.ada_resolve.specs.Paths.{constant_wanted, follows_to, follows_value, record_of_object, written_wanted, component_at, component_in, component_named, component_wanted, component_within_remark, complete_behind, held_by, known_component, number_by, Meant, unknown, lent_value, null_value, access_value, integer_value, boolean_value, record_value, aggregate_value, selected_path, components_of, record_known_by, record_of_object, whole_object, designated_of, is_incomplete_type, held_in, object_in, selectors_reached, number_in, components_selected, reached_meant, variable_meant, entity_meant, path_meant, selectors_remark, record_type_wanted, variable_path_remark, value_wanted, path_remark}
+use Rattle.ada_resolve.specs.Paths.{constant_wanted, is_first_variable, is_kept_operand, written_remark, follows_to, follows_value, record_of_object, written_wanted, component_at, component_in, component_named, component_wanted, component_within_remark, complete_behind, held_by, known_component, number_by, Meant, unknown, lent_value, null_value, access_value, integer_value, boolean_value, record_value, aggregate_value, selected_path, components_of, record_known_by, record_of_object, whole_object, designated_of, is_incomplete_type, held_in, object_in, selectors_reached, number_in, components_selected, reached_meant, variable_meant, entity_meant, path_meant, selectors_remark, record_type_wanted, variable_path_remark, value_wanted, path_remark}
 use Rattle.ada_resolve.specs.Operators.{record_value_wanted, Signature, arithmetic, ordering, equality, logical, signature_of, integer_in, boolean_in, asks_equal, equality_meant, binary_by, unary_meant, integer_wanted, boolean_wanted, equal_wanted, operands_by, operand_remark}
 use Rattle.ada_resolve.specs.Expressions.{after_items, all_items_remark, expression_meant, expression_remark, filling_of, items_remark}
 use Rattle.ada_resolve.specs.declared.library.LibraryName.{LibraryName}
@@ -54,7 +54,7 @@ use Rattle.ada_resolve.specs.Exceptions.{exception_of_library, end_error_wanted,
 use Rattle.ada_resolve.specs.Lines.{line_remark, line_found, put_line_remark, put_line_found}
 use Rattle.ada_resolve.specs.Arguments.{image_wanted, image_remark, image_value_remark}
 use Rattle.ada_resolve.specs.Naming.{Context, IsFullTypeNamed, IsExceptionNamed, IsInstanceNamed, IsProcedureNamed, IsObjectNamed, IsVariableNamed}
-use Rattle.ada_resolve.specs.Reading.{IsPutLine, IsGet, AreActualsRead, IsExpressionRead, IsCallRead, IsImage, type_behind, Way, at_value, at_object, IsBegun, IsWayRead, IsRecordTargetRead, IsCopyRead, IsAggregate, how_many, IsGiven, to_elementary, by_copy, by_aggregate, AreGiven, none_given, one_given, IsWholeRead, IsComponentNamed, AreSelectorsRead, at_end, by_all, by_value, to_value, to_record, IsPathRead, IsTargetRead, IsVariableRead, IsComponentRead, MayChange, IsValueRead, read_path, read_number, read_truth, AsksEqual, null_on_right, null_on_left, IsNull, IsMoveRead, IsConditionRead, IsItemFor, at_place, by_name, further, AreItemsRead, IsAllocationRead, IsRightRead, IsSimpleRead, IsChoiceRead, AreChoicesRead}
+use Rattle.ada_resolve.specs.Reading.{IsPutLine, IsGet, AreActualsRead, IsExpressionRead, IsCallRead, IsImage, type_behind, Way, at_value, at_object, IsBegun, IsWayRead, IsRecordTargetRead, SparesOperand, IsCopyRead, IsAggregate, how_many, IsGiven, to_elementary, by_copy, by_aggregate, AreGiven, none_given, one_given, IsWholeRead, IsComponentNamed, AreSelectorsRead, at_end, by_all, by_value, to_value, to_record, IsPathRead, IsTargetRead, IsVariableRead, IsComponentRead, MayChange, IsValueRead, read_path, read_number, read_truth, AsksEqual, null_on_right, null_on_left, IsNull, IsMoveRead, IsConditionRead, IsItemFor, at_place, by_name, further, AreItemsRead, IsAllocationRead, IsRightRead, IsSimpleRead, IsChoiceRead, AreChoicesRead}
 use Rattle.ada_resolve.specs.Allocators.{allocated_wanted, allocated_remark, aggregate_remark, allocation, aggregate_found, default_allocation, default_found, allocator_remark, allocator_found}
 use Rattle.ada_resolve.specs.Rights.{Assigned, a_value, a_whole, assigned_wanted, assigned, new_assigned, right_remark, right_found}
 use Rattle.ada_resolve.specs.Assignments.{Target, value_target, record_target, target_meant, target_found, target_wanted, target_remark, held_by_target, target_borrows, assignment_remark, assignment_of, assignment_found}
@@ -64,8 +64,8 @@ use Rattle.ada_resolve.specs.Remark.{Remark, wrong, ◌also◌, wrong_if}
 use Rattle.ada_resolve.specs.Spots.{expression_spot}
 use Rattle.ada_resolve.specs.Actuals.{first_mode, given_all, given_all_remark, given_meant, given_remark, given_variable, given_value, kind_wanted, other_modes, path_wanted, profile, reference_wanted, variable_or_component, variable_wanted}
 use Rattle.ada_resolve.specs.Items.{Filling, component_for, item_meant, fits_remark, for_remark, is_alike, filled_for, filled_components, after_item, aggregate_meant, component_item_remark, first_filling, flattened, names_component, count_remark}
-use Rattle.ada_resolve.proofs.Agreeing.{Ahead, EntityRead, Readable, visible_read, parameter_visible}
-use Rattle.ada_resolve.proofs.WellFormed.Remarks.{Quiet, quiet_unless}
+use Rattle.ada_resolve.proofs.Agreeing.{Ahead, EntityRead, Readable, visible_read, parameter_visible, variable_visible}
+use Rattle.ada_resolve.proofs.WellFormed.Remarks.{Quiet, quiet_unless, quiet_if}
 use Rattle.ada_resolve.proofs.WellFormed.Values.{access_designates}
 use Rattle.ada_resolve.proofs.WellFormed.Names.{EntityFits, IsVariableIn, PartsFit, visible_fits, kind_there, text_same}
 use Rattle.ada_resolve.proofs.WellFormed.Meanings.{MeantFits, path_fits}
@@ -698,7 +698,7 @@ abbrev MayWrite : Context → PathTree → Meant → Type 0
 MayWrite p tree (integer_value (reads path)) = MayChange p tree path.root (follows_value path.of_record path.selectors)
 MayWrite p tree (boolean_value (reads path)) = MayChange p tree path.root (follows_value path.of_record path.selectors)
 MayWrite p tree (access_value path t) = MayChange p tree path.root (follows_value path.of_record path.selectors)
-MayWrite p tree (record_value path) = MayChange p tree path.object.root (follows_to path.object.of_record path.object.selectors)
+MayWrite p tree (record_value path) = MayChange p tree path.object.root (follows_to path.object.of_record path.object.selectors) × SparesOperand p tree
 MayWrite p tree m = Unit {0}
 
 may_change : (k : Known) (p : Context) (tree : PathTree) (m : Meant) (x : ℕ) (follows : Bool) → Readable k p → Quiet (written_wanted (visible k tree.root.text) m tree.root.spot) → (Quiet (constant_wanted m tree.root.spot) → follows ≡ true) → IsObjectNamed p tree.root.text x → MayChange p tree x follows
@@ -712,13 +712,23 @@ value_written k p tree m path w q on r =
     may_change k p tree m path.root (follows_value path.of_record path.selectors) w q
     (λ c. quiet_unless (follows_value path.of_record path.selectors) tree.root.spot WrongType (on c)) r.leads.root
 
-written_read : (k : Known) (p : Context) (tree : PathTree) (m : Meant) → Readable k p → Quiet (written_wanted (visible k tree.root.text) m tree.root.spot) → MeantRead p (path_expression tree) m → MayWrite p tree m
-written_read k p tree (integer_value (reads path)) w q r = value_written k p tree (integer_value (reads path)) path w q (λ c. c) (path_of_value p tree path r)
-written_read k p tree (boolean_value (reads path)) w q r = value_written k p tree (boolean_value (reads path)) path w q (λ c. c) (path_of_value p tree path r)
-written_read k p tree (access_value path t) w q r = value_written k p tree (access_value path t) path w q (λ c. c) r
+-- an operand that is kept is not written as a whole
+operand_spared : (k : Known) (p : Context) (tree : PathTree) → Readable k p → Quiet (wrong_if (is_kept_operand k tree) tree.root.spot NotInProfile) → SparesOperand p tree
+operand_spared k p tree w q keeps alone is =
+    let n = variable_visible k p w.agrees tree.root.text 0 is in
+    let first : is_first_variable (visible k tree.root.text) ≡ true = ap (λ (o : Option Entity). is_first_variable o) n.2 ∙ ap (λ (x : ℕ). eqb x 0) n.3 in
+    let kept : k.here.keeps_operand ≡ true = sym w.agrees.kept ∙ keeps in
+    let empty : is_empty tree.selectors ≡ true = ap (λ (ss : List SelectorTree). is_empty ss) alone in
+    let on : is_kept_operand k tree ≡ true = cc (kept, empty, first) in
+    cc (on, quiet_if (is_kept_operand k tree) tree.root.spot NotInProfile q)
+
+written_read : (k : Known) (p : Context) (tree : PathTree) (m : Meant) → Readable k p → Quiet (written_remark k tree m) → MeantRead p (path_expression tree) m → MayWrite p tree m
+written_read k p tree (integer_value (reads path)) w q r = value_written k p tree (integer_value (reads path)) path w q.0 (λ c. c) (path_of_value p tree path r)
+written_read k p tree (boolean_value (reads path)) w q r = value_written k p tree (boolean_value (reads path)) path w q.0 (λ c. c) (path_of_value p tree path r)
+written_read k p tree (access_value path t) w q r = value_written k p tree (access_value path t) path w q.0 (λ c. c) r
 written_read k p tree (record_value path) w q r =
     let follows = follows_to path.object.of_record path.object.selectors in
-    may_change k p tree (record_value path) path.object.root follows w q (λ c. quiet_unless follows tree.root.spot WrongType c) r.root
+    (may_change k p tree (record_value path) path.object.root follows w q.0 (λ c. quiet_unless follows tree.root.spot WrongType c) r.root, operand_spared k p tree w q.1)
 written_read k p tree m w q r = tt
 
 -- a path to a value that selects no component is a name
@@ -766,7 +776,7 @@ target_meant_read : (p : Context) (tree : PathTree) (m : Meant) (spot : Spot) �
 target_meant_read p tree (integer_value (reads path)) spot v f r q = (path_of_value p tree path r, v)
 target_meant_read p tree (boolean_value (reads path)) spot v f r q = (path_of_value p tree path r, v)
 target_meant_read p tree (access_value path t) spot v f r q = (r, v)
-target_meant_read p tree (record_value path) spot v f r q = (r, v)
+target_meant_read p tree (record_value path) spot v f r q = (r, v.0, v.1)
 target_meant_read p tree unknown spot v f r q = absurd f
 target_meant_read p tree (lent_value u) spot v f r q = absurd f
 target_meant_read p tree m spot v f r q = absurd q
@@ -965,7 +975,7 @@ variable_given p types variables tree kind unknown spot more forms f r v q rest 
 variable_given p types variables tree variable.Integer (integer_value (reads path)) spot more forms f r v q rest = scalar_placed p tree path more forms (path_of_value p tree path r, v) rest
 variable_given p types variables tree variable.Boolean (boolean_value (reads path)) spot more forms f r v q rest = scalar_placed p tree path more forms (path_of_value p tree path r, v) rest
 variable_given p types variables tree (variable.Access t) (access_value path u) spot more forms f r v q rest = access_placed p tree path more forms (r, v) rest
-variable_given p types variables tree (variable.Record t) (record_value path) spot more forms f r v q rest = ((r, v), rest)
+variable_given p types variables tree (variable.Record t) (record_value path) spot more forms f r v q rest = ((r, v.0, v.1), rest)
 variable_given p types variables tree kind m spot more forms f r v q rest = absurd q
 
 actual_given : (k : Known) (p : Context) (mode : FormalMode) (kind : VariableKind) (argument : ArgumentTree) (more : List ArgumentTree) (forms : List ActualForm) → Readable k p → Quiet (given_remark k mode kind argument) → AreActualsRead p more forms → AreActualsRead p (argument ∷ more) (given_meant k mode argument ∷ forms)

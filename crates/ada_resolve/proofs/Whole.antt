@@ -106,12 +106,12 @@ left_counts m (part ∷ outer) = record { types = refl; pools = refl; placed = �
 agrees_left : (k m z : Known) (place end : Place) → Stays k z → z ≡ without_part m → Agrees k place → Agrees m end → Agrees z (behind place end)
 agrees_left k m z place end f is w v =
     let c : SameCounts z m = subst (λ u. SameCounts u m) (sym is) (left_counts m m.outer) in
-    agrees_behind k m z place end (ap (λ (x : Part). x.names) f.here) (ap (λ (x : Part). x.first_type) f.here) (ap (λ (x : Part). x.around) f.here) f.outer c.types c.bodies c.variables c.exceptions c.texts c.pools c.placed c.controlled c.limited (ap (λ (x : Part). x.specified) f.here) c.overridden w v
+    agrees_behind k m z place end (ap (λ (x : Part). x.names) f.here) (ap (λ (x : Part). x.first_type) f.here) (ap (λ (x : Part). x.keeps_operand) f.here) (ap (λ (x : Part). x.around) f.here) f.outer c.types c.bodies c.variables c.exceptions c.texts c.pools c.placed c.controlled c.limited (ap (λ (x : Part). x.specified) f.here) c.overridden w v
 
 -- behind a statement with no others in it, where the texts that it writes are counted
 no_texts : (k : Known) (place : Place) → Agrees k place → Agrees (with_texts [] k) place
 no_texts k place w =
-    agrees_same k (with_texts [] k) place refl refl refl refl refl refl refl refl (ap (λ (ts : List (List ℕ)). length ts) (append-nil k.texts)) refl (λ t. refl) refl refl refl (λ o t. refl) w
+    agrees_same k (with_texts [] k) place refl refl refl refl refl refl refl refl refl (ap (λ (ts : List (List ℕ)). length ts) (append-nil k.texts)) refl (λ t. refl) refl refl refl (λ o t. refl) w
 
 one_text : (k : Known) (place : Place) (text : List ℕ) → Agrees k place → Agrees (with_texts (text ∷ []) k) (record place { texts = place.texts + 1 })
 one_text k place text w = record {
@@ -128,6 +128,7 @@ one_text k place text w = record {
   limited = w.limited;
   specified = w.specified;
   overridden = w.overridden;
+  kept = w.kept;
   texts = ap (λ (n : ℕ). n + 1) w.texts ∙ sym (length-append k.texts (text ∷ []));
 }
 
@@ -717,7 +718,7 @@ mutual
 -- nothing is bound before the first declaration
 first_agrees : (withs : Withs) (procedure : List ℕ) → Agrees (known_first withs procedure) first_place
 unfolding pool_of
-first_agrees withs procedure = record { here = λ text. refl; outer = λ text. refl; first_type = refl; types = refl; pools = refl; placed = λ t. refl; bodies = refl; variables = refl; exceptions = refl; texts = refl; controlled = refl; limited = λ t. refl; specified = none_specified; overridden = none_overridden }
+first_agrees withs procedure = record { here = λ text. refl; outer = λ text. refl; first_type = refl; types = refl; pools = refl; placed = λ t. refl; bodies = refl; variables = refl; exceptions = refl; texts = refl; controlled = refl; limited = λ t. refl; specified = none_specified; overridden = none_overridden; kept = refl }
   where
     none_overridden : (o : Operation) (t : ℕ) → overrider o [] t ≡ None
     none_overridden o t = no_overrider o t

@@ -16,9 +16,9 @@ use Rattle.ada_resolve.specs.declared.fault.NameRule.TheVariants.{WrongType, Not
 use Rattle.ada_resolve.specs.Assignments.{read_wanted}
 use Rattle.ada_resolve.specs.Arguments.{argument_remark, arguments_remark, none_wanted}
 use Rattle.ada_resolve.specs.Expressions.{expression_meant, expression_remark}
-use Rattle.ada_resolve.specs.Known.{Known, visible}
+use Rattle.ada_resolve.specs.Known.{Known}
 use Rattle.ada_resolve.specs.Operators.{access_wanted, boolean_wanted, integer_wanted, owner_wanted, scalar_in}
-use Rattle.ada_resolve.specs.Paths.{Meant, access_value, boolean_value, integer_value, is_record_kind, null_value, path_meant, record_of_object, record_value, unknown, written_wanted}
+use Rattle.ada_resolve.specs.Paths.{Meant, access_value, boolean_value, integer_value, is_record_kind, null_value, path_meant, record_of_object, record_value, unknown, written_remark}
 use Rattle.ada_resolve.specs.Remark.{Remark, fine, wrong, ◌also◌, wrong_if}
 use Rattle.ada_resolve.specs.Spots.{argument_spot, expression_spot}
 
@@ -59,14 +59,14 @@ variable_wanted types variables (variable.Record object) (record_value path) spo
 variable_wanted types variables kind other spot = wrong spot WrongType
 
 -- What is wrong with the actual parameter for a formal one of a mode that holds this (6.4.1): it is an expression of that type, or the path to a
--- variable, a component or a record, which is no constant.
+-- variable, a component or a record, which is no constant, and not the operand that an operation keeps (7.6).
 abbrev pub given_remark : Known → FormalMode → VariableKind → ArgumentTree → Remark
 given_remark known In kind (expression_argument e) =
     expression_remark known e also kind_wanted known.types known.variables kind (expression_meant known e) (expression_spot e) also path_wanted kind e
 given_remark known InOut kind (expression_argument (path_expression path)) =
     expression_remark known (path_expression path) also
     variable_wanted known.types known.variables kind (path_meant known path) path.root.spot also
-    written_wanted (visible known path.root.text) (path_meant known path) path.root.spot
+    written_remark known path (path_meant known path)
 given_remark known mode kind other = wrong (argument_spot other) WrongType also argument_remark known other
 
 -- What a formal parameter of mode `in` gets: null, the access value that a path names, a record, or another value; 0 where something is wrong.

@@ -10,8 +10,8 @@ use Rattle.ada_program.specs.WellFormed.{names_borrower}
 use Rattle.ada_resolve.specs.declared.fault.NameRule.TheVariants.{WrongType}
 use Rattle.ada_resolve.specs.declared.rights.Held.{Held}
 use Rattle.ada_resolve.specs.declared.rights.Held.TheVariants as held
-use Rattle.ada_resolve.specs.Known.{Known, visible}
-use Rattle.ada_resolve.specs.Paths.{Meant, access_value, boolean_value, integer_value, lent_value, path_meant, path_remark, record_value, unknown, written_wanted}
+use Rattle.ada_resolve.specs.Known.{Known}
+use Rattle.ada_resolve.specs.Paths.{Meant, access_value, boolean_value, integer_value, lent_value, path_meant, path_remark, record_value, unknown, written_remark}
 use Rattle.ada_resolve.specs.Remark.{Remark, fine, wrong, node, ◌also◌}
 use Rattle.ada_resolve.specs.Rights.{Assigned, a_value, a_whole, right_found, right_remark}
 
@@ -52,11 +52,11 @@ target_wanted (lent_value t) spot = fine
 target_wanted (record_value path) spot = fine
 target_wanted other spot = wrong spot WrongType
 
--- What is wrong with a path where something is assigned to (5.2): it is no constant.
+-- What is wrong with a path where something is assigned to (5.2): it is no constant, and not the operand that an operation keeps (7.6).
 unfoldable pub target_remark : Known → PathTree → Remark
 target_remark known target =
     path_remark known target also
-    written_wanted (visible known target.root.text) (path_meant known target) target.root.spot also
+    written_remark known target (path_meant known target) also
     target_wanted (path_meant known target) target.root.spot
 
 -- What is held where a target is, where it is known.

@@ -23,7 +23,7 @@ use Rattle.ada_resolve.specs.Arguments.{argument_remark, arguments_remark, none_
 use Rattle.ada_resolve.specs.Expressions.{expression_remark}
 use Rattle.ada_resolve.specs.Lines.{put_line_found, put_line_remark}
 use Rattle.ada_resolve.specs.Operators.{owner_wanted}
-use Rattle.ada_resolve.specs.Paths.{Meant, access_value, integer_value, path_meant, unknown, written_wanted}
+use Rattle.ada_resolve.specs.Paths.{Meant, access_value, integer_value, path_meant, unknown, written_remark}
 
 -- `Free (X);` (13.11.2): the actual is a variable or a component of the instance's access type, and no borrower as a whole.
 abbrev pub freed_wanted : List VariableForm → TypeNo → Meant → Spot → Remark
@@ -51,7 +51,7 @@ no_path_remark known value = wrong (expression_spot value) WrongType also expres
 abbrev pub actual_remark : Known → Callee → ArgumentTree → Remark
 actual_remark known taker (expression_argument (path_expression path)) =
     expression_remark known (path_expression path) also
-    written_wanted (visible known path.root.text) (path_meant known path) path.root.spot also
+    written_remark known path (path_meant known path) also
     actual_wanted known.variables taker (path_meant known path) path.root.spot
 actual_remark known taker other = wrong (argument_spot other) WrongType also argument_remark known other
 

@@ -46,7 +46,8 @@ no_specifications = record { initializes = []; adjusts = []; finalizes = []; cou
 
 -- A declarative part, or the scope of a loop parameter (8.1): the names that it declares so far, in order; the operations that it specifies so far (7.6);
 -- the numbers of its first type, of its first variable behind formal parameters, and of the first procedure whose body ends in it; what it elaborates so
--- far (3.11); and, where it is that of a procedure's body, the modes of the formal parameters, in order, and the variables of the body around.
+-- far (3.11); where it is that of a procedure's body, the modes of the formal parameters, in order, and the variables of the body around; and whether the
+-- body that it belongs to is an operation that keeps its operand (7.6).
 pub record Part : Type 0 where
   pub names : List Named
   pub specified : Specifications
@@ -56,6 +57,7 @@ pub record Part : Type 0 where
   pub elaborated : List DeclarationForm
   pub modes : List FormalMode
   pub around : Option (List VariableForm)
+  pub keeps_operand : Bool
 
 -- What is known: the library units of the with clauses, the main procedure's name, the declarative part that declares here, those around it, the
 -- inner ones first (8.1); by their numbers all types, all pools, the bodies of the procedures that have ended, the variables of the body at this
@@ -81,14 +83,23 @@ pub record Known : Type 0 where
 abbrev pub parts : Known → List Part
 parts known = known.here ∷ known.outer
 
--- A declarative part in which nothing is declared yet, behind so many types, variables and bodies.
-abbrev pub part_from : (types variables bodies : ℕ) → Part
-part_from types variables bodies =
-    record { names = []; specified = no_specifications; first_type = types; first_variable = variables; first_body = bodies; elaborated = []; modes = []; around = None }
+-- A declarative part in which nothing is declared yet, behind so many types, variables and bodies, in a body that keeps its operand or does not.
+abbrev pub part_from : (keeps_operand : Bool) → (types variables bodies : ℕ) → Part
+part_from keeps_operand types variables bodies = record {
+  names = [];
+  specified = no_specifications;
+  first_type = types;
+  first_variable = variables;
+  first_body = bodies;
+  elaborated = [];
+  modes = [];
+  around = None;
+  keeps_operand = keeps_operand;
+}
 
--- The part that begins at a place.
+-- The part that begins at a place: it is of the same body.
 abbrev pub next_part : Known → Part
-next_part known = part_from (length known.types) (length known.variables) (length known.bodies)
+next_part known = part_from known.here.keeps_operand (length known.types) (length known.variables) (length known.bodies)
 
 -- What is known where an inner part begins: it declares nothing yet.
 abbrev pub with_part : Known → Known

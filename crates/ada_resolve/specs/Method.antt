@@ -86,9 +86,9 @@ known resolver = known_of resolver.entry.now
 abbrev pub entity_of : Seen → Identifier → Option Entity
 entity_of resolver name = visible (known resolver) name.text.now
 
--- What is wrong with a path that is written to, and means this: it is no constant, with what is selected from it.
-abbrev pub path_written_remark : Seen → Path → Meant → Remark
-path_written_remark resolver path meant = written_wanted (entity_of resolver path.root) meant path.root.spot
+-- What is wrong with a path that begins at a constant, is written to, and means this (3.3).
+abbrev pub constant_remark : Seen → Path → Meant → Remark
+constant_remark resolver path meant = written_wanted (entity_of resolver path.root) meant path.root.spot
 
 -- The value of the answer means this. A call that runs out of memory answers no value.
 abbrev pub Finds : {X Y : Type 0} → (X → Y) → Result X NameFault → Y → Type 0
@@ -335,10 +335,19 @@ abbrev pub program_in : Resolver → Sequence → ProgramForm
 program_in resolver body = program_of (known_of resolver) (statements_in body.statements) (handlers_in body.handlers)
 
 -- The part of a procedure's body, with these names, behind so many types, formal parameters of these modes and bodies; the variables of the body around
--- are these.
-abbrev pub part_of_body : List Named → (types formals bodies : ℕ) → List FormalMode → List VariableForm → Part
-part_of_body names types formals bodies modes around =
-    record { names = names; specified = no_specifications; first_type = types; first_variable = formals; first_body = bodies; elaborated = []; modes = modes; around = Some around }
+-- are these. The body keeps its operand or does not.
+abbrev pub part_of_body : List Named → (types formals bodies : ℕ) → List FormalMode → List VariableForm → (keeps_operand : Bool) → Part
+part_of_body names types formals bodies modes around keeps_operand = record {
+  names = names;
+  specified = no_specifications;
+  first_type = types;
+  first_variable = formals;
+  first_body = bodies;
+  elaborated = [];
+  modes = modes;
+  around = Some around;
+  keeps_operand = keeps_operand;
+}
 
 -- The call changes in this way the formal parameters that are looked at.
 abbrev pub Declaring : Both (MutBor FormalsOf) (MutBor FormalsOf) → (Formals → Formals) → Type 0

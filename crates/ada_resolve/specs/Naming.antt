@@ -66,8 +66,8 @@ pub record Overriding : Type 0 where
 -- ones first; the number of the first type of the part; how many types, pools and exceptions are declared before it, how many variables of its body,
 -- and how many bodies of procedures have ended before it; how many texts Put_Line writes before it; the numbers of the types whose pools aspects
 -- and clauses before it name; how many record types with controlled parts are complete before it (7.6), and the numbers of those that are derived from
--- Limited_Controlled; the operations that the part has specified before it, the last first; and the operations whose bodies have ended before it, the
--- last first (7.6).
+-- Limited_Controlled; the operations that the part has specified before it, the last first; the operations whose bodies have ended before it, the
+-- last first; and whether the place is in the body of an operation that keeps its operand (7.6).
 pub record Place : Type 0 where
   pub here : List Binding
   pub outer : List Binding
@@ -83,6 +83,7 @@ pub record Place : Type 0 where
   pub limited : List ℕ
   pub specified : List Specification
   pub overridden : List Overriding
+  pub keeps_operand : Bool
 
 -- What a tree is read by: a place in it, the tables of the program, and the variables of the body at the place.
 pub record Context : Type 0 where

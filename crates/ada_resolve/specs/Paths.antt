@@ -1,6 +1,6 @@
 -- What paths mean where a value is wanted, and what is wrong with each.
 
-use Rattle.std.specs.Prelude.{ℕ, ◌+◌, Bool, true, false, not, ◌||◌, ◌==◌, if◌then◌else◌, List, [], ◌∷◌, ◌++◌, slice_get, Option, Some, None, bytes_eq}
+use Rattle.std.specs.Prelude.{ℕ, ◌+◌, Bool, true, false, not, ◌&&◌, ◌||◌, ◌==◌, if◌then◌else◌, List, [], ◌∷◌, ◌++◌, slice_get, Option, Some, None, bytes_eq}
 use Rattle.ada_text.specs.declared.spot.Spot.{Spot}
 use Rattle.ada_tree.specs.Names.{Ident, SelectorTree, component, dereference, PathTree}
 use Rattle.ada_program.specs.Form.{PathForm, RecordPathForm, ExpressionForm, integer, boolean, reads, ItemForm}
@@ -22,7 +22,7 @@ use Rattle.ada_resolve.specs.declared.scope.Role.{Role}
 use Rattle.ada_resolve.specs.declared.scope.Role.TheVariants as role
 use Rattle.ada_resolve.specs.declared.selectors.Reached.{Reached}
 use Rattle.ada_resolve.specs.declared.selectors.Reached.TheVariants as reached
-use Rattle.ada_resolve.specs.Known.{Known, Part, named, next_variable, parts, visible, missing, library_path_remark, library_path_found}
+use Rattle.ada_resolve.specs.Known.{Known, Part, is_empty, named, next_variable, parts, visible, missing, library_path_remark, library_path_found}
 use Rattle.ada_resolve.specs.Library.{is_library_root, no_component_rule}
 use Rattle.ada_resolve.specs.Remark.{Remark, fine, wrong, ◌also◌, wrong_if}
 
@@ -388,6 +388,21 @@ written_wanted (Some (entity.Parameter x kind)) meant spot = constant_wanted mea
 written_wanted (Some (entity.Outer kind role.Constant)) meant spot = constant_wanted meant spot
 written_wanted (Some other) meant spot = fine
 written_wanted None meant spot = fine
+
+-- Whether a name stands for the first variable of its body: the operand of an operation is that (6.2, 7.6).
+abbrev pub is_first_variable : Option Entity → Bool
+is_first_variable (Some (entity.Variable x kind)) = x.0 == 0
+is_first_variable (Some other) = false
+is_first_variable None = false
+
+-- Whether a path is the operand, as a whole, of an operation that keeps it (7.6): its name alone.
+abbrev pub is_kept_operand : Known → PathTree → Bool
+is_kept_operand known path = known.here.keeps_operand && is_empty path.selectors && is_first_variable (visible known path.root.text)
+
+-- What is wrong with a path that is written to, which means this: it is no constant, and not the operand that an operation keeps.
+abbrev pub written_remark : Known → PathTree → Meant → Remark
+written_remark known path meant =
+    written_wanted (visible known path.root.text) meant path.root.spot also wrong_if (is_kept_operand known path) path.root.spot NotInProfile
 
 -- What is wrong with a path where a value is wanted.
 unfoldable pub path_remark : Known → PathTree → Remark

@@ -73,6 +73,12 @@ operand_if known operation (Some t) = if has_operation known operation t then So
 unfoldable pub operand : Known → Operation → List FormalMode → List TypeForm → Option ℕ
 operand known operation modes types = operand_if known operation (sole_operand modes types)
 
+-- Whether an operation of a type keeps its operand, which is its formal parameter (the profile's): that of a type derived from Controlled does. It may
+-- change components of the operand, but not the operand as a whole: an assignment would finalize the value again that Finalize is finalizing (7.6).
+abbrev pub operand_kept : Known → Option ℕ → Bool
+operand_kept known None = false
+operand_kept known (Some t) = not (is_among t known.limited)
+
 -- The type of the record for which a formal parameter stands.
 abbrev pub operand_by : List TypeForm → VariableKind → Option ℕ
 operand_by types (variable.Record own) = object_in (slice_get types own.0)

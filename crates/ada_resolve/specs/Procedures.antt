@@ -1,6 +1,6 @@
 -- Procedures: what is wrong with the head of a body, what is known where the body begins, and what is known behind it.
 
-use Rattle.std.specs.Prelude.{ℕ, ◌+◌, false, not, List, [], ◌∷◌, ◌++◌, length, Option, Some, None, is_some, bytes_eq}
+use Rattle.std.specs.Prelude.{ℕ, ◌+◌, Bool, false, not, List, [], ◌∷◌, ◌++◌, length, Option, Some, None, is_some, bytes_eq}
 use Rattle.ada_text.specs.declared.spot.Spot.{Spot}
 use Rattle.ada_tree.specs.Declarations.{FormalTree, HeadTree}
 use Rattle.ada_tree.specs.Names.{Ident}
@@ -19,7 +19,7 @@ use Rattle.ada_resolve.specs.declared.scope.Entity.{Entity}
 use Rattle.ada_resolve.specs.declared.scope.Entity.TheVariants as entity
 use Rattle.ada_resolve.specs.Known.{Known, Named, Part, entered, first_named, left_to, missing, named, new_name_remark, next_procedure, no_specifications, no_variable_yet, parts, visible}
 use Rattle.ada_resolve.specs.Library.{is_primitive, is_taken}
-use Rattle.ada_resolve.specs.Primitives.{answered, declared_unless, entered_unless, formal_name, formal_specified, operand, operand_of, operation_named, overridden_if, overrider, specified_for}
+use Rattle.ada_resolve.specs.Primitives.{answered, declared_unless, entered_unless, formal_name, formal_specified, operand, operand_kept, operand_of, operation_named, overridden_if, overrider, specified_for}
 use Rattle.ada_resolve.specs.Remark.{Remark, fine, wrong, node, ◌also◌, wrong_if}
 use Rattle.ada_resolve.specs.Spots.{head_spot}
 
@@ -171,9 +171,9 @@ body_head_remark known head =
     head_name_remark (operation_named head.name.text) (head_operand (operation_named head.name.text) known head) known head
 
 -- The declarative part of a procedure's body, in which the formals are declared, behind the types that they are known by; the variables of the body
--- around are put aside.
-abbrev pub body_part : Known → Formals → Part
-body_part known formals = record {
+-- around are put aside. The body keeps its operand or does not.
+abbrev pub body_part : Known → (keeps_operand : Bool) → Formals → Part
+body_part known keeps_operand formals = record {
   names = formals.names;
   specified = no_specifications;
   first_type = length (known.types ++ formals.types);
@@ -182,20 +182,27 @@ body_part known formals = record {
   elaborated = [];
   modes = formals.modes;
   around = Some known.variables;
+  keeps_operand = keeps_operand;
 }
 
--- What is known where the body of a procedure begins (6.3).
-abbrev pub with_body : Formals → Known → Known
-with_body formals known = record known {
-  here = body_part known formals;
+-- What is known where the body of a procedure begins (6.3), which keeps its operand or does not.
+abbrev pub with_body : (keeps_operand : Bool) → Formals → Known → Known
+with_body keeps_operand formals known = record known {
+  here = body_part known keeps_operand formals;
   outer = parts known;
   types = known.types ++ formals.types;
   variables = formals.variables;
 }
 
+-- Whether the body of a procedure with these formals keeps its operand (7.6): it is an operation that does.
+abbrev pub keeps_its_operand : Option Operation → Known → Formals → Bool
+keeps_its_operand operation known formals = operand_kept known (operand_for operation known formals)
+
 -- The name stands for a procedure whose body has not ended, unless it is an operation's, and the body begins.
 abbrev pub body_begun : Ident → Formals → Known → Known
-body_begun name formals known = with_body formals (declared_unless (operation_named name.text) known name.text entity.Procedure)
+body_begun name formals known =
+    with_body (keeps_its_operand (operation_named name.text) known formals) formals
+    (declared_unless (operation_named name.text) known name.text entity.Procedure)
 
 -- What is known where the declarations of a body begin, by its head.
 unfoldable pub behind_head : Known → HeadTree → Known

@@ -115,10 +115,15 @@ FollowsConstant p tree x follows = IsBound p tree.root.text (a_parameter x) × (
 abbrev pub MayChange : Context → PathTree → (root : ℕ) → (follows : Bool) → Type 0
 MayChange p tree x follows = IsVariableNamed p tree.root.text x ⊎ FollowsConstant p tree x follows
 
--- A record that is assigned, or given for a formal parameter of mode `in out`: it may change (5.2, 6.4.1).
+-- In the body of an operation that keeps its operand, a path is not the name of the operand alone, which is the first variable; something may be selected
+-- from it (7.6).
+abbrev pub SparesOperand : Context → PathTree → Type 0
+SparesOperand p tree = p.place.keeps_operand ≡ true → tree.selectors ≡ [] → IsVariableNamed p tree.root.text 0 → ⊥
+
+-- A record that is assigned, or given for a formal parameter of mode `in out`: it may change (5.2, 6.4.1), and is no operand as a whole that is kept.
 abbrev pub IsRecordTargetRead : Context → PathTree → RecordPathForm → Type 0
 IsRecordTargetRead p tree path =
-    IsRecordPathRead p tree path × MayChange p tree path.object.root (follows_to path.object.of_record path.object.selectors)
+    IsRecordPathRead p tree path × MayChange p tree path.object.root (follows_to path.object.of_record path.object.selectors) × SparesOperand p tree
 
 -- A path whose object is assigned, read from the input, freed, or given for a formal parameter of mode `in out`: it may change (5.2, 6.4.1).
 abbrev pub IsTargetRead : Context → PathTree → PathForm → Type 0
@@ -355,7 +360,13 @@ inside place = record place { here = []; outer = place.here ++ place.outer; firs
 -- The place behind an inner part, whose end this is: what it has bound is hidden again, and its types, variables and exceptions keep their
 -- numbers (8.2).
 abbrev pub behind : Place → (end : Place) → Place
-behind place end = record end { here = place.here; outer = place.outer; first_type = place.first_type; specified = place.specified }
+behind place end = record end {
+  here = place.here;
+  outer = place.outer;
+  first_type = place.first_type;
+  specified = place.specified;
+  keeps_operand = place.keeps_operand;
+}
 
 -- A name that may be declared at a place: the innermost part has not declared it yet (8.3), and it is not predefined (A.1).
 abbrev pub IsNew : Place → Ident → Type 0
@@ -594,6 +605,11 @@ abbrev pub names_around : (overrides : Option (Operation × ℕ)) → Ident → 
 names_around None name place = record { text = name.text; meaning = a_procedure_around } ∷ place.here ++ place.outer
 names_around (Some which) name place = place.here ++ place.outer
 
+-- Whether a body keeps its operand (7.6): it overrides an operation of a type that is derived from Controlled, which is none of the limited ones.
+abbrev pub keeps_own : (overrides : Option (Operation × ℕ)) → (limited : List ℕ) → Bool
+keeps_own None limited = false
+keeps_own (Some which) limited = not (is_one_of which.1 limited)
+
 -- Where the body of a procedure of this name begins (6.3): it is a part of its own, which has bound and specified nothing yet, and has variables of its
 -- own.
 abbrev pub body_place : (overrides : Option (Operation × ℕ)) → Ident → Place → Place
@@ -603,6 +619,7 @@ body_place overrides name place = record place {
   first_type = place.types;
   variables = 0;
   specified = [];
+  keeps_operand = keeps_own overrides place.limited;
 }
 
 -- What the part has bound behind the body of the procedure of a number: the name stands for it, but that of an operation for nothing.
@@ -625,6 +642,7 @@ behind_body overrides name place end = record end {
   variables = place.variables;
   specified = place.specified;
   overridden = overridden_behind overrides end.bodies end.overridden;
+  keeps_operand = place.keeps_operand;
 }
 
 -- The tables of a program, read where the body of a procedure of this name begins.
@@ -819,7 +837,23 @@ abbrev mutual
 
 -- The place before the first declaration of a tree.
 abbrev pub first_place : Place
-first_place = record { here = []; outer = []; first_type = 0; types = 0; pools = 0; bodies = 0; variables = 0; exceptions = 0; texts = 0; placed = []; controlled = 0; limited = []; specified = []; overridden = [] }
+first_place = record {
+  here = [];
+  outer = [];
+  first_type = 0;
+  types = 0;
+  pools = 0;
+  bodies = 0;
+  variables = 0;
+  exceptions = 0;
+  texts = 0;
+  placed = [];
+  controlled = 0;
+  limited = [];
+  specified = [];
+  overridden = [];
+  keeps_operand = false;
+}
 
 -- A tree is read from there, by the tables of a program.
 abbrev pub first_context : ProgramForm → Context
@@ -860,7 +894,8 @@ AreOverridden program end =
 -- stands for what its innermost declaration declares; a part declares a name once (8.3), no declaration has a predefined one (A.1), a body uses no
 -- object of the bodies around, and nothing is written to a loop parameter or a formal parameter of mode `in`, nor to its components at any depth that
 -- are reached without following an access value (5.5, 6.2). A body of the name of an operation overrides that very operation of the controlled type that
--- is named for its formal parameter, and nothing else overrides anything (7.6).
+-- is named for its formal parameter, and nothing else overrides anything; where that type is derived from Controlled, the body assigns to the formal
+-- parameter as a whole nowhere, and gives it for no formal parameter of mode `in out` (7.6).
 pub record IsReadAs (tree : UnitTree) (program : ProgramForm) : Type 0 where
   pub own_name : IsNew first_place tree.name
   pub end_name : IsEndName tree.name.text tree.end_name

@@ -101,7 +101,7 @@ abbrev pub known_first : Withs → List ℕ → Known
 known_first withs procedure = record {
   withs = withs;
   procedure = procedure;
-  here = part_from 0 0 0;
+  here = part_from false 0 0 0;
   outer = [];
   types = [];
   pools = [];

@@ -107,6 +107,7 @@ part_of p = record {
   elaborated = map declaration_form p.declarations.items;
   modes = p.modes.items;
   around = optional_variables p.around;
+  keeps_operand = p.keeps_operand;
 }
 
 -- What a resolution in progress knows: the code keeps the outer parts with the innermost last.

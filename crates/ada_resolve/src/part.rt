@@ -44,6 +44,8 @@ pub(crate) struct Part<'t> {
     modes: Vec<FormalMode>,
     /// Where it is that of a procedure's body, the variables of the body around.
     around: Option<Vec<Variable>>,
+    /// Whether the body that it belongs to is an operation that keeps its operand (7.6).
+    pub(crate) keeps_operand: bool,
 }
 
 /// What is left of a declarative part that ends.
@@ -58,15 +60,16 @@ pub(crate) struct Contents {
 }
 
 impl<'t> Part<'t> {
-    /// Nothing is declared yet, behind so many types, variables and bodies.
+    /// Nothing is declared yet, behind so many types, variables and bodies, in a body that keeps its operand or does not.
     #[tactic(auto, unfolding(crate::specs::View::part_of))]
     pub(crate) fn new(
         alloc: Global,
+        keeps_operand: bool,
         first_type: usize,
         first_variable: usize,
         first_body: usize,
     ) -> Part<'t>
-        ensures { part_of result ≡ part_from first_type first_variable first_body }
+        ensures { part_of result ≡ part_from keeps_operand first_type first_variable first_body }
     {
         Part {
             names: IndexMap::new(alloc),
@@ -77,11 +80,12 @@ impl<'t> Part<'t> {
             declarations: Vec::new(alloc),
             modes: Vec::new(alloc),
             around: None,
+            keeps_operand,
         }
     }
 
     /// The part of a procedure's body, with names of formal parameters of these modes, behind so many types and bodies;
-    /// the last are the variables of the body around.
+    /// then come the variables of the body around, and whether the body keeps its operand.
     #[tactic(auto, unfolding(crate::specs::View::part_of))]
     pub(crate) fn of_body(
         alloc: Global,
@@ -91,9 +95,10 @@ impl<'t> Part<'t> {
         first_body: usize,
         modes: Vec<FormalMode>,
         around: Vec<Variable>,
+        keeps_operand: bool,
     ) -> Part<'t>
         ensures { part_of result ≡ part_of_body (names_in names.entry.entries) first_type first_variable
-            first_body modes.items (each variable_form around) }
+            first_body modes.items (each variable_form around) keeps_operand }
     {
         Part {
             names,
@@ -104,6 +109,7 @@ impl<'t> Part<'t> {
             declarations: Vec::new(alloc),
             modes,
             around: Some(around),
+            keeps_operand,
         }
     }
 
@@ -331,6 +337,7 @@ impl<'t> Part<'t> {
             declarations,
             modes,
             around,
+            keeps_operand: _,
         } = self;
         Contents {
             declarations,

@@ -1,14 +1,14 @@
 //! Paths, where a value or a name of the library is wanted (4.1, 10.1.1).
 
 ghost use Rattle.std.specs.Prelude.{◌≡◌, map, slice_get, option_copied, IfErr};
-ghost use Rattle.ada_tree.specs.Names.{ident_of, selector_of};
+ghost use Rattle.ada_tree.specs.Names.{ident_of, path_of, selector_of};
 ghost use Rattle.ada_program.specs.Form.{expression_form, path_form};
 ghost use Rattle.ada_program.specs.WellFormed.{finalization_of};
 ghost use Rattle.ada_resolve.specs.Kept.{forms_in, kinds_in, known_type_form};
 ghost use Rattle.ada_resolve.specs.Known.{next_variable, parts_of};
 ghost use Rattle.ada_resolve.specs.Look.{Looks, library_path_look, named_look, outer_look, path_look, variable_look};
-ghost use Rattle.ada_resolve.specs.Method.{known, Finds, IsNoted, each, path_written_remark};
-ghost use Rattle.ada_resolve.specs.Paths.{component_named, constant_read, constant_wanted, components_of, designated_of, elementary_of, follows_to, follows_value, is_incomplete_type, is_record_kind, lent_by, name_of_type, reached_meant, record_of_object, variable_reached};
+ghost use Rattle.ada_resolve.specs.Method.{known, Finds, IsNoted, each, constant_remark};
+ghost use Rattle.ada_resolve.specs.Paths.{component_named, constant_read, constant_wanted, components_of, designated_of, elementary_of, follows_to, follows_value, is_first_variable, is_incomplete_type, is_kept_operand, is_record_kind, lent_by, name_of_type, reached_meant, record_of_object, variable_reached, written_remark};
 ghost use Rattle.ada_resolve.specs.View.{meant_of, optional_number, itself};
 
 use crate::components::{Components, KnownComponent, KnownType};
@@ -68,9 +68,32 @@ impl<'t> Resolver<'t> {
         }
     }
 
-    /// What is written to, which means this, is no constant, with what is selected from it.
+    /// What is written to, which means this, is no constant, and not the operand that an operation keeps.
     pub(crate) fn written(&self, path: &Path<'t>, meant: &Meant, notes: &mut Notes)
-        ensures { IsNoted notes (path_written_remark self path.now (meant_of meant.now)) }
+        ensures { let written = path_of path.now in
+            IsNoted notes (written_remark (known self) written (meant_of meant.now)) }
+    {
+        self.no_constant(path, meant, notes);
+        notes.note_if(
+            self.is_kept_operand(path),
+            path.root.spot,
+            NameRule::NotInProfile,
+        );
+    }
+
+    /// Whether a path is the operand, as a whole, of an operation that keeps it (7.6).
+    #[tactic(auto, unfolding(crate::specs::View::known_of, crate::specs::View::part_of))]
+    fn is_kept_operand(&self, path: &Path<'t>) -> bool
+        ensures { result ≡ is_kept_operand (known self) (path_of path.now) }
+    {
+        self.here.keeps_operand
+            && path.selectors.is_empty()
+            && is_first_variable(self.visible(path.root.text))
+    }
+
+    /// What is written to, which means this, is no constant, with what is selected from it.
+    fn no_constant(&self, path: &Path<'t>, meant: &Meant, notes: &mut Notes)
+        ensures { IsNoted notes (constant_remark self path.now (meant_of meant.now)) }
     {
         if let Some(
             Entity::Parameter { .. }
@@ -301,6 +324,16 @@ fn reached_meant(reached: Reached, path: program::Path) -> Meant
             record: number,
         }),
         Reached::Value(VariableKind::Record(_)) | Reached::Nothing => Meant::Unknown,
+    }
+}
+
+/// Whether a name stands for the first variable of its body, which the operand of an operation is.
+fn is_first_variable(found: Option<Entity>) -> bool
+    ensures { result ≡ is_first_variable found }
+{
+    match found {
+        Some(Entity::Variable { variable, .. }) => variable.0 == 0,
+        _ => false,
     }
 }
 

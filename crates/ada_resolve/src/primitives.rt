@@ -5,7 +5,7 @@ ghost use Rattle.ada_program.specs.WellFormed.{object_in};
 ghost use Rattle.ada_resolve.specs.Kept.{known_type_form};
 ghost use Rattle.ada_resolve.specs.Method.{known, with_answered, with_overridden, Changes};
 ghost use Rattle.ada_resolve.specs.Known.{no_specifications};
-ghost use Rattle.ada_resolve.specs.Primitives.{answered, chosen, declared_unless, exists_for, formal_specified, has_operation, is_controlled_type, operand, operand_by, operand_of, operation_named, overrider, sole_operand, specified_for, specified_more, finalized_by, overridden, type_overridden, with_chosen};
+ghost use Rattle.ada_resolve.specs.Primitives.{answered, chosen, declared_unless, exists_for, formal_specified, has_operation, is_controlled_type, operand, operand_by, operand_kept, operand_of, operation_named, overrider, sole_operand, specified_for, specified_more, finalized_by, overridden, type_overridden, with_chosen};
 ghost use Rattle.ada_resolve.specs.Procedures.{closed};
 ghost use Rattle.ada_resolve.specs.View.{formals_in, optional_number, specifications_in, specified_of, text_of};
 
@@ -144,6 +144,14 @@ impl<'t> Resolver<'t> {
         self.here.first_type <= number.0
             && self.is_controlled_type(number)
             && exists_for(operation, self.limited.contains(&number.0))
+    }
+
+    /// Whether an operation of a type keeps its operand: one of a type derived from Controlled does.
+    #[tactic(auto, unfolding(crate::specs::View::known_of))]
+    pub(crate) fn is_operand_kept(&self, number: TypeNo) -> bool
+        ensures { result ≡ operand_kept (known self) (Some number.0) }
+    {
+        !self.limited.contains(&number.0)
     }
 
     /// Whether a type is controlled.

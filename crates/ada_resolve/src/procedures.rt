@@ -6,7 +6,7 @@ ghost use Rattle.ada_tree.specs.Names.{optional_ident_of};
 ghost use Rattle.ada_resolve.specs.Method.{known, IsNoted, Changes, Takes, begun_with, ended_with};
 ghost use Rattle.ada_resolve.specs.Known.{next_procedure};
 ghost use Rattle.ada_resolve.specs.Primitives.{formal_specified, specified_for};
-ghost use Rattle.ada_resolve.specs.Procedures.{head_name_remark, operand_for, operand_wanted, overriding_unless};
+ghost use Rattle.ada_resolve.specs.Procedures.{head_name_remark, keeps_its_operand, operand_for, operand_wanted, overriding_unless};
 ghost use Rattle.ada_resolve.specs.Resolution.{head_told_of, same_name};
 ghost use Rattle.ada_resolve.specs.View.{done, formals_in, optional_number, text_of, Tells};
 
@@ -117,8 +117,20 @@ impl<'t> Resolver<'t> {
         ensures known { OnOk result (Changes self (begun_with name.entry formals.entry)) }
         ensures memory { IfErr result (λ e. e ≡ NameFault.NoMemory) }
     {
-        self.declare_unless(operation_named(name.text), name.text, Entity::Procedure)?;
-        self.enter_body(formals)
+        let operation = operation_named(name.text);
+        let keeps_operand = self.keeps_operand(operation, &formals);
+        self.declare_unless(operation, name.text, Entity::Procedure)?;
+        self.enter_body(formals, keeps_operand)
+    }
+
+    /// Whether the body of a procedure with these formals keeps its operand, if it is an operation by its name.
+    fn keeps_operand(&self, operation: Option<Operation>, formals: &Formals<'t>) -> bool
+        ensures { result ≡ keeps_its_operand operation (known self) (formals_in formals.now) }
+    {
+        match self.operand_if(operation, formals) {
+            Some(number) => self.is_operand_kept(number),
+            None => false,
+        }
     }
 
     /// The body of a procedure, whose first token and whose last `end` stand there, ends behind its handlers (6.3): the procedure

@@ -67,7 +67,7 @@ impl<'t> Resolver<'t> {
             alloc,
             withs,
             procedure,
-            here: Part::new(alloc, 0, 0, 0),
+            here: Part::new(alloc, false, 0, 0, 0),
             outer: Vec::new(alloc),
             types: Vec::new(alloc),
             pools: Vec::new(alloc),
@@ -115,22 +115,29 @@ impl<'t> Resolver<'t> {
     }
 
     /// The part that begins here.
-    #[tactic(auto, unfolding(crate::specs::View::known_of))]
+    #[tactic(auto, unfolding(crate::specs::View::known_of, crate::specs::View::part_of))]
     fn next_part(&self) -> Part<'t>
         ensures { part_of result ≡ next_part (known self) }
     {
         Part::new(
             self.alloc,
+            self.here.keeps_operand,
             self.types.len(),
             self.variables.len(),
             self.procedures.len(),
         )
     }
 
-    /// The body of a procedure begins, with these formals: the variables of the body around are put aside.
+    /// The body of a procedure begins, with these formals, which keeps its operand or does not: the variables of the body around
+    /// are put aside.
     #[tactic(auto, unfolding(crate::specs::View::known_of), using(crate::proofs::Names::reversed_snoc))]
-    pub(crate) fn enter_body(&mut self, formals: Formals<'t>) -> Result<(), NameFault>
-        ensures known { OnOk result (Changes self (with_body (formals_in formals.entry))) }
+    pub(crate) fn enter_body(
+        &mut self,
+        formals: Formals<'t>,
+        keeps_operand: bool,
+    ) -> Result<(), NameFault>
+        ensures known { OnOk result
+            (Changes self (with_body keeps_operand (formals_in formals.entry))) }
         ensures memory { IfErr result (λ e. e ≡ NameFault.NoMemory) }
     {
         let Formals {
@@ -150,6 +157,7 @@ impl<'t> Resolver<'t> {
             self.procedures.len(),
             modes,
             around,
+            keeps_operand,
         );
         let outer = mem::replace(&mut self.here, inner);
         self.outer.push(outer)?;

@@ -23,7 +23,7 @@ use Rattle.ada_resolve.specs.Clauses.{pool_of}
 use Rattle.ada_resolve.specs.Known.{Known, Named, entered, first_named, named, next_procedure, no_body_yet, parts, visible}
 use Rattle.ada_resolve.specs.Paths.{name_of_type}
 use Rattle.ada_resolve.specs.Primitives.{answered, declared_unless, entered_unless, operand_of, operation_named, overridden_if, overrider}
-use Rattle.ada_resolve.specs.Procedures.{Formals, no_formals, formal_type, formal_types, formal_kind, formal_mode, formal_entity, known_by, with_next, with_formal, with_formals, with_body, behind_head, variables_around, body_of, closed, with_procedure, body_ended}
+use Rattle.ada_resolve.specs.Procedures.{Formals, keeps_its_operand, no_formals, formal_type, formal_types, formal_kind, formal_mode, formal_entity, known_by, with_next, with_formal, with_formals, with_body, behind_head, variables_around, body_of, closed, with_procedure, body_ended}
 use Rattle.ada_resolve.proofs.Parts.{left_parts}
 use Rattle.ada_resolve.proofs.WellFormed.Exceptions.{RaisedFits}
 use Rattle.ada_resolve.proofs.Operating.{inherits_none, overrider_in}
@@ -255,8 +255,8 @@ formal_called n m variables text (entity.Variable x kind) f = tt
 formal_called n m variables text e f = absurd f
 
 -- the body begins
-with_body_sound : (k : Known) (f : Formals) → Sound (typed f.types k) → FormalsSound f → AllFormalsFit (k.types ++ f.types) f → Sound (with_body f k)
-with_body_sound k f s g fit =
+with_body_sound : (k : Known) (b : Bool) (f : Formals) → Sound (typed f.types k) → FormalsSound f → AllFormalsFit (k.types ++ f.types) f → Sound (with_body b f k)
+with_body_sound k b f s g fit =
     let types = k.types ++ f.types in
     record {
       types_fit = s.types_fit;
@@ -298,7 +298,7 @@ unfolding behind_head
 head_sound k head s =
     let f = with_formals k head.formals no_formals in
     let fit = head_fit k head.formals s in
-    with_body_sound (around_body k head) f (around_sound (typed f.types k) head fit.sound) (head_formals k head.formals) fit.fit
+    with_body_sound (around_body k head) (keeps_its_operand (operation_named head.name.text) k f) f (around_sound (typed f.types k) head fit.sound) (head_formals k head.formals) fit.fit
 
 pub head_complete : (k : Known) (head : HeadTree) → Complete (behind_head k head)
 unfolding behind_head
