@@ -237,6 +237,10 @@ on_same o c = ap (λ (b : Bool). if b then c else 0) (eq_self o)
 pub on_other : (o j c : ℕ) → o ≢ j → on (name o) j c ≡ 0
 on_other o j c ne = ap (λ (b : Bool). if b then c else 0) (eq_not o j ne)
 
+pub on_not : (v : Value) (j c : ℕ) → (v ≡ name j → ⊥) → on v j c ≡ 0
+on_not (Names i) j c ne = on_other i.0 j c (λ e. ne (ap name e))
+on_not v j c ne = refl
+
 pub on_none : (v : Value) (j : ℕ) → on v j 0 ≡ 0
 on_none (Names i) j = go (i.0 == j)
   where
@@ -290,3 +294,23 @@ fewer_losses shapes j n ds _ alike = refl
 fewer_losses shapes j n (d ∷ ds) (_ ∷ es) (one d' f) = ap (λ (m : ℕ). loss shapes j n d + m) (fewer_losses shapes j n ds es f)
 fewer_losses shapes j n (_ ∷ ds) es (none_left v treatment f) =
     let a = no_loss shapes j n v treatment in let b = fewer_losses shapes j n ds es f in omega (arith, a, b)
+
+-- Nothing waits for a part of this object.
+abbrev pub Lasts : (object : ℕ) → Doing → Type 0
+Lasts o (Treating v (begins by done) tasks) = v ≡ name o → ⊥
+Lasts o (Treating v (ends cause) tasks) = Unit {0}
+Lasts o (Ending v) = v ≡ name o → ⊥
+
+pub other_lasts : (o : ℕ) (d : Doing) → Other o d → Lasts o d
+other_lasts o (Treating v (begins by done) tasks) h = h
+other_lasts o (Treating v (ends cause) tasks) h = tt
+other_lasts o (Ending v) h = h
+
+lasts_gain : (shapes : List Shape) (o n : ℕ) (d : Doing) → Lasts o d → gain shapes o n d ≡ 0
+lasts_gain shapes o n (Treating v (begins by done) tasks) ne = on_not v o (count n (parts_left shapes tasks)) ne
+lasts_gain shapes o n (Treating v (ends cause) tasks) h = refl
+lasts_gain shapes o n (Ending v) ne = on_not v o 1 ne
+
+pub lasting_gain : (shapes : List Shape) (o n : ℕ) (ds : List Doing) → Of (Lasts o) ds → gains shapes o n ds ≡ 0
+lasting_gain shapes o n [] h = refl
+lasting_gain shapes o n (d ∷ ds) h = let a = lasts_gain shapes o n d h.0 in let b = lasting_gain shapes o n ds h.1 in omega (arith, a, b)

@@ -27,11 +27,12 @@ use Rattle.ada_meaning.specs.Step.{halts, picks, at, member_at, picked_task, tre
 use Rattle.ada_meaning.specs.Named.{Object, State, Next, named, look, finalize}
 use Rattle.ada_meaning.specs.Run.{Event}
 use Rattle.ada_meaning.proofs.Treatments.{member_within, are_table}
+use Rattle.ada_finalized.specs.Law.{finalized_before}
 use Rattle.ada_finalized.proofs.Counts.{count}
 use Rattle.ada_finalized.proofs.Treated.{get_within, picked, picked_left, clearing_left, clearing_picked}
 use Rattle.ada_finalized.proofs.Ranks.{Heap}
 use Rattle.ada_finalized.proofs.Doings.{name, Treating, doings, fewer_treating, alike, on_same, fewer_gains, fewer_losses}
-use Rattle.ada_finalized.proofs.Stacks.{Control, Overrides, IsPart, IsSpare, about, code, finalization, Stack, calm, operates, awaits, confines, covered}
+use Rattle.ada_finalized.proofs.Stacks.{Control, Overrides, IsPart, IsSpare, code, finalization, Stack, calm, operates, awaits, confines, covered}
 use Rattle.ada_finalized.proofs.Invariant.{Sane, Inv, runs, ending}
 use Rattle.ada_finalized.proofs.Going.{kept_goes, begins_stand, looked, one_here}
 use Rattle.ada_finalized.proofs.Begun.{begins_of, born_goes}
@@ -141,7 +142,7 @@ beginning_leads types bodies past s o by done (treats cs) tasks k running is h i
     refl refl (fewer_treating (name o) (begins by done) left (doings k) k alike) (begins_stand types s.heap _ o by done left k running refl h))
 
 -- A value of a part is to be finalized; what is left behind stands as this says.
-module _ (types : List TypeDefinition) (bodies : List BodyForm) (past : List Event) (s : State) (o : ℕ) (cause : Cause) (b : Control) (running : s.mode ≡ Running) (inv : Inv types past s.heap s.next (doings s.control)) (named_so : about b ≡ name o) where
+module _ (types : List TypeDefinition) (bodies : List BodyForm) (past : List Event) (s : State) (o : ℕ) (cause : Cause) (b : Control) (running : s.mode ≡ Running) (inv : Inv types past s.heap s.next (doings s.control)) (named_so : finalized_before b ≡ name o) where
   -- What is left of it stands, where no more is left of any part.
   abbrev pub Rebuilds : List Task → Type 0
   Rebuilds tasks =
@@ -152,9 +153,9 @@ module _ (types : List TypeDefinition) (bodies : List BodyForm) (past : List Eve
     stands_on : Stack types s.heap finalization s.activations (treating (name o) (ends cause) tasks b)
     stands_on = rebuilds tasks (λ m. omega arith)
 
-    about_left : (left : List Task) → about (treating (name o) (ends cause) left b) ≡ name o
-    about_left [] = named_so
-    about_left (task ∷ left) = refl
+    before_left : (left : List Task) → finalized_before (treating (name o) (ends cause) left b) ≡ name o
+    before_left [] = named_so
+    before_left (task ∷ left) = refl
 
     is_spare : IsSpare types o n (doings (treating (name o) (ends cause) tasks b))
     is_spare =
@@ -182,7 +183,7 @@ module _ (types : List TypeDefinition) (bodies : List BodyForm) (past : List Eve
       ends_by procedure None reference some = tt
       ends_by procedure (Some body) reference some =
           ended_goes types past s o x at_o stage of n cause tasks (doings b) (ap doings is) inv p at_n alive _ refl (fewer_treating (name o) (ends cause) tasks (doings b) b alike)
-          (runs (calm _ _ tt (operates _ (confines _ some (o, (n, (about_left tasks, (part_of types s.heap o n x p at_o stage at_n (inv.sane o x at_o), is_spare)))) stands_on))))
+          (runs (calm _ _ tt (operates _ (confines _ some (o, (n, (before_left tasks, (part_of types s.heap o n x p at_o stage at_n (inv.sane o x at_o), is_spare)))) stands_on))))
 
       pub ended_leads :
           (operation : Option ℕ) → procedure_number (operations_of types of).finalize ≡ operation

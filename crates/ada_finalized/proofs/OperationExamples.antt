@@ -1,6 +1,7 @@
--- Programs whose Initialize raises an exception, or whose Finalize does nothing or assigns to its object, and runs of them.
+-- Programs whose Initialize raises an exception or frees another object, or whose Finalize does nothing, assigns to its object or frees another one, and runs of
+-- them.
 
-use Rattle.std.proofs.Common.{◌≡◌, ◌≤◌, ℕ, false, List, [], ◌∷◌, ◌++◌, length, refl, arith}
+use Rattle.std.proofs.Common.{◌≡◌, ◌≢◌, ◌≤◌, ℕ, true, false, List, [], ◌∷◌, ◌++◌, length, refl, arith}
 use Rattle.std.specs.Prelude.{None, pos}
 use Rattle.std.specs.List.{filter}
 use Rattle.ada_program.specs.declared.program.ComponentKind.TheVariants as component
@@ -13,6 +14,7 @@ use Rattle.ada_program.specs.declared.program.Operations.{Operations}
 use Rattle.ada_program.specs.declared.program.PartKind.TheVariants as part
 use Rattle.ada_program.specs.declared.program.Procedure.{Procedure}
 use Rattle.ada_program.specs.declared.program.Program.{Program}
+use Rattle.ada_program.specs.declared.program.Right.TheVariants as right
 use Rattle.ada_program.specs.declared.program.Stmt.{Stmt}
 use Rattle.ada_program.specs.declared.program.Stmt as stmt
 use Rattle.ada_program.specs.declared.program.TypeDefinition.{TypeDefinition}
@@ -22,16 +24,18 @@ use Rattle.ada_program.specs.declared.program.VariableKind.TheVariants as variab
 use Rattle.ada_program.specs.Controlled.{no_operations, shapes_of, operations_of}
 use Rattle.ada_program.specs.Form.{stmt_form, expression_form, stmt_forms, statement_rules}
 use Rattle.ada_program.specs.ProgramForm.{body_forms}
+use Rattle.ada_meaning.specs.declared.state.Value.TheVariants.{Names}
 use Rattle.ada_meaning.specs.declared.event.Halt.TheVariants.{Unhandled}
 use Rattle.ada_meaning.specs.Named.{next}
-use Rattle.ada_meaning.specs.Run.{Choice, takes, Halts}
+use Rattle.ada_meaning.specs.Run.{Choice, grants, takes, Halts}
 use Rattle.ada_order.specs.Example.{InSomeRun, is_seen}
 use Rattle.ada_order.proofs.Choices.{run_by}
-use Rattle.ada_order.proofs.Example.{steps, vec, no_name, spot}
-use Rattle.ada_finalized.specs.Example.{controlled_shapes, raising_initialize, object_stmts, outer_operations, undone_events, quiet_finalize, outer_finalizes, BeginsAlone, TreatsAlone, BeginsWithin, assigning_finalize, TreatsTwice}
+use Rattle.ada_order.proofs.Example.{steps, vec, no_name, spot, path}
+use Rattle.ada_finalized.specs.Example.{controlled_shapes, raising_initialize, object_stmts, outer_operations, undone_events, quiet_finalize, outer_finalizes, BeginsAlone, TreatsAlone, BeginsWithin, assigning_finalize, TreatsTwice, object_x, freeing_operation, created_there, StandsWithin, TreatsWithin}
+use Rattle.ada_finalized.proofs.Doings.{same_name}
 use Rattle.ada_finalized.proofs.Example.{controlled_with, whole}
 
--- Inner, Outer, and what X, the formal parameter of an operation and an object in it are known by.
+-- Inner, Outer, what X, the formal parameter of an operation and an object in it are known by, and Inner_Access.
 abbrev types : Operations → List TypeDefinition
 types operations =
     controlled_with (part.Elementary (component.Integer (pos 0))) 0 1 no_operations
@@ -39,6 +43,7 @@ types operations =
     ∷ definition.Object (record { 0 = 1 })
     ∷ definition.Object (record { 0 = 1 })
     ∷ definition.Object (record { 0 = 1 })
+    ∷ definition.Access no_name (record { 0 = 0 }) None
     ∷ []
 
 -- A record object that is known by the type of this number.
@@ -174,3 +179,78 @@ unfolding next expression_form stmt_form
 treats_twice =
     run_by assigning (assigning_finalize ∷ []) object_stmts assigning_bodies assigning_form up_to_assignment (λ events last. TreatsTwice assigning last) refl
     (_, _, _, refl, refl)
+
+-- An operation creates an object, and frees it.
+abbrev inner_access : Variable
+inner_access = record { name = no_name; spot = spot; kind = variable.Access (record { 0 = 5 }); borrows = false }
+
+abbrev freeing_procedure : Procedure
+freeing_procedure = record {
+  formals = vec (InOut ∷ []) (omega arith);
+  variables = vec (of_outer 3 ∷ inner_access ∷ []) (omega arith);
+  declarations = vec (declaration.Variable (record { 0 = 1 }) None ∷ []) (omega arith);
+  statements = vec (stmt.Assign (path 1) (right.Default (record { 0 = 5 })) ∷ stmt.Free (record { 0 = 5 }) (path 1) ∷ []) (omega arith);
+  handlers = vec [] (omega arith);
+  start = spot;
+  end = spot;
+}
+
+-- The collection of Inner_Access is that of the main procedure.
+abbrev pub freeing : Operations → Program
+freeing overrides = record (program_with overrides freeing_procedure) { declarations = vec (declaration.Collection (record { 0 = 5 }) ∷ []) (omega arith) }
+
+pub freeing_shapes : (overrides : Operations) → shapes_of (freeing overrides).types.items ≡ controlled_shapes
+freeing_shapes overrides = refl
+
+pub freeing_operations : (overrides : Operations) → operations_of (freeing overrides).types.items 1 ≡ overrides
+freeing_operations overrides = refl
+
+pub freeing_bodies : (overrides : Operations) → body_forms (freeing overrides) ≡ freeing_operation ∷ []
+freeing_bodies overrides = simp statement_rules
+
+pub freeing_form : (overrides : Operations) → stmt_forms (freeing overrides) ≡ object_stmts
+freeing_form overrides = simp statement_rules
+
+true_never : true ≢ false
+true_never e = cc e
+
+x_is_other : object_x ≢ Names created_there
+x_is_other e = let never = same_name 0 1 e in omega (arith, never)
+
+-- The operation is called, its object is created, and the Free begins; then the Free has found the object.
+abbrev up_to_free : List Choice
+up_to_free = steps 6 ++ grants true ∷ steps 2
+
+-- Initialize is called once the component of X is initialized.
+abbrev initialize_frees : List Choice
+initialize_frees = steps 4 ++ takes 0 ∷ steps 2 ++ up_to_free
+
+pub initialize_stands : InSomeRun (freeing outer_operations) (λ events last. StandsWithin (freeing outer_operations) last)
+unfolding next expression_form stmt_form
+initialize_stands =
+    run_by (freeing outer_operations) (freeing_operation ∷ []) object_stmts (freeing_bodies outer_operations) (freeing_form outer_operations) initialize_frees
+    (λ events last. StandsWithin (freeing outer_operations) last) refl ((refl, λ never. never), _, refl, refl, refl, (x_is_other, tt))
+
+pub initialize_treats : InSomeRun (freeing outer_operations) (λ events last. TreatsWithin last)
+unfolding next expression_form stmt_form
+initialize_treats =
+    run_by (freeing outer_operations) (freeing_operation ∷ []) object_stmts (freeing_bodies outer_operations) (freeing_form outer_operations)
+    (initialize_frees ++ steps 1) (λ events last. TreatsWithin last) refl
+    (_, _, _, refl, (λ still. true_never still.1.1.1.1.1.1.1.1.0), (x_is_other, tt))
+
+-- Finalize is called for X itself, once the block is left and X is picked.
+abbrev finalize_frees : List Choice
+finalize_frees = steps 1 ++ up_to_leaving ++ steps 1 ++ up_to_free
+
+pub finalize_stands : InSomeRun (freeing outer_finalizes) (λ events last. StandsWithin (freeing outer_finalizes) last)
+unfolding next expression_form stmt_form
+finalize_stands =
+    run_by (freeing outer_finalizes) (freeing_operation ∷ []) object_stmts (freeing_bodies outer_finalizes) (freeing_form outer_finalizes) finalize_frees
+    (λ events last. StandsWithin (freeing outer_finalizes) last) refl ((refl, λ never. never), _, refl, refl, refl, tt)
+
+pub finalize_treats : InSomeRun (freeing outer_finalizes) (λ events last. TreatsWithin last)
+unfolding next expression_form stmt_form
+finalize_treats =
+    run_by (freeing outer_finalizes) (freeing_operation ∷ []) object_stmts (freeing_bodies outer_finalizes) (freeing_form outer_finalizes)
+    (finalize_frees ++ steps 1) (λ events last. TreatsWithin last) refl
+    (_, _, _, refl, (λ still. true_never still.1.1.1.1.1.1.1.1.0), (x_is_other, tt))

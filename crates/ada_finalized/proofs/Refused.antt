@@ -1,16 +1,19 @@
--- What the laws refuse: events of wrong machines, of an object as in the example.
+-- What the laws refuse: events of wrong machines, of an object as in the example, and what is left to do while an operation of it runs.
 
 use Rattle.std.proofs.Common.{◌≡◌, ℕ, [], ◌∷◌, Option, Some, None, refl, ap, inl, inr, arith}
 use Rattle.ada_parts.specs.Part.{Part, LiesIn}
+use Rattle.ada_parts.specs.Task.{performs}
 use Rattle.ada_meaning.specs.declared.state.Value.{Value}
 use Rattle.ada_meaning.specs.declared.state.Value.TheVariants.{Names}
 use Rattle.ada_meaning.specs.declared.event.Birth.{Birth}
 use Rattle.ada_meaning.specs.declared.event.Birth.TheVariants.{Creation, Copy, Adjustment}
 use Rattle.ada_meaning.specs.declared.event.Cause.TheVariants.{Freeing, Assigning}
+use Rattle.ada_meaning.specs.Frame as frame
 use Rattle.ada_meaning.specs.Event.{Born, Finalized, Back, Quiet}
 use Rattle.ada_meaning.specs.Run.{Event}
 use Rattle.ada_meaning.specs.Law.{ControlledValue, FinalizedTwoValues, Happened}
 use Rattle.ada_meaning.specs.Finalization.{Bears, Finalizes, BegunPart, begun_of, FinalizationLaw}
+use Rattle.ada_finalized.specs.Law.{NoOperationRunsOn, NothingBegins}
 use Rattle.ada_finalized.specs.Example.{controlled_shapes}
 
 -- The object, its whole and its component: they come to exist, and are finalized, with these turns; and its words go back.
@@ -175,3 +178,25 @@ overwritten (inr (inr (inr (inr h)))) = absurd h
 
 not_cleared : FinalizationLaw controlled_shapes (component_born ∷ component_adjusted ∷ component_finalized 1 ∷ it_back ∷ []) → ⊥
 not_cleared law = overwritten (law.finalized_by_back (component 0) (inl refl) (inr (inr (inr (inl refl)))))
+
+-- While a Finalize of the object runs, an operation of it runs: whether another part is left to be finalized, or the object ceases to exist next, or a record
+-- is copied to it.
+refuses_rest : NoOperationRunsOn it (frame.Confines ∷ frame.Treats it (frame.ends (Freeing 2)) (performs 0 1 ∷ []) ∷ frame.Ends it ∷ []) → ⊥
+refuses_rest none = none.0 refl
+
+refuses_end : NoOperationRunsOn it (frame.Confines ∷ frame.Ends it ∷ []) → ⊥
+refuses_end none = none.0 refl
+
+refuses_copy : NoOperationRunsOn it (frame.Confines ∷ frame.Copies 0 1 ∷ frame.StoresRecord it 0 1 ∷ []) → ⊥
+refuses_copy none = none.0 refl
+
+-- While it is initialized, too; and then it begins.
+refuses_initialize : NoOperationRunsOn it (frame.Awaits it Creation [] 0 1 [] ∷ []) → ⊥
+refuses_initialize none = none.0 refl
+
+awaited_begins : NothingBegins it (frame.Awaits it Creation [] 0 1 [] ∷ []) → ⊥
+awaited_begins none = none.0 refl
+
+-- While it is assigned to, it is still to be adjusted.
+adjusted_begins : NothingBegins it (frame.Copies 0 1 ∷ frame.StoresRecord it 0 1 ∷ frame.Treats it (frame.begins (Adjustment 3) []) (performs 0 1 ∷ []) ∷ []) → ⊥
+adjusted_begins none = none.0 refl

@@ -25,10 +25,10 @@ use Rattle.ada_meaning.specs.Step.{parts_held, treating, operands_of, with_opera
 use Rattle.ada_meaning.specs.Named.{Object}
 use Rattle.ada_meaning.specs.Finalization.{assigned_by}
 use Rattle.ada_meaning.specs.Life.{KeepsObjects}
-use Rattle.ada_finalized.specs.Law.{NoOperationRuns}
+use Rattle.ada_finalized.specs.Law.{NoOperationRuns, finalized_before, NoOperationRunsOn}
 use Rattle.ada_finalized.proofs.Counts.{one_if, count}
 use Rattle.ada_finalized.proofs.Ranks.{Heap}
-use Rattle.ada_finalized.proofs.Doings.{name, same_name, Doing, Treating, Ending, doings, Calm, rest, calm_rest, calm_doings, Of, Other, Fewer, fewer_of, alike, fewer_treating, on, on_less, on_same, on_other, gains, losses, fewer_gains, fewer_losses}
+use Rattle.ada_finalized.proofs.Doings.{name, same_name, Doing, Treating, Ending, doings, Calm, rest, calm_rest, calm_doings, Of, Other, Fewer, fewer_of, alike, fewer_treating, Lasts, lasting_gain, on, on_less, on_same, on_other, gains, losses, fewer_gains, fewer_losses}
 
 abbrev pub Acts : Type 0
 Acts = List (Activation Value)
@@ -58,17 +58,9 @@ HasPart types xs v n = (o : ℕ) × ((v ≡ name o) × IsPart types xs o n)
 abbrev pub IsSpare : List TypeDefinition → (object part : ℕ) → List Doing → Type 0
 IsSpare types o n ds = losses (shapes_of types) o n ds < gains (shapes_of types) o n ds
 
--- The object of what is first of this, which is left of a finalization.
-abbrev pub about : Control → Value
-about (frame.Treats v treatment tasks ∷ k) = v
-about (frame.Ends v ∷ k) = v
-about (frame.StoresRecord v to width ∷ k) = v
-about (frame.Copies first t ∷ k) = about k
-about k = Null
-
 -- The object of a finalization has a part that was finalized.
 abbrev pub Spared : List TypeDefinition → Heap → Control → Type 0
-Spared types xs k = (o : ℕ) × ((n : ℕ) × ((about k ≡ name o) × (IsPart types xs o n × IsSpare types o n (doings k))))
+Spared types xs k = (o : ℕ) × ((n : ℕ) × ((finalized_before k ≡ name o) × (IsPart types xs o n × IsSpare types o n (doings k))))
 
 -- Code; the end of an operation's body; what is left of a finalization, and what it was begun for.
 pub data Kind : Type 0 where
@@ -215,17 +207,17 @@ module _ (types : List TypeDefinition) (xs : Heap) where
   one_more : (of n : ℕ) (tasks : List Task) → 1 ≤ count n (parts_left (shapes_of types) (performs of n ∷ tasks))
   one_more of n tasks = let one = ap one_if (eq_self n) in omega (arith, one)
 
-  about_ending : (o : ℕ) (cause : Cause) (pool : Option ℕ) (tasks : List Task) (k : Control) → about (treating (name o) (ends cause) tasks (ending_then o cause pool k)) ≡ name o
-  about_ending o cause pool [] k = refl
-  about_ending o cause pool (task ∷ tasks) k = refl
+  before_ending : (o : ℕ) (cause : Cause) (pool : Option ℕ) (tasks : List Task) (k : Control) → finalized_before (treating (name o) (ends cause) tasks (ending_then o cause pool k)) ≡ name o
+  before_ending o cause pool [] k = refl
+  before_ending o cause pool (task ∷ tasks) k = refl
 
-  about_copying :
+  before_copying :
       (o n first t to width : ℕ) (cause : Cause) (tasks left : List Task) (k : Control)
-      → about (treating (name o) (ends cause) tasks (frame.Copies first t ∷ storing_then o n to width left k)) ≡ name o
-  about_copying o n first t to width cause [] left k = refl
-  about_copying o n first t to width cause (task ∷ tasks) left k = refl
+      → finalized_before (treating (name o) (ends cause) tasks (frame.Copies first t ∷ storing_then o n to width left k)) ≡ name o
+  before_copying o n first t to width cause [] left k = refl
+  before_copying o n first t to width cause (task ∷ tasks) left k = refl
 
-  pub others : (kind : Kind) (acts : Acts) (k : Control) → Stack types xs kind acts k → (o : ℕ) → (kind ≡ finalization → about k ≡ name o → ⊥) → Never o (doings k) → Of (Other o) (doings k)
+  pub others : (kind : Kind) (acts : Acts) (k : Control) → Stack types xs kind acts k → (o : ℕ) → (kind ≡ finalization → finalized_before k ≡ name o → ⊥) → Never o (doings k) → Of (Other o) (doings k)
   others code acts _ nothing o apart never = tt
   others code acts _ (calm f k c h) o apart never =
       subst (Of (Other o)) (sym (calm_doings f k c)) (others code acts k h o (λ is. absurd (cc is)) (subst (Never o) (calm_doings f k c) never))
@@ -248,7 +240,7 @@ module _ (types : List TypeDefinition) (xs : Heap) where
       never n (subst (λ (j : ℕ). IsPart types xs j n) e p) (subst (λ (j : ℕ). IsSpare types j n (doings k)) e spare)) never
   others finalization acts control (to_end i cause pool tasks k is own once h) o apart never =
       let ds = Treating (name i) (ends cause) tasks ∷ Ending (name i) ∷ doings k in
-      let ne : i ≢ o = λ same. apart refl (ap about is ∙ about_ending i cause pool tasks k ∙ ap name same) in
+      let ne : i ≢ o = λ same. apart refl (ap finalized_before is ∙ before_ending i cause pool tasks k ∙ ap name same) in
       let few : Fewer ds (doings control) =
       subst (λ (c : Control). Fewer ds (doings c)) (sym is)
       (fewer_treating (name i) (ends cause) tasks (Ending (name i) ∷ doings k) (ending_then i cause pool k) alike) in
@@ -268,7 +260,7 @@ module _ (types : List TypeDefinition) (xs : Heap) where
       )
   others finalization acts control (to_copy i m from t to width source tasks left k is less once operand h) o apart never =
       let ds = Treating (name i) (ends (Assigning m)) tasks ∷ Treating (name i) (begins (Adjustment m) []) left ∷ doings k in
-      let ne : i ≢ o = λ same. apart refl (ap about is ∙ about_copying i m from t to width (Assigning m) tasks left k ∙ ap name same) in
+      let ne : i ≢ o = λ same. apart refl (ap finalized_before is ∙ before_copying i m from t to width (Assigning m) tasks left k ∙ ap name same) in
       let few : Fewer ds (doings control) =
       subst (λ (c : Control). Fewer ds (doings c)) (sym is)
       (fewer_treating (name i) (ends (Assigning m)) tasks (Treating (name i) (begins (Adjustment m) []) left ∷ doings k) (frame.Copies from t ∷ storing_then i m to width left k)
@@ -287,3 +279,82 @@ module _ (types : List TypeDefinition) (xs : Heap) where
               omega (arith, g, l, a, b)) never),
         ),
       )
+
+  -- Where no operation of an object runs, nothing is done to the object behind code.
+  calm_on : (v : Value) (f : Frame Value) (k : Control) → Calm f → NoOperationRunsOn v (f ∷ k) → NoOperationRunsOn v k
+  calm_on v (frame.Awaits w by done of part tasks) k c on_v = absurd c
+  calm_on v frame.Confines k c on_v = absurd c
+  calm_on v f k c on_v = on_v
+
+  pub treating_on : (v w : Value) (treatment : Treatment) (tasks : List Task) (k : Control) → NoOperationRunsOn v (treating w treatment tasks k) → NoOperationRunsOn v k
+  treating_on v w treatment [] k on_v = on_v
+  treating_on v w treatment (task ∷ tasks) k on_v = on_v
+
+  pub others_on : (kind : Kind) (acts : Acts) (k : Control) → Stack types xs kind acts k → (o : ℕ) → (kind ≡ finalization → finalized_before k ≢ name o) → NoOperationRunsOn (name o) k → Of (Other o) (doings k)
+  others_on code acts _ nothing o apart none = tt
+  others_on code acts _ (calm f k c h) o apart none =
+      subst (Of (Other o)) (sym (calm_doings f k c)) (others_on code acts k h o (λ is. absurd (cc is)) (calm_on (name o) f k c none))
+  others_on code acts _ (comes_back actuals references k h) o apart none = others_on code (older acts) k h o (λ is. absurd (cc is)) none
+  others_on code acts _ (operates k h) o apart none = others_on guard (older acts) k h o (λ is. absurd (cc is)) none
+  others_on guard acts _ (awaits v by done of part tasks k some p h) o apart none = (none.0, others_on code acts k h o (λ is. absurd (cc is)) none.1)
+  others_on guard acts _ (confines k some p h) o apart none = others_on finalization acts k h o (λ is. none.0) none.1
+  others_on finalization acts control (to_end i cause pool tasks k is own once h) o apart none =
+      let ds = Treating (name i) (ends cause) tasks ∷ Ending (name i) ∷ doings k in
+      let ne : name i ≢ name o = λ same. apart refl (ap finalized_before is ∙ before_ending i cause pool tasks k ∙ same) in
+      let none_left : NoOperationRunsOn (name o) k = treating_on (name o) (name i) (ends cause) tasks (ending_then i cause pool k) (subst (NoOperationRunsOn (name o)) is none) in
+      let few : Fewer ds (doings control) =
+      subst (λ (c : Control). Fewer ds (doings c)) (sym is)
+      (fewer_treating (name i) (ends cause) tasks (Ending (name i) ∷ doings k) (ending_then i cause pool k) alike) in
+      fewer_of (Other o) ds (doings control) few (ne, (ne, others_on code acts k h o (λ never. absurd (cc never)) none_left))
+  others_on finalization acts control (to_copy i m from t to width source tasks left k is less once operand h) o apart none =
+      let ds = Treating (name i) (ends (Assigning m)) tasks ∷ Treating (name i) (begins (Adjustment m) []) left ∷ doings k in
+      let behind = frame.Copies from t ∷ storing_then i m to width left k in
+      let ne : name i ≢ name o = λ same. apart refl (ap finalized_before is ∙ before_copying i m from t to width (Assigning m) tasks left k ∙ same) in
+      let none_left : NoOperationRunsOn (name o) k =
+      treating_on (name o) (name i) (begins (Adjustment m) []) left k
+      (treating_on (name o) (name i) (ends (Assigning m)) tasks behind (subst (NoOperationRunsOn (name o)) is none)) in
+      let few : Fewer ds (doings control) =
+      subst (λ (c : Control). Fewer ds (doings c)) (sym is)
+      (fewer_treating (name i) (ends (Assigning m)) tasks (Treating (name i) (begins (Adjustment m) []) left ∷ doings k) behind
+      (fewer_treating (name i) (begins (Adjustment m) []) left (doings k) k alike)) in
+      fewer_of (Other o) ds (doings control) few (ne, (ne, others_on code acts k h o (λ never. absurd (cc never)) none_left))
+
+  -- And none of an object runs for whose parts nothing waits.
+  on_calm : (v : Value) (f : Frame Value) (k : Control) → Calm f → NoOperationRunsOn v k → NoOperationRunsOn v (f ∷ k)
+  on_calm v (frame.Awaits w by done of part tasks) k c on_v = absurd c
+  on_calm v frame.Confines k c on_v = absurd c
+  on_calm v f k c on_v = on_v
+
+  pub on_treating : (v w : Value) (treatment : Treatment) (tasks : List Task) (k : Control) → NoOperationRunsOn v k → NoOperationRunsOn v (treating w treatment tasks k)
+  on_treating v w treatment [] k on_v = on_v
+  on_treating v w treatment (task ∷ tasks) k on_v = on_v
+
+  pub of_treating : (P : Doing → Type 0) (v : Value) (treatment : Treatment) (tasks : List Task) (k : Control) → Of P (doings (treating v treatment tasks k)) → Of P (doings k)
+  of_treating P v treatment [] k h = h
+  of_treating P v treatment (task ∷ tasks) k h = h.1
+
+  pub none_of_lasting : (kind : Kind) (acts : Acts) (k : Control) → Stack types xs kind acts k → (o : ℕ) → Of (Lasts o) (doings k) → NoOperationRunsOn (name o) k
+  none_of_lasting code acts _ nothing o lasts = tt
+  none_of_lasting code acts _ (calm f k c h) o lasts =
+      on_calm (name o) f k c (none_of_lasting code acts k h o (subst (Of (Lasts o)) (calm_doings f k c) lasts))
+  none_of_lasting code acts _ (comes_back actuals references k h) o lasts = none_of_lasting code (older acts) k h o lasts
+  none_of_lasting code acts _ (operates k h) o lasts = none_of_lasting guard (older acts) k h o lasts
+  none_of_lasting guard acts _ (awaits v by done of part tasks k some p h) o lasts = (lasts.0, none_of_lasting code acts k h o lasts.1)
+  none_of_lasting guard acts _ (confines k some (i, (n, (is, (p, spare)))) h) o lasts = (
+    (λ same.
+        let e : i ≡ o = same_name i o (sym is ∙ same) in
+        let left = subst (λ (j : ℕ). IsSpare types j n (doings k)) e spare in
+        let none = lasting_gain shapes o n (doings k) lasts in
+        absurd (omega (arith, left, none))),
+    none_of_lasting finalization acts k h o lasts,
+  )
+  none_of_lasting finalization acts control (to_end i cause pool tasks k is own once h) o lasts =
+      let behind = ending_then i cause pool k in
+      let left = of_treating (Lasts o) (name i) (ends cause) tasks behind (subst (λ (c : Control). Of (Lasts o) (doings c)) is lasts) in
+      subst (NoOperationRunsOn (name o)) (sym is) (on_treating (name o) (name i) (ends cause) tasks behind (none_of_lasting code acts k h o left.1))
+  none_of_lasting finalization acts control (to_copy i m from t to width source tasks later k is less once operand h) o lasts =
+      let behind = frame.Copies from t ∷ storing_then i m to width later k in
+      let left = of_treating (Lasts o) (name i) (ends (Assigning m)) tasks behind (subst (λ (c : Control). Of (Lasts o) (doings c)) is lasts) in
+      let none = none_of_lasting code acts k h o (of_treating (Lasts o) (name i) (begins (Adjustment m) []) later k left) in
+      subst (NoOperationRunsOn (name o)) (sym is)
+      (on_treating (name o) (name i) (ends (Assigning m)) tasks behind (on_treating (name o) (name i) (begins (Adjustment m) []) later k none))

@@ -1,17 +1,19 @@
--- An object that is in its collection has the values of all its parts, where nothing is treated; and while no operation runs, nothing is treated but in front
--- of all else that is left to do.
+-- An object that is in its collection has the values of all its parts, where nothing initializes or adjusts it; and while no operation runs, nothing is treated
+-- but in front of all else that is left to do.
 
-use Rattle.std.proofs.Common.{◌≡◌, ◌≢◌, ℕ, ℤ, zero, suc, ◌<◌, true, false, List, [], ◌∷◌, length, Option, Some, refl, sym, ap, ◌∙◌, inl, inr, subst, arith}
+use Rattle.std.proofs.Common.{◌≡◌, ℕ, ℤ, zero, suc, ◌<◌, true, false, List, [], ◌∷◌, length, Option, Some, refl, sym, ap, ◌∙◌, subst, arith}
 use Rattle.std.specs.List.{slice_get}
-use Rattle.std.proofs.lemmas.Bool.Decides.{eqb_tells}
 use Rattle.ada_program.specs.declared.program.Program.{Program}
 use Rattle.ada_program.specs.declared.program.TypeDefinition.{TypeDefinition}
 use Rattle.ada_program.specs.Controlled.{OverridesNothing, shapes_of}
 use Rattle.ada_parts.specs.Task.{Task}
+use Rattle.ada_meaning.specs.declared.state.Id.{Id}
 use Rattle.ada_meaning.specs.declared.state.Value.{Value}
 use Rattle.ada_meaning.specs.declared.state.Value.TheVariants.{Names}
 use Rattle.ada_meaning.specs.declared.state.Mode.{Mode}
 use Rattle.ada_meaning.specs.declared.state.Mode.TheVariants.{Running, Raising, Exiting, Returning}
+use Rattle.ada_meaning.specs.declared.event.Birth.TheVariants.{Adjustment}
+use Rattle.ada_meaning.specs.declared.event.Cause.{Cause}
 use Rattle.ada_meaning.specs.Frame.{Frame, Treatment, begins, ends, begins_by}
 use Rattle.ada_meaning.specs.Frame as frame
 use Rattle.ada_meaning.specs.State.{begins_in, begins_among}
@@ -19,10 +21,10 @@ use Rattle.ada_meaning.specs.Step.{parts_held, treating, older}
 use Rattle.ada_meaning.specs.Named.{Object, State}
 use Rattle.ada_meaning.specs.Run.{Event, Run, first_state}
 use Rattle.ada_meaning.specs.Finalization.{NothingTreated, HasParts}
-use Rattle.ada_finalized.specs.Law.{waits_for_operation, NoOperationRuns, AllPartsStand, StatementsTreatNothing}
+use Rattle.ada_finalized.specs.Law.{waits_for_operation, NoOperationRuns, AllPartsStand, NothingBegins, ListedObjectsStand, NoOperationRunsOn, NoOperationRunsOnListed, StatementsTreatNothing}
 use Rattle.ada_finalized.proofs.Ranks.{Heap}
-use Rattle.ada_finalized.proofs.Doings.{Calm, Doing, Treating, Ending, doings, rest, rest_doings, Of, on_other, gains, losses}
-use Rattle.ada_finalized.proofs.Stacks.{Acts, Control, Kind, code, guard, finalization, Stack, nothing, calm, comes_back, operates, awaits, confines, to_end, to_copy, ending_then, guard_never, none_behind}
+use Rattle.ada_finalized.proofs.Doings.{name, same_name, Calm, Ending, doings, rest, rest_doings, Of, Lasts, lasting_gain, gains, losses}
+use Rattle.ada_finalized.proofs.Stacks.{Acts, Control, Kind, code, guard, finalization, Stack, nothing, calm, comes_back, operates, awaits, confines, to_end, to_copy, ending_then, guard_never, none_behind, of_treating, on_treating, none_of_lasting}
 use Rattle.ada_finalized.proofs.Claims.{Claimed}
 use Rattle.ada_finalized.proofs.Invariant.{Sane, exists, is_gone, Fine, AssignsThen, Stands, runs, finding, passing, ends_operation, beginning, ending, leaving, storing, Fits}
 use Rattle.ada_finalized.proofs.Going.{alive_of, listed_exists}
@@ -34,69 +36,105 @@ some_at [] n lt = absurd (omega (arith, lt))
 some_at (x ∷ xs) zero lt = (x, refl)
 some_at (x ∷ xs) (suc n) lt = some_at xs n (omega (arith, lt))
 
--- Objects are only to cease to exist.
-OnlyEnding : Doing → Type 0
-OnlyEnding (Treating v treatment tasks) = ⊥
-OnlyEnding (Ending v) = Unit {0}
+-- Nothing waits for a part of an object that is in its collection, where nothing initializes or adjusts it.
+module _ (types : List TypeDefinition) (past : List Event) (xs : Heap) (next : ℕ) (o : Id) (x : Object) (at_o : slice_get xs o.0 ≡ Some x) (listed : x.listed ≡ true) where
+  not_ending : (v : Value) → Fine types past xs next (Ending v) → v ≡ Names o → ⊥
+  not_ending v (i, (is, (y, (at_i, unlisted)))) same =
+      let e : i ≡ o.0 = same_name i o.0 (sym is ∙ same) in
+      let both : Some y ≡ Some x = sym at_i ∙ ap (slice_get xs) e ∙ at_o in
+      let one : y ≡ x = cc both in
+      let never : true ≡ false = sym listed ∙ sym (ap (λ (z : Object). z.listed) one) ∙ unlisted in
+      absurd (cc never)
 
-only_ending : (k : Control) → NothingTreated k → Of OnlyEnding (doings k)
-unfolding OnlyEnding
-only_ending [] h = tt
-only_ending (frame.Treats v treatment tasks ∷ k) h = absurd h
-only_ending (frame.Awaits v by done of part tasks ∷ k) h = absurd h
-only_ending (frame.Ends v ∷ k) h = (tt, only_ending k h)
-only_ending (f ∷ k) h = only_ending k h
-
--- So nothing waits for a part of an object that is in its collection.
-module _ (types : List TypeDefinition) (past : List Event) (xs : Heap) (next o : ℕ) (x : Object) (at_o : slice_get xs o ≡ Some x) (listed : x.listed ≡ true) where
-  other_object : (v : Value) → Fine types past xs next (Ending v) → (n : ℕ) → gains (shapes_of types) o n (Ending v ∷ []) ≡ 0
-  other_object v (i, (is, (y, (at_i, unlisted)))) n = elim (eqb_tells i o) [ inl h ↦ absurd (same h.1) | inr h ↦ none h.1 ]
-    where
-      same : i ≡ o → ⊥
-      same e =
-          let both : Some y ≡ Some x = sym at_i ∙ ap (slice_get xs) e ∙ at_o in
-          let one : y ≡ x = cc both in
-          let never : true ≡ false = sym listed ∙ sym (ap (λ (z : Object). z.listed) one) ∙ unlisted in
-          cc never
-
-      none : i ≢ o → gains (shapes_of types) o n (Ending v ∷ []) ≡ 0
-      none ne = subst (λ (u : Value). gains (shapes_of types) o n (Ending u ∷ []) ≡ 0) (sym is) (let a = on_other i o 1 ne in omega (arith, a))
-
-  none_gained : (ds : List Doing) → Of OnlyEnding ds → Of (Fine types past xs next) ds → (n : ℕ) → gains (shapes_of types) o n ds ≡ 0
-  unfolding OnlyEnding
-  none_gained [] only fine n = refl
-  none_gained (Treating v treatment tasks ∷ ds) only fine n = absurd only.0
-  none_gained (Ending v ∷ ds) only fine n =
-      let a = other_object v fine.0 n in let b = none_gained ds only.1 fine.1 n in omega (arith, a, b)
-
-  none_lost : (ds : List Doing) → Of OnlyEnding ds → (n : ℕ) → losses (shapes_of types) o n ds ≡ 0
-  unfolding OnlyEnding
-  none_lost [] only n = refl
-  none_lost (Treating v treatment tasks ∷ ds) only n = absurd only.0
-  none_lost (Ending v ∷ ds) only n = let a = none_lost ds only.1 n in omega (arith, a)
+  it_lasts : (k : Control) → NothingBegins (Names o) k → Of (Fine types past xs next) (doings k) → Of (Lasts o.0) (doings k)
+  it_lasts [] none fine = tt
+  it_lasts (frame.Treats v (begins by done) tasks ∷ k) none fine = (none.0, it_lasts k none.1 fine.1)
+  it_lasts (frame.Treats v (ends cause) tasks ∷ k) none fine = (tt, it_lasts k none fine.1)
+  it_lasts (frame.Awaits v by done of part tasks ∷ k) none fine = (none.0, it_lasts k none.1 fine.1)
+  it_lasts (frame.Ends v ∷ k) none fine = (not_ending v fine.0, it_lasts k none fine.1)
+  it_lasts (f ∷ k) none fine = it_lasts k none fine
 
 listed_length : (types : List TypeDefinition) (x : Object) → x.listed ≡ true → Sane types x → length x.cell.parts ≡ parts_held types x.cell.access
 listed_length types x listed (exists stage out parts) = parts
 listed_length types x listed (is_gone gone unlisted dead) = let never : true ≡ false = sym listed ∙ unlisted in absurd (cc never)
 
 fits_parts :
-    (types : List TypeDefinition) (past : List Event) (s : State) (o : ℕ) (x : Object) → Fits types past s → NothingTreated s.control → slice_get s.heap o ≡ Some x
-    → x.listed ≡ true → HasParts types x
-fits_parts types past s o x h still is listed n lt =
+    (types : List TypeDefinition) (past : List Event) (s : State) (o : Id) (x : Object) → Fits types past s → NothingBegins (Names o) s.control
+    → slice_get s.heap o.0 ≡ Some x → x.listed ≡ true → HasParts types x
+fits_parts types past s o x h none is listed n lt =
     let shapes = shapes_of types in
     let ds = doings s.control in
-    let sane = h.inv.sane o x is in
+    let sane = h.inv.sane o.0 x is in
     let le = listed_length types x listed sane in
     let p = some_at x.cell.parts n (omega (arith, lt, le)) in
-    let only = only_ending s.control still in
-    let a = none_gained types past s.heap s.next o x is listed ds only h.inv.fine n in
-    let b = none_lost types past s.heap s.next o x is listed ds only n in
-    let c = subst (λ (found : Option Object). Claimed found n (gains shapes o n ds) (losses shapes o n ds)) is (h.inv.claims o n) (listed_exists types x listed sane) p.0 p.1 in
-    (p.0, p.1, alive_of p.0.alive (omega (arith, a, b, c)))
+    let a = lasting_gain shapes o.0 n ds (it_lasts types past s.heap s.next o x is listed s.control none h.inv.fine) in
+    let c = subst (λ (found : Option Object). Claimed found n (gains shapes o.0 n ds) (losses shapes o.0 n ds)) is (h.inv.claims o.0 n) (listed_exists types x listed sane) p.0 p.1 in
+    (p.0, p.1, alive_of p.0.alive (omega (arith, a, c)))
+
+pub listed_stand : ListedObjectsStand
+listed_stand program input events last run o x is listed none =
+    fits_parts program.types.items (past_then events []) last o x (last_holds program input events last run).fits none is listed
+
+-- No operation of it runs, in whatever state.
+module _ (types : List TypeDefinition) (s : State) (o : ℕ) where
+  on_rest : (k : Control) → NoOperationRunsOn (name o) (rest k) → NoOperationRunsOn (name o) k
+  on_rest [] none = none
+  on_rest (frame.Treats v treatment tasks ∷ k) none = none
+  on_rest (frame.Awaits v by done of part tasks ∷ k) none = none
+  on_rest (frame.Confines ∷ k) none = none
+  on_rest (frame.Assigns t ∷ k) none = none
+  on_rest (frame.Ends v ∷ k) none = none
+  on_rest (frame.GivesBack v cause pool ∷ k) none = none
+  on_rest (frame.Returns actuals references ∷ k) none = none
+  on_rest (f ∷ k) none = on_rest k none
+
+  on_assigns : (acts : Acts) (k : Control) → AssignsThen types s.heap acts k → Of (Lasts o) (doings k) → NoOperationRunsOn (name o) k
+  on_assigns acts [] after lasts = absurd after
+  on_assigns acts (frame.Assigns t ∷ k) after lasts = none_of_lasting types s.heap code acts k after o lasts
+  on_assigns acts (f ∷ k) after lasts = absurd after
+
+  on_assigning : AssignsThen types s.heap s.activations (rest s.control) → Of (Lasts o) (doings s.control) → NoOperationRunsOn (name o) s.control
+  on_assigning after lasts =
+      on_rest s.control (on_assigns s.activations (rest s.control) after (subst (Of (Lasts o)) (sym (rest_doings s.control)) lasts))
+
+  -- So it is behind a frame.
+  on_code : (c k : Control) → c ≡ k → NoOperationRunsOn (name o) k → NoOperationRunsOn (name o) c
+  on_code c k is none = subst (NoOperationRunsOn (name o)) (sym is) none
+
+  lasts_in : (c : Control) → s.control ≡ c → Of (Lasts o) (doings s.control) → Of (Lasts o) (doings c)
+  lasts_in c is lasts = subst (λ (k : Control). Of (Lasts o) (doings k)) is lasts
+
+  pub none_runs_on : Stands types s.heap s → Of (Lasts o) (doings s.control) → NoOperationRunsOn (name o) s.control
+  none_runs_on (runs h) lasts = none_of_lasting types s.heap code s.activations s.control h o lasts
+  none_runs_on (finding running f after) lasts = on_assigning after lasts
+  none_runs_on (passing e raises p after) lasts = on_assigning after lasts
+  none_runs_on (ends_operation h) lasts = none_of_lasting types s.heap guard s.activations s.control h o lasts
+  none_runs_on (beginning i by done task tasks k running is h) lasts =
+      on_code s.control _ is (none_of_lasting types s.heap code s.activations k h o (lasts_in _ is lasts).1)
+  none_runs_on (ending running h) lasts = none_of_lasting types s.heap finalization s.activations s.control h o lasts
+  none_runs_on (leaving i x cause pool k running is own h at_o gone) lasts =
+      on_code s.control _ is (none_of_lasting types s.heap code s.activations k h o (lasts_in _ is lasts))
+  none_runs_on (storing i n to width tasks k running is h) lasts =
+      on_code s.control _ is
+      (on_treating types s.heap (name o) (name i) (begins (Adjustment n) []) tasks k
+      (none_of_lasting types s.heap code s.activations k h o
+      (of_treating types s.heap (Lasts o) (name i) (begins (Adjustment n) []) tasks k (lasts_in _ is lasts))))
+
+pub none_runs_on_listed : NoOperationRunsOnListed
+none_runs_on_listed program input events last run o x is listed none =
+    let fits = (last_holds program input events last run).fits in
+    none_runs_on program.types.items last o.0 fits.stands (it_lasts program.types.items (past_then events []) last.heap last.next o x is listed last.control none fits.inv.fine)
+
+-- Where nothing is treated, nothing begins.
+pub nothing_begins : (v : Value) (k : Control) → NothingTreated k → NothingBegins v k
+nothing_begins v [] h = tt
+nothing_begins v (frame.Treats w treatment tasks ∷ k) h = absurd h
+nothing_begins v (frame.Awaits w by done of part tasks ∷ k) h = absurd h
+nothing_begins v (f ∷ k) h = nothing_begins v k h
 
 pub all_stand : AllPartsStand
 all_stand program input events last run still o x is listed =
-    fits_parts program.types.items (past_then events []) last o.0 x (last_holds program input events last run).fits still is listed
+    listed_stand program input events last run o x is listed (nothing_begins (Names o) last.control still)
 
 -- Where nothing is done to any object, nothing is treated.
 nothing_done : (k : Control) → doings k ≡ [] → NothingTreated k
@@ -167,6 +205,30 @@ module _ (types : List TypeDefinition) (s : State) (still : NoOperationRuns s.co
   nothing_fits f k is h (leaving o x cause pool j running c own st at_o gone) = subst NothingTreated (sym c) (code_nothing j s.activations (subst NoOperationRuns c still).1 st)
   nothing_fits f k is h (storing o n to width tasks j running c st) = subst NothingTreated (sym is) (by_first f _ k _ (sym is ∙ c) (λ never. never) h)
 
+  -- Behind the finalization of an object that then ceases to exist, nothing is treated.
+  behind_finalization :
+      (acts : Acts) (v w : Value) (cause : Cause) (tasks : List Task) (k : Control) → NoOperationRuns (frame.Treats v (ends cause) tasks ∷ frame.Ends w ∷ k)
+      → Stack types s.heap finalization acts (frame.Treats v (ends cause) tasks ∷ frame.Ends w ∷ k) → NothingTreated k
+  behind_finalization acts v w cause tasks k none (to_end o because pool [] j is own once st) = absurd (cc is)
+  behind_finalization acts v w cause tasks k none (to_end o because pool (task ∷ left) j is own once st) =
+      let e : k ≡ frame.GivesBack (name o) because pool ∷ j = cc is in
+      subst NothingTreated (sym e) (code_nothing j acts (subst NoOperationRuns e none.1.1).1 st)
+  behind_finalization acts v w cause tasks k none (to_copy o n from t to width source [] later j is less once operand st) = absurd (cc is)
+  behind_finalization acts v w cause tasks k none (to_copy o n from t to width source (task ∷ left) later j is less once operand st) = absurd (cc is)
+
+  pub behind_end :
+      (v w : Value) (cause : Cause) (tasks : List Task) (k : Control) → s.control ≡ frame.Treats v (ends cause) tasks ∷ frame.Ends w ∷ k
+      → Stands types s.heap s → NothingTreated k
+  behind_end v w cause tasks k is (runs st) = absurd (subst NothingTreated is (code_nothing s.control s.activations still st))
+  behind_end v w cause tasks k is (finding running g after) = absurd (subst NothingTreated is (assigns_nothing s.activations s.control still after))
+  behind_end v w cause tasks k is (passing e raises p after) = absurd (subst NothingTreated is (assigns_nothing s.activations s.control still after))
+  behind_end v w cause tasks k is (ends_operation st) = absurd (guard_never types s.heap s.activations s.control st still)
+  behind_end v w cause tasks k is (beginning o by done task left j running c st) = let e = sym is ∙ c in absurd (cc e)
+  behind_end v w cause tasks k is (ending running st) =
+      behind_finalization s.activations v w cause tasks k (subst NoOperationRuns is still) (subst (Stack types s.heap finalization s.activations) is st)
+  behind_end v w cause tasks k is (leaving o x because pool j running c own st at_o gone) = let e = sym is ∙ c in absurd (cc e)
+  behind_end v w cause tasks k is (storing o n to width left j running c st) = let e = sym is ∙ c in absurd (cc e)
+
 -- So it is at any frame that treats nothing, as one of a Free does.
 pub nothing_treated_at :
     (program : Program) (input : List ℤ) (events : List Event) (last : State) → NoOperationRuns last.control
@@ -174,6 +236,14 @@ pub nothing_treated_at :
     → NothingTreated last.control
 nothing_treated_at program input events last still run f k is h =
     nothing_fits program.types.items last still f k is h (last_holds program input events last run).fits.stands
+
+-- And behind the finalization of an object that then ceases to exist (7.6.1), nothing is treated either.
+pub untreated_end :
+    (program : Program) (input : List ℤ) (events : List Event) (last : State) → NoOperationRuns last.control
+    → Run program (first_state program input) events last → (v w : Value) (cause : Cause) (tasks : List Task) (k : Control)
+    → last.control ≡ frame.Treats v (ends cause) tasks ∷ frame.Ends w ∷ k → NothingTreated k
+untreated_end program input events last still run v w cause tasks k is =
+    behind_end program.types.items last still v w cause tasks k is (last_holds program input events last run).fits.stands
 
 -- And so it is where a statement begins.
 beginning_in : (mode : Mode) (k : Control) → begins_in mode k ≡ true → begins_among k ≡ true

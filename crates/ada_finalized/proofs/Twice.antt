@@ -1,4 +1,4 @@
--- What is treated exists; and while no operation runs, no treatment comes to a value that does not exist.
+-- What is treated exists; and while no operation of its object runs, no treatment comes to a value that does not exist.
 
 use Rattle.std.proofs.Common.{◌≡◌, ℕ, ℤ, ◌+◌, ◌≤◌, ◌==◌, Bool, true, false, if◌then◌else◌, List, [], ◌∷◌, length, Option, Some, None, refl, sym, ap, ◌∙◌, subst, arith}
 use Rattle.std.specs.List.{slice_get}
@@ -26,17 +26,16 @@ use Rattle.ada_meaning.specs.Heap.{PartState, Cell, Found, on_null, on_gone, on_
 use Rattle.ada_meaning.specs.Step.{halts, picks, at, direction_of, picked_task, treating, treated_on, beginning as operation_of, operation_next, part_reference, begun_next, ended_next, finalized_next, performed_next, treats_next, born_next, awaited_next, undo_next, broken_next, mode_next}
 use Rattle.ada_meaning.specs.Named.{Object, State, Next, named, next, look, existing, seen, finalize}
 use Rattle.ada_meaning.specs.Run.{Event, Run, first_state}
-use Rattle.ada_meaning.specs.Finalization.{NothingTreated}
-use Rattle.ada_finalized.specs.Law.{waits_for_operation, NoOperationRuns, NeverFinalizesTwice, OperationsEndWell, NamesExisting, TreatedExist, TreatedObjectsExist}
+use Rattle.ada_finalized.specs.Law.{waits_for_operation, NoOperationRuns, NeverFinalizesTwice, NoOperationRunsOn, TreatedValuesExist, OperationsEndWell, NamesExisting, TreatedExist, TreatedObjectsExist, OperatedObjectsExist}
 use Rattle.ada_finalized.proofs.Counts.{one_if, count}
 use Rattle.ada_finalized.proofs.Ranks.{Heap}
-use Rattle.ada_finalized.proofs.Doings.{name, same_name, Doing, Treating, Ending, doings, Of, Fewer, fewer_treating, alike, fewer_gains, fewer_losses, on_same, gains, losses}
-use Rattle.ada_finalized.proofs.Stacks.{Control, code, finalization, Stack, to_end, to_copy, storing_then, ending_then, guard_never, none_behind}
+use Rattle.ada_finalized.proofs.Doings.{name, same_name, Doing, Treating, Ending, doings, Calm, rest, Of, Fewer, fewer_treating, alike, fewer_gains, fewer_losses, on_same, gains, losses, of_map, Other, Lasts, other_lasts, lasting_gain}
+use Rattle.ada_finalized.proofs.Stacks.{Acts, Control, code, guard, finalization, Stack, nothing, calm, comes_back, operates, awaits, confines, to_end, to_copy, storing_then, ending_then, treating_on, others_on}
 use Rattle.ada_finalized.proofs.Claims.{Claimed}
-use Rattle.ada_finalized.proofs.Invariant.{Exists, IsThere, Inv, Stands, runs, finding, passing, ends_operation, beginning, ending, leaving, storing}
+use Rattle.ada_finalized.proofs.Invariant.{Exists, IsThere, Inv, AssignsThen, Stands, runs, finding, passing, ends_operation, beginning, ending, leaving, storing}
 use Rattle.ada_finalized.proofs.Going.{next_is, alive_of, one_here}
 use Rattle.ada_finalized.proofs.Runs.{past_then, last_holds}
-use Rattle.ada_finalized.proofs.Standing.{code_nothing, assigns_nothing}
+use Rattle.ada_finalized.proofs.Standing.{none_runs_on}
 
 -- What comes next does not halt so.
 abbrev NotTwice : Next → Type 0
@@ -124,41 +123,37 @@ module _ (types : List TypeDefinition) (bodies : List BodyForm) (past : List Eve
           let at_o : slice_get s.heap o ≡ Some x = ap (slice_get s.heap) (same_name o i same) ∙ at_i in
           subst (λ (found : Option Object). Claimed found n (gains (shapes_of types) o n (doings s.control)) (losses (shapes_of types) o n (doings s.control))) at_o (inv.claims o n) stage p at_n
 
-  -- No operation runs behind what is left of a treatment.
-  still_behind : (v : Value) (treatment : Treatment) (tasks : List Task) (k : Control) → NoOperationRuns (treating v treatment tasks k) → NoOperationRuns k
-  still_behind v treatment [] k still = still
-  still_behind v treatment (task ∷ tasks) k still = still.1
-
-  -- What is left of a finalization.
+  -- What is left of a finalization, of whose object no operation runs.
   ending_not_twice :
       (o : ℕ) (cause : Cause) (pool : Option ℕ) (task : Task) (tasks : List Task) (k : Control)
-      → s.control ≡ frame.Treats (name o) (ends cause) (task ∷ tasks) ∷ ending_then o cause pool k → NoOperationRuns k → Stack types s.heap code s.activations k
+      → s.control ≡ frame.Treats (name o) (ends cause) (task ∷ tasks) ∷ ending_then o cause pool k → NoOperationRunsOn (name o) k
+      → Stack types s.heap code s.activations k
       → NotTwice (treats_next named types bodies (name o) (ends cause) (task ∷ tasks) (task_next (task ∷ tasks)) (at (ending_then o cause pool k) s))
-  ending_not_twice o cause pool task tasks k is still h =
+  ending_not_twice o cause pool task tasks k is none h =
       let shapes = shapes_of types in
-      let ds = Treating (name o) (ends cause) (task ∷ tasks) ∷ Ending (name o) ∷ [] in
-      let same : doings s.control ≡ ds = ap doings is ∙ ap (λ (es : List Doing). Treating (name o) (ends cause) (task ∷ tasks) ∷ Ending (name o) ∷ es) (none_behind types s.heap s.activations k h still) in
+      let ds = Treating (name o) (ends cause) (task ∷ tasks) ∷ Ending (name o) ∷ doings k in
+      let lasts = of_map (Other o) (Lasts o) (doings k) (other_lasts o) (others_on types s.heap code s.activations k h o (λ never. absurd (cc never)) none) in
       ends_not_twice o cause task tasks (ending_then o cause pool k) is
       (λ n some.
       let a = on_same o 1 in
       let b = on_same o (count n (parts_left shapes (task ∷ tasks))) in
-      subst (λ (es : List Doing). gains shapes o n es ≤ losses shapes o n es) (sym same) (omega (arith, a, b, some)))
+      let c = lasting_gain shapes o n (doings k) lasts in
+      subst (λ (es : List Doing). gains shapes o n es ≤ losses shapes o n es) (sym (ap doings is)) (omega (arith, a, b, c, some)))
 
   copying_not_twice :
       (o m from t to width : ℕ) (task : Task) (tasks later : List Task) (k : Control)
       → s.control ≡ frame.Treats (name o) (ends (Assigning m)) (task ∷ tasks) ∷ frame.Copies from t ∷ storing_then o m to width later k
-      → ((n : ℕ) → count n (parts_left (shapes_of types) later) ≤ 1) → NoOperationRuns k → Stack types s.heap code s.activations k
+      → ((n : ℕ) → count n (parts_left (shapes_of types) later) ≤ 1) → NoOperationRunsOn (name o) k → Stack types s.heap code s.activations k
       → NotTwice (treats_next named types bodies (name o) (ends (Assigning m)) (task ∷ tasks) (task_next (task ∷ tasks)) (at (frame.Copies from t ∷ storing_then o m to width later k) s))
-  copying_not_twice o m from t to width task tasks later k is once still h =
+  copying_not_twice o m from t to width task tasks later k is once none h =
       let shapes = shapes_of types in
       let b = frame.Copies from t ∷ storing_then o m to width later k in
-      let first = Treating (name o) (ends (Assigning m)) (task ∷ tasks) in
-      let ds = first ∷ Treating (name o) (begins (Adjustment m) []) later ∷ doings k in
+      let ds = Treating (name o) (ends (Assigning m)) (task ∷ tasks) ∷ Treating (name o) (begins (Adjustment m) []) later ∷ doings k in
       let few : Fewer ds (doings s.control) =
       subst (Fewer ds) (sym (ap doings is))
       (fewer_treating (name o) (ends (Assigning m)) (task ∷ tasks) (Treating (name o) (begins (Adjustment m) []) later ∷ doings k) b
       (fewer_treating (name o) (begins (Adjustment m) []) later (doings k) k alike)) in
-      let behind = none_behind types s.heap s.activations k h still in
+      let lasts = of_map (Other o) (Lasts o) (doings k) (other_lasts o) (others_on types s.heap code s.activations k h o (λ never. absurd (cc never)) none) in
       ends_not_twice o (Assigning m) task tasks b is
       (λ n some.
       let g = fewer_gains shapes o n ds (doings s.control) few in
@@ -166,37 +161,69 @@ module _ (types : List TypeDefinition) (bodies : List BodyForm) (past : List Eve
       let x = on_same o (count n (parts_left shapes later)) in
       let y = on_same o (count n (parts_left shapes (task ∷ tasks))) in
       let c = once n in
-      let nothing_gained : gains shapes o n (doings k) ≡ 0 = ap (gains shapes o n) behind in
+      let nothing_gained = lasting_gain shapes o n (doings k) lasts in
       omega (arith, g, l, x, y, c, some, nothing_gained))
 
   -- So it is with each treatment.
   by_next : (v : Value) (treatment : Treatment) (tasks : List Task) (k : Control) → s.mode ≡ Running → s.control ≡ frame.Treats v treatment tasks ∷ k → NotTwice (treats_next named types bodies v treatment tasks (task_next tasks) (at k s)) → NotTwice (next types bodies s)
   by_next v treatment tasks k running is h = subst NotTwice (sym (next_is types bodies s (frame.Treats v treatment tasks) k running is)) h
 
-  treated_never : (v : Value) (treatment : Treatment) (tasks : List Task) (k : Control) → s.control ≡ frame.Treats v treatment tasks ∷ k → NothingTreated s.control → ⊥
-  treated_never v treatment tasks k is h = subst NothingTreated is h
+  -- The first of what is left to do.
+  first_of : Frame Value → Control → Frame Value
+  first_of d [] = d
+  first_of d (f ∷ k) = f
 
-  finalization_not_twice : (v : Value) (treatment : Treatment) (tasks : List Task) (k : Control) → s.mode ≡ Running → s.control ≡ frame.Treats v treatment tasks ∷ k → NoOperationRuns s.control → (c : Control) → s.control ≡ c → Stack types s.heap finalization s.activations c → NotTwice (next types bodies s)
-  finalization_not_twice v treatment tasks k running first still c is (to_end o cause pool [] j e own once h) =
+  -- Code begins with no treatment.
+  code_never : (acts : Acts) (v : Value) (treatment : Treatment) (tasks : List Task) (k c : Control) → c ≡ frame.Treats v treatment tasks ∷ k → Stack types s.heap code acts c → ⊥
+  unfolding first_of
+  code_never acts v treatment tasks k _ is nothing = absurd (cc is)
+  code_never acts v treatment tasks k _ is (calm f j c h) = subst Calm (ap (first_of f) is) c
+  code_never acts v treatment tasks k _ is (comes_back actuals references j h) = absurd (cc is)
+  code_never acts v treatment tasks k _ is (operates j h) = absurd (cc is)
+
+  guard_first : (acts : Acts) (v : Value) (treatment : Treatment) (tasks : List Task) (k c : Control) → c ≡ frame.Treats v treatment tasks ∷ k → Stack types s.heap guard acts c → ⊥
+  guard_first acts v treatment tasks k _ is (awaits w by done of part left j some p h) = absurd (cc is)
+  guard_first acts v treatment tasks k _ is (confines j some p h) = absurd (cc is)
+
+  -- The object of what is first.
+  object_of : Value → Control → Value
+  object_of d (frame.Treats v treatment tasks ∷ k) = v
+  object_of d k = d
+
+  behind_of : Control → Control
+  behind_of [] = []
+  behind_of (f ∷ k) = k
+
+  finalization_not_twice :
+      (v : Value) (treatment : Treatment) (tasks : List Task) (k : Control) → s.mode ≡ Running → s.control ≡ frame.Treats v treatment tasks ∷ k → NoOperationRunsOn v k → (c : Control)
+      → s.control ≡ c → Stack types s.heap finalization s.activations c → NotTwice (next types bodies s)
+  unfolding object_of behind_of
+  finalization_not_twice v treatment tasks k running first none c is (to_end o cause pool [] j e own once h) =
       let never : frame.Treats v treatment tasks ∷ k ≡ ending_then o cause pool j = sym first ∙ is ∙ e in absurd (cc never)
-  finalization_not_twice v treatment tasks k running first still c is (to_end o cause pool (task ∷ left) j e own once h) =
-      by_next (name o) (ends cause) (task ∷ left) (ending_then o cause pool j) running (is ∙ e) (ending_not_twice o cause pool task left j (is ∙ e) (subst NoOperationRuns (is ∙ e) still).1.1.1 h)
-  finalization_not_twice v treatment tasks k running first still c is (to_copy o n from t to width source [] later j e less once operand h) =
+  finalization_not_twice v treatment tasks k running first none c is (to_end o cause pool (task ∷ left) j e own once h) =
+      let same : frame.Treats v treatment tasks ∷ k ≡ frame.Treats (name o) (ends cause) (task ∷ left) ∷ ending_then o cause pool j = sym first ∙ is ∙ e in
+      let none_of = subst (λ (u : Value). NoOperationRunsOn u (ending_then o cause pool j)) (ap (object_of v) same) (subst (NoOperationRunsOn v) (ap behind_of same) none) in
+      by_next (name o) (ends cause) (task ∷ left) (ending_then o cause pool j) running (is ∙ e) (ending_not_twice o cause pool task left j (is ∙ e) none_of h)
+  finalization_not_twice v treatment tasks k running first none c is (to_copy o n from t to width source [] later j e less once operand h) =
       let never : frame.Treats v treatment tasks ∷ k ≡ frame.Copies from t ∷ storing_then o n to width later j = sym first ∙ is ∙ e in absurd (cc never)
-  finalization_not_twice v treatment tasks k running first still c is (to_copy o n from t to width source (task ∷ left) later j e less once operand h) =
-      by_next (name o) (ends (Assigning n)) (task ∷ left) (frame.Copies from t ∷ storing_then o n to width later j) running (is ∙ e) (copying_not_twice o n from t to width task left later j (is ∙ e) once (still_behind (name o) (begins (Adjustment n) []) later j (subst NoOperationRuns (is ∙ e) still).1.1.1) h)
+  finalization_not_twice v treatment tasks k running first none c is (to_copy o n from t to width source (task ∷ left) later j e less once operand h) =
+      let b = frame.Copies from t ∷ storing_then o n to width later j in
+      let same : frame.Treats v treatment tasks ∷ k ≡ frame.Treats (name o) (ends (Assigning n)) (task ∷ left) ∷ b = sym first ∙ is ∙ e in
+      let none_of = subst (λ (u : Value). NoOperationRunsOn u b) (ap (object_of v) same) (subst (NoOperationRunsOn v) (ap behind_of same) none) in
+      by_next (name o) (ends (Assigning n)) (task ∷ left) b running (is ∙ e)
+      (copying_not_twice o n from t to width task left later j (is ∙ e) once (treating_on types s.heap (name o) (name o) (begins (Adjustment n) []) later j none_of) h)
 
-  pub treats_not_twice : (v : Value) (treatment : Treatment) (tasks : List Task) (k : Control) → s.control ≡ frame.Treats v treatment tasks ∷ k → NoOperationRuns s.control → Stands types s.heap s → NotTwice (next types bodies s)
-  treats_not_twice v treatment tasks k is still (runs h) = absurd (treated_never v treatment tasks k is (code_nothing types s still s.control s.activations still h))
-  treats_not_twice v treatment tasks k is still (finding running f after) = absurd (treated_never v treatment tasks k is (assigns_nothing types s still s.activations s.control still after))
-  treats_not_twice v treatment tasks k is still (passing e raises p after) = absurd (treated_never v treatment tasks k is (assigns_nothing types s still s.activations s.control still after))
-  treats_not_twice v treatment tasks k is still (ends_operation h) = absurd (guard_never types s.heap s.activations s.control h still)
-  treats_not_twice v treatment tasks k is still (beginning o by done task left j running c h) =
+  pub treats_not_twice : (v : Value) (treatment : Treatment) (tasks : List Task) (k : Control) → s.control ≡ frame.Treats v treatment tasks ∷ k → NoOperationRunsOn v k → Stands types s.heap s → NotTwice (next types bodies s)
+  treats_not_twice v treatment tasks k is none (runs h) = absurd (code_never s.activations v treatment tasks k s.control is h)
+  treats_not_twice v treatment tasks k is none (finding running f after) = absurd (subst (λ (c : Control). AssignsThen types s.heap s.activations (rest c)) is after)
+  treats_not_twice v treatment tasks k is none (passing e raises p after) = absurd (subst (λ (c : Control). AssignsThen types s.heap s.activations (rest c)) is after)
+  treats_not_twice v treatment tasks k is none (ends_operation h) = absurd (guard_first s.activations v treatment tasks k s.control is h)
+  treats_not_twice v treatment tasks k is none (beginning o by done task left j running c h) =
       by_next (name o) (begins by done) (task ∷ left) j running c (begins_not_twice (name o) by done task left j c)
-  treats_not_twice v treatment tasks k is still (ending running h) = finalization_not_twice v treatment tasks k running is still s.control refl h
-  treats_not_twice v treatment tasks k is still (leaving o x cause pool j running c own h at_o gone) =
+  treats_not_twice v treatment tasks k is none (ending running h) = finalization_not_twice v treatment tasks k running is none s.control refl h
+  treats_not_twice v treatment tasks k is none (leaving o x cause pool j running c own h at_o gone) =
       let never : frame.Treats v treatment tasks ∷ k ≡ frame.GivesBack (name o) cause pool ∷ j = sym is ∙ c in absurd (cc never)
-  treats_not_twice v treatment tasks k is still (storing o n to width left j running c h) =
+  treats_not_twice v treatment tasks k is none (storing o n to width left j running c h) =
       let never : frame.Treats v treatment tasks ∷ k ≡ storing_then o n to width left j = sym is ∙ c in absurd (cc never)
 
 -- In every run, that to which something is done is there, whatever operations do.
@@ -212,6 +239,20 @@ all_exist xs (f ∷ k) h = all_exist xs k h
 
 pub treated_exist : TreatedObjectsExist
 treated_exist program input events last run = all_exist last.heap last.control (last_holds program input events last run).fits.inv.there
+
+-- Nothing waits for a part of an object that does not exist, and no operation of it runs.
+missing_lasts : (xs : Heap) (o : ℕ) (ds : List Doing) → (NamesExisting xs (name o) → ⊥) → Of (IsThere xs) ds → Of (Lasts o) ds
+missing_lasts xs o [] missing h = tt
+missing_lasts xs o (Treating v (begins by done) tasks ∷ ds) missing h =
+    ((λ same. missing (subst (NamesExisting xs) same (named_existing xs v h.0))), missing_lasts xs o ds missing h.1)
+missing_lasts xs o (Treating v (ends cause) tasks ∷ ds) missing h = (tt, missing_lasts xs o ds missing h.1)
+missing_lasts xs o (Ending v ∷ ds) missing h =
+    ((λ same. missing (subst (NamesExisting xs) same (named_existing xs v h.0))), missing_lasts xs o ds missing h.1)
+
+pub operated_exist : OperatedObjectsExist
+operated_exist program input events last run o missing =
+    let fits = (last_holds program input events last run).fits in
+    none_runs_on program.types.items last o.0 fits.stands (missing_lasts last.heap o.0 (doings last.control) missing fits.inv.there)
 
 -- What is treated next.
 pub treated_exists :
@@ -265,7 +306,18 @@ operations_end_well program input events last run f k is waits halted =
     let same : last ≡ record last { control = f ∷ k } = ap (λ (c : Control). record last { control = c }) is in
     guard_not_twice types bodies last last.mode f k waits exist (ap (λ (u : State). mode_next named types bodies last.mode u) (sym same) ∙ halted)
 
-pub never_twice : NeverFinalizesTwice
-never_twice program input events last still run v treatment tasks k is halted =
+pub values_exist : TreatedValuesExist
+values_exist program input events last run v treatment tasks k is none halted =
     let fits = (last_holds program input events last run).fits in
-    treats_not_twice program.types.items (body_forms program) (past_then events []) last fits.inv v treatment tasks k is still fits.stands halted
+    treats_not_twice program.types.items (body_forms program) (past_then events []) last fits.inv v treatment tasks k is none fits.stands halted
+
+-- Where no operation runs, none of any object does.
+none_on : (v : Value) (k : Control) → NoOperationRuns k → NoOperationRunsOn v k
+none_on v [] still = tt
+none_on v (frame.Awaits w by done of part tasks ∷ k) still = absurd (cc still.0)
+none_on v (frame.Confines ∷ k) still = absurd (cc still.0)
+none_on v (f ∷ k) still = none_on v k still.1
+
+pub never_twice : NeverFinalizesTwice
+never_twice program input events last still run v treatment tasks k is =
+    values_exist program input events last run v treatment tasks k is (none_on v k (subst NoOperationRuns is still).1)

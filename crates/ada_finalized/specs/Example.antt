@@ -12,6 +12,7 @@ use Rattle.ada_program.specs.Form.{RecordPathForm, item_of_record, nothing, allo
 use Rattle.ada_program.specs.ProgramForm.{VariableForm, BodyForm, body_forms}
 use Rattle.ada_parts.specs.Shape.{Shape}
 use Rattle.ada_parts.specs.Task.{Task}
+use Rattle.ada_meaning.specs.declared.state.Id.{Id}
 use Rattle.ada_meaning.specs.declared.state.Value.{Value}
 use Rattle.ada_meaning.specs.declared.state.Value.TheVariants.{Names}
 use Rattle.ada_meaning.specs.declared.event.Birth.TheVariants.{Creation, Copy, Adjustment}
@@ -21,11 +22,12 @@ use Rattle.ada_meaning.specs.declared.event.Why.TheVariants.{FinalizesTwice}
 use Rattle.ada_meaning.specs.Event.{Born, Finalized, Back, Followed, Left}
 use Rattle.ada_meaning.specs.Frame.{Frame, ends, Treats}
 use Rattle.ada_meaning.specs.State.{begins}
-use Rattle.ada_meaning.specs.Named.{State}
+use Rattle.ada_meaning.specs.Step.{parts_held}
+use Rattle.ada_meaning.specs.Named.{Object, State, object_at}
 use Rattle.ada_meaning.specs.Finalization.{NothingTreated}
 use Rattle.ada_meaning.specs.Run.{Event, Halts}
 use Rattle.ada_order.specs.Example.{InSomeRun, is_seen, variable_at}
-use Rattle.ada_finalized.specs.Law.{NoOperationRuns}
+use Rattle.ada_finalized.specs.Law.{NoOperationRuns, NoOperationRunsOn, NothingBegins}
 
 -- type Inner is new Controlled with record V : Integer; end record; type Outer is new Controlled with record C : Inner; end record; type Outer_Access is
 -- access Outer; and what X and Y are known by. Of these, the newest first, Outer is controlled and has a controlled component.
@@ -190,3 +192,37 @@ abbrev pub FinalizeAssigns : Type 0
 FinalizeAssigns =
     (program : Program) × (shapes_of program.types.items ≡ controlled_shapes) × (operations_of program.types.items 1 ≡ outer_finalizes)
     × (body_forms program ≡ assigning_finalize ∷ []) × (stmt_forms program ≡ object_stmts) × InSomeRun program (λ events last. TreatsTwice program last)
+
+-- type Inner_Access is access Inner; of which P is a variable.
+abbrev pub of_inner_access : VariableForm
+of_inner_access = record { name = []; spot = record { line = 1; column = 1 }; kind = variable.Access (record { 0 = 5 }); borrows = false }
+
+-- An operation of Outer: (X : in out Outer) is P : Inner_Access; begin P := new Inner; Free (P); end;
+abbrev pub freeing_operation : BodyForm
+freeing_operation =
+    body_of_outer (of_inner_access ∷ []) (declares 1 nothing ∷ [])
+    (a_stmt (assigns (variable_at 1) (allocates_default 5)) (a_stmt (frees 5 (variable_at 1)) no_stmts))
+
+-- The object that it creates.
+abbrev pub created_there : Id
+created_there = record { 0 = 1 }
+
+-- A statement begins while X is treated, and the created object is in its collection, with a controlled part; nothing initializes or adjusts it.
+abbrev pub StandsWithin : Program → State → Type 0
+StandsWithin program s =
+    BeginsWithin s × (object : Object) × (object_at s.heap created_there ≡ Some object) × (object.listed ≡ true)
+    × (parts_held program.types.items object.cell.access ≡ 1) × NothingBegins (Names created_there) s.control
+
+-- That object is finalized next, by a Free, while an operation runs, and none of its own.
+abbrev pub TreatsWithin : State → Type 0
+TreatsWithin s =
+    (number : ℕ) × (tasks : List Task) × (behind : List (Frame Value)) × (s.control ≡ Treats (Names created_there) (ends (Freeing number)) tasks ∷ behind)
+    × (NoOperationRuns s.control → ⊥) × NoOperationRunsOn (Names created_there) behind
+
+-- In a run of a program with these types, in which Outer overrides an operation so, by this procedure, and with these statements it creates an object, and its
+-- next statement begins; then it frees the object.
+abbrev pub OperationFrees : Operations → Type 0
+OperationFrees operations =
+    (program : Program) × (shapes_of program.types.items ≡ controlled_shapes) × (operations_of program.types.items 1 ≡ operations)
+    × (body_forms program ≡ freeing_operation ∷ []) × (stmt_forms program ≡ object_stmts) × InSomeRun program (λ events last. StandsWithin program last)
+    × InSomeRun program (λ events last. TreatsWithin last)

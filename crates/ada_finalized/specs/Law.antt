@@ -1,6 +1,6 @@
 -- What is said of every run of every program, from its first state.
 
-use Rattle.std.specs.Prelude.{◌≡◌, ℤ, Bool, true, false, List, [], ◌∷◌, Some}
+use Rattle.std.specs.Prelude.{◌≡◌, ◌≢◌, ℤ, Bool, true, false, List, [], ◌∷◌, Some}
 use Rattle.ada_program.specs.declared.program.Program.{Program}
 use Rattle.ada_program.specs.Controlled.{shapes_of}
 use Rattle.ada_parts.specs.Shape.{Shape}
@@ -8,13 +8,14 @@ use Rattle.ada_parts.specs.Task.{Task}
 use Rattle.ada_meaning.specs.declared.state.Id.{Id}
 use Rattle.ada_meaning.specs.declared.state.Stage.TheVariants.{Existing}
 use Rattle.ada_meaning.specs.declared.state.Value.{Value}
-use Rattle.ada_meaning.specs.declared.state.Value.TheVariants.{Names}
+use Rattle.ada_meaning.specs.declared.state.Value.TheVariants.{Null, Names}
 use Rattle.ada_meaning.specs.declared.event.Halt.TheVariants.{Erroneous}
 use Rattle.ada_meaning.specs.declared.event.Why.TheVariants.{FinalizesTwice}
-use Rattle.ada_meaning.specs.Frame.{Frame, Treatment, Treats, Awaits, Confines, Ends}
+use Rattle.ada_meaning.specs.Frame.{Frame, Treatment, Copies, StoresRecord, Treats, Awaits, Confines, Ends}
+use Rattle.ada_meaning.specs.Frame as frame
 use Rattle.ada_meaning.specs.State.{begins}
 use Rattle.ada_meaning.specs.Named.{Object, State, object_at}
-use Rattle.ada_meaning.specs.Finalization.{NothingTreated, PartsStand}
+use Rattle.ada_meaning.specs.Finalization.{NothingTreated, HasParts, PartsStand}
 use Rattle.ada_meaning.specs.Run.{Event, Run, Halts, first_state}
 
 -- Of the record types of the program, and of the events of the run.
@@ -41,6 +42,29 @@ NeverFinalizesTwice =
     → Run program (first_state program input) events last → (object : Value) (treatment : Treatment) (tasks : List Task) (behind : List (Frame Value))
     → last.control ≡ Treats object treatment tasks ∷ behind → Halts program last (Erroneous FinalizesTwice) → ⊥
 
+-- The object whose Finalize has ended where this comes next: the rest of its parts are finalized then, or it ceases to exist (7.6.1), or a record is copied
+-- and stored in it (5.2).
+abbrev pub finalized_before : List (Frame Value) → Value
+finalized_before (Treats v treatment tasks ∷ k) = v
+finalized_before (Ends v ∷ k) = v
+finalized_before (Copies first t ∷ k) = finalized_before k
+finalized_before (StoresRecord v to width ∷ k) = v
+finalized_before k = Null
+
+-- No operation of this object runs: nothing that is left to do waits for one. Operations of other objects may run.
+abbrev pub NoOperationRunsOn : Value → List (Frame Value) → Type 0
+NoOperationRunsOn v [] = Unit {0}
+NoOperationRunsOn v (Awaits w by done of part tasks ∷ k) = (w ≢ v) × NoOperationRunsOn v k
+NoOperationRunsOn v (Confines ∷ k) = (finalized_before k ≢ v) × NoOperationRunsOn v k
+NoOperationRunsOn v (f ∷ k) = NoOperationRunsOn v k
+
+-- While no operation of an object runs, no treatment of the object comes to a value that does not exist (7.6.1), whatever operations of other objects do.
+abbrev pub TreatedValuesExist : Type 0
+TreatedValuesExist =
+    (program : Program) (input : List ℤ) (events : List Event) (last : State) → Run program (first_state program input) events last
+    → (object : Value) (treatment : Treatment) (tasks : List Task) (behind : List (Frame Value)) → last.control ≡ Treats object treatment tasks ∷ behind
+    → NoOperationRunsOn object behind → Halts program last (Erroneous FinalizesTwice) → ⊥
+
 -- Behind the body of an operation none does, either, whatever runs there.
 abbrev pub OperationsEndWell : Type 0
 OperationsEndWell =
@@ -66,11 +90,39 @@ TreatedObjectsExist =
     (program : Program) (input : List ℤ) (events : List Event) (last : State) → Run program (first_state program input) events last
     → TreatedExist last.heap last.control
 
+-- So it is with operations: none runs of an object that is still to be created, or that is gone. So none of a new object runs behind its initialization.
+abbrev pub OperatedObjectsExist : Type 0
+OperatedObjectsExist =
+    (program : Program) (input : List ℤ) (events : List Event) (last : State) → Run program (first_state program input) events last
+    → (o : Id) → (NamesExisting last.heap (Names o) → ⊥) → NoOperationRunsOn (Names o) last.control
+
 -- In every run an object that is in its collection has the values of all its parts, but while one is initialized, adjusted or finalized (7.6, 7.6.1).
 abbrev pub AllPartsStand : Type 0
 AllPartsStand =
     (program : Program) (input : List ℤ) (events : List Event) (last : State) → Run program (first_state program input) events last
     → PartsStand program.types.items last
+
+-- Nothing that is left to do initializes or adjusts this object (7.6).
+abbrev pub NothingBegins : Value → List (Frame Value) → Type 0
+NothingBegins v [] = Unit {0}
+NothingBegins v (Treats w (frame.begins by done) tasks ∷ k) = (w ≢ v) × NothingBegins v k
+NothingBegins v (Awaits w by done of part tasks ∷ k) = (w ≢ v) × NothingBegins v k
+NothingBegins v (f ∷ k) = NothingBegins v k
+
+-- In every state of every run, whatever operations run there, an object that is in its collection has the values of all its parts, but while it is initialized
+-- or adjusted itself (7.6). One that is finalized has left its collection (7.6.1), or it is assigned to, and its adjustment is left to do (5.2).
+abbrev pub ListedObjectsStand : Type 0
+ListedObjectsStand =
+    (program : Program) (input : List ℤ) (events : List Event) (last : State) → Run program (first_state program input) events last
+    → (o : Id) (object : Object) → object_at last.heap o ≡ Some object → object.listed ≡ true → NothingBegins (Names o) last.control
+    → HasParts program.types.items object
+
+-- Then no operation of the object runs, either: so where it is freed, its treatment comes to values that exist.
+abbrev pub NoOperationRunsOnListed : Type 0
+NoOperationRunsOnListed =
+    (program : Program) (input : List ℤ) (events : List Event) (last : State) → Run program (first_state program input) events last
+    → (o : Id) (object : Object) → object_at last.heap o ≡ Some object → object.listed ≡ true → NothingBegins (Names o) last.control
+    → NoOperationRunsOn (Names o) last.control
 
 -- While no operation runs, nothing is initialized, adjusted or finalized at the beginning of a statement: so a Free finds all values.
 abbrev pub StatementsTreatNothing : Type 0

@@ -5,7 +5,9 @@ ghost use Rattle.ada_meaning.specs.Law.{FinalizedTwoValues};
 ghost use Rattle.ada_meaning.specs.Finalization.{BornTwoValues, BornBeforeFinalized, IsBorn, FinalizedByBack, NothingAfterBack};
 ghost use Rattle.ada_meaning.specs.Finalization.{PartsComeFirst, WholesComeFirst, EndsBeforeItAdjusts, InsideIsBegun, FinalizationLaw};
 ghost use Rattle.ada_finalized.specs.Example.{ValuesAreFinalized, InitializationIsUndone, FinalizeIsCalled, FinalizeAssigns};
+ghost use Rattle.ada_finalized.specs.Example.{outer_operations, outer_finalizes, OperationFrees};
 ghost use Rattle.ada_finalized.specs.Law.{InEveryRun, NeverFinalizesTwice, OperationsEndWell, TreatedObjectsExist, AllPartsStand, StatementsTreatNothing};
+ghost use Rattle.ada_finalized.specs.Law.{ListedObjectsStand, NoOperationRunsOnListed, TreatedValuesExist, OperatedObjectsExist};
 
 /// A controlled value comes to exist once, and is finalized once, after that and before the words of its object go back
 /// (7.6, 7.6.1, 13.11.2).
@@ -44,6 +46,17 @@ pub fn all_parts_are_initialized()
     ensures nothing_treated { StatementsTreatNothing }
 {}
 
+/// While operations run, whatever they do: an object that is in its collection has all its values, but while it is itself
+/// initialized or adjusted (7.6); and no treatment of an object comes to a value that does not exist, but while an operation of
+/// that object runs (7.6.1). So a Free in an operation of one object finds all values of another. None runs of an object that
+/// does not exist, nor of one that is in its collection, but while that one is initialized or adjusted.
+pub fn other_objects_stand()
+    ensures listed_stand { ListedObjectsStand }
+    ensures none_runs { NoOperationRunsOnListed }
+    ensures values_exist { TreatedValuesExist }
+    ensures operated_exist { OperatedObjectsExist }
+{}
+
 /// All laws of finalization together.
 pub fn runs_keep_the_law()
     ensures { InEveryRun FinalizationLaw }
@@ -53,10 +66,14 @@ pub fn runs_keep_the_law()
 /// assigned to the other; and they are finalized at the leaving of their block, and by a Free. In another run an Initialize
 /// raises an exception, and the initialization of its object is undone. In a third one a type overrides Finalize: a statement
 /// begins, and an object is finalized next, while no operation runs; and a statement of Finalize begins while the object is
-/// still finalized. In a fourth one Finalize assigns to its object, and halts the run. So the premise is needed.
+/// still finalized. In a fourth one Finalize assigns to its object, and halts the run. So the premise is needed. In two more
+/// Initialize, or Finalize, creates another object, which stands, and frees it: that one is finalized while no operation of
+/// its own runs.
 pub fn premises_are_met()
     ensures finalized { ValuesAreFinalized }
     ensures undone { InitializationIsUndone }
     ensures called { FinalizeIsCalled }
     ensures assigns { FinalizeAssigns }
+    ensures initialize_frees { OperationFrees outer_operations }
+    ensures finalize_frees { OperationFrees outer_finalizes }
 {}

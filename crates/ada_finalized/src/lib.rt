@@ -3,8 +3,9 @@
 //! the statement.
 //!
 //! What a crate above takes from here, for the `Law` and the `Safe` of a program: `finalized_once` and `finalizations` of
-//! `proofs::Runs`, `all_stand`, `nothing_treated`, `nothing_treated_at` and `none_runs` of `proofs::Standing`, and
-//! `never_twice`, `operations_end_well`, `treated_exist` and `treated_exists` of `proofs::Twice`.
+//! `proofs::Runs`, `all_stand`, `listed_stand`, `none_runs_on_listed`, `nothing_treated`, `nothing_treated_at` and `none_runs`
+//! of `proofs::Standing`, and `never_twice`, `values_exist`, `operations_end_well`, `treated_exist`, `operated_exist` and
+//! `treated_exists` of `proofs::Twice`.
 #![tactic(auto)]
 
 pub mod laws;

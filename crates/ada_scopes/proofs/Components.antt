@@ -27,9 +27,10 @@ use Rattle.ada_typed.specs.Holding.{Cells, Designates, HasKind, HaveKinds, IsFil
 use Rattle.ada_typed.proofs.Evaluations.{cell_at}
 use Rattle.ada_typed.proofs.Runs.{objects_have_their_kinds}
 use Rattle.ada_order.proofs.Orders as orders
-use Rattle.ada_scopes.specs.Scopes.{type_collected, CollectTwoTypes, TypesHaveOneCollection, is_number_of, lasting, IsOpenIn, departures, some_departure, departs, OnlyInnermostIsLeft, is_innermost, IsListed, ObjectsLieInCollections, HoldsNames, ComponentsAreOutlived, HeldOutside, NamesStayOutside, InnermostHeldInside, InnermostIsNotNamed}
+use Rattle.ada_scopes.specs.Scopes.{type_collected, CollectTwoTypes, TypesHaveOneCollection, is_number_of, lasting, IsOpenIn, departures, some_departure, departs, OnlyInnermostIsLeft, is_innermost, is_declared_object, AreObjectsFirst, ObjectsGoFirst, IsListed, ObjectsLieInCollections, HoldsNames, ComponentsAreOutlived, HeldOutside, NamesStayOutside, InnermostHeldInside, InnermostIsNotNamed}
 use Rattle.ada_scopes.proofs.Counts.{one, times, times_append, target_open, opened_by, opened, Scopes, scopes, all_of, opened_all, scopes_older}
 use Rattle.ada_scopes.proofs.Homes.{HasItem, has_split, HasHome, home_item, opened_here, opened_later, ItemsFit, fit_before, fit_after, has_opened, Housed, housed_after}
+use Rattle.ada_scopes.proofs.Layers.{AllLayered, bare_layered, all_above, bare_below}
 use Rattle.ada_scopes.proofs.Control.{OwnsAll, Nests, Goes, NeedsOpen, AreOpen, RecordNeeds, RecordsNeed, RecordsOpen, Covers, covers_older, covers_fewer, Lone, lone_older, Whole, Growing, Begins, Nested, standing, beginning, parting}
 use Rattle.ada_scopes.proofs.Operations.{none_nests}
 use Rattle.ada_scopes.proofs.Runs.{calls_in, Scoped, state_nested}
@@ -50,6 +51,7 @@ outer_whole types ss m rest heap ds there g = record {
   fit = fit_after types m.items (items_of rest) g.fit;
   records = g.records;
   covers = g.covers;
+  layered = g.layered;
   known = g.known;
 }
 
@@ -122,6 +124,32 @@ collect_two p s scoped =
 
 pub one_collection : TypesHaveOneCollection
 one_collection program well nest operations input events last run = collect_two (program_form program) last (state_nested program well nest operations input events last run)
+
+-- Collections are those of access types, and record objects are known by other types.
+pub items_fit : (p : ProgramForm) (s : State) → Scoped p s → ItemsFit p.types (items_of s.masters)
+items_fit p s scoped = by scoped.nested
+  where
+    by : Nested p.types (callees_of p) (calls_in p) s → ItemsFit p.types (items_of s.masters)
+    by (standing ss w n) = w.fit
+    by (beginning b) = subst (λ (ms : List Master). ItemsFit p.types (items_of ms)) (sym b.masters) b.growing.fit
+    by (parting ss w runs goes) = w.fit
+
+-- Objects of a master lie above its collections: a part that begins has none yet.
+layered_in : (types : List TypeForm) (callees : Callees) (calling : Bool) (s : State) → Nested types callees calling s → AllLayered s.masters
+layered_in types callees calling s (standing ss w n) = w.layered
+layered_in types callees calling s (beginning b) = subst (λ (ms : List Master). AllLayered ms) (sym b.masters) (bare_layered b.m.items b.growing.bare, b.growing.layered)
+layered_in types callees calling s (parting ss w runs goes) = w.layered
+
+pub objects_first : (p : ProgramForm) (s : State) → Scoped p s → AreObjectsFirst s
+objects_first p s scoped = all_above s.masters (layered_in p.types (callees_of p) (calls_in p) s scoped.nested)
+
+-- Where the newest item of the innermost master is a collection or a pool, the master owns no object.
+pub objects_gone : (p : ProgramForm) (s : State) (m : ℕ) (i : Item) (is : List Item) (ms : List Master) → Scoped p s → s.masters ≡ record { number = m; items = i ∷ is } ∷ ms → is_declared_object i.owned ≡ false → All (λ (j : Item). is_declared_object j.owned ≡ false) (i ∷ is)
+objects_gone p s m i is ms scoped masters none =
+    bare_below i is ((subst AllLayered masters (layered_in p.types (callees_of p) (calls_in p) s scoped.nested)).0) none
+
+pub objects_go_first : ObjectsGoFirst
+objects_go_first program well nest operations input events last run = objects_first (program_form program) last (state_nested program well nest operations input events last run)
 
 -- Each object in its collection has that as its home.
 pub housed_in : (types : List TypeForm) (callees : Callees) (calling : Bool) (s : State) → Nested types callees calling s → Housed s.heap (items_of s.masters)

@@ -20,6 +20,7 @@ use Rattle.ada_meaning.specs.Named.{Object, State, new_object}
 use Rattle.ada_meaning.specs.Law.{items_of}
 use Rattle.ada_scopes.proofs.Counts.{times, times_append, Within, open_within, opened, Scopes, scopes, all_of, scopes_declared, scopes_recorded, fewer_opened, fewer_older}
 use Rattle.ada_scopes.proofs.Texts.{RecordsNest, PartNests, StatementsNest, BranchesNest, HandlersNest, BodyNests}
+use Rattle.ada_scopes.proofs.Layers.{Bare, AllLayered, bare_layered, layered_owning}
 use Rattle.ada_scopes.proofs.Homes.{ItemsFit, fit_before, fit_owning, opened_fits, Housed, housed_after, housed_owning, housed_new, IsEmpty, housed_shorter}
 
 -- Two lists have each number equally often.
@@ -200,10 +201,11 @@ pub record Whole (types : List TypeForm) (ss : Scopes) (ms : List Master) (heap 
   pub fit : ItemsFit types (items_of ms)
   pub records : RecordsOpen types ss ms
   pub covers : Covers ss (scopes ms)
+  pub layered : AllLayered ms
   pub known : (t : ℕ) → 1 ≤ times t (all_of ss) → is_access types t ≡ true
 
 -- Masters of which the innermost one has these declarations left to elaborate. It opens the collections of `there`, with those that were open
--- around it: they are those that it has, those that are left, and those of the outer masters. No object lies in one of its own yet.
+-- around it: they are those that it has, those that are left, and those of the outer masters. No object lies in one of its own yet, and it owns none.
 pub record Growing (types : List TypeForm) (ss : Scopes) (m : Master) (rest : List Master) (heap : List Object) (ds : List DeclarationForm) (there : List ℕ) : Type 0 where
   pub first : collections_first ds ≡ true
   pub once : (t : ℕ) → times t there ≤ 1
@@ -218,6 +220,8 @@ pub record Growing (types : List TypeForm) (ss : Scopes) (m : Master) (rest : Li
   pub records : RecordsOpen types ss rest
   pub coming : RecordsNest types there ds
   pub covers : Covers ss (scopes rest)
+  pub bare : Bare m.items
+  pub layered : AllLayered rest
   pub known : (t : ℕ) → 1 ≤ times t (all_of ss) → is_access types t ≡ true
 
 -- A part that is beginning.
@@ -253,6 +257,7 @@ whole_declared types ss number x ms heap w = record {
   fit = fit_owning types (record { number = number; owned = declared x }) ms tt w.fit;
   records = records_declared ss ms w.records;
   covers = rw (scopes_declared number x ms) w.covers;
+  layered = layered_owning (record { number = number; owned = declared x }) ms refl w.layered;
   known = w.known;
 }
   where
@@ -273,6 +278,7 @@ whole_recorded types (us ∷ ss) number t (m ∷ ms) heap cell around some home 
   fit = (never, w.fit);
   records = ((open_within around (all_of (us ∷ ss)) (reached_components types t) (λ u le. let same = alike u in omega (arith, same, le)) opens, w.records.0), w.records.1);
   covers = w.covers;
+  layered = layered_owning (record { number = number; owned = record_object t }) (m ∷ ms) refl w.layered;
   known = w.known;
 }
 
@@ -283,7 +289,7 @@ pub nests_declared : (types : List TypeForm) (callees : Callees) (calling : Bool
 nests_declared types callees calling ss number x ms k n = rw (scopes_declared number x ms) n
 
 pub whole_heap : (types : List TypeForm) (ss : Scopes) (ms : List Master) (before after : List Object) → Housed after (items_of ms) → Whole types ss ms before → Whole types ss ms after
-whole_heap types ss ms before after housed w = record { lone = w.lone; needs = w.needs; housed = housed; fit = w.fit; records = w.records; covers = w.covers; known = w.known }
+whole_heap types ss ms before after housed w = record { lone = w.lone; needs = w.needs; housed = housed; fit = w.fit; records = w.records; covers = w.covers; layered = w.layered; known = w.known }
 
 -- The newest item of the innermost master goes, if it houses no object any more.
 pub whole_shorter : (types : List TypeForm) (ss : Scopes) (m : ℕ) (item : Item) (items : List Item) (ms : List Master) (heap : List Object) → IsEmpty heap item item.owned → Whole types ss (record { number = m; items = item ∷ items } ∷ ms) heap → Whole types ss (shorter (record { number = m; items = item ∷ items } ∷ ms)) heap
@@ -294,6 +300,7 @@ whole_shorter types ss m item items ms heap empty w = record {
   fit = w.fit.1;
   records = records_shorter types ss m item items ms w.records;
   covers = covers_shorter ss (record { number = m; items = item ∷ items } ∷ ms) w.covers;
+  layered = (w.layered.0.1, w.layered.1);
   known = w.known;
 }
 
@@ -306,6 +313,7 @@ whole_left types ss m ms heap w = record {
   fit = w.fit;
   records = records_older types ss (record { number = m; items = [] } ∷ ms) w.records;
   covers = covers_older ss (scopes (record { number = m; items = [] } ∷ ms)) w.covers;
+  layered = w.layered.1;
   known = λ t le. w.known t (let less = fewer_older t ss in omega (arith, less, le));
 }
 
@@ -334,6 +342,8 @@ grows types ss number rest heap ds around part alike w = record {
   records = w.records;
   coming = part.records;
   covers = w.covers;
+  bare = tt;
+  layered = w.layered;
   known = w.known;
 }
 
@@ -347,6 +357,7 @@ grown types ss m rest heap ds there none g = (
     fit = g.fit;
     records = (records_within types there (opened m.items ++ all_of ss) m.items within g.own, g.records);
     covers = (λ t. omega arith, g.covers);
+    layered = (bare_layered m.items g.bare, g.layered);
     known = known;
   },
   alike,

@@ -34,7 +34,7 @@ use Rattle.ada_meaning.specs.Run.{Choice, settled, grants}
 use Rattle.ada_order.specs.Example.{InSomeRun}
 use Rattle.ada_order.proofs.Choices.{run_by}
 use Rattle.ada_scopes.specs.Scopes.{OperationsNest, IsListed, HoldsNames, IsOutlived, ComponentsAreOutlivedIn}
-use Rattle.ada_scopes.specs.Example.{HoldsNearAndFar, OutlastsTarget}
+use Rattle.ada_scopes.specs.Example.{HoldsNearAndFar, HasObjectAbove, OutlastsTarget}
 use Rattle.ada_scopes.proofs.Operations.{none_nests}
 use Rattle.ada_scopes.proofs.Counts.{one, times, opened_by, opened}
 use denote.RawPtr.{null_ptr}
@@ -159,6 +159,13 @@ holds_both =
       far_is_open = (_, _, (1, omega arith, refl), refl);
       near_is_open = (_, _, (0, omega arith, refl), refl);
     })
+
+-- Its variable has been created.
+pub object_above : InSomeRun nested (λ events last. HasObjectAbove last)
+unfolding next expression_form stmt_form
+object_above =
+    run_by nested [] nested_forms refl nested_are (steps 12 ++ grants true ∷ settled ∷ []) (λ events last. HasObjectAbove last) refl
+    (record { variable = 1; access = 3; pool = Some 0; m = _; ms = _; entered = refl; owns = refl })
 
 -- type Cell is record Value : Integer; end record; type Far is access Cell; X : Far;
 -- procedure P is type Link; type Near is access Link; .. Y : Near := new Link'(null, null); begin null; end; begin P; end;

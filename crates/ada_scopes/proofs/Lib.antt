@@ -4,6 +4,8 @@ pub mod Counts
 pub mod Texts
 -- what procedures create nests where they are called
 pub mod Bodies
+-- the objects of a master lie above its collections
+pub mod Layers
 -- what is left to do nests in the masters that are entered
 pub mod Control
 -- objects and their homes
@@ -24,6 +26,8 @@ pub mod Runs
 pub mod Components
 -- a program whose collections nest, and one whose collections do not
 pub mod Example
+-- two whose main part creates an object before a pool or a collection
+pub mod LateExample
 -- one with an operation, which is called
 pub mod OperationExample
 -- one whose operation does not nest

@@ -42,7 +42,7 @@ append_nil [] = refl
 append_nil (u ∷ us) = ap (λ (vs : List ℕ). u ∷ vs) (append_nil us)
 
 nothing_yet : (types : List TypeForm) → Whole types [] [] []
-nothing_yet types = record { lone = λ t. omega arith; needs = tt; housed = λ o x at listed. absurd (cc at); fit = tt; records = tt; covers = tt; known = λ t le. absurd (omega (arith, le)) }
+nothing_yet types = record { lone = λ t. omega arith; needs = tt; housed = λ o x at listed. absurd (cc at); fit = tt; records = tt; covers = tt; layered = tt; known = λ t le. absurd (omega (arith, le)) }
 
 -- The first state: the part of the main procedure begins.
 main_begins : (program : Program) (input : List ℤ) → ProgramNests (program_form program) → Nested (program_form program).types (callees_of (program_form program)) (calls_in (program_form program)) (first_state program input)

@@ -36,7 +36,7 @@ link =
     (Some (record { number = record { 0 = 0 }; parts = 1; limited = false; operations = operations }))
 
 -- An object that is known by a type.
-abbrev known_by : ℕ → Variable
+abbrev pub known_by : ℕ → Variable
 known_by t = record { name = no_name; spot = record { line = 1; column = 1 }; kind = variable.Record (record { 0 = t }); borrows = false }
 
 -- type Cell is record Value : Integer; end record; type Holder is record Next : Near; end record;

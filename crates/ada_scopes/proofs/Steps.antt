@@ -442,6 +442,8 @@ module _ (types : List TypeForm) (callees : Callees) (calling : Bool) (bodies : 
     records = g.records;
     coming = g.coming;
     covers = g.covers;
+    bare = (refl, g.bare);
+    layered = g.layered;
     known = g.known;
   }
     where
@@ -464,6 +466,8 @@ module _ (types : List TypeForm) (callees : Callees) (calling : Bool) (bodies : 
     records = g.records;
     coming = g.coming;
     covers = g.covers;
+    bare = (refl, g.bare);
+    layered = g.layered;
     known = g.known;
   }
 

@@ -1,18 +1,18 @@
 -- The premises are met, and they are needed.
 
-use Rattle.std.specs.Prelude.{◌≡◌, ℕ, [], ◌∷◌, AllPairs}
+use Rattle.std.specs.Prelude.{◌≡◌, ℕ, List, [], ◌∷◌, map, Option, None, AllPairs}
 use Rattle.ada_program.specs.declared.program.Program.{Program}
 use Rattle.ada_program.specs.declared.program.TypeNo.{TypeNo}
-use Rattle.ada_program.specs.Form.{calls, no_stmts, a_stmt, stmt_forms}
+use Rattle.ada_program.specs.Form.{nothing, calls, no_stmts, a_stmt, DeclarationForm, creates_pool, collects, declares, declares_record, declaration_forms, stmt_forms}
 use Rattle.ada_program.specs.ProgramForm.{program_form}
 use Rattle.ada_program.specs.WellFormed.{IsWellFormed}
 use Rattle.ada_program.specs.Nested.{CollectionsNest}
 use Rattle.ada_meaning.specs.declared.state.Id.{Id}
-use Rattle.ada_meaning.specs.State.{Master}
+use Rattle.ada_meaning.specs.State.{declared, collection, Item, Master}
 use Rattle.ada_meaning.specs.Named.{Object, State}
 use Rattle.ada_meaning.specs.Law.{items_of}
 use Rattle.ada_order.specs.Example.{InSomeRun}
-use Rattle.ada_scopes.specs.Scopes.{InItsRuns, CollectTwoTypes, OperationsNest, lasting, IsOpenIn, IsListed, HoldsNames, ComponentsAreOutlivedIn}
+use Rattle.ada_scopes.specs.Scopes.{InItsRuns, CollectTwoTypes, AreObjectsFirst, OperationsNest, lasting, IsOpenIn, IsListed, HoldsNames, ComponentsAreOutlivedIn}
 
 -- A block, or the body of a procedure, is entered inside the main procedure. An object's first component is of an access type of the main procedure, and
 -- its second one of an access type of the block or of the body.
@@ -42,6 +42,32 @@ CollectionsOfCallsNest =
     (program : Program) × IsWellFormed (program_form program) × CollectionsNest (program_form program)
     × OperationsNest (program_form program) × (stmt_forms program ≡ a_stmt (calls 0 []) no_stmts)
     × InSomeRun program (λ events last. HoldsNearAndFar program last)
+
+-- The innermost master owns a variable, and a collection that is older.
+pub record HasObjectAbove (s : State) : Type 0 where
+  pub variable : ℕ
+  pub access : ℕ
+  pub pool : Option ℕ
+  pub m : Master
+  pub ms : List Master
+  pub entered : s.masters ≡ m ∷ ms
+  pub owns : map (λ (i : Item). i.owned) m.items ≡ declared variable ∷ collection access pool ∷ []
+
+-- A well-formed program whose collections nest has a run that comes to such a master.
+abbrev pub ObjectsLieAbove : Type 0
+ObjectsLieAbove =
+    (program : Program) × IsWellFormed (program_form program) × CollectionsNest (program_form program)
+    × OperationsNest (program_form program) × InSomeRun program (λ events last. HasObjectAbove last)
+
+-- In a run of some program with these declarations, whose collections and operations nest, a collection or a pool is newer than an object of its master.
+abbrev pub HasObjectBelow : List DeclarationForm → Type 0
+HasObjectBelow declarations =
+    (program : Program) × (declaration_forms program ≡ declarations) × CollectionsNest (program_form program) × OperationsNest (program_form program)
+    × (InItsRuns program AreObjectsFirst → ⊥)
+
+-- So it is where a variable is created before a pool, or a record object before a collection: neither program is well formed.
+abbrev pub OrderIsNeeded : Type 0
+OrderIsNeeded = HasObjectBelow (declares 0 nothing ∷ creates_pool 0 ∷ []) × HasObjectBelow (declares_record 0 2 None ∷ collects 1 ∷ [])
 
 -- A well-formed program has an object that lasts longer than what its component names: the component's type has its collection in a block.
 abbrev pub NestingIsNeeded : Type 0

@@ -1,6 +1,6 @@
 -- What holds of objects and collections in every run of a program whose collections nest, whatever its input and whatever is granted and picked.
 
-use Rattle.std.specs.Prelude.{◌≡◌, ◌⊎◌, ℕ, ℤ, Bool, true, false, ◌||◌, ◌==◌, if◌then◌else◌, List, [], ◌∷◌, Option, Some, None, AllPairs, Contains}
+use Rattle.std.specs.Prelude.{◌≡◌, ◌⊎◌, ℕ, ℤ, Bool, true, false, ◌||◌, ◌==◌, if◌then◌else◌, List, [], ◌∷◌, Option, Some, None, All, AllPairs, Contains}
 use Rattle.std.specs.List.{slice_get}
 use Rattle.ada_program.specs.declared.program.Operations.{Operations}
 use Rattle.ada_program.specs.declared.program.ProcedureNo.{ProcedureNo}
@@ -66,6 +66,30 @@ CollectTwoTypes i j = Differ (type_collected i.owned) (type_collected j.owned)
 abbrev pub TypesHaveOneCollection : Type 0
 TypesHaveOneCollection =
     WhereCollectionsNest (λ program. InItsRuns program (λ last. AllPairs CollectTwoTypes (items_of last.masters)))
+
+-- Is what a master owns a declared object, a variable or a record object (3.3.1)? Else it is a collection or a pool.
+abbrev pub is_declared_object : Owned → Bool
+is_declared_object (declared x) = true
+is_declared_object (record_object t) = true
+is_declared_object (collection access pool) = false
+is_declared_object (storage_pool declaration number) = false
+
+-- Where the first item is a collection or a pool, so is the second.
+abbrev pub NoObjectBelowCollection : Item → Item → Type 0
+NoObjectBelowCollection i j = is_declared_object i.owned ≡ false → is_declared_object j.owned ≡ false
+
+-- Of these items, newest first, no collection and no pool is newer than a declared object.
+abbrev pub ObjectsFirst : List Item → Type 0
+ObjectsFirst items = AllPairs NoObjectBelowCollection items
+
+-- So it is with the items of each master that is entered.
+abbrev pub AreObjectsFirst : State → Type 0
+AreObjectsFirst s = All (λ m. ObjectsFirst m.items) s.masters
+
+-- A declarative part creates its collections and pools before its first object (3.11). So a master that is left loses its objects first, and a collection or a
+-- pool only when it owns no object any more (7.6.1).
+abbrev pub ObjectsGoFirst : Type 0
+ObjectsGoFirst = WhereCollectionsNest (λ program. InItsRuns program AreObjectsFirst)
 
 -- Is this the number of one of these items?
 abbrev pub is_number_of : List Item → ℕ → Bool

@@ -1,14 +1,32 @@
 //! The laws of collections that nest. Each is a function that does nothing, and whose contract is the theorem.
 
 ghost use Rattle.ada_scopes.specs.Example.{CollectionsOfBlocksNest, CollectionsOfCallsNest};
+ghost use Rattle.ada_scopes.specs.Example.{ObjectsLieAbove, OrderIsNeeded};
 ghost use Rattle.ada_scopes.specs.Example.{CollectionsGoOneByOne, NestingIsNeeded, OperationsAreCalled};
 ghost use Rattle.ada_scopes.specs.Example.{OperationsMustNest, OperationsMustFindOpen};
 ghost use Rattle.ada_scopes.specs.Scopes.{TypesHaveOneCollection, ObjectsLieInCollections, ComponentsAreOutlived};
+ghost use Rattle.ada_scopes.specs.Scopes.{ObjectsGoFirst};
 ghost use Rattle.ada_scopes.specs.Scopes.{NamesStayOutside, InnermostIsNotNamed, OnlyInnermostIsLeft};
 
 /// No two items of the masters that are entered are collections of one access type (7.6.1).
 pub fn types_have_one_collection()
     ensures { TypesHaveOneCollection }
+{}
+
+/// In each master that is entered, no collection and no pool is newer than a variable or a record object (3.11). So when
+/// the master is left, its objects go first, and a collection or a pool only when it owns no object any more (7.6.1).
+pub fn objects_go_first()
+    ensures { ObjectsGoFirst }
+{}
+
+/// A master comes to own both: in a run of a program a block owns a variable above its collection.
+pub fn objects_lie_above()
+    ensures { ObjectsLieAbove }
+{}
+
+/// That the program is well formed is needed: where a part creates an object before a collection or a pool, that is newer.
+pub fn order_is_needed()
+    ensures { OrderIsNeeded }
 {}
 
 /// The home of an object that is in its collection is an item of a master that is entered: the collection of its own

@@ -1,4 +1,5 @@
 -- By a program and a run of it, each.
+use Rattle.ada_finalized.specs.Example.{outer_operations, outer_finalizes}
 use Rattle.ada_finalized.proofs.Example as example
 use Rattle.ada_finalized.proofs.OperationExamples as examples
 use Rattle.ada_finalized.proofs.laws.premises_are_met.Goals as goal
@@ -29,4 +30,26 @@ returns-clause-assigns c = (
   examples.assigning_bodies,
   examples.assigning_form,
   examples.treats_twice,
+)
+
+pub returns-clause-initialize_frees : goal.returns-clause-initialize_frees
+returns-clause-initialize_frees c = (
+  examples.freeing outer_operations,
+  examples.freeing_shapes outer_operations,
+  examples.freeing_operations outer_operations,
+  examples.freeing_bodies outer_operations,
+  examples.freeing_form outer_operations,
+  examples.initialize_stands,
+  examples.initialize_treats,
+)
+
+pub returns-clause-finalize_frees : goal.returns-clause-finalize_frees
+returns-clause-finalize_frees c = (
+  examples.freeing outer_finalizes,
+  examples.freeing_shapes outer_finalizes,
+  examples.freeing_operations outer_finalizes,
+  examples.freeing_bodies outer_finalizes,
+  examples.freeing_form outer_finalizes,
+  examples.finalize_stands,
+  examples.finalize_treats,
 )
