@@ -15,7 +15,7 @@ use Rattle.ada_flow.specs.declared.rule.Hold.{Hold}
 use Rattle.ada_flow.specs.declared.rule.Hold.TheVariants.{Null, Kept, Own, Alias, Lost}
 use Rattle.ada_flow.specs.declared.rule.Region.TheVariants.{Whole}
 use Rattle.ada_flow.specs.declared.rule.Rule.{Rule}
-use Rattle.ada_flow.specs.Flow.{Breach, Holds, Outcome, Use, goes, faults, behind_end, broken_among, broken_in, ends_with, evaluation_raises, finalizes, freed_behind, gives, gives_component, gives_record, hold_at, initializes, is_freed, leftmost, loses, moved_by_right, passes_freed, passes_it, passes_own, passes_reached, raising_if, record_passes, released_behind, right_hold, unless_broken, uses_in_assignment, uses_in_copy, uses_in_record, uses_in_right, uses_in_target, using_paths, without_alias, without_aliases, without_freed, without_values}
+use Rattle.ada_flow.specs.Flow.{Breach, Holds, Outcome, Use, goes, faults, behind_end, broken_among, broken_in, ends_with, evaluation_raises, finalizes, freed_behind, gives, gives_component, gives_record, hold_at, initializes, is_freed, leftmost, loses, moved_by_right, passes_freed, passes_it, raising_if, record_passes, released_behind, right_hold, unless_broken, uses_in_assignment, uses_in_copy, uses_in_record, uses_in_right, uses_in_target, using_paths, way_reached, without_alias, without_aliases, without_freed, without_values}
 use Rattle.ada_flow.specs.Implicit.{frees_either, left_by_ending, left_by_start}
 use Rattle.ada_flow.specs.Told.{Noted, also_noted, ending}
 use Rattle.ada_flow.proofs.Leftmost.{broken_among_more}
@@ -246,7 +246,7 @@ creation_ends n vs freed may b uses hs behind x frees unbroken left =
 
 -- an object that is freed is finalized
 pub component_freed : (n : Noted) (types : List TypeForm) (vs : List VariableForm) (implicit : Implicit) (path : PathForm) (hs behind : Holds) (access : Option ℕ) →
-    freed_behind (passes_own types vs path access || passes_reached types vs implicit path access) (hold_at hs path.root) path.spot ≡ None →
+    freed_behind (way_reached types vs implicit path (hold_at hs path.root) access) (hold_at hs path.root) path.spot ≡ None →
     behind ≡ left_by_ending vs implicit access (behind_end vs access hs) →
     ending n (finalizes vs implicit access (released_behind types vs implicit path hs access)) ≡ Ok (Some behind, also_noted n (raising_if (path_raises path) behind))
 component_freed n types vs implicit path hs behind None unbroken left =
@@ -257,7 +257,7 @@ component_freed n types vs implicit path hs behind (Some t) unbroken left =
     ∙ ap (λ (at : Holds). ending n (ends_with (path_raises path) at at)) (sym left)
 
 pub component_freed_badly : (n : Noted) (types : List TypeForm) (vs : List VariableForm) (implicit : Implicit) (path : PathForm) (hs : Holds) (access : Option ℕ) (breach : Breach) →
-    freed_behind (passes_own types vs path access || passes_reached types vs implicit path access) (hold_at hs path.root) path.spot ≡ Some breach →
+    freed_behind (way_reached types vs implicit path (hold_at hs path.root) access) (hold_at hs path.root) path.spot ≡ Some breach →
     ending n (finalizes vs implicit access (released_behind types vs implicit path hs access)) ≡ Err breach
 component_freed_badly n types vs implicit path hs None breach broken = ap (λ (o : Option Breach). ending n (unless_broken o (ends_with (path_raises path) hs hs))) broken
 component_freed_badly n types vs implicit path hs (Some t) breach broken =

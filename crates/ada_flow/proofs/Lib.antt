@@ -24,3 +24,5 @@ pub mod Called
 pub mod Initialized
 -- the first fault of bodies
 pub mod FirstFaults
+-- which records lie in which
+pub mod Parts

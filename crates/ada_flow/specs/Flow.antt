@@ -12,9 +12,11 @@ use Rattle.ada_program.specs.declared.program.VariableKind.{VariableKind}
 use Rattle.ada_program.specs.declared.program.VariableKind.TheVariants as variable
 use Rattle.ada_program.specs.Form.{ActualForm, in_value, in_null, in_access, in_record, in_out_path, in_out_access, in_out_component, in_out_record, PathForm, RecordPathForm, ExpressionForm, integer, boolean, reads, is_null, applied_to, chained, LinksForm, no_more_links, a_link, ItemForm, null_item, item_of_path, item_of_value, item_of_record, RightForm, nothing, value_of, allocates, allocates_default, computes, StmtForm, skips, assigns, assigns_record, frees, gets, writes, writes_text, chooses, repeats, counts, exits, calls, returns, raises, encloses, StmtsForm, no_stmts, a_stmt, BranchesForm, otherwise, a_branch, HandlersForm, no_handlers, a_handler, DeclarationForm, creates_pool, collects, declares, declares_record}
 use Rattle.ada_program.specs.ProgramForm.{TypeForm, type_form, VariableForm, variable_form, BodyForm, nowhere, ProgramForm, main_body, program_form}
-use Rattle.ada_program.specs.WellFormed.{record_components, reached_components, access_of, variable_kind, selected_kind, path_access, is_this, is_borrower, names_borrower}
+use Rattle.ada_program.specs.WellFormed.{record_components, object_in, reached_components, access_of, variable_kind, selected_kind, path_access, is_this, is_borrower, names_borrower}
 use Rattle.ada_effects.specs.Effects.{expression_raises, path_raises, record_path_raises, actuals_raise, items_raise, initial_raises, initial_starts, initial_frees, assignment_frees, endings_free, Effect, Implicit, Effects, call_raises, call_frees, passes, effect_of, known_of}
 use Rattle.ada_deeds.specs.Implicit.{implicit_of}
+use Rattle.ada_flow.specs.Aliases.{is_alias}
+use Rattle.ada_flow.specs.Parts.{designate_part}
 use Rattle.ada_flow.specs.declared.rule.Hold.{Hold}
 use Rattle.ada_flow.specs.declared.rule.Hold.TheVariants.{Null, Kept, Own, Alias, Lost}
 use Rattle.ada_flow.specs.declared.rule.Region.TheVariants.{Whole}
@@ -657,9 +659,46 @@ abbrev pub passes_reached : List TypeForm → List VariableForm → Implicit →
 passes_reached types variables implicit path None = false
 passes_reached types variables implicit path (Some t) = component_passes types variables (implicit.end_reaches t) path
 
--- What Free (P.C) breaks, by what the path's variable holds: what is lost is not followed, and the path passes neither its own type nor one that the
--- finalization reaches.
-abbrev pub freed_behind : (passes : Bool) → Hold → Spot → Option Breach
+-- The record type of a record object (3.3.1), by what its variable holds.
+abbrev pub object_record : List TypeForm → Option VariableKind → Option ℕ
+object_record types None = None
+object_record types (Some variable.Integer) = None
+object_record types (Some variable.Boolean) = None
+object_record types (Some (variable.Access access)) = None
+object_record types (Some (variable.Record object)) = object_in (slice_get types object.0)
+
+-- Does a path that begins with a record stay inside it? Each selector behind the first one follows a value (4.1).
+abbrev pub stays_inside : (selectors : List ℕ) → Bool
+stays_inside [] = true
+stays_inside (c ∷ []) = true
+stays_inside (c ∷ d ∷ ds) = false
+
+-- The record type of the formal parameter in which a component lies (6.2), if it lies in one: the path begins with a record that is another's, as formal
+-- parameters alone are, and follows no value.
+abbrev pub formal_record : List TypeForm → List VariableForm → PathForm → Hold → Option ℕ
+formal_record types variables path hold =
+    if is_alias hold && stays_inside path.selectors then object_record types (variable_kind variables path.root) else None
+
+-- Does the finalization of an object of an access type reach an access type, whose objects are of this record type, or have a part of it?
+abbrev pub reaches_part : List TypeForm → Implicit → (access : ℕ) → (record_type : Option ℕ) → Bool
+reaches_part types implicit t None = false
+reaches_part types implicit t (Some r) = designate_part types (implicit.end_reaches t) r
+
+-- Does the finalization of what a component names reach an access type, one of whose objects may be the one in which the formal parameter lies of which it is
+-- a component? Nobody knows in the body by which access value its caller came to that.
+abbrev pub formal_reached : List TypeForm → List VariableForm → Implicit → PathForm → Hold → Option ℕ → Bool
+formal_reached types variables implicit path hold None = false
+formal_reached types variables implicit path hold (Some t) = reaches_part types implicit t (formal_record types variables path hold)
+
+-- Is the way to a component unsafe while what it names is finalized, by what the path's variable holds? It passes the component's own access type, or one that
+-- the finalization reaches, or begins at a formal parameter that lies in an object which that may reach.
+abbrev pub way_reached : List TypeForm → List VariableForm → Implicit → PathForm → Hold → Option ℕ → Bool
+way_reached types variables implicit path hold access =
+    (passes_own types variables path access || passes_reached types variables implicit path access)
+    || formal_reached types variables implicit path hold access
+
+-- What Free (P.C) breaks, by what the path's variable holds: what is lost is not followed, and the way to the component is safe.
+abbrev pub freed_behind : (unsafe : Bool) → Hold → Spot → Option Breach
 freed_behind false hold spot = lost_by hold spot
 freed_behind true Null spot = Some (spot, UnsafePath)
 freed_behind true (Kept r) spot = Some (spot, UnsafePath)
@@ -672,7 +711,7 @@ freed_behind true Lost spot = Some (spot, LostValue)
 abbrev pub released_behind : List TypeForm → List VariableForm → Implicit → PathForm → Holds → Option ℕ → Outcome
 released_behind types variables implicit path holds access =
     unless_broken
-    (freed_behind (passes_own types variables path access || passes_reached types variables implicit path access) (hold_at holds path.root) path.spot)
+    (freed_behind (way_reached types variables implicit path (hold_at holds path.root) access) (hold_at holds path.root) path.spot)
     (ends_with (path_raises path) (behind_end variables access holds) (behind_end variables access holds))
 
 -- After Free of a variable, or of a component.

@@ -7,26 +7,9 @@ ghost use Rattle.ada_flow.specs.Told.{around_of, gone_of, keepings_in, types_in,
 ghost use Rattle.ada_program.specs.ProgramForm.{type_form, variable_form};
 
 use crate::gone::Gone;
-use crate::keeping::Keeping;
 use crate::rule::Hold;
-use ada_effects::Effects;
-use ada_program::program::{TypeDefinition, Variable};
+use crate::setting::Setting;
 use ada_program::{Spot, VariableNo};
-
-/// What is the same for all statements of a body.
-#[derive(Clone, Copy)]
-pub(crate) struct Setting<'a> {
-    /// The types of the program.
-    pub(crate) types: &'a [TypeDefinition],
-    /// The variables of the body.
-    pub(crate) variables: &'a [Variable],
-    /// What is known of the calls of the procedures before it, and of those of operations of controlled types.
-    pub(crate) effects: Effects<'a>,
-    /// What these procedures keep.
-    pub(crate) kept: &'a [Keeping],
-    /// The formal parameters that give something back at each normal end of the body.
-    pub(crate) owed: &'a [VariableNo],
-}
 
 /// Where a statement stands.
 #[derive(Clone, Copy)]

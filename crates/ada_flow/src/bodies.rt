@@ -6,12 +6,13 @@ ghost use Rattle.ada_effects.specs.Effects as rules;
 ghost use Rattle.ada_effects.specs.Effects.{known_of};
 ghost use Rattle.ada_effects.specs.Found.{calls_in, effects_in, implicit_in};
 ghost use Rattle.ada_flow.specs.Flow.{Holds, bodies_flow, body_flow, body_keeps, ends_body, faults, flow_of, goes, kept_by, leftmost};
+ghost use Rattle.ada_flow.specs.Reached.{AreRows};
 ghost use Rattle.ada_flow.specs.Told.{Ends, body_in, breach_of, broken, fault_in, held, judgement, keeping_in, keepings_in, kept_judgement, parts_of, variable_number};
 ghost use Rattle.ada_program.specs.ProgramForm.{body_form, main_body, program_form, type_form};
 ghost use Rattle.ada_text.specs.Exactly.{Exactly};
 
 use crate::analysis::declare;
-use crate::around::{Around, Setting};
+use crate::around::Around;
 use crate::blocks::handled;
 use crate::fault::{Breach, FlowFault};
 use crate::follow::leftmost;
@@ -20,7 +21,9 @@ use crate::keeping::{Keeping, all_give_back, owed_by, what_is_kept};
 use crate::kinds::leave_end;
 use crate::known::Known;
 use crate::raised::Raised;
+use crate::reached::ReachedRecords;
 use crate::rule::Rule;
+use crate::setting::Setting;
 use crate::statements::statements;
 use ada_effects::{Effect, Effects, Implicit, effect_of};
 use ada_program::program::{Declaration, FormalMode, Handler, Procedure, TypeDefinition, Variable};
@@ -74,6 +77,7 @@ fn body(
     alloc: Global,
     types: &[TypeDefinition],
     effects: Effects<'_>,
+    reached: &ReachedRecords,
     kept: &[Keeping],
     formals: &[FormalMode],
     variables: &[Variable],
@@ -82,6 +86,7 @@ fn body(
     handlers: &[Handler],
     end: Spot,
 ) -> Result<Keeping, FlowFault>
+    requires { AreRows (map type_form types.now) (implicit_in effects.implicit.now) reached.now.rows.items }
     ensures { let whole = body_in formals.now variables.now declarations.now statements.now handlers.now end in
         Exactly keeping_in breach_of result
         (kept_judgement (body_flow (map type_form types.now) (effects_in effects.entry) (keepings_in kept.now) whole) formals.now) }
@@ -93,6 +98,7 @@ fn body(
         types,
         variables,
         effects,
+        reached,
         kept,
         owed: &owed,
     };
@@ -123,6 +129,7 @@ fn body_fault(
     alloc: Global,
     types: &[TypeDefinition],
     effects: Effects<'_>,
+    reached: &ReachedRecords,
     kept: &[Keeping],
     formals: &[FormalMode],
     variables: &[Variable],
@@ -131,6 +138,7 @@ fn body_fault(
     handlers: &[Handler],
     end: Spot,
 ) -> Result<(Option<Breach>, Keeping), FlowFault>
+    requires { AreRows (map type_form types.now) (implicit_in effects.implicit.now) reached.now.rows.items }
     ensures found { let whole = body_in formals.now variables.now declarations.now statements.now handlers.now end in
         let flow = body_flow (map type_form types.now) (effects_in effects.entry) (keepings_in kept.now) whole in
         MatchResult result (λ told. broken told.0 ≡ fault_in flow) (λ fault. breach_of fault ≡ None) }
@@ -142,6 +150,7 @@ fn body_fault(
         alloc,
         types,
         effects,
+        reached,
         kept,
         formals,
         variables,
@@ -196,10 +205,12 @@ fn procedure_fault(
     alloc: Global,
     types: &[TypeDefinition],
     implicit: &Implicit,
+    reached: &ReachedRecords,
     calls: &mut Vec<Effect>,
     kept: &mut Vec<Keeping>,
     procedure: &Procedure,
 ) -> Result<Option<Breach>, FlowFault>
+    requires { AreRows (map type_form types.now) (implicit_in implicit.now) reached.now.rows.items }
     ensures found { let known = known_of (implicit_in implicit.now) (calls_in calls.old.items) in
         MatchResult result
         (λ found. broken found
@@ -216,6 +227,7 @@ fn procedure_fault(
         alloc,
         types,
         Effects { implicit, calls },
+        reached,
         kept,
         &procedure.formals,
         &procedure.variables,
@@ -239,9 +251,11 @@ fn procedures_fault(
     alloc: Global,
     program: &Program,
     implicit: &Implicit,
+    reached: &ReachedRecords,
     calls: &mut Vec<Effect>,
     kept: &mut Vec<Keeping>,
 ) -> Result<Option<Breach>, FlowFault>
+    requires { AreRows (map type_form program.now.types.items) (implicit_in implicit.now) reached.now.rows.items }
     ensures { let main = main_body (program_form program.now) in
         let types = map type_form program.now.types.items in
         let bodies = map body_form program.now.procedures.items in
@@ -254,7 +268,15 @@ fn procedures_fault(
 {
     let mut first = None;
     'procedures: for procedure in &program.procedures {
-        let found = procedure_fault(alloc, &program.types, implicit, calls, kept, procedure)?;
+        let found = procedure_fault(
+            alloc,
+            &program.types,
+            implicit,
+            reached,
+            calls,
+            kept,
+            procedure,
+        )?;
         first = leftmost(first, found);
     }
     Ok(first)
@@ -271,7 +293,8 @@ pub fn flow(alloc: Global, program: &Program, implicit: &Implicit) -> Result<(),
 {
     let mut calls = Vec::new(alloc);
     let mut kept = Vec::new(alloc);
-    let first = procedures_fault(alloc, program, implicit, &mut calls, &mut kept)?;
+    let reached = ReachedRecords::of(alloc, &program.types, implicit)?;
+    let first = procedures_fault(alloc, program, implicit, &reached, &mut calls, &mut kept)?;
     let (last, _) = body_fault(
         alloc,
         &program.types,
@@ -279,6 +302,7 @@ pub fn flow(alloc: Global, program: &Program, implicit: &Implicit) -> Result<(),
             implicit,
             calls: &calls,
         },
+        &reached,
         &kept,
         &[],
         &program.variables,

@@ -1,16 +1,16 @@
 //! The flow of values through `Free`: what is lost behind the end of an object.
 
-ghost use Rattle.std.specs.Prelude.{◌≡◌, ◌||◌, Some, map};
+ghost use Rattle.std.specs.Prelude.{◌≡◌, Some, map};
 ghost use Rattle.ada_flow.specs.Flow as rules;
 ghost use Rattle.ada_flow.specs.Told.{Leads, Tells, broken, implicit_around, types_in, variables_in};
-ghost use Rattle.ada_program.specs.Form.{path_form};
+ghost use Rattle.ada_program.specs.Form.{component_number, path_form};
 ghost use Rattle.ada_program.specs.ProgramForm.{type_form, variable_form};
 ghost use Rattle.ada_program.specs.WellFormed as fits;
 
 use crate::around::Around;
 use crate::fault::{Breach, FlowFault};
 use crate::follow::{lost_by, unless_broken};
-use crate::holds::{have_alias, hold_of};
+use crate::holds::{have_alias, hold_of, is_alias};
 use crate::implicit::finalize;
 use crate::known::Known;
 use crate::losing::reached_at_end;
@@ -19,7 +19,7 @@ use crate::raised::Raised;
 use crate::rule::{Hold, Rule};
 use ada_effects::path_raises;
 use ada_program::lookup::{access_of, is_this, path_access, selected_kind, variable_kind};
-use ada_program::program::{TypeDefinition, Variable};
+use ada_program::program::{ComponentNo, TypeDefinition, Variable, VariableKind};
 use ada_program::{Path, Spot};
 use std::alloc::Global;
 
@@ -154,24 +154,96 @@ fn passes_reached(around: &Around<'_>, path: &Path, access: Option<usize>) -> bo
     }
 }
 
-/// Whether a path passes the access type of what it names, or one that the finalization of that reaches.
-fn passes_ended(around: &Around<'_>, path: &Path, access: Option<usize>) -> bool
-    ensures { let types = types_in around.now in
-        let all = variables_in around.now in
-        let freed = path_form path.now in
-        result ≡ (rules.passes_own types all freed access || rules.passes_reached types all (implicit_around around.now) freed access) }
+/// The record type of a record object, by what its variable holds. None, if it is no record object.
+fn object_record(types: &[TypeDefinition], kind: Option<VariableKind>) -> Option<usize>
+    ensures { result ≡ rules.object_record (map type_form types.now) kind }
+{
+    match kind? {
+        VariableKind::Record(object) => match types.get(object.0) {
+            Some(TypeDefinition::Object { record }) => Some(record.0),
+            Some(TypeDefinition::Record { .. } | TypeDefinition::Access { .. }) | None => None,
+        },
+        VariableKind::Integer | VariableKind::Boolean | VariableKind::Access(_) => None,
+    }
+}
+
+/// Whether a path that begins with a record stays inside it: only the first selector follows no value.
+fn stays_inside(selectors: &[ComponentNo]) -> bool
+    ensures { result ≡ rules.stays_inside (map component_number selectors.now) }
+{
+    match selectors {
+        [] | [_] => true,
+        [_, _, ..] => false,
+    }
+}
+
+/// The record type of the formal parameter in which a component lies, by what the path's variable holds. None, if the path
+/// begins with another variable, or follows a value.
+fn formal_record(
+    types: &[TypeDefinition],
+    variables: &[Variable],
+    path: &Path,
+    hold: Hold,
+) -> Option<usize>
+    ensures { result
+        ≡ rules.formal_record (map type_form types.now) (map variable_form variables.now) (path_form path.now) hold }
+{
+    if is_alias(hold) && stays_inside(&path.selectors) {
+        object_record(types, variable_kind(variables, path.root.0))
+    } else {
+        None
+    }
+}
+
+/// Whether the finalization of an object of an access type reaches an access type whose objects are of a record type, or have
+/// a part of it, if there is such a type.
+fn reaches_part(around: &Around<'_>, access: usize, record_type: Option<usize>) -> bool
+    ensures { result ≡ rules.reaches_part (types_in around.now) (implicit_around around.now) access record_type }
+{
+    match record_type {
+        None => false,
+        Some(record_type) => around.setting.reached.has(
+            around.setting.types,
+            around.setting.effects.implicit,
+            access,
+            record_type,
+        ),
+    }
+}
+
+/// Whether the finalization of what a component names reaches an access type, one of whose objects may be the one in which the
+/// formal parameter lies of which it is a component. Constant.
+fn formal_reached(around: &Around<'_>, path: &Path, hold: Hold, access: Option<usize>) -> bool
+    ensures { result ≡ rules.formal_reached
+        (types_in around.now) (variables_in around.now) (implicit_around around.now) (path_form path.now) hold access }
+{
+    match access {
+        None => false,
+        Some(access) => {
+            let types = around.setting.types;
+            let record_type = formal_record(types, around.setting.variables, path, hold);
+            reaches_part(around, access, record_type)
+        }
+    }
+}
+
+/// Whether the way to a component is unsafe while what it names is finalized: it passes the component's own access type, or one
+/// that the finalization reaches, or begins at a formal parameter that lies in an object which that may reach.
+fn way_reached(around: &Around<'_>, path: &Path, hold: Hold, access: Option<usize>) -> bool
+    ensures { result ≡ rules.way_reached
+        (types_in around.now) (variables_in around.now) (implicit_around around.now) (path_form path.now) hold access }
 {
     passes_own(around.setting.types, around.setting.variables, path, access)
         || passes_reached(around, path, access)
+        || formal_reached(around, path, hold, access)
 }
 
-/// The rule that freeing a component breaks: what is lost is not followed, and its path passes neither its own type nor
-/// one that the finalization reaches.
-fn freed_behind(passes: bool, hold: Hold, spot: Spot) -> Option<Breach>
-    ensures { broken result ≡ rules.freed_behind passes hold spot }
+/// The rule that freeing a component breaks: what is lost is not followed, and the way to it is safe.
+fn freed_behind(is_unsafe: bool, hold: Hold, spot: Spot) -> Option<Breach>
+    ensures { broken result ≡ rules.freed_behind is_unsafe hold spot }
 {
     match hold {
-        Hold::Null | Hold::Kept(_) | Hold::Own(_) | Hold::Alias(_) if passes => Some(Breach {
+        Hold::Null | Hold::Kept(_) | Hold::Own(_) | Hold::Alias(_) if is_unsafe => Some(Breach {
             spot,
             rule: Rule::UnsafePath,
         }),
@@ -183,7 +255,8 @@ fn freed_behind(passes: bool, hold: Hold, spot: Spot) -> Option<Breach>
 /// which the finalization may free objects, and so it is where a value on the path is null. Costs the length of the path besides.
 ///
 /// # Errors
-/// Where the path follows a lost value, or passes its own type, or one that the finalization reaches.
+/// Where the path follows a lost value, or passes its own type, or one that the finalization reaches, or where it follows none,
+/// and begins at a formal parameter that lies in an object which the finalization may reach.
 #[tactic(auto, using(std::proofs::lemmas::Grind::common_steps, crate::proofs::Initialized::freeing_steps))]
 fn release_component(
     alloc: Global,
@@ -198,9 +271,9 @@ fn release_component(
         (rules.finalizes (variables_in around.now) (implicit_around around.now) access
         (rules.released_behind (types_in around.now) (variables_in around.now) (implicit_around around.now) freed known.old.holds.items access)) }
 {
-    let passes = passes_ended(around, path, access);
     let hold = hold_of(known.holds(), path.root);
-    unless_broken(freed_behind(passes, hold, path.spot))?;
+    let is_unsafe = way_reached(around, path, hold, access);
+    unless_broken(freed_behind(is_unsafe, hold, path.spot))?;
     end_object(around.setting.variables, known, access);
     finalize(alloc, around, known, access)?;
     raised.note_if(path_raises(path), alloc, known)?;

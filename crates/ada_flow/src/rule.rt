@@ -37,7 +37,8 @@ pub enum Rule {
     /// At the end of a loop's body, or at an exit, less is known of a variable than at the loop's start.
     LoopState,
     /// A component is freed whose path follows a value of the component's own access type, or of one of which the finalization of the object
-    /// may free or follow objects: the object that is freed may be one on the way.
+    /// may free or follow objects: the object that is freed may be one on the way. Or a component of a record parameter's own is freed, where the
+    /// finalization may free or follow objects that are of the parameter's record type, or have a part of it: it may come to the parameter's object.
     /// Or two actual parameters of a call begin with one variable, and one of them is for mode `in out`: what is done through
     /// one formal parameter would be seen through the other. Or a record is passed, or a component given for mode `in out`, whose
     /// path follows a value of an access type of which the call may free objects: what is passed may be gone before the call ends.
