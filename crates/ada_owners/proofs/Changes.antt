@@ -12,7 +12,7 @@ use Rattle.ada_meaning.specs.declared.state.Value.TheVariants.{Null, Names}
 use Rattle.ada_meaning.specs.State.{Activation}
 use Rattle.ada_meaning.specs.Step.{places_of, with_operands}
 use Rattle.ada_meaning.specs.Named.{Object, object_at, changed, on_object, store, filled}
-use Rattle.ada_owners.specs.Places.{Place, variable, component, elsewhere, outer_places, component_in, value_at, access_in, access_at, put_in}
+use Rattle.ada_owners.specs.Places.{Place, variable, component, elsewhere, outer_places, is_there, component_in, value_at, access_in, access_at, put_in}
 use Rattle.ada_owners.specs.Reliance.{IsOf, Says, Owns, Kinds, component_kind, kind_of, Fits, IsInHand, NameNothing}
 use Rattle.ada_owners.proofs.Kernel as kernel
 use Rattle.ada_owners.proofs.Kernel.{same_id, same_place, says_right, of_none}
@@ -133,7 +133,7 @@ module _ (objects : List Object) (o : Id) (x : Object) (found : object_at object
 
   -- It looks the same.
   module _ (access : access_in (Some y) ≡ access_in (Some x)) (components : (c : ℕ) → component_in (Some y) c ≡ component_in (Some x) c) where
-    values_set : (activations : List (Activation Value)) (p : Place) → value_at (slice_set objects o.0 y) activations p ≡ value_at objects activations p
+    pub values_set : (activations : List (Activation Value)) (p : Place) → value_at (slice_set objects o.0 y) activations p ≡ value_at objects activations p
     values_set activations (variable z) = refl
     values_set activations (component k d) = component_set k d (λ e. components d)
     values_set activations (elsewhere d z) = refl
@@ -166,11 +166,11 @@ module _ (objects : List Object) (o : Id) (x : Object) (found : object_at object
 
   pub store_reads : (activations : List (Activation Value)) (q : Place) → q ≢ component o c → value_at (store objects (Names o) c v) activations q ≡ value_at objects activations q
   store_reads activations (variable y) ne = refl
-  store_reads activations (component k d) ne = rw (store_is objects o x found c v) (component_set objects o x found (filled c v x) k d (λ e. stored_other x.listed x.cell.values c d v (λ h. ne (rw (e, h) refl))))
+  store_reads activations (component k d) ne = rw (store_is objects o x found c v) (component_set objects o x found (filled c v x) k d (λ e. stored_other (is_there x.stage) x.cell.values c d v (λ h. ne (rw (e, h) refl))))
   store_reads activations (elsewhere d y) ne = refl
 
   pub store_value : (activations : List (Activation Value)) (k : Id) → value_at (store objects (Names o) c v) activations (component o c) ≡ Names k → v ≡ Names k
-  store_value activations k e = stored_value x.listed x.cell.values c v k (sym (ap (λ t. component_in t c) here) ∙ e)
+  store_value activations k e = stored_value (is_there x.stage) x.cell.values c v k (sym (ap (λ t. component_in t c) here) ∙ e)
     where
       here : object_at (store objects (Names o) c v) o ≡ Some (filled c v x)
       here = rw (store_is objects o x found c v) (at_here objects o x found (filled c v x))

@@ -14,7 +14,7 @@ use Rattle.ada_owners.specs.Places.{Place, value_at, access_at}
 use Rattle.ada_owners.specs.Reliance.{IsOf, Owns, Borrows, Kinds, kind_of, spared, Fits, IsInHand}
 use Rattle.ada_owners.proofs.Kernel as kernel
 use Rattle.ada_owners.proofs.Changes.{weaken, hand_worse, changed_is, access_set, kinds_same}
-use Rattle.ada_owners.proofs.Ends.{IsUnnamed, part_fits, finish_parted, finished_access, back_fits, parted_stays}
+use Rattle.ada_owners.proofs.Ends.{IsUnnamed, part_fits, finish_fits, back_fits, finished_stays}
 use Rattle.ada_owners.proofs.Reliances.{if_own_good}
 
 if_own_owns : (b : Bool) (h : Hold) → Owns (if_own b h) → (b ≡ true) × Owns h
@@ -60,17 +60,17 @@ module _ (kinds : Kinds) (objects : List Object) {activations : List (Activation
       not_lost held.Lost b e = b
 
   -- One of them leaves its collection.
-  pub spared_part : (o : Id) (x : Object) (t : ℕ) → object_at objects o ≡ Some x → access_at objects o ≡ Some t → is_among types (Some t) ≡ true → Fits kinds objects activations (spared types kinds objects hold) → Fits kinds (on_object parted objects (Names o)) activations (spared types kinds (on_object parted objects (Names o)) hold)
-  spared_part o x t found is among f =
-      let g = part_fits objects o x found f (spared_unnamed o t is among f) in
-      record { fit = kernel.held_same g.fit (spared types kinds (on_object parted objects (Names o)) hold) (λ p k e. ap (λ j. if_own (not (is_among types j)) (hold p)) (parted_stays objects o x found kinds activations p k e).1) }
+  pub spared_part : (o : Id) (x : Object) → object_at objects o ≡ Some x → Fits kinds objects activations (spared types kinds objects hold) → Fits kinds (on_object parted objects (Names o)) activations (spared types kinds (on_object parted objects (Names o)) hold)
+  spared_part o x found f = record { fit = kernel.held_same (part_fits objects o x found f).fit (spared types kinds (on_object parted objects (Names o)) hold) (λ p k e. ap (λ j. if_own (not (is_among types j)) (hold p)) (kinds_same kinds (access_at objects) (access_at (on_object parted objects (Names o))) same p)) }
+    where
+      same : (k : Id) → access_at (on_object parted objects (Names o)) k ≡ access_at objects k
+      same k = rw (changed_is objects o x found (parted x) parted refl) (access_set objects o x found (parted x) refl k)
 
   -- It ceases to exist, and its words go back.
-  pub spared_finish : (o : Id) (x : Object) → object_at objects o ≡ Some x → x.listed ≡ false → Fits kinds objects activations (spared types kinds objects hold) → Fits kinds (on_object finished objects (Names o)) activations (spared types kinds (on_object finished objects (Names o)) hold)
-  spared_finish o x found off f = record { fit = kernel.held_same (finish_parted objects o x found off f).fit (spared types kinds (on_object finished objects (Names o)) hold) (λ p k e. ap (λ j. if_own (not (is_among types j)) (hold p)) (kinds_same kinds (access_at objects) (access_at (on_object finished objects (Names o))) same p)) }
-    where
-      same : (k : Id) → access_at (on_object finished objects (Names o)) k ≡ access_at objects k
-      same k = rw (changed_is objects o x found (finished x) finished refl) (access_set objects o x found (finished x) (finished_access x off) k)
+  pub spared_finish : (o : Id) (x : Object) (t : ℕ) → object_at objects o ≡ Some x → access_at objects o ≡ Some t → is_among types (Some t) ≡ true → Fits kinds objects activations (spared types kinds objects hold) → Fits kinds (on_object finished objects (Names o)) activations (spared types kinds (on_object finished objects (Names o)) hold)
+  spared_finish o x t found is among f =
+      let g = finish_fits objects o x found f (spared_unnamed o t is among f) in
+      record { fit = kernel.held_same g.fit (spared types kinds (on_object finished objects (Names o)) hold) (λ p k e. ap (λ j. if_own (not (is_among types j)) (hold p)) (finished_stays objects o x found kinds activations p k e).1) }
 
   pub spared_back : (o : Id) (x : Object) → object_at objects o ≡ Some x → Fits kinds objects activations (spared types kinds objects hold) → Fits kinds (on_object returned objects (Names o)) activations (spared types kinds (on_object returned objects (Names o)) hold)
   spared_back o x found f = record { fit = kernel.held_same (back_fits objects o x found f).fit (spared types kinds (on_object returned objects (Names o)) hold) (λ p k e. ap (λ j. if_own (not (is_among types j)) (hold p)) (kinds_same kinds (access_at objects) (access_at (on_object returned objects (Names o))) same p)) }

@@ -10,12 +10,12 @@ use Rattle.ada_meaning.specs.declared.state.Value.{Value}
 use Rattle.ada_meaning.specs.declared.state.Value.TheVariants.{Null, Names}
 use Rattle.ada_meaning.specs.State.{Activation}
 use Rattle.ada_meaning.specs.Named.{Object, object_at, changed, on_object, parted, finished, returned}
-use Rattle.ada_owners.specs.Places.{Place, variable, component, elsewhere, component_in, value_at, access_in, access_at}
+use Rattle.ada_owners.specs.Places.{Place, variable, component, elsewhere, is_there, component_in, value_at, access_in, access_at}
 use Rattle.ada_owners.specs.Reliance.{Says, Owns, Borrows, Kinds, component_kind, kind_of, Fits, IsInHand}
 use Rattle.ada_owners.proofs.Kernel as kernel
 use Rattle.ada_owners.proofs.Kernel.{same_id}
 use Rattle.ada_owners.proofs.Objects.{at_other}
-use Rattle.ada_owners.proofs.Changes.{at_here, changed_is, looks_same, hand_same}
+use Rattle.ada_owners.proofs.Changes.{at_here, changed_is, looks_same, hand_same, values_set}
 
 -- No place that owns or borrows names an object.
 pub record IsUnnamed (objects : List Object) (activations : List (Activation Value)) (hold : Place → Hold) (o : Id) : Type 0 where
@@ -37,7 +37,7 @@ hand_unnamed {kinds} {objects} {activations} {hold} t o f i none = record {
   unborrowed = λ q a b. none q a (kind_is (access_at objects) (hold q) (kind_of kinds (access_at objects) q) o t a (i.hand.right o refl) (f.fit.relied q o b));
 }
 
-module _ (objects : List Object) (o : Id) (x : Object) (found : object_at objects o ≡ Some x) (y : Object) (off : y.listed ≡ false) where
+module _ (objects : List Object) (o : Id) (x : Object) (found : object_at objects o ≡ Some x) (y : Object) (off : is_there y.stage ≡ false) where
   gone_component : (c : ℕ) → component_in (object_at (slice_set objects o.0 y) o) c ≡ Null
   gone_component c = rw (at_here objects o x found y, off) refl
 
@@ -65,33 +65,28 @@ module _ (objects : List Object) (o : Id) (x : Object) (found : object_at object
   hand_end : {activations : List (Activation Value)} {hold : Place → Hold} {kind : Option ℕ} {w : Value} → w ≢ Names o → IsInHand objects activations hold kind w → IsInHand (slice_set objects o.0 y) activations hold kind w
   hand_end {activations} {hold} ne i = record { hand = kernel.hand_by (access_at (slice_set objects o.0 y)) (value_at (slice_set objects o.0 y) activations) hold (λ k e. ap access_in (at_other objects o k y (λ s. ne (rw s at e)))) (λ k e q a b. (a, (end_stays (record { components = λ t c. None; variables = λ z. None; outer = λ d z. None }) activations q k b).0)) i.hand }
 
-finished_components : (x : Object) → x.listed ≡ false → (c : ℕ) → component_in (Some (finished x)) c ≡ component_in (Some x) c
-finished_components x off c = rw off refl
-
-pub finished_access : (x : Object) → x.listed ≡ false → access_in (Some (finished x)) ≡ access_in (Some x)
-finished_access x off = rw off refl
-
 module _ (objects : List Object) (o : Id) (x : Object) (found : object_at objects o ≡ Some x) {activations : List (Activation Value)} {hold : Place → Hold} where
-  -- An object that no place owns or borrows leaves its collection, or ceases to exist.
-  pub part_fits : {kinds : Kinds} → Fits kinds objects activations hold → IsUnnamed objects activations hold o → Fits kinds (on_object parted objects (Names o)) activations hold
-  part_fits f unnamed = rw (changed_is objects o x found (parted x) parted refl) (end_fits objects o x found (parted x) refl f unnamed)
+  -- An object leaves its collection: it is there still.
+  pub part_fits : {kinds : Kinds} → Fits kinds objects activations hold → Fits kinds (on_object parted objects (Names o)) activations hold
+  part_fits f = rw (changed_is objects o x found (parted x) parted refl) (looks_same objects o x found (parted x) refl (λ c. refl) f)
 
+  pub hand_part : {kind : Option ℕ} {w : Value} → IsInHand objects activations hold kind w → IsInHand (on_object parted objects (Names o)) activations hold kind w
+  hand_part i = rw (changed_is objects o x found (parted x) parted refl) (hand_same objects o x found (parted x) refl (λ c. refl) i)
+
+  -- What is unnamed stays so.
+  pub part_unnamed : (p : Id) → IsUnnamed objects activations hold p → IsUnnamed (on_object parted objects (Names o)) activations hold p
+  part_unnamed p unnamed = rw (changed_is objects o x found (parted x) parted refl) (record {
+    unowned = λ q own e. unnamed.unowned q own (sym (values_set objects o x found (parted x) refl (λ c. refl) activations q) ∙ e);
+    unborrowed = λ q b e. unnamed.unborrowed q b (sym (values_set objects o x found (parted x) refl (λ c. refl) activations q) ∙ e);
+  })
+
+  -- An object that no place owns or borrows ceases to exist.
   pub finish_fits : {kinds : Kinds} → Fits kinds objects activations hold → IsUnnamed objects activations hold o → Fits kinds (on_object finished objects (Names o)) activations hold
   finish_fits f unnamed = rw (changed_is objects o x found (finished x) finished refl) (end_fits objects o x found (finished x) refl f unnamed)
 
   -- Other values in hand stay so.
-  pub hand_part : {kind : Option ℕ} {w : Value} → w ≢ Names o → IsInHand objects activations hold kind w → IsInHand (on_object parted objects (Names o)) activations hold kind w
-  hand_part ne i = rw (changed_is objects o x found (parted x) parted refl) (hand_end objects o x found (parted x) refl ne i)
-
   pub hand_finish : {kind : Option ℕ} {w : Value} → w ≢ Names o → IsInHand objects activations hold kind w → IsInHand (on_object finished objects (Names o)) activations hold kind w
   hand_finish ne i = rw (changed_is objects o x found (finished x) finished refl) (hand_end objects o x found (finished x) refl ne i)
-
-  -- One that has left its collection ceases to exist.
-  pub finish_parted : {kinds : Kinds} → x.listed ≡ false → Fits kinds objects activations hold → Fits kinds (on_object finished objects (Names o)) activations hold
-  finish_parted off f = rw (changed_is objects o x found (finished x) finished refl) (looks_same objects o x found (finished x) (finished_access x off) (finished_components x off) f)
-
-  pub hand_finish_parted : {kind : Option ℕ} {w : Value} → x.listed ≡ false → IsInHand objects activations hold kind w → IsInHand (on_object finished objects (Names o)) activations hold kind w
-  hand_finish_parted off i = rw (changed_is objects o x found (finished x) finished refl) (hand_same objects o x found (finished x) (finished_access x off) (finished_components x off) i)
 
   -- Words go back.
   pub back_fits : {kinds : Kinds} → Fits kinds objects activations hold → Fits kinds (on_object returned objects (Names o)) activations hold
@@ -100,11 +95,11 @@ module _ (objects : List Object) (o : Id) (x : Object) (found : object_at object
   pub hand_back : {kind : Option ℕ} {w : Value} → IsInHand objects activations hold kind w → IsInHand (on_object returned objects (Names o)) activations hold kind w
   hand_back i = rw (changed_is objects o x found (returned x) returned refl) (hand_same objects o x found (returned x) refl (λ c. refl) i)
 
--- What is named once an object has left its collection was named before, at a place of the same access type.
-pub parted_stays : (objects : List Object) (o : Id) (x : Object) → object_at objects o ≡ Some x → (kinds : Kinds) (activations : List (Activation Value)) (p : Place) (k : Id) → value_at (on_object parted objects (Names o)) activations p ≡ Names k → (value_at objects activations p ≡ Names k) × (kind_of kinds (access_at (on_object parted objects (Names o))) p ≡ kind_of kinds (access_at objects) p)
-parted_stays objects o x found kinds activations p k e =
-    let is = changed_is objects o x found (parted x) parted refl in
-    let h = end_stays objects o x found (parted x) refl kinds activations p k (rw is at e) in
+-- What is named once an object is gone was named before, at a place of the same access type.
+pub finished_stays : (objects : List Object) (o : Id) (x : Object) → object_at objects o ≡ Some x → (kinds : Kinds) (activations : List (Activation Value)) (p : Place) (k : Id) → value_at (on_object finished objects (Names o)) activations p ≡ Names k → (value_at objects activations p ≡ Names k) × (kind_of kinds (access_at (on_object finished objects (Names o))) p ≡ kind_of kinds (access_at objects) p)
+finished_stays objects o x found kinds activations p k e =
+    let is = changed_is objects o x found (finished x) finished refl in
+    let h = end_stays objects o x found (finished x) refl kinds activations p k (rw is at e) in
     (h.0, rw is h.1)
 
 -- The other objects stay.

@@ -1,15 +1,13 @@
 -- A state that meets the premises, and one that needs them.
 
-use Rattle.std.proofs.Common.{◌≡◌, ℕ, zero, suc, true, false, refl, sym, ◌∙◌}
+use Rattle.std.proofs.Common.{◌≡◌, ℕ, zero, suc, refl, sym, ◌∙◌}
 use Rattle.std.specs.Prelude.{Some}
 use Rattle.std.specs.List.{slice_get}
 use Rattle.ada_meaning.specs.declared.state.Id.{Id}
-use Rattle.ada_meaning.specs.declared.state.Value.TheVariants.{Null, Names}
-use Rattle.ada_meaning.specs.declared.state.Stage.TheVariants.{Existing, Gone}
-use Rattle.ada_meaning.specs.Named.{Object}
+use Rattle.ada_meaning.specs.declared.state.Value.TheVariants.{Names}
 use Rattle.ada_owners.specs.Places.{Place, variable, component, elsewhere, component_in, access_in, value_at, access_at}
 use Rattle.ada_owners.specs.Reliance.{IsOf, Says, Owns, component_kind, kind_of, hold_of}
-use Rattle.ada_owners.specs.Example.{kinds, id, node, nodes, links, reliance, LinksFit, one_node, shared, two_owners, PartedLinksFit, TwoOwnersDangle, BorrowerDangles}
+use Rattle.ada_owners.specs.Example.{kinds, id, nodes, links, reliance, LinksFit, one_node, shared, two_owners, PartedLinksFit, TwoOwnersDangle, BorrowerDangles}
 use Rattle.ada_owners.proofs.Keeping.{take_pairs_keep}
 
 -- The place that owns an object.
@@ -43,14 +41,8 @@ right (component k c) o e = let h = component_right k.0 c o e in (h.0, λ own. h
 right (elsewhere zero x) o e = absurd (cc e)
 right (elsewhere (suc d) x) o e = absurd (cc e)
 
-exist_at : (n : ℕ) (x : Object) → slice_get nodes n ≡ Some x → x.listed ≡ true → x.stage ≡ Existing
-exist_at zero x e l = let same : node (Names (id 1)) Existing true ≡ x = cc e in rw (← same) refl
-exist_at (suc zero) x e l = let same : node Null Existing true ≡ x = cc e in rw (← same) refl
-exist_at (suc (suc zero)) x e l = let same : node (Names (id 0)) Gone false ≡ x = cc e in absurd (let off : false ≡ true = rw (← same) at l in cc off)
-exist_at (suc (suc (suc n))) x e l = absurd (cc e)
-
 pub links_fit : LinksFit
-links_fit = (record { fit = record { relied = λ p o e. (right p o e).0; apart = λ p q o a b c d. (right p o c).1 a ∙ sym ((right q o d).1 b) } }, λ o x e l. exist_at o.0 x e l)
+links_fit = record { fit = record { relied = λ p o e. (right p o e).0; apart = λ p q o a b c d. (right p o c).1 a ∙ sym ((right q o d).1 b) } }
 
 shared_variable : (x : ℕ) (o : Id) → value_at one_node shared (variable x) ≡ Names o → Says (access_at one_node) (hold_of two_owners (variable x)) (Some 0) o
 shared_variable zero o e = let same : id 0 ≡ o = cc e in rw (← same) refl
@@ -76,4 +68,4 @@ pub borrower_dangles : BorrowerDangles
 borrower_dangles = (tt, refl, refl)
 
 pub parted_links_fit : PartedLinksFit
-parted_links_fit = take_pairs_keep kinds nodes links reliance links_fit.0 2 (id 0) 1 0 refl refl refl
+parted_links_fit = take_pairs_keep kinds nodes links reliance links_fit 2 (id 0) 1 0 refl refl refl

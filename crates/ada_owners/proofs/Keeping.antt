@@ -13,10 +13,10 @@ use Rattle.ada_flow.specs.Flow.{without_aliases}
 use Rattle.ada_owners.specs.Reliance.{IsOf, Says, Borrows, hold_of, with_hold, with_lent, component_hold, callee_reliance, caller_reliance}
 use Rattle.ada_owners.specs.Keeping.{FirstStatesFit, IsThere, OwnedAreThere, BorrowedAreThere, OwnersAreAlone, MovesKeep, BorrowsKeep, StoresKeep, TakesKeep, ClearsKeep, TakePairsKeep, ComponentPairsKeep, AllocationsKeep, PutsKeep, InsertionsKeep, EndsKeep, FreesKeep, ComponentFreesKeep, SparesKeep, MembersEnd, ClosesKeep, CallsKeep, ReturnsKeep, ActualsKeep, CopiesBackKeep, WalksAreRight, with_freed, without, ended, given_back}
 use Rattle.ada_owners.proofs.Kernel as kernel
-use Rattle.ada_owners.proofs.Objects.{listed_at, next_id, at_older, not_past}
+use Rattle.ada_owners.proofs.Objects.{present_at, next_id, at_older, not_past}
 use Rattle.ada_owners.proofs.Changes.{first_fits, blank_null, at_here, changed_is, store_access}
 use Rattle.ada_owners.proofs.Creations.{create_fits, created_hand}
-use Rattle.ada_owners.proofs.Ends.{hand_unnamed, part_fits, finish_parted, back_fits, others_stay}
+use Rattle.ada_owners.proofs.Ends.{hand_unnamed, part_fits, part_unnamed, finish_fits, back_fits, others_stay}
 use Rattle.ada_owners.proofs.Reliances.{lose_fits, lost_hand, put_owned, put_borrowed, put_nothing, move_fits, some_component, lend_fits, lent_hand, store_owned, store_repaid, forget_fits, hand_forget, none_borrows}
 use Rattle.ada_owners.proofs.Calls.{call_fits, return_fits, hand_call, hand_return}
 use Rattle.ada_owners.proofs.Collections.{spare_fits, closed_fits, spared_part, spared_finish, spared_back}
@@ -24,7 +24,7 @@ use Rattle.ada_owners.proofs.Walks.{path_right, every_may}
 
 there_by : (objects : List Object) (k : Option ℕ) (o : Id) → IsOf (access_at objects) k o → IsThere objects o
 there_by objects None o s = absurd s
-there_by objects (Some t) o s = let h = listed_at objects o t s in (h.object, h.found, h.listed)
+there_by objects (Some t) o s = let h = present_at objects o t s in (h.object, h.found, h.there)
 
 borrower_right : (access : Id → Option ℕ) (h : Hold) (k : Option ℕ) (o : Id) → Borrows h → Says access h k o → IsOf access k o
 borrower_right access held.Null k o b s = absurd b
@@ -59,7 +59,7 @@ borrows_keep kinds objects activations r f x p ne kind = put_borrowed r x p (hel
 
 pub stores_keep : StoresKeep
 stores_keep kinds objects activations r f o c t y is own kind =
-    let h = listed_at objects o t is in
+    let h = present_at objects o t is in
     store_owned (with_hold y held.Lost r) o c h.object h.found (rw is (rw kind (lost_hand r y own f))) (lose_fits r y f)
 
 pub takes_keep : TakesKeep
@@ -67,7 +67,7 @@ takes_keep kinds objects activations r f x o c t is kind owned =
     put_owned (with_lent o c r) x (held.Own Whole) own_some (rw (← kind) (rw is at (lent_hand r o c owned f))) (lend_fits r o c f)
 
 pub clears_keep : ClearsKeep
-clears_keep kinds objects activations r o c t is f = let h = listed_at objects o t is in store_repaid r o c h.object h.found blank_null f
+clears_keep kinds objects activations r o c t is f = let h = present_at objects o t is in store_repaid r o c h.object h.found blank_null f
 
 pub take_pairs_keep : TakePairsKeep
 take_pairs_keep kinds objects activations r f x o c t is kind owned =
@@ -75,7 +75,7 @@ take_pairs_keep kinds objects activations r f x o c t is kind owned =
 
 pub component_pairs_keep : ComponentPairsKeep
 component_pairs_keep kinds objects activations r f k o d c u t at_k at_o kind owned =
-    let h = listed_at objects k u at_k in
+    let h = present_at objects k u at_k in
     let v = value_at objects activations (component o c) in
     clears_keep kinds _ activations r o c t (store_access objects k h.object h.found d v o ∙ at_o)
     (store_owned (with_lent o c r) k d h.object h.found (rw at_k (rw kind (rw at_o at (lent_hand r o c owned f)))) (lend_fits r o c f))
@@ -86,10 +86,10 @@ allocations_keep kinds objects activations r f words cell items =
 
 pub insertions_keep : InsertionsKeep
 insertions_keep kinds objects activations r o c t words cell f is kind items =
-    let h = listed_at objects o t is in
+    let h = present_at objects o t is in
     let both = allocations_keep kinds objects activations (with_lent o c r) f words cell items in
     let found = at_older objects words cell o (not_past objects o h.object h.found) ∙ h.found in
-    let same : access_at (create objects words cell) o ≡ Some t = rw (found, h.listed, h.access) refl in
+    let same : access_at (create objects words cell) o ≡ Some t = rw (found, h.there, h.access) refl in
     store_repaid r o c h.object found (rw same (rw kind both.1)) both.0
 
 pub puts_keep : PutsKeep
@@ -97,11 +97,11 @@ puts_keep kinds objects activations r f x v i = put_owned r x (held.Own Whole) o
 
 pub ends_keep : EndsKeep
 ends_keep kinds objects activations r f o t i none =
-    let h = listed_at objects o t (i.hand.right o refl) in
+    let h = present_at objects o t (i.hand.right o refl) in
     let v = Names o in
-    let one = part_fits objects o h.object h.found f (hand_unnamed t o f i none) in
+    let one = part_fits objects o h.object h.found f in
     let at_one : object_at (without objects v) o ≡ Some (parted h.object) = rw (changed_is objects o h.object h.found (parted h.object) parted refl) (at_here objects o h.object h.found (parted h.object)) in
-    let two = finish_parted (without objects v) o (parted h.object) at_one refl one in
+    let two = finish_fits (without objects v) o (parted h.object) at_one one (part_unnamed objects o h.object h.found o (hand_unnamed t o f i none)) in
     let at_two : object_at (ended objects v) o ≡ Some (finished (parted h.object)) = rw (changed_is (without objects v) o (parted h.object) at_one (finished (parted h.object)) finished refl) (at_here (without objects v) o (parted h.object) at_one (finished (parted h.object))) in
     (one, two, back_fits (ended objects v) o (finished (parted h.object)) at_two two)
 
@@ -123,11 +123,12 @@ component_frees_keep kinds objects activations r f variables o k c u t same oute
 
 pub members_end : MembersEnd
 members_end kinds objects activations r types o t f is among =
-    let h = listed_at objects o t is in
+    let h = present_at objects o t is in
     let v = Names o in
-    let one = spared_part kinds objects (hold_of r) types o h.object t h.found is among f in
+    let one = spared_part kinds objects (hold_of r) types o h.object h.found f in
     let at_one : object_at (without objects v) o ≡ Some (parted h.object) = rw (changed_is objects o h.object h.found (parted h.object) parted refl) (at_here objects o h.object h.found (parted h.object)) in
-    let two = spared_finish kinds (without objects v) (hold_of r) types o (parted h.object) at_one refl one in
+    let still : access_at (without objects v) o ≡ Some t = rw at_one (rw (h.there, h.access) refl) in
+    let two = spared_finish kinds (without objects v) (hold_of r) types o (parted h.object) t at_one still among one in
     let at_two : object_at (ended objects v) o ≡ Some (finished (parted h.object)) = rw (changed_is (without objects v) o (parted h.object) at_one (finished (parted h.object)) finished refl) (at_here (without objects v) o (parted h.object) at_one (finished (parted h.object))) in
     (one, two, spared_back kinds (ended objects v) (hold_of r) types o (finished (parted h.object)) at_two two)
 
@@ -156,8 +157,8 @@ copies_back_keep kinds objects callee activations r x y f own kind =
     put_owned (caller_reliance lost) y (held.Own Whole) own_some (rw kind i) (return_fits objects callee activations lost (lose_fits r x f))
 
 pub walks_are_right : WalksAreRight
-walks_are_right kinds objects activations r f p cs exist none ne =
-    path_right f exist (λ t. Unit {0}) (λ o c t is may lost. not_lost r.lent none o c lost) p cs ne (every_may kinds _ cs)
+walks_are_right kinds objects activations r f p cs none ne =
+    path_right f (λ t. Unit {0}) (λ o c t is may lost. not_lost r.lent none o c lost) p cs ne (every_may kinds _ cs)
   where
     not_lost : (lent : List Place) → lent ≡ [] → (o : Id) (c : ℕ) → component_hold (is_lent lent o c) ≢ held.Lost
     not_lost [] e o c lost = cc lost

@@ -8,7 +8,7 @@ use Rattle.ada_meaning.specs.declared.state.Value.{Value}
 use Rattle.ada_meaning.specs.declared.state.Value.TheVariants.{Null}
 use Rattle.ada_meaning.specs.Heap.{Cell}
 use Rattle.ada_meaning.specs.Named.{Object, object_at, new_object, create}
-use Rattle.ada_owners.specs.Places.{component_in, access_in, access_at}
+use Rattle.ada_owners.specs.Places.{is_there, component_in, access_in, access_at}
 
 -- Reading a list where it was written, or elsewhere.
 module _ {X : Type 0} where
@@ -84,24 +84,24 @@ at_past objects = get_past objects
 pub not_past : (objects : List Object) (o : Id) (x : Object) → object_at objects o ≡ Some x → o ≢ next_id objects
 not_past objects o x found e = let none : object_at objects o ≡ None = ap (λ k. object_at objects k) e ∙ at_past objects in cc (none, found)
 
--- An object that has an access type is there, and in its collection.
-pub record IsListed (objects : List Object) (o : Id) (t : ℕ) : Type 0 where
+-- An object that has an access type is there.
+pub record IsPresent (objects : List Object) (o : Id) (t : ℕ) : Type 0 where
   pub object : Object
   pub found : object_at objects o ≡ Some object
-  pub listed : object.listed ≡ true
+  pub there : is_there object.stage ≡ true
   pub access : object.cell.access ≡ t
 
-listed_if : (b : Bool) (x t : ℕ) → (if b then Some x else None) ≡ Some t → (b ≡ true) × (x ≡ t)
-listed_if true x t e = (refl, cc e)
-listed_if false x t e = absurd (cc e)
+present_if : (b : Bool) (x t : ℕ) → (if b then Some x else None) ≡ Some t → (b ≡ true) × (x ≡ t)
+present_if true x t e = (refl, cc e)
+present_if false x t e = absurd (cc e)
 
-pub listed_at : (objects : List Object) (o : Id) (t : ℕ) → access_at objects o ≡ Some t → IsListed objects o t
-listed_at objects o t e = go (object_at objects o) refl e
+pub present_at : (objects : List Object) (o : Id) (t : ℕ) → access_at objects o ≡ Some t → IsPresent objects o t
+present_at objects o t e = go (object_at objects o) refl e
   where
-    go : (object : Option Object) → object_at objects o ≡ object → access_in object ≡ Some t → IsListed objects o t
+    go : (object : Option Object) → object_at objects o ≡ object → access_in object ≡ Some t → IsPresent objects o t
     go None is e = absurd (cc e)
-    go (Some object) is e = let h = listed_if object.listed object.cell.access t e in record { object = object; found = is; listed = h.0; access = h.1 }
+    go (Some object) is e = let h = present_if (is_there object.stage) object.cell.access t e in record { object = object; found = is; there = h.0; access = h.1 }
 
--- What a component of an object in its collection holds.
-pub component_listed : (object : Object) (c : ℕ) → object.listed ≡ true → component_in (Some object) c ≡ slice_index_or object.cell.values c Null
-component_listed object c e = rw e refl
+-- What a component of an object that is there holds.
+pub component_there : (object : Object) (c : ℕ) → is_there object.stage ≡ true → component_in (Some object) c ≡ slice_index_or object.cell.values c Null
+component_there object c e = rw e refl

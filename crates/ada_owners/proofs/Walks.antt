@@ -9,15 +9,17 @@ use Rattle.ada_flow.specs.declared.rule.Hold.TheVariants as held
 use Rattle.ada_meaning.specs.declared.state.Id.{Id}
 use Rattle.ada_meaning.specs.declared.state.Value.{Value}
 use Rattle.ada_meaning.specs.declared.state.Value.TheVariants.{Null, Names, Scalar, Part}
+use Rattle.ada_meaning.specs.declared.state.Stage.{Stage}
+use Rattle.ada_meaning.specs.declared.state.Stage.TheVariants.{Building, Existing, Gone}
 use Rattle.ada_meaning.specs.Heap.{Cell, Found, on_null, on_gone, on_other, finds}
 use Rattle.ada_meaning.specs.State.{Activation}
-use Rattle.ada_meaning.specs.Named.{Object, State, object_at, seen, look, create, named}
+use Rattle.ada_meaning.specs.Named.{Object, State, object_at, existing, seen, look, create, named}
 use Rattle.ada_meaning.specs.Step.{component_next, follow_next}
-use Rattle.ada_owners.specs.Places.{Place, component, value_at, access_at}
+use Rattle.ada_owners.specs.Places.{Place, component, is_there, value_at, access_at}
 use Rattle.ada_owners.specs.Reliance.{IsOf, Kinds, component_kind, kind_of, Fits}
-use Rattle.ada_owners.specs.Walks.{then_found, value_found, behind, walk, kind_behind, MayFollow, FollowsOnly, AreOpen, ListedExist, IsRight, followed_next, PathsWalk}
+use Rattle.ada_owners.specs.Walks.{then_found, value_found, behind, walk, kind_behind, MayFollow, FollowsOnly, AreOpen, IsRight, followed_next, PathsWalk}
 use Rattle.ada_owners.proofs.Kernel as kernel
-use Rattle.ada_owners.proofs.Objects.{at_older, not_past, listed_at, component_listed}
+use Rattle.ada_owners.proofs.Objects.{at_older, not_past, present_at, component_there}
 
 -- A step of a run that follows a path.
 step_behind : (v : Value) (c : ℕ) (cs : List ℕ) (s : State) (w : Option Value) → component_next named v cs w s ≡ followed_next (value_found w) v cs s
@@ -42,7 +44,7 @@ pub record Leads (objects : List Object) (kind : Option ℕ) (v : Value) (cell :
   pub kind_is : kind ≡ Some access
   pub typed : access_at objects name ≡ Some access
   pub found : object_at objects name ≡ Some object
-  pub listed : object.listed ≡ true
+  pub there : is_there object.stage ≡ true
   pub cell_is : object.cell ≡ cell
 
 abbrev pub LooksRight : List Object → Option ℕ → Value → Found (Cell Value) → Type 0
@@ -51,18 +53,23 @@ LooksRight objects kind v on_gone = ⊥
 LooksRight objects kind v on_other = Unit {0}
 LooksRight objects kind v (finds cell) = Leads objects kind v cell
 
-looks_named : (objects : List Object) (t : ℕ) (o : Id) → ListedExist objects → access_at objects o ≡ Some t → LooksRight objects (Some t) (Names o) (look objects (Names o))
-looks_named objects t o exist e =
-    let h = listed_at objects o t e in
-    let stage = exist o h.object h.found h.listed in
-    rw (h.found, stage) (record { name = o; access = t; object = h.object; is = refl; kind_is = refl; typed = e; found = h.found; listed = h.listed; cell_is = refl })
+-- An object that is there is found.
+pub found_there : (x : Object) (stage : Stage) → is_there stage ≡ true → existing x stage ≡ finds x.cell
+found_there x Building there = refl
+found_there x Existing there = refl
+found_there x Gone there = absurd (cc there)
 
-pub looks_right : (objects : List Object) (kind : Option ℕ) (v : Value) → ListedExist objects → ((o : Id) → v ≡ Names o → IsOf (access_at objects) kind o) → LooksRight objects kind v (look objects v)
-looks_right objects kind Null exist right = tt
-looks_right objects None (Names o) exist right = absurd (right o refl)
-looks_right objects (Some t) (Names o) exist right = looks_named objects t o exist (right o refl)
-looks_right objects kind (Scalar n) exist right = tt
-looks_right objects kind (Part o first) exist right = tt
+looks_named : (objects : List Object) (t : ℕ) (o : Id) → access_at objects o ≡ Some t → LooksRight objects (Some t) (Names o) (look objects (Names o))
+looks_named objects t o e =
+    let h = present_at objects o t e in
+    rw (h.found, found_there h.object h.object.stage h.there) (record { name = o; access = t; object = h.object; is = refl; kind_is = refl; typed = e; found = h.found; there = h.there; cell_is = refl })
+
+pub looks_right : (objects : List Object) (kind : Option ℕ) (v : Value) → ((o : Id) → v ≡ Names o → IsOf (access_at objects) kind o) → LooksRight objects kind v (look objects v)
+looks_right objects kind Null right = tt
+looks_right objects None (Names o) right = absurd (right o refl)
+looks_right objects (Some t) (Names o) right = looks_named objects t o (right o refl)
+looks_right objects kind (Scalar n) right = tt
+looks_right objects kind (Part o first) right = tt
 
 -- A component's value lies in the component's place.
 pub record LiesIn (objects : List Object) (activations : List (Activation Value)) (kind : Option ℕ) (v : Value) (c : ℕ) (w : Value) : Type 0 where
@@ -82,7 +89,7 @@ cell_value objects activations kind v cell c w h e =
       is = h.is;
       kind_is = h.kind_is;
       typed = h.typed;
-      value = rw h.found (component_listed h.object c h.listed ∙ get_or_from_slice_get h.object.cell.values c w Null get);
+      value = rw h.found (component_there h.object c h.there ∙ get_or_from_slice_get h.object.cell.values c w Null get);
     }
 
 module _ (objects : List Object) (activations : List (Activation Value)) (kind : Option ℕ) (v : Value) (c : ℕ) where
@@ -103,10 +110,10 @@ module _ (objects : List Object) (activations : List (Activation Value)) (kind :
   looked_right on_other h = tt
   looked_right (finds cell) h = value_right cell h (slice_get cell.values c) refl
 
-  pub behind_right : ListedExist objects → ((o : Id) → v ≡ Names o → IsOf (access_at objects) kind o) → BehindRight (behind objects v c)
-  behind_right exist right = looked_right (look objects v) (looks_right objects kind v exist right)
+  pub behind_right : ((o : Id) → v ≡ Names o → IsOf (access_at objects) kind o) → BehindRight (behind objects v c)
+  behind_right right = looked_right (look objects v) (looks_right objects kind v right)
 
-module _ {kinds : Kinds} {objects : List Object} {activations : List (Activation Value)} {hold : Place → Hold} (f : Fits kinds objects activations hold) (exist : ListedExist objects) (P : ℕ → Type 0) (are_open : AreOpen P objects hold) where
+module _ {kinds : Kinds} {objects : List Object} {activations : List (Activation Value)} {hold : Place → Hold} (f : Fits kinds objects activations hold) (P : ℕ → Type 0) (are_open : AreOpen P objects hold) where
   -- What lies there may be relied on in its turn.
   pub next_right : (kind : Option ℕ) (v : Value) (c : ℕ) (w : Value) → MayFollow P kind → LiesIn objects activations kind v c w → (o : Id) → w ≡ Names o → IsOf (access_at objects) (component_kind kinds kind c) o
   next_right kind v c w may h o e =
@@ -116,7 +123,7 @@ module _ {kinds : Kinds} {objects : List Object} {activations : List (Activation
 
   pub walk_right : (kind : Option ℕ) (v : Value) (cs : List ℕ) → FollowsOnly kinds P kind cs → ((o : Id) → v ≡ Names o → IsOf (access_at objects) kind o) → IsRight objects (kind_behind kinds kind cs) (walk objects v cs)
   walk_right kind v [] only right = right
-  walk_right kind v (c ∷ cs) only right = go (behind objects v c) (behind_right objects activations kind v c exist right) (λ w h. walk_right (component_kind kinds kind c) w cs only.1 (next_right kind v c w only.0 h))
+  walk_right kind v (c ∷ cs) only right = go (behind objects v c) (behind_right objects activations kind v c right) (λ w h. walk_right (component_kind kinds kind c) w cs only.1 (next_right kind v c w only.0 h))
     where
       go : (b : Found Value) → BehindRight objects activations kind v c b → ((w : Value) → LiesIn objects activations kind v c w → IsRight objects (kind_behind kinds (component_kind kinds kind c) cs) (walk objects w cs)) → IsRight objects (kind_behind kinds (component_kind kinds kind c) cs) (then_found b (λ w. walk objects w cs))
       go on_null h more = tt

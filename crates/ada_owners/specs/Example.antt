@@ -13,8 +13,7 @@ use Rattle.ada_meaning.specs.State.{Activation}
 use Rattle.ada_meaning.specs.Named.{Object}
 use Rattle.ada_owners.specs.Places.{Place, variable, value_at, access_at}
 use Rattle.ada_owners.specs.Reliance.{Says, Owns, Borrows, Kinds, kind_of, Reliance, hold_of, Fits}
-use Rattle.ada_owners.specs.Walks.{ListedExist}
-use Rattle.ada_owners.specs.Keeping.{without}
+use Rattle.ada_owners.specs.Keeping.{ended}
 
 -- type Link is access Node; a Node has an Integer, and then Next : Link.
 abbrev pub component_access : (access c : ℕ) → Option ℕ
@@ -61,9 +60,9 @@ links = running (Names (id 0) ∷ Names (id 1) ∷ Names (id 2) ∷ [])
 abbrev pub reliance : Reliance
 reliance = record { holds = held.Own Whole ∷ held.Alias Whole ∷ held.Lost ∷ []; outer = λ d. []; lent = [] }
 
--- The places of that state are as they are relied on to be, and its objects that are in collections exist.
+-- The places of that state are as they are relied on to be.
 abbrev pub LinksFit : Type 0
-LinksFit = Fits kinds nodes links (hold_of reliance) × ListedExist nodes
+LinksFit = Fits kinds nodes links (hold_of reliance)
 
 -- The nodes after T := A.Next; A.Next := null; where A is the first variable and T the third one.
 abbrev pub parted_nodes : List Object
@@ -100,13 +99,13 @@ TwoOwnersDangle =
     ((p : Place) (o : Id) → value_at one_node shared p ≡ Names o
     → Says (access_at one_node) (hold_of two_owners p) (kind_of kinds (access_at one_node) p) o)
     × Owns (hold_of two_owners (variable 1))
-    × (value_at (without one_node (Names (id 0))) shared (variable 1) ≡ Names (id 0))
-    × (access_at (without one_node (Names (id 0))) (id 0) ≡ None)
+    × (value_at (ended one_node (Names (id 0))) shared (variable 1) ≡ Names (id 0))
+    × (access_at (ended one_node (Names (id 0))) (id 0) ≡ None)
 
 -- Where the second node of the list ends while a variable borrows it, that variable names an object that is gone: so it matters that
 -- aliases are lost.
 abbrev pub BorrowerDangles : Type 0
 BorrowerDangles =
     Borrows (hold_of reliance (variable 1))
-    × (value_at (without nodes (Names (id 1))) links (variable 1) ≡ Names (id 1))
-    × (access_at (without nodes (Names (id 1))) (id 1) ≡ None)
+    × (value_at (ended nodes (Names (id 1))) links (variable 1) ≡ Names (id 1))
+    × (access_at (ended nodes (Names (id 1))) (id 1) ≡ None)

@@ -13,9 +13,9 @@ use Rattle.ada_meaning.specs.declared.state.Value.TheVariants.{Null, Names}
 use Rattle.ada_meaning.specs.Heap.{Cell}
 use Rattle.ada_meaning.specs.State.{Activation}
 use Rattle.ada_meaning.specs.Named.{Object, object_at, on_object, create, created, parted, finished, returned, store}
-use Rattle.ada_owners.specs.Places.{Place, variable, component, value_at, access_at, put_in, is_lent}
+use Rattle.ada_owners.specs.Places.{Place, variable, component, is_there, value_at, access_at, put_in, is_lent}
 use Rattle.ada_owners.specs.Reliance.{Owns, Borrows, Kinds, kind_of, Reliance, hold_of, with_hold, with_lent, callee_kinds, callee_reliance, caller_kinds, caller_reliance, spared, Fits, IsInHand, AreInHand, NameNothing}
-use Rattle.ada_owners.specs.Walks.{walk, kind_behind, ListedExist, IsRight}
+use Rattle.ada_owners.specs.Walks.{walk, kind_behind, IsRight}
 
 -- Of every state whose places are as they are relied on to be.
 abbrev pub InEveryFit : (Kinds → List Object → List (Activation Value) → Reliance → Type 0) → Type 0
@@ -27,11 +27,11 @@ InEveryFit P =
 abbrev pub FirstStatesFit : Type 0
 FirstStatesFit = (kinds : Kinds) (body : Activation Value) (r : Reliance) → NameNothing body.places → Fits kinds [] (body ∷ []) (hold_of r)
 
--- An object is in its collection.
+-- An object is there.
 abbrev pub IsThere : List Object → Id → Type 0
-IsThere objects o = (x : Object) × (object_at objects o ≡ Some x) × (x.listed ≡ true)
+IsThere objects o = (x : Object) × (object_at objects o ≡ Some x) × (is_there x.stage ≡ true)
 
--- What a place names that owns is there: the object is in its collection.
+-- What a place names that owns is there.
 abbrev pub OwnedAreThere : Type 0
 OwnedAreThere = InEveryFit (λ kinds objects activations r.
     (p : Place) (o : Id) → Owns (hold_of r p) → value_at objects activations p ≡ Names o → IsThere objects o)
@@ -226,5 +226,5 @@ ReturnsKeep =
 -- A walk from a place that may be relied on, while no component is lent, comes to no object that is gone; and what it finds exists.
 abbrev pub WalksAreRight : Type 0
 WalksAreRight = InEveryFit (λ kinds objects activations r.
-    (p : Place) (cs : List ℕ) → ListedExist objects → r.lent ≡ [] → hold_of r p ≢ held.Lost
+    (p : Place) (cs : List ℕ) → r.lent ≡ [] → hold_of r p ≢ held.Lost
     → IsRight objects (kind_behind kinds (kind_of kinds (access_at objects) p) cs) (walk objects (value_at objects activations p) cs))

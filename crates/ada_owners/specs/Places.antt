@@ -1,10 +1,12 @@
 -- Where access values lie, and what a change of one place does.
 
-use Rattle.std.specs.Prelude.{ℕ, zero, suc, Bool, false, ◌==◌, ◌&&◌, ◌||◌, if◌then◌else◌, List, [], ◌∷◌, Option, Some, None}
+use Rattle.std.specs.Prelude.{ℕ, zero, suc, Bool, true, false, ◌==◌, ◌&&◌, ◌||◌, if◌then◌else◌, List, [], ◌∷◌, Option, Some, None}
 use Rattle.std.specs.List.{slice_set, slice_index_or}
 use Rattle.ada_meaning.specs.declared.state.Id.{Id}
 use Rattle.ada_meaning.specs.declared.state.Value.{Value}
 use Rattle.ada_meaning.specs.declared.state.Value.TheVariants.{Null}
+use Rattle.ada_meaning.specs.declared.state.Stage.{Stage}
+use Rattle.ada_meaning.specs.declared.state.Stage.TheVariants.{Building, Existing, Gone}
 use Rattle.ada_meaning.specs.State.{Activation}
 use Rattle.ada_meaning.specs.Step.{places_of, with_places}
 use Rattle.ada_meaning.specs.Named.{Object, object_at}
@@ -22,10 +24,16 @@ outer_places [] d = []
 outer_places (a ∷ suspended) zero = places_of suspended
 outer_places (a ∷ suspended) (suc d) = outer_places suspended d
 
--- What a component of an object holds: null once the object has left its collection, since nothing is relied on there any more.
+-- An object at a stage has not ceased to exist (7.6.1, 13.11.2): while it is finalized, it is there still, though no longer in its collection.
+abbrev pub is_there : Stage → Bool
+is_there Building = true
+is_there Existing = true
+is_there Gone = false
+
+-- What a component of an object holds: null once the object is gone, since nothing is relied on there any more.
 abbrev pub component_in : Option Object → ℕ → Value
 component_in None c = Null
-component_in (Some object) c = if object.listed then slice_index_or object.cell.values c Null else Null
+component_in (Some object) c = if is_there object.stage then slice_index_or object.cell.values c Null else Null
 
 -- What lies in a place.
 abbrev pub value_at : List Object → List (Activation Value) → Place → Value
@@ -33,12 +41,12 @@ value_at objects activations (variable x) = slice_index_or (places_of activation
 value_at objects activations (component o c) = component_in (object_at objects o) c
 value_at objects activations (elsewhere d x) = slice_index_or (outer_places activations d) x Null
 
--- The access type of an object as long as it is in its collection.
+-- The access type of an object as long as that is there.
 abbrev pub access_in : Option Object → Option ℕ
 access_in None = None
-access_in (Some object) = if object.listed then Some object.cell.access else None
+access_in (Some object) = if is_there object.stage then Some object.cell.access else None
 
--- The access type of the object of a name: none before the object exists, and none once it has left its collection.
+-- The access type of the object of a name: none before the object exists, and none once it is gone.
 abbrev pub access_at : List Object → Id → Option ℕ
 access_at objects o = access_in (object_at objects o)
 

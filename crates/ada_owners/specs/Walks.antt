@@ -1,19 +1,18 @@
 -- Paths through access values, one value a step (4.1), and what they come to.
 
-use Rattle.std.specs.Prelude.{◌≡◌, ◌≢◌, ℕ, true, List, [], ◌∷◌, Option, Some, None}
+use Rattle.std.specs.Prelude.{◌≡◌, ◌≢◌, ℕ, List, [], ◌∷◌, Option, Some, None}
 use Rattle.std.specs.List.{slice_get}
 use Rattle.ada_flow.specs.declared.rule.Hold.{Hold}
 use Rattle.ada_flow.specs.declared.rule.Hold.TheVariants as held
 use Rattle.ada_meaning.specs.declared.state.Id.{Id}
 use Rattle.ada_meaning.specs.declared.state.Value.{Value}
 use Rattle.ada_meaning.specs.declared.state.Value.TheVariants.{Names}
-use Rattle.ada_meaning.specs.declared.state.Stage.TheVariants.{Existing}
 use Rattle.ada_meaning.specs.Heap.{Found, on_null, on_gone, on_other, finds}
 use Rattle.ada_meaning.specs.declared.event.Halt.TheVariants.{Erroneous, Stuck}
 use Rattle.ada_meaning.specs.declared.event.Why.TheVariants.{FollowsGone}
 use Rattle.ada_meaning.specs.Event.{Followed, Quiet}
 use Rattle.ada_meaning.specs.Step.{halts, moves, raised, reading, path_next}
-use Rattle.ada_meaning.specs.Named.{Object, State, Next, object_at, look, named}
+use Rattle.ada_meaning.specs.Named.{Object, State, Next, look, named}
 use Rattle.ada_program.specs.declared.program.Exception.TheVariants.{ConstraintError}
 use Rattle.ada_owners.specs.Places.{Place, component, access_at}
 use Rattle.ada_owners.specs.Reliance.{IsOf, Kinds, component_kind}
@@ -69,10 +68,6 @@ FollowsOnly kinds P kind (c ∷ cs) = MayFollow P kind × FollowsOnly kinds P (c
 -- Components of objects of access types that may be followed are relied on: none of them is lent.
 abbrev pub AreOpen : (ℕ → Type 0) → List Object → (Place → Hold) → Type 0
 AreOpen P objects hold = (o : Id) (c t : ℕ) → access_at objects o ≡ Some t → P t → hold (component o c) ≢ held.Lost
-
--- Each object that is in its collection exists.
-abbrev pub ListedExist : List Object → Type 0
-ListedExist objects = (o : Id) (x : Object) → object_at objects o ≡ Some x → x.listed ≡ true → x.stage ≡ Existing
 
 -- A walk comes to no object that is gone, and what it finds is null or names an object of the access type, which exists.
 abbrev pub IsRight : List Object → Option ℕ → Found Value → Type 0

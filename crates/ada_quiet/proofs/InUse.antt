@@ -1,21 +1,23 @@
 -- Operations that are quiet are in use.
 
 use Rattle.std.proofs.Common.{◌≡◌, refl}
-use Rattle.std.specs.Prelude.{Bool, true, false, not, ◌&&◌, List, [], ◌∷◌, Option, Some, None}
+use Rattle.std.specs.Prelude.{Bool, true, false, not, ◌&&◌, ◌||◌, List, [], ◌∷◌, Option, Some, None}
 use Rattle.std.specs.List.{list_all, slice_get}
 use Rattle.ada_effects.specs.Effects.{no_calls, body_raises}
 use Rattle.ada_program.specs.declared.program.Finalization.{Finalization}
 use Rattle.ada_program.specs.declared.program.ProcedureNo.{ProcedureNo}
 use Rattle.ada_program.specs.ProgramForm.{TypeForm, BodyForm, ProgramForm}
 use Rattle.ada_program.specs.WellFormed.{finalization_in}
-use Rattle.ada_quiet.specs.Quiet.{is_plain_body, is_plain_procedure, is_quiet_procedure, is_plain_operation, is_quiet_operation, has_quiet_operations, uses_operations, adjusts_access, operations_are_quiet, operations_are_in_use}
+use Rattle.ada_quiet.specs.Quiet.{is_plain_body, is_plain_procedure, is_quiet_procedure, is_plain_operation, is_quiet_operation, has_quiet_operations, adjusts_access, operations_are_quiet}
+use Rattle.ada_quiet.specs.Frugal.{is_frugal_operation}
+use Rattle.ada_quiet.specs.InUse.{may_be_frugal, uses_finalize, uses_operations, operations_are_in_use}
 
 -- Of two tests that both hold the first one holds, and so does the second one.
-first_of_both : (a b : Bool) → (a && b) ≡ true → a ≡ true
+pub first_of_both : (a b : Bool) → (a && b) ≡ true → a ≡ true
 first_of_both true b h = refl
 first_of_both false b h = h
 
-second_of_both : (a b : Bool) → (a && b) ≡ true → b ≡ true
+pub second_of_both : (a b : Bool) → (a && b) ≡ true → b ≡ true
 second_of_both true b h = h
 second_of_both false b h = absurd (cc h)
 
@@ -32,6 +34,18 @@ pub plain_operation : (p : ProgramForm) (o : Option ProcedureNo) → is_quiet_op
 plain_operation p None h = refl
 plain_operation p (Some procedure) h = plain_procedure p.types (slice_get p.bodies procedure.0) h
 
+-- A quiet Finalize is in use.
+either_first : (a b : Bool) → a ≡ true → (a || b) ≡ true
+either_first true b h = refl
+either_first false b h = absurd (cc h)
+
+pub uses_quiet_finalize : (p : ProgramForm) (o : Option ProcedureNo) → is_quiet_operation p o ≡ true → uses_finalize p o ≡ true
+uses_quiet_finalize p o h = either_first (is_quiet_operation p o) (may_be_frugal p && is_frugal_operation p o) h
+
+-- Both of two tests may be replaced by what follows from them.
+pub others : (a b c d : Bool) → (a ≡ true → c ≡ true) → (b ≡ true → d ≡ true) → (a && b) ≡ true → (c && d) ≡ true
+others a b c d one other h = rw (one (first_of_both a b h)) (other (second_of_both a b h))
+
 -- Quiet operations of a type are in use.
 pub uses_quiet : (p : ProgramForm) (f : Option Finalization) → has_quiet_operations p f ≡ true → uses_operations p f ≡ true
 uses_quiet p None h = refl
@@ -39,8 +53,9 @@ uses_quiet p (Some f) h =
     let initialize = is_quiet_operation p f.operations.initialize in
     let adjust = is_quiet_operation p f.operations.adjust in
     let finalize = is_quiet_operation p f.operations.finalize in
-    other_first (initialize && adjust) (is_plain_operation p f.operations.initialize && adjust) finalize
-    (other_first initialize (is_plain_operation p f.operations.initialize) adjust (plain_operation p f.operations.initialize)) h
+    others (initialize && adjust) finalize (is_plain_operation p f.operations.initialize && adjust) (uses_finalize p f.operations.finalize)
+    (other_first initialize (is_plain_operation p f.operations.initialize) adjust (plain_operation p f.operations.initialize))
+    (uses_quiet_finalize p f.operations.finalize) h
 
 used_in : (p : ProgramForm) (ts : List TypeForm) → list_all (λ t. has_quiet_operations p (finalization_in (Some t)) && not (adjusts_access p t)) ts ≡ true →
     list_all (λ t. uses_operations p (finalization_in (Some t)) && not (adjusts_access p t)) ts ≡ true

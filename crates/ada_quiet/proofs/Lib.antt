@@ -6,3 +6,5 @@ pub mod Unused
 pub mod Untracked
 -- operations that are quiet are in use
 pub mod InUse
+-- quiet bodies are frugal
+pub mod QuietFrugal

@@ -12,8 +12,10 @@ use Rattle.ada_program.specs.declared.program.Operations.{Operations}
 use Rattle.ada_program.specs.declared.program.ProcedureNo.{ProcedureNo}
 use Rattle.ada_program.specs.ProgramForm.{TypeForm, BodyForm, ProgramForm}
 use Rattle.ada_program.specs.WellFormed.{finalization_in, finalization_of}
-use Rattle.ada_quiet.specs.First.{IsUnused, HasUnused, stands_before, IsFirst, first_of, start_unless, unused_in}
-use Rattle.ada_quiet.specs.Quiet.{is_plain_body, is_quiet_body, is_plain_procedure, is_quiet_procedure, is_plain_operation, is_quiet_operation, has_quiet_operations, uses_operations, has_access, operation_body, adjust_body, adjusts_access, operations_are_quiet, operations_are_in_use}
+use Rattle.ada_quiet.specs.First.{finalizes_in_use, IsUnused, HasUnused, stands_before, IsFirst, first_of, start_unless, unused_in}
+use Rattle.ada_quiet.specs.Frugal.{is_frugal_procedure}
+use Rattle.ada_quiet.specs.InUse.{may_be_frugal, uses_finalize, uses_operations, operations_are_in_use}
+use Rattle.ada_quiet.specs.Quiet.{is_plain_body, is_quiet_body, is_plain_procedure, is_quiet_procedure, is_plain_operation, is_quiet_operation, has_quiet_operations, has_access, operation_body, adjust_body, adjusts_access, operations_are_quiet}
 use Rattle.ada_quiet.proofs.Firsts.{IsOrder, either_first, same_first, AnyBelow, any_none, any_more}
 
 -- Places in the text.
@@ -75,6 +77,14 @@ quiet_as : (p : ProgramForm) (o : Option ProcedureNo) (procedure : ProcedureNo) 
     is_quiet_operation p o ≡ is_quiet_body p.types b
 quiet_as p o procedure b is at = ap (is_quiet_operation p) is ∙ ap (is_quiet_procedure p.types) at
 
+-- A Finalize is in use as its body is.
+abbrev used_procedure : ProgramForm → Option BodyForm → Bool
+used_procedure p o = is_quiet_procedure p.types o || (may_be_frugal p && is_frugal_procedure o)
+
+used_as : (p : ProgramForm) (o : Option ProcedureNo) (procedure : ProcedureNo) (b : BodyForm) → o ≡ Some procedure → slice_get p.bodies procedure.0 ≡ Some b →
+    uses_finalize p o ≡ finalizes_in_use p b
+used_as p o procedure b is at = ap (uses_finalize p) is ∙ ap (used_procedure p) at
+
 -- One type.
 
 -- One of the three operations.
@@ -82,18 +92,18 @@ abbrev UnusedOf : ProgramForm → (leaves : Bool) → Finalization → Spot → 
 UnusedOf p leaves f spot =
     Begins p (is_plain_operation p f.operations.initialize) f.operations.initialize spot
     ⊎ (Begins p (is_quiet_operation p f.operations.adjust && not leaves) f.operations.adjust spot
-    ⊎ Begins p (is_quiet_operation p f.operations.finalize) f.operations.finalize spot)
+    ⊎ Begins p (uses_finalize p f.operations.finalize) f.operations.finalize spot)
 
 -- One of what overrides the operations of a type.
 abbrev UnusedIn : ProgramForm → (leaves : Bool) → Option Finalization → Spot → Type 0
 UnusedIn p leaves o spot = (f : Finalization) × (o ≡ Some f) × UnusedOf p leaves f spot
 
-type_first : (p : ProgramForm) (leaves : Bool) (o : Option Finalization) → IsFirst (UnusedIn p leaves o) (unused_in p leaves o)
+type_first : (p : ProgramForm) (leaves : Bool) (o : Option Finalization) → IsFirst (UnusedIn p leaves o) (unused_in p (may_be_frugal p) leaves o)
 type_first p leaves None = λ spot h. absurd (cc h.1)
 type_first p leaves (Some f) =
     same_first stands_before (UnusedOf p leaves f) (UnusedIn p leaves (Some f)) (λ s h. (f, refl, h))
     (λ s h. subst (λ (g : Finalization). UnusedOf p leaves g s) (sym (some_same h.1)) h.2)
-    (unused_in p leaves (Some f))
+    (unused_in p (may_be_frugal p) leaves (Some f))
     (either_first stands_before text_order initialize (λ s. adjust s ⊎ finalize s)
     (start_unless begins (operation_body p f.operations.initialize))
     (first_of (start_unless adjusts (operation_body p f.operations.adjust)) (start_unless ends (operation_body p f.operations.finalize)))
@@ -109,7 +119,7 @@ type_first p leaves (Some f) =
     adjusts = is_quiet_operation p f.operations.adjust && not leaves
 
     ends : Bool
-    ends = is_quiet_operation p f.operations.finalize
+    ends = uses_finalize p f.operations.finalize
 
     initialize : Spot → Type 0
     initialize s = Begins p begins f.operations.initialize s
@@ -134,7 +144,7 @@ pub below_none : (p : ProgramForm) → IsFirst (Below p 0) None
 below_none p = any_none stands_before (UnusedAt p)
 
 pub below_more : (p : ProgramForm) (count : ℕ) (a b : Option Spot) → IsFirst (Below p count) a →
-    b ≡ unused_in p (has_access (slice_get p.types count)) (finalization_of p.types count) → IsFirst (Below p (count + 1)) (first_of a b)
+    b ≡ unused_in p (may_be_frugal p) (has_access (slice_get p.types count)) (finalization_of p.types count) → IsFirst (Below p (count + 1)) (first_of a b)
 below_more p count a b f is =
     any_more stands_before text_order (UnusedAt p) count a b f
     (subst (IsFirst (UnusedAt p count)) (sym is) (type_first p (has_access (slice_get p.types count)) (finalization_of p.types count)))
@@ -170,19 +180,19 @@ split p t f leaves s at has (inr (inl h)) =
     let (b, found, begins) = h.1 in
     let (procedure, is, there) = overriding_there p f.operations.adjust b found in
     elim (which_fits (is_quiet_operation p f.operations.adjust) leaves h.0) [
-      | inl loud ↦ (procedure, b, there, inr (inl ((t, f, at, inl is), sym (quiet_as p f.operations.adjust procedure b is there) ∙ loud)), begins)
-      | inr left ↦ (procedure, b, there, inr (inr (t, f, at, is, has ∙ left)), begins)
+      | inl loud ↦ (procedure, b, there, inr (inl ((t, f, at, is), sym (quiet_as p f.operations.adjust procedure b is there) ∙ loud)), begins)
+      | inr left ↦ (procedure, b, there, inr (inr (inr (t, f, at, is, has ∙ left))), begins)
     ]
 split p t f leaves s at has (inr (inr h)) =
     let (b, found, begins) = h.1 in
     let (procedure, is, there) = overriding_there p f.operations.finalize b found in
-    (procedure, b, there, inr (inl ((t, f, at, inr is), sym (quiet_as p f.operations.finalize procedure b is there) ∙ h.0)), begins)
+    (procedure, b, there, inr (inr (inl ((t, f, at, is), sym (used_as p f.operations.finalize procedure b is there) ∙ h.0))), begins)
 
 join : (p : ProgramForm) (procedure : ProcedureNo) (b : BodyForm) (s : Spot) → slice_get p.bodies procedure.0 ≡ Some b → b.start_spot ≡ s → IsUnused p procedure b →
     Below p (length p.types) s
 join p procedure b s there begins (inl ((t, f, at, is), loud)) =
     (t, within p.types t f at, (f, at, inl (plain_as p f.operations.initialize procedure b is there ∙ loud, (b, body_there p f.operations.initialize procedure b is there, begins))))
-join p procedure b s there begins (inr (inl ((t, f, at, inl is), loud))) =
+join p procedure b s there begins (inr (inl ((t, f, at, is), loud))) =
     let quiet = is_quiet_operation p f.operations.adjust in (
       t,
       within p.types t f at,
@@ -195,9 +205,9 @@ join p procedure b s there begins (inr (inl ((t, f, at, inl is), loud))) =
         )),
       ),
     )
-join p procedure b s there begins (inr (inl ((t, f, at, inr is), loud))) =
-    (t, within p.types t f at, (f, at, inr (inr (quiet_as p f.operations.finalize procedure b is there ∙ loud, (b, body_there p f.operations.finalize procedure b is there, begins)))))
-join p procedure b s there begins (inr (inr (t, f, at, is, has))) = (
+join p procedure b s there begins (inr (inr (inl ((t, f, at, is), loud)))) =
+    (t, within p.types t f at, (f, at, inr (inr (used_as p f.operations.finalize procedure b is there ∙ loud, (b, body_there p f.operations.finalize procedure b is there, begins)))))
+join p procedure b s there begins (inr (inr (inr (t, f, at, is, has)))) = (
   t,
   within p.types t f at,
   (
@@ -286,8 +296,8 @@ none_begins : (p : ProgramForm) (leaves : Bool) (f : Finalization) → uses_oper
     ¬ (UnusedOf p leaves f s)
 none_begins p leaves f used left s = go
   where
-    two : ((is_plain_operation p f.operations.initialize && is_quiet_operation p f.operations.adjust) ≡ true) × (is_quiet_operation p f.operations.finalize ≡ true)
-    two = both (is_plain_operation p f.operations.initialize && is_quiet_operation p f.operations.adjust) (is_quiet_operation p f.operations.finalize) used
+    two : ((is_plain_operation p f.operations.initialize && is_quiet_operation p f.operations.adjust) ≡ true) × (uses_finalize p f.operations.finalize ≡ true)
+    two = both (is_plain_operation p f.operations.initialize && is_quiet_operation p f.operations.adjust) (uses_finalize p f.operations.finalize) used
 
     first : (is_plain_operation p f.operations.initialize ≡ true) × (is_quiet_operation p f.operations.adjust ≡ true)
     first = both (is_plain_operation p f.operations.initialize) (is_quiet_operation p f.operations.adjust) two.0
@@ -320,6 +330,10 @@ loud_quiet : (p : ProgramForm) (o : Option ProcedureNo) → is_quiet_operation p
 loud_quiet p None h = absurd (cc h)
 loud_quiet p (Some procedure) h = body_of p (slice_get p.bodies procedure.0) (is_quiet_procedure p.types) refl h
 
+loud_used : (p : ProgramForm) (o : Option ProcedureNo) → uses_finalize p o ≡ false → (b : BodyForm) × (operation_body p o ≡ Some b)
+loud_used p None h = absurd (cc h)
+loud_used p (Some procedure) h = body_of p (slice_get p.bodies procedure.0) (used_procedure p) refl h
+
 body_some : (o : Option BodyForm) → is_some o ≡ true → (b : BodyForm) × (o ≡ Some b)
 body_some None h = absurd (cc h)
 body_some (Some b) h = (b, refl)
@@ -330,7 +344,7 @@ unused_type : (p : ProgramForm) (leaves : Bool) (o : Option Finalization) → (u
 unused_type p true None h = absurd (cc h)
 unused_type p false None h = absurd (cc h)
 unused_type p leaves (Some f) h =
-    go (is_plain_operation p f.operations.initialize) (quiet f.operations.adjust) (quiet f.operations.finalize) left refl refl refl refl h
+    go (is_plain_operation p f.operations.initialize) (quiet f.operations.adjust) (uses_finalize p f.operations.finalize) left refl refl refl refl h
   where
     quiet : Option ProcedureNo → Bool
     quiet o = is_quiet_operation p o
@@ -338,13 +352,13 @@ unused_type p leaves (Some f) h =
     left : Bool
     left = leaves && is_some (operation_body p f.operations.adjust)
 
-    go : (i a z l : Bool) → is_plain_operation p f.operations.initialize ≡ i → quiet f.operations.adjust ≡ a → quiet f.operations.finalize ≡ z → left ≡ l →
+    go : (i a z l : Bool) → is_plain_operation p f.operations.initialize ≡ i → quiet f.operations.adjust ≡ a → uses_finalize p f.operations.finalize ≡ z → left ≡ l →
         (i && a && z && not l) ≡ false → (s : Spot) × UnusedIn p leaves (Some f) s
     go false a z l is _ _ _ h = let (s, one) = loud_plain p f.operations.initialize is in (s, (f, refl, inl one))
     go true false z l _ is _ _ h =
         let (b, at) = loud_quiet p f.operations.adjust is in
         (b.start_spot, (f, refl, inr (inl (none_fits (quiet f.operations.adjust) leaves is, (b, at, refl)))))
-    go true true false l _ _ is _ h = let (b, at) = loud_quiet p f.operations.finalize is in (b.start_spot, (f, refl, inr (inr (is, (b, at, refl)))))
+    go true true false l _ _ is _ h = let (b, at) = loud_used p f.operations.finalize is in (b.start_spot, (f, refl, inr (inr (is, (b, at, refl)))))
     go true true true true _ _ _ is h =
         let (has, there) = both leaves (is_some (operation_body p f.operations.adjust)) is in
         let (b, at) = body_some (operation_body p f.operations.adjust) there in

@@ -150,12 +150,6 @@ abbrev pub is_plain_operation : ProgramForm → Option ProcedureNo → Bool
 is_plain_operation p None = true
 is_plain_operation p (Some procedure) = is_plain_procedure p.types (slice_get p.bodies procedure.0)
 
--- Of a type Initialize is plain: an exception may come out of it, and what has begun is finalized then. Adjust and Finalize are quiet (7.6, 7.6.1).
-abbrev pub uses_operations : ProgramForm → Option Finalization → Bool
-uses_operations p None = true
-uses_operations p (Some f) =
-    is_plain_operation p f.operations.initialize && is_quiet_operation p f.operations.adjust && is_quiet_operation p f.operations.finalize
-
 -- A declared component is of an access type (3.8, 3.10).
 abbrev pub is_of_access : PartKind → Bool
 is_of_access (part.Elementary (component.Integer initial)) = false
@@ -189,8 +183,3 @@ adjusts_access p t = has_access (Some t) && is_some (adjust_body p (finalization
 -- Whatever overrides an operation of a controlled type is quiet, and no body overrides Adjust of a type with such a component.
 abbrev pub operations_are_quiet : ProgramForm → Bool
 operations_are_quiet p = list_all (λ t. has_quiet_operations p (finalization_in (Some t)) && not (adjusts_access p t)) p.types
-
--- All that overrides an operation of a controlled type is in use: Initialize is plain, Adjust and Finalize are quiet, and no body overrides Adjust of a type
--- with such a component.
-abbrev pub operations_are_in_use : ProgramForm → Bool
-operations_are_in_use p = list_all (λ t. uses_operations p (finalization_in (Some t)) && not (adjusts_access p t)) p.types

@@ -36,7 +36,7 @@ fn has_elementary(variables: &[Variable]) -> bool
 }
 
 /// Whether a body raises an exception that none of its handlers takes, if it calls nothing.
-fn raises_some(
+pub(crate) fn raises_some(
     alloc: Global,
     types: &[TypeDefinition],
     procedure: &Procedure,

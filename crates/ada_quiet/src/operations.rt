@@ -1,13 +1,15 @@
-//! The bodies that override operations of controlled types (7.6), where they are plain or quiet.
+//! The bodies that override operations of controlled types (7.6), where they are plain, quiet or frugal.
 
 ghost use Rattle.std.specs.Prelude.{◌≡◌, ◌&&◌, Some, is_some, map, not, IfOk};
 ghost use Rattle.std.specs.List.{list_any, slice_get};
 ghost use Rattle.ada_program.specs.Kept.{types_in};
 ghost use Rattle.ada_program.specs.ProgramForm.{part_form, program_form, type_form};
 ghost use Rattle.ada_program.specs.WellFormed.{finalization_in};
+ghost use Rattle.ada_quiet.specs.Frugal as frugal;
 ghost use Rattle.ada_quiet.specs.Quiet as rules;
 
 use crate::bodies::{is_plain_body, is_quiet_body};
+use crate::frugal::is_frugal_body;
 use ada_program::program::{ComponentKind, Finalization, Part, PartKind, TypeDefinition};
 use ada_program::{ProcedureNo, Program};
 use std::alloc::{AllocError, Global};
@@ -45,7 +47,27 @@ pub(crate) fn is_quiet_operation(
     is_quiet_body(alloc, &program.types, procedure)
 }
 
-/// Whether all those do that override the operations of a type.
+/// Whether it has a frugal one.
+///
+/// # Errors
+/// `AllocError` where memory for the exceptions that it raises was refused.
+pub(crate) fn is_frugal_operation(
+    alloc: Global,
+    program: &Program,
+    operation: Option<ProcedureNo>,
+) -> Result<bool, AllocError>
+    ensures { IfOk result (λ answer. answer ≡ frugal.is_frugal_operation (program_form program.now) operation) }
+{
+    let Some(number) = operation else {
+        return Ok(true);
+    };
+    let Some(procedure) = program.procedures.get(number.0) else {
+        return Ok(true);
+    };
+    is_frugal_body(alloc, &program.types, procedure)
+}
+
+/// Whether all those have a quiet one that override the operations of a type.
 fn has_quiet_operations(
     alloc: Global,
     program: &Program,

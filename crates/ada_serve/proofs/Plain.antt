@@ -1,6 +1,6 @@
 -- Operations that are in use create no objects in their declarations (7.6).
 
-use Rattle.std.proofs.Common.{◌≡◌, Bool, true, false, not, ◌&&◌, if◌then◌else◌, List, [], ◌∷◌, map, Option, Some, None, refl}
+use Rattle.std.proofs.Common.{◌≡◌, Bool, true, false, not, ◌&&◌, ◌||◌, if◌then◌else◌, List, [], ◌∷◌, map, Option, Some, None, refl}
 use Rattle.std.specs.Prelude.{find, drop}
 use Rattle.std.specs.List.{list_all, slice_get}
 use Rattle.ada_program.specs.declared.program.Finalization.{Finalization}
@@ -13,8 +13,11 @@ use Rattle.ada_program.specs.Controlled.{number_by, is_number, operations_in, op
 use Rattle.ada_program.specs.Form.{RightForm, nothing, value_of, allocates, allocates_default, computes, DeclarationForm, creates_pool, collects, declares, declares_record}
 use Rattle.ada_program.specs.ProgramForm.{TypeForm, type_form, VariableForm, BodyForm, body_forms, ProgramForm, program_form}
 use Rattle.ada_program.specs.WellFormed.{finalization_in, variable_kind}
+use Rattle.ada_effects.specs.Effects.{no_calls, body_raises}
 use Rattle.ada_meaning.specs.Pace.{right_creates, declaration_creates, declarations_create, body_creates, operation_creates, OperationsDeclareNoParts}
-use Rattle.ada_quiet.specs.Quiet.{is_elementary, holds_elementary, is_quiet_right, is_quiet_declaration, are_quiet_declarations, are_quiet, are_quiet_handlers, is_plain_body, is_plain_procedure, is_plain_operation, is_quiet_operation, uses_operations, adjusts_access, operations_are_in_use}
+use Rattle.ada_quiet.specs.Quiet.{is_elementary, holds_elementary, is_quiet_right, is_quiet_declaration, are_quiet_declarations, are_quiet, are_quiet_handlers, is_plain_body, is_plain_procedure, is_plain_operation, is_quiet_operation, adjusts_access}
+use Rattle.ada_quiet.specs.InUse.{may_be_frugal, uses_finalize, uses_operations, operations_are_in_use}
+use Rattle.ada_quiet.specs.Frugal.{is_frugal_right, is_frugal_declaration, are_frugal_declarations, are_frugal, are_frugal_handlers, is_frugal_body, is_frugal_procedure, is_frugal_operation}
 use Rattle.ada_quiet.proofs.InUse.{plain_operation}
 
 -- Both tests are passed where their conjunction is.
@@ -69,6 +72,53 @@ operation_plain : (p : ProgramForm) (types : List TypeDefinition) (o : Option Pr
 operation_plain p types None plain = refl
 operation_plain p types (Some procedure) plain = procedure_plain p.types types (slice_get p.bodies procedure.0) plain
 
+-- A frugal declaration creates nothing but its variable either.
+right_frugal : (types : List TypeDefinition) (right : RightForm) → is_frugal_right right ≡ true → right_creates types right ≡ false
+right_frugal types nothing frugal = refl
+right_frugal types (value_of path) frugal = refl
+right_frugal types (allocates access items) frugal = absurd (cc frugal)
+right_frugal types (allocates_default access) frugal = absurd (cc frugal)
+right_frugal types (computes e) frugal = refl
+
+declaration_frugal : (types : List TypeDefinition) (d : DeclarationForm) → is_frugal_declaration d ≡ true → declaration_creates types d ≡ false
+declaration_frugal types (creates_pool pool) frugal = refl
+declaration_frugal types (collects access) frugal = refl
+declaration_frugal types (declares x right) frugal = right_frugal types right frugal
+declaration_frugal types (declares_record x object initial) frugal = absurd (cc frugal)
+
+declarations_frugal : (types : List TypeDefinition) (ds : List DeclarationForm) → are_frugal_declarations ds ≡ true → declarations_create types ds ≡ false
+declarations_frugal types [] frugal = refl
+declarations_frugal types (d ∷ ds) frugal =
+    let here = is_frugal_declaration d in
+    let later = are_frugal_declarations ds in
+    rw (declaration_frugal types d (left_of here later frugal)) (declarations_frugal types ds (right_of here later frugal))
+
+-- So do those of a frugal body.
+body_frugal : (types : List TypeDefinition) (b : BodyForm) → is_frugal_body b ≡ true → declarations_create types b.declarations ≡ false
+body_frugal types b frugal =
+    let declarations = are_frugal_declarations b.declarations in
+    let statements = are_frugal b.statements in
+    let handlers = are_frugal_handlers b.handlers in
+    let quiet = not (body_raises no_calls b (λ e. true)) in
+    declarations_frugal types b.declarations
+    (left_of declarations statements (left_of (declarations && statements) handlers (left_of (declarations && statements && handlers) quiet frugal)))
+
+procedure_frugal : (types : List TypeDefinition) (found : Option BodyForm) → is_frugal_procedure found ≡ true → body_creates types found ≡ false
+procedure_frugal types None frugal = refl
+procedure_frugal types (Some b) frugal = body_frugal types b frugal
+
+operation_frugal : (p : ProgramForm) (types : List TypeDefinition) (o : Option ProcedureNo) → is_frugal_operation p o ≡ true → operation_creates types p.bodies o ≡ false
+operation_frugal p types None frugal = refl
+operation_frugal p types (Some procedure) frugal = procedure_frugal types (slice_get p.bodies procedure.0) frugal
+
+-- So does a Finalize that is in use.
+finalize_used : (p : ProgramForm) (types : List TypeDefinition) (o : Option ProcedureNo) → uses_finalize p o ≡ true → operation_creates types p.bodies o ≡ false
+finalize_used p types o used = go (is_quiet_operation p o) refl used
+  where
+    go : (quiet : Bool) → is_quiet_operation p o ≡ quiet → (quiet || (may_be_frugal p && is_frugal_operation p o)) ≡ true → operation_creates types p.bodies o ≡ false
+    go true is _ = operation_plain p types o (plain_operation p o is)
+    go false _ frugal = operation_frugal p types o (right_of (may_be_frugal p) (is_frugal_operation p o) frugal)
+
 -- None of these operations declares an object with controlled parts.
 abbrev DeclareNone : List TypeDefinition → List BodyForm → Operations → Type 0
 DeclareNone types bodies o =
@@ -79,11 +129,11 @@ none_in p types None used = (refl, refl, refl)
 none_in p types (Some f) used =
     let initialize = is_plain_operation p f.operations.initialize in
     let adjust = is_quiet_operation p f.operations.adjust in
-    let finalize = is_quiet_operation p f.operations.finalize in
+    let finalize = uses_finalize p f.operations.finalize in
     let both = left_of (initialize && adjust) finalize used in (
       operation_plain p types f.operations.initialize (left_of initialize adjust both),
       operation_plain p types f.operations.adjust (plain_operation p f.operations.adjust (right_of initialize adjust both)),
-      operation_plain p types f.operations.finalize (plain_operation p f.operations.finalize (right_of (initialize && adjust) finalize used)),
+      finalize_used p types f.operations.finalize (right_of (initialize && adjust) finalize used),
     )
 
 -- Whether the operations of a type are in use, and no Adjust leaves a component of an access type as it is.

@@ -21,8 +21,8 @@ use Rattle.ada_sound.proofs.Orderings.{AsGood}
 
 -- What is outside of a body that a call has begun: what it gave the formal parameters, and its caller, which is the nearest suspended activation; and the
 -- objects that the call refers to.
-abbrev pub pushed_by : List Value → Outer → List Reference → Outsiders → Outsiders
-pushed_by given w refers outer = record { given = given; suspended = w ∷ outer.suspended; referenced = refers ++ outer.referenced }
+abbrev pub pushed_by : List Value → Outer → List Reference → List Id → Outsiders → Outsiders
+pushed_by given w refers under outer = record { given = given; suspended = w ∷ outer.suspended; referenced = refers ++ outer.referenced; under = under ++ outer.under }
 
 -- What gives something back, and names an object, owns it.
 gives_owner : (given : Value) (h : Hold) (v : Value) (o : Id) → gives_back h ≡ true → IsSaid given h v → v ≡ Names o → Owns h
@@ -68,9 +68,9 @@ module _ (w : Outer) (variables : List VariableForm) (places : List Value) (hold
   home_is x (inr (inl stays)) = refl
   home_is x (inr (inr (i, gives))) = rw gives.0 refl
 
-  module _ (types : List TypeForm) (outer : Outsiders) (given : List Value) (refers : List Reference) (spared : Id → Bool) (heap : List Object) (since : (x : ℕ) → Since x) (f : Fit types variables (pushed_by given w refers outer) spared heap places holds) where
+  module _ (types : List TypeForm) (outer : Outsiders) (given : List Value) (refers : List Reference) (under : List Id) (spared : Id → Bool) (heap : List Object) (since : (x : ℕ) → Since x) (f : Fit types variables (pushed_by given w refers under outer) spared heap places holds) where
     abbrev During : Place → (o : Id) → Type 0
-    During p o = Owns (hold_in (pushed_by given w refers outer) spared holds p) × (value_at heap (stacked places (pushed_by given w refers outer)) p ≡ Names o)
+    During p o = Owns (hold_in (pushed_by given w refers under outer) spared holds p) × (value_at heap (stacked places (pushed_by given w refers under outer)) p ≡ Names o)
 
     abbrev seen : Place → Place
     seen (variable x) = seen_by x (since x)
@@ -141,39 +141,39 @@ again (elsewhere (suc d) x) out = refl
 
 -- A call: each formal parameter is as it is relied on to be; one that owns has what a variable of the caller owned, which is relied on no more. Each other
 -- place is as it was in the caller's view, or less is relied on.
-module _ (types : List TypeForm) (outer : Outsiders) (w : Outer) (given : List Value) (refers : List Reference) (spared : Id → Bool) (heap : List Object) (variables : List VariableForm) (places : List Value) (holds before : Holds) where
+module _ (types : List TypeForm) (outer : Outsiders) (w : Outer) (given : List Value) (refers : List Reference) (under : List Id) (spared : Id → Bool) (heap : List Object) (variables : List VariableForm) (places : List Value) (holds before : Holds) where
   pub record HandedOver (i : ℕ) : Type 0 where
     pub x : ℕ
     pub value : place_at places i ≡ place_at w.places x
     pub owner : (o : Id) → place_at w.places x ≡ Names o → Owns (hold_at before x)
     pub lost : Owns (hold_at w.holds x) → ⊥
 
-  call_reads : (p : Place) (o : Id) → IsOutside p → value_at heap (stacked places (pushed_by given w refers outer)) p ≡ Names o → value_at heap (stacked w.places outer) (as_caller p) ≡ Names o
+  call_reads : (p : Place) (o : Id) → IsOutside p → value_at heap (stacked places (pushed_by given w refers under outer)) p ≡ Names o → value_at heap (stacked w.places outer) (as_caller p) ≡ Names o
   call_reads (variable x) o out e = absurd out
   call_reads (component k c) o out e = e
   call_reads (elsewhere zero x) o out e = e
   call_reads (elsewhere (suc d) x) o out e = e
 
   module _ (f : Fit types w.variables outer spared heap w.places before) (less : AsGood before w.holds) (owned : (x : ℕ) → Owns (hold_at w.holds x) → Owns (hold_at before x)) (over : (i : ℕ) → Owns (hold_at holds i) → HandedOver i) (once : (i j : ℕ) (a : Owns (hold_at holds i)) (b : Owns (hold_at holds j)) → (over i a).x ≡ (over j b).x → i ≡ j) where
-    call_owns : (p : Place) → IsOutside p → Owns (hold_in (pushed_by given w refers outer) spared holds p) → Owns (hold_in outer spared before (as_caller p))
+    call_owns : (p : Place) → IsOutside p → Owns (hold_in (pushed_by given w refers under outer) spared holds p) → Owns (hold_in outer spared before (as_caller p))
     call_owns (variable x) out own = absurd out
     call_owns (component k c) out own = own
     call_owns (elsewhere zero x) out own = owned x own
     call_owns (elsewhere (suc d) x) out own = own
 
-    outside_apart : (p q : Place) (o : Id) → IsOutside p → IsOutside q → Owns (hold_in (pushed_by given w refers outer) spared holds p) → Owns (hold_in (pushed_by given w refers outer) spared holds q) → value_at heap (stacked places (pushed_by given w refers outer)) p ≡ Names o → value_at heap (stacked places (pushed_by given w refers outer)) q ≡ Names o → p ≡ q
+    outside_apart : (p q : Place) (o : Id) → IsOutside p → IsOutside q → Owns (hold_in (pushed_by given w refers under outer) spared holds p) → Owns (hold_in (pushed_by given w refers under outer) spared holds q) → value_at heap (stacked places (pushed_by given w refers under outer)) p ≡ Names o → value_at heap (stacked places (pushed_by given w refers under outer)) q ≡ Names o → p ≡ q
     outside_apart p q o out away a b c d =
         let same = f.owners.fit.apart (as_caller p) (as_caller q) o (call_owns p out a) (call_owns q away b) (call_reads p o out c) (call_reads q o away d) in
         let h = ap as_callee same in
         rw (again p out, again q away) at h
 
-    formal_apart : (i : ℕ) (q : Place) (o : Id) → IsOutside q → Owns (hold_at holds i) → Owns (hold_in (pushed_by given w refers outer) spared holds q) → place_at places i ≡ Names o → value_at heap (stacked places (pushed_by given w refers outer)) q ≡ Names o → ⊥
+    formal_apart : (i : ℕ) (q : Place) (o : Id) → IsOutside q → Owns (hold_at holds i) → Owns (hold_in (pushed_by given w refers under outer) spared holds q) → place_at places i ≡ Names o → value_at heap (stacked places (pushed_by given w refers under outer)) q ≡ Names o → ⊥
     formal_apart i q o away a b c d = go q away b (f.owners.fit.apart (variable h.x) (as_caller q) o (h.owner o (sym h.value ∙ c)) (call_owns q away b) (sym h.value ∙ c) (call_reads q o away d))
       where
         h : HandedOver i
         h = over i a
 
-        go : (q : Place) → IsOutside q → Owns (hold_in (pushed_by given w refers outer) spared holds q) → variable h.x ≡ as_caller q → ⊥
+        go : (q : Place) → IsOutside q → Owns (hold_in (pushed_by given w refers under outer) spared holds q) → variable h.x ≡ as_caller q → ⊥
         go (variable x) out own e = out
         go (component k c) out own e = cc e
         go (elsewhere zero x) out own e = let same : h.x ≡ x = cc e in h.lost (subst (λ (y : ℕ). Owns (hold_at w.holds y)) (sym same) own)
@@ -186,7 +186,7 @@ module _ (types : List TypeForm) (outer : Outsiders) (w : Outer) (given : List V
         let same : variable h.x ≡ variable g.x = f.owners.fit.apart (variable h.x) (variable g.x) o (h.owner o (sym h.value ∙ c)) (g.owner o (sym g.value ∙ d)) (sym h.value ∙ c) (sym g.value ∙ d) in
         once i j a b (cc same)
 
-    call_apart : (p q : Place) (o : Id) → Owns (hold_in (pushed_by given w refers outer) spared holds p) → Owns (hold_in (pushed_by given w refers outer) spared holds q) → value_at heap (stacked places (pushed_by given w refers outer)) p ≡ Names o → value_at heap (stacked places (pushed_by given w refers outer)) q ≡ Names o → p ≡ q
+    call_apart : (p q : Place) (o : Id) → Owns (hold_in (pushed_by given w refers under outer) spared holds p) → Owns (hold_in (pushed_by given w refers under outer) spared holds q) → value_at heap (stacked places (pushed_by given w refers under outer)) p ≡ Names o → value_at heap (stacked places (pushed_by given w refers under outer)) q ≡ Names o → p ≡ q
     call_apart (variable i) (variable j) o a b c d = ap variable (formals_apart i j o a b c d)
     call_apart (variable i) (component k e) o a b c d = absurd (formal_apart i (component k e) o tt a b c d)
     call_apart (variable i) (elsewhere e x) o a b c d = absurd (formal_apart i (elsewhere e x) o tt a b c d)
@@ -201,14 +201,14 @@ module _ (types : List TypeForm) (outer : Outsiders) (w : Outer) (given : List V
       waits : Fit types w.variables outer spared heap w.places w.holds
       waits = weaker_fit w.holds less f
 
-      call_relied : (p : Place) (o : Id) → value_at heap (stacked places (pushed_by given w refers outer)) p ≡ Names o → Says (access_at heap) (hold_in (pushed_by given w refers outer) spared holds p) (kind_of (kinds_of types variables (pushed_by given w refers outer)) (access_at heap) p) o
+      call_relied : (p : Place) (o : Id) → value_at heap (stacked places (pushed_by given w refers under outer)) p ≡ Names o → Says (access_at heap) (hold_in (pushed_by given w refers under outer) spared holds p) (kind_of (kinds_of types variables (pushed_by given w refers under outer)) (access_at heap) p) o
       call_relied (variable x) o e = right x o e
       call_relied (component k c) o e = f.owners.fit.relied (component k c) o e
       call_relied (elsewhere zero x) o e = waits.owners.fit.relied (variable x) o e
       call_relied (elsewhere (suc d) x) o e = f.owners.fit.relied (elsewhere d x) o e
 
       -- What the caller relies on stays so while its call runs, and the body relies on what it was given.
-      pub called_fit : ((x : ℕ) → IsSaid (place_at given x) (hold_at holds x) (place_at places x)) → ((x : ℕ) → hold_at holds x ≢ hold.Lost → IsPlace types (refers ++ outer.referenced) (variable_kind variables x) (place_at places x)) → ((o : Id) (t : ℕ) → IsReferred refers o t → access_at heap o ≡ Some t) → Fit types variables (pushed_by given w refers outer) spared heap places holds
+      pub called_fit : ((x : ℕ) → IsSaid (place_at given x) (hold_at holds x) (place_at places x)) → ((x : ℕ) → hold_at holds x ≢ hold.Lost → IsPlace types (refers ++ outer.referenced) (variable_kind variables x) (place_at places x)) → ((o : Id) (t : ℕ) → IsReferred refers o t → access_at heap o ≡ Some t) → Fit types variables (pushed_by given w refers under outer) spared heap places holds
       called_fit said objects there = record {
         owners = record { fit = record { relied = call_relied; apart = call_apart } };
         said = said;

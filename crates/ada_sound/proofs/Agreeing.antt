@@ -29,12 +29,12 @@ use Rattle.ada_typed.specs.Holding.{Cells, Designates, HasKind, HaveKinds, cells
 use Rattle.ada_typed.proofs.Values.{filled_at, active_held}
 use Rattle.ada_typed.proofs.Evaluations.{cell_at}
 use Rattle.ada_typed.proofs.Control as typed
-use Rattle.ada_owners.specs.Places.{Place, variable, component, elsewhere, value_at, access_at}
+use Rattle.ada_owners.specs.Places.{is_there, Place, variable, component, elsewhere, value_at, access_at}
 use Rattle.ada_owners.specs.Reliance.{IsOf, Says, Owns}
 use Rattle.ada_owners.specs.Walks.{walk}
 use Rattle.ada_owners.specs.Keeping.{IsThere}
 use Rattle.ada_owners.proofs.Kernel.{same_place, of_same}
-use Rattle.ada_owners.proofs.Objects.{listed_at}
+use Rattle.ada_owners.proofs.Objects.{present_at}
 use Rattle.ada_owners.proofs.Changes.{store_access, store_reads}
 use Rattle.ada_finalized.specs.Law.{NoOperationRuns}
 use Rattle.ada_sound.specs.Always.{AgreesThere}
@@ -47,24 +47,26 @@ use Rattle.ada_sound.proofs.Calm.{filled_in}
 use Rattle.ada_sound.proofs.Steps.{heap_typed}
 use Rattle.ada_sound.proofs.Fits.{Outsiders, Fit, IsRelied, none_spared, hold_in, stacked, component_value, access_is, names_object}
 use Rattle.ada_sound.proofs.Scalars.{scalars_lost}
-use Rattle.ada_sound.proofs.Invariant.{Known, Control, RunsOn, Working, Half, Resumes, outers, front, final}
+use Rattle.ada_sound.proofs.Invariant.{Known, Control, Ready, RunsOn, Working, Half, Resumes, outers, front, final}
 use Rattle.ada_typed.proofs.Bodies.{SeenFits, seen_fits}
 use Rattle.ada_sound.proofs.Callers.{Suspension, rest_of, known_in}
 use Rattle.ada_sound.proofs.Returns.{same_types}
+use Rattle.ada_sound.proofs.Finalizing.{Finalizing, waiting_for}
+use Rattle.ada_sound.proofs.FinalizingSteps.{finalizing_runs}
 use Rattle.ada_sound.proofs.Operating.{Sight, WaitsFor, Quietly, Comes, Body, Operates}
 use Rattle.ada_sound.proofs.Starts.{Ordinary, Sound}
 
 -- What is in its collection exists, and an open collection of its type is its home.
-exists_there : {heap : List Object} {masters : List Master} (o : Id) (x : Object) (access : Option ℕ) → Stored None heap masters → object_at heap o ≡ Some x → x.listed ≡ true → access ≡ Some x.cell.access → Exists heap masters access o
-exists_there {heap} {masters} o x access stored found listed of_type =
+exists_there : {under : List Id} {heap : List Object} {masters : List Master} (o : Id) (x : Object) (access : Option ℕ) → Stored under heap masters → object_at heap o ≡ Some x → is_there x.stage ≡ true → access ≡ Some x.cell.access → Exists heap masters access o
+exists_there {heap = heap} {masters = masters} o x access stored found listed of_type =
     let sane = stored.sane o x found in
-    let exists = sane.listed_exists listed in
+    let exists = sane.there_exists listed in
     let i = items.contains_item x.cell.home.item x.cell.access x.cell.home.pool (items_of masters) (sane.housed (exists_out o x found exists stored)) in
     (x, found, exists, of_type, (i.0, i.1, i.2, i.3))
 
-exists_by : {heap : List Object} {masters : List Master} (access : Option ℕ) (o : Id) → Stored None heap masters → IsOf (access_at heap) access o → Exists heap masters access o
+exists_by : {under : List Id} {heap : List Object} {masters : List Master} (access : Option ℕ) (o : Id) → Stored under heap masters → IsOf (access_at heap) access o → Exists heap masters access o
 exists_by None o stored of = absurd of
-exists_by {heap} (Some t) o stored of = let h = listed_at heap o t of in exists_there o h.object (Some t) stored h.found h.listed (ap Some (sym h.access))
+exists_by {heap = heap} (Some t) o stored of = let h = present_at heap o t of in exists_there o h.object (Some t) stored h.found h.there (ap Some (sym h.access))
 
 -- What typing says.
 typed_held : (p : ProgramForm) (s : State) (x : ℕ) (kind : VariableKind) → typed.TypedIn p s → variable_kind p.variables x ≡ Some kind → HasKind p.types (cells_of s.heap) kind (slice_index_or (places s) x Null)
@@ -88,7 +90,7 @@ named_at types cells (d ∷ cs) (v ∷ vs) zero k have is = let same : v ≡ Nam
 named_at types cells (d ∷ cs) (v ∷ vs) (suc c) k have is = named_at types cells cs vs c k have.1 is
 
 -- What a component of an object names exists if it is there.
-kept_exists : (own : ProgramForm) (s : State) (o : Id) (object : Object) (c : ℕ) (k : Id) → typed.TypedIn own s → Stored None s.heap s.masters → object_at s.heap o ≡ Some object → slice_get object.cell.values c ≡ Some (Names k) → IsThere s.heap k → Exists s.heap s.masters (component_access own.types object c) k
+kept_exists : {under : List Id} (own : ProgramForm) (s : State) (o : Id) (object : Object) (c : ℕ) (k : Id) → typed.TypedIn own s → Stored under s.heap s.masters → object_at s.heap o ≡ Some object → slice_get object.cell.values c ≡ Some (Names k) → IsThere s.heap k → Exists s.heap s.masters (component_access own.types object c) k
 kept_exists own s o object c k t stored found at (x, there, listed) =
     let filled = filled_at own.types (cells_of s.heap) (cells_of s.heap) o.0 object.cell (filled_in own s t) (cell_at s.heap o.0 object found) in
     let named = named_at own.types (cells_of s.heap) filled.0 object.cell.values c k filled.2 at in
@@ -110,7 +112,7 @@ owns_is outer holds (elsewhere d x) own = absurd own
 
 -- Places are as they are relied on to be in a heap in which at most one component is another than it is: one that the statement sets to null, and
 -- which names what is there.
-module _ (own : ProgramForm) (outer : Outsiders) (s : State) (holds : Holds) (types : typed.TypedIn own s) (stored : Stored None s.heap s.masters)
+module _ (own : ProgramForm) (outer : Outsiders) (s : State) (holds : Holds) (types : typed.TypedIn own s) (stored : Stored outer.under s.heap s.masters)
     (lost : (x : ℕ) → variable_access own.variables x ≡ None → hold_at holds x ≡ hold.Lost)
     (heap : List Object) (same : (k : Id) → access_at heap k ≡ access_at s.heap k)
     (reads : (p : Place) → (value_at heap (stacked (places s) outer) p ≡ value_at s.heap (stacked (places s) outer) p) ⊎ (IsCleared s p × ((k : Id) → value_at s.heap (stacked (places s) outer) p ≡ Names k → IsThere s.heap k)))
@@ -151,7 +153,7 @@ module _ (own : ProgramForm) (outer : Outsiders) (s : State) (holds : Holds) (ty
   each_is x (hold.Alias r) e = valid_by x (value_in s x) (rw e tt) (λ lost'. cc (e, lost')) refl
   each_is x hold.Lost e = tt
 
-  named_is : (o : Id) (object : Object) (c : ℕ) (k : Id) → object_at s.heap o ≡ Some object → object.listed ≡ true → slice_get object.cell.values c ≡ Some (Names k) → Exists s.heap s.masters (component_access own.types object c) k
+  named_is : (o : Id) (object : Object) (c : ℕ) (k : Id) → object_at s.heap o ≡ Some object → is_there object.stage ≡ true → slice_get object.cell.values c ≡ Some (Names k) → Exists s.heap s.masters (component_access own.types object c) k
   named_is o object c k found listed at = go (reads (component o c))
     where
       value : value_at s.heap (stacked (places s) outer) (component o c) ≡ Names k
@@ -161,7 +163,7 @@ module _ (own : ProgramForm) (outer : Outsiders) (s : State) (holds : Holds) (ty
       go (inl e) = exists_here (component_access own.types object c) k (rw (same o ∙ access_is s.heap o object found listed) at (fit.owners.fit.relied (component o c) k (e ∙ value)))
       go (inr cleared) = kept_exists own s o object c k types stored found at (cleared.1 k value)
 
-  component_holds : (o : Id) (object : Object) (c : ℕ) (v : Value) → object_at s.heap o ≡ Some object → object.listed ≡ true → slice_get object.cell.values c ≡ Some v → IsKept s.heap s.masters (component_access own.types object c) v
+  component_holds : (o : Id) (object : Object) (c : ℕ) (v : Value) → object_at s.heap o ≡ Some object → is_there object.stage ≡ true → slice_get object.cell.values c ≡ Some v → IsKept s.heap s.masters (component_access own.types object c) v
   component_holds o object c Null found listed at = tt
   component_holds o object c (Names k) found listed at = named_is o object c k found listed at
   component_holds o object c (Scalar n) found listed at = tt
@@ -291,10 +293,16 @@ agrees_at program s sound b none = by sound.goes
     no_statement sight behind ms [] (inr (running, next)) = absurd next
     no_statement sight behind ms (v ∷ vs) (inr (running, next)) = absurd next
 
-    by : Ordinary program s ⊎ Operates program s → AgreesThere program s
+    by : Ordinary program s ⊎ (Operates program s ⊎ Finalizing program s) → AgreesThere program s
     by (inl o) =
         resumes_agrees program s o.suspensions (seen_fits (program_form program) sound.well (running_procedure s)) sound.typed.inside o.stands.behind b (rw (b.runs, b.first) at (o.ready.1))
-    by (inr o) =
+    by (inr (inr f)) =
+        let runs = sym (finalizing_runs program s f) in
+        let suspensions = waiting_for program s f in
+        let ready = subst (λ (procedure : Option ℕ). Ready (known_in program procedure suspensions) s) runs f.ready in
+        resumes_agrees program s suspensions (seen_fits (program_form program) sound.well (running_procedure s)) sound.typed.inside
+        (subst (λ (procedure : Option ℕ). IsBehind procedure (rest_of suspensions)) runs ([], [], f.behind, refl)) b (rw (b.runs, b.first) at (ready.1))
+    by (inr (inl o)) =
         let sight : Sight = record { program = seen_in (Some o.procedure) (program_form program); object = o.object; access = o.access } in
         let body : Body sight o.behind o.upper s.heap o.places o.operands Running (Does (a_stmt b.stmt b.later) ∷ b.outer) = rw (b.runs, b.first) at o.body in
         let none_here : NoOperationRuns (Does (a_stmt b.stmt b.later) ∷ b.outer) = rw b.first at none in

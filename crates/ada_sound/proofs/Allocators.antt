@@ -31,7 +31,7 @@ use Rattle.ada_typed.specs.Holding.{HaveKinds, cells_of}
 use Rattle.ada_typed.proofs.Values.{OperandKind, AreComputed}
 use Rattle.ada_typed.proofs.Control as typed
 use Rattle.ada_meaning.specs.declared.state.Id.{Id}
-use Rattle.ada_owners.specs.Places.{Place}
+use Rattle.ada_owners.specs.Places.{is_there, Place}
 use Rattle.ada_owners.specs.Reliance.{AreInHand, hold_of, with_lent}
 use Rattle.ada_owners.proofs.Changes.{store_is}
 use Rattle.ada_sound.proofs.Objects.{get_more}
@@ -206,7 +206,7 @@ module _ (known : Known) (k : Control) (a : Activation Value) (rest : List (Acti
         create_fit words cell (in_hand_by after (lends_none (outers known) s.heap a.places w.holds w.rest.target (moved_by_items (back_onto w.rest.done [])) none) count counted kinds)
         (lose_all (moved_by_items (back_onto w.rest.done [])) w.fit)
 
-    stored : Stored None (create s.heap words cell) s.masters
+    stored : Stored (outers known).under (create s.heap words cell) s.masters
     unfolding cell
     stored = stored_new cell (home_has access home s.masters is_home) w.stored
 
@@ -221,7 +221,7 @@ module _ (known : Known) (k : Control) (a : Activation Value) (rest : List (Acti
       rest = runs.2;
     }
 
-    inserted : (o : Id) (object : Object) (c : ℕ) → object_at s.heap o ≡ Some object → object.listed ≡ true → component_access known.program.types object c ≡ Some access → ((path : PathForm) → w.rest.target ≡ Some path → LeadsTo s.heap a.places (Names o) [] c path) → Fit known.program.types known.program.variables (outers known) none_spared (store (create s.heap words cell) (Names o) c (created s.heap words)) a.places lost
+    inserted : (o : Id) (object : Object) (c : ℕ) → object_at s.heap o ≡ Some object → is_there object.stage ≡ true → component_access known.program.types object c ≡ Some access → ((path : PathForm) → w.rest.target ≡ Some path → LeadsTo s.heap a.places (Names o) [] c path) → Fit known.program.types known.program.variables (outers known) none_spared (store (create s.heap words cell) (Names o) c (created s.heap words)) a.places lost
     unfolding cell lost
     inserted o object c found listed same leads =
         let moved = moved_by_items (back_onto w.rest.done []) in
@@ -234,7 +234,7 @@ module _ (known : Known) (k : Control) (a : Activation Value) (rest : List (Acti
     stored_in (Part object_id base) c k' leads into runs = absurd into
     stored_in (Names o) c k' leads into runs =
         let found : object_at (create s.heap words cell) o ≡ Some into.0 = get_more s.heap (new_object cell) o.0 into.0 into.1 in
-        let kept : Stored None (store (create s.heap words cell) (Names o) c (created s.heap words)) s.masters =
+        let kept : Stored (outers known).under (store (create s.heap words cell) (Names o) c (created s.heap words)) s.masters =
         rw (store_is (create s.heap words cell) o into.0 found c (created s.heap words)) (stored_filled o into.0 c (created s.heap words) found stored) in (
           (into.0, found, into.2),
           record {

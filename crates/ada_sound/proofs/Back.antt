@@ -14,10 +14,10 @@ use Rattle.ada_sound.proofs.Values.{same_or_not}
 use Rattle.ada_sound.proofs.Stored.{Sane, Stored}
 
 -- What is so of an object with another value in a component is so of the object.
-sane_before : {under : Option Id} {items : List Item} (o : Id) (x : Object) (c : ℕ) (v : Value) → Sane under items o (filled c v x) → Sane under items o x
-sane_before o x c v h = record { back_gone = h.back_gone; listed_exists = h.listed_exists; housed = h.housed; out_listed = h.out_listed }
+sane_before : {under : List Id} {items : List Item} (o : Id) (x : Object) (c : ℕ) (v : Value) → Sane under items o (filled c v x) → Sane under items o x
+sane_before o x c v h = record { back_gone = h.back_gone; listed_exists = h.listed_exists; there_exists = h.there_exists; housed = h.housed; out_listed = h.out_listed }
 
-module _ {under : Option Id} (heap : List Object) (ms : List Master) (o : Id) (c : ℕ) (v : Value) where
+module _ {under : List Id} (heap : List Object) (ms : List Master) (o : Id) (c : ℕ) (v : Value) where
   filled_before : (x : Object) → object_at heap o ≡ Some x → Stored under (slice_set heap o.0 (filled c v x)) ms → Stored under heap ms
   filled_before x found s = record { counted = s.counted; sane = λ p z at. go p z at (same_or_not p.0 o.0) }
     where
@@ -34,7 +34,7 @@ module _ {under : Option Id} (heap : List Object) (ms : List Master) (o : Id) (c
   changed_before (Some x) is s = filled_before x is s
 
 -- Objects are stored in a heap as they are once a component is written.
-pub stored_before : {under : Option Id} (heap : List Object) (ms : List Master) (o : Value) (c : ℕ) (v : Value) → Stored under (store heap o c v) ms → Stored under heap ms
+pub stored_before : {under : List Id} (heap : List Object) (ms : List Master) (o : Value) (c : ℕ) (v : Value) → Stored under (store heap o c v) ms → Stored under heap ms
 stored_before heap ms Null c v s = s
 stored_before heap ms (Names o) c v s = changed_before heap ms o c v (object_at heap o) refl s
 stored_before heap ms (Scalar n) c v s = s

@@ -26,7 +26,7 @@ use Rattle.ada_owners.specs.Reliance as reliance
 use Rattle.ada_owners.specs.Walks as walks
 use Rattle.ada_owners.specs.Walks.{walk, IsRight}
 use Rattle.ada_owners.proofs.Walks.{walk_right, every_may}
-use Rattle.ada_owners.proofs.Objects.{listed_at}
+use Rattle.ada_owners.proofs.Objects.{present_at}
 use Rattle.ada_owners.proofs.Kernel as kernel
 use Rattle.ada_sound.proofs.Fits.{Outsiders, Reference, IsReferred, AreReferred, IsWithin, IsPlace, Fit, kinds_of, none_spared, place_at, names_object, is_object, MayFollow, there_by}
 use Rattle.ada_sound.proofs.Roots.{kept_hold, none_behind, value_root}
@@ -112,10 +112,10 @@ root_by types outer heap kind (Part o place) are (object, t, refers, within) nam
   is = inr (record { o = o; place = place; t = t; is = refl; object = object; refers = refers; from_is = refl; within = within });
 }
 
-listed_by : (heap : List Object) (kind : Option ℕ) (o : Id) (object : Object) → IsOf (access_at heap) kind o → object_at heap o ≡ Some object → kind ≡ Some object.cell.access
-listed_by heap None o object of found = absurd of
-listed_by heap (Some t) o object of found =
-    let h = listed_at heap o t of in
+present_by : (heap : List Object) (kind : Option ℕ) (o : Id) (object : Object) → IsOf (access_at heap) kind o → object_at heap o ≡ Some object → kind ≡ Some object.cell.access
+present_by heap None o object of found = absurd of
+present_by heap (Some t) o object of found =
+    let h = present_at heap o t of in
     let one : h.object ≡ object = cc (h.found, found) in
     ap Some (sym h.access ∙ ap (λ (y : Object). y.cell.access) one)
 
@@ -140,7 +140,7 @@ module _ {types : List TypeForm} {variables : List VariableForm} {outer : Outsid
 
 -- And it is of the kind that is said.
 pub root_access : {types : List TypeForm} {referenced : List Reference} {heap : List Object} {kind : Option VariableKind} {v : Value} (r : Root types referenced heap kind v) (o : Id) (object : Object) → whole v ≡ Names o → object_at heap o ≡ Some object → access_of r.from ≡ Some object.cell.access
-root_access {heap = heap} r o object is found = listed_by heap (access_of r.from) o object (r.names o is) found
+root_access {heap = heap} r o object is found = present_by heap (access_of r.from) o object (r.names o is) found
 
 -- A path to a value of an access type: its root is a variable, whose value is of this access type where the path goes no further.
 value_is : (found : Option VariableKind) (t : ℕ) → value_access found ≡ Some t → access_of found ≡ Some t
@@ -179,11 +179,11 @@ along_root types b k cs t e =
     let h = kind_named (selectors_kind types (root_kind b k) cs) t of in
     ap access_of (from_root types b k cs h.0 h.1 ∙ sym h.1) ∙ of
 
-module _ {types : List TypeForm} {variables : List VariableForm} {outer : Outsiders} {heap : List Object} {places : List Value} {holds : Holds} (exist : walks.ListedExist heap) (f : Fit types variables outer none_spared heap places holds) where
+module _ {types : List TypeForm} {variables : List VariableForm} {outer : Outsiders} {heap : List Object} {places : List Value} {holds : Holds} (f : Fit types variables outer none_spared heap places holds) where
   -- What a walk finds from where a path begins is there, and of the kind that is said.
   pub walk_names : (x : ℕ) (r : Root types outer.referenced heap (variable_kind variables x) (place_at places x)) (cs : List ℕ) (v : Value) (o : Id) → walk heap (whole (place_at places x)) cs ≡ finds v → v ≡ Names o → IsOf (access_at heap) (access_of (selectors_kind types r.from cs)) o
   walk_names x r cs v o found is =
-      let right = walk_right f.owners exist (λ u. Unit {0}) (λ p c u e may lost. cc lost) (access_of r.from) (whole (place_at places x)) cs (every_may (kinds_of types variables outer) _ cs) r.names in
+      let right = walk_right f.owners (λ u. Unit {0}) (λ p c u e may lost. cc lost) (access_of r.from) (whole (place_at places x)) cs (every_may (kinds_of types variables outer) _ cs) r.names in
       let here = rw (along_these types variables outer r.from cs, found) at right in
       here o is
 
@@ -267,7 +267,7 @@ pub record Referred (types : List TypeForm) (variables : List VariableForm) (ref
   pub within : (c : ℕ) (k : VariableKind) → kind_among (record_components types p.record_type) c ≡ Some k → kind_among (reached_components types t) (place.component + c) ≡ Some k
   pub spared : (access_of (path_kind types variables p.object) ≡ Some t) ⊎ IsReferred referenced o t
 
-module _ {types : List TypeForm} {variables : List VariableForm} {outer : Outsiders} {heap : List Object} {places : List Value} {holds : Holds} (exist : walks.ListedExist heap) (f : Fit types variables outer none_spared heap places holds) where
+module _ {types : List TypeForm} {variables : List VariableForm} {outer : Outsiders} {heap : List Object} {places : List Value} {holds : Holds} (f : Fit types variables outer none_spared heap places holds) where
   -- The object of a name that is of a kind.
   of_kind : (kind : Option ℕ) (o : Id) → IsOf (access_at heap) kind o → (t : ℕ) × (kind ≡ Some t) × (access_at heap o ≡ Some t)
   of_kind None o of = absurd of
@@ -318,7 +318,7 @@ module _ {types : List TypeForm} {variables : List VariableForm} {outer : Outsid
       go : (cs : List ℕ) → path.selectors ≡ cs → Opened types variables outer.referenced heap path to r
       go [] none = let e = rw none at last in absurd (cc e)
       go (d ∷ ds) some =
-          let of = walk_names exist f path.root b (before_last (inside (place_at places path.root) d) ds) (Names o) o (there d ds some) refl in
+          let of = walk_names f path.root b (before_last (inside (place_at places path.root) d) ds) (Names o) o (there d ds some) refl in
           let h = of_kind (access_of (selectors_kind types b.from (before_last (inside (place_at places path.root) d) ds))) o of in
           let mid = selectors_kind types b.from (before_last (inside (place_at places path.root) d) ds) in
           record {
@@ -385,7 +385,7 @@ module _ {types : List TypeForm} {variables : List VariableForm} {outer : Outsid
       go [] none = elim b.is [ inl a ↦ in_alone none a | inr a ↦ in_part none a ]
       go (d ∷ ds) some =
           let goes : selectors_kind types b.from (inside (place_at places p.object.root) d ∷ ds) ≡ Some to = b.leads d ds to (rw some at from_kind) in
-          let of = walk_names exist f p.object.root b (inside (place_at places p.object.root) d ∷ ds) (Names o) o (rw some at found) refl in
+          let of = walk_names f p.object.root b (inside (place_at places p.object.root) d ∷ ds) (Names o) o (rw some at found) refl in
           let h = of_kind (access_of (selectors_kind types b.from (inside (place_at places p.object.root) d ∷ ds))) o of in
           in_this (record { component = p.first; part = p.part }) h.0 h.2 (ap access_of (sym goes) ∙ h.1) (rw some at is) refl
 

@@ -11,7 +11,7 @@ use Rattle.ada_program.specs.ProgramForm.{TypeForm, VariableForm, BodyForm, Prog
 use Rattle.ada_effects.specs.Effects.{Effect, Effects, declarations_free, leaving_frees, untaken, declarations_raise, stmts_raise, handlers_raise, stmts_free, handlers_free, call_frees, body_frees, effects_of, passes}
 use Rattle.ada_flow.specs.declared.rule.Hold.{Hold}
 use Rattle.ada_flow.specs.declared.rule.Hold.TheVariants as hold
-use Rattle.ada_flow.specs.Flow.{Holds, hold_at, variable_access, Outcome, then_flow, declarations_flow, stmts_flow, handlers_flow, handled, leaves_block, Keeping, keeping_of, body_keeps, kept_from, is_kept, all_give_back, first_kept, others_kept, unless_kept, left_unkept, left_by_move, without_alias, without_freed, left_by_call, left, gone_with, nothing_gone, collected, have_exit, handlers_have_exit, body_flow, first_holds}
+use Rattle.ada_flow.specs.Flow.{left_finalized, Holds, hold_at, variable_access, Outcome, then_flow, declarations_flow, stmts_flow, handlers_flow, handled, leaves_block, Keeping, keeping_of, body_keeps, kept_from, is_kept, all_give_back, first_kept, others_kept, unless_kept, left_unkept, left_by_move, without_alias, without_freed, left_by_call, left, gone_with, nothing_gone, collected, have_exit, handlers_have_exit, body_flow, first_holds}
 use Rattle.ada_meaning.specs.declared.state.Id.{Id}
 use Rattle.ada_meaning.specs.declared.state.Value.{Value}
 use Rattle.ada_program.specs.WellFormed.{is_access}
@@ -25,8 +25,9 @@ use Rattle.ada_sound.proofs.Leavings.{all_among}
 use Rattle.ada_sound.proofs.Raising.{or_left, or_right}
 use Rattle.ada_sound.proofs.Nestings.{part_from}
 use Rattle.ada_sound.proofs.Bodies.{IsFine}
-use Rattle.ada_sound.proofs.Invariant.{Known, Goes, GoesBy, To, Ways, Raised, Outside, RunsOn, Spares, Where, owed_in, around_at, body_among, is_kept_at, KeepsAll, ways}
+use Rattle.ada_sound.proofs.Invariant.{MayEnd, Known, Goes, GoesBy, To, Ways, Raised, Outside, RunsOn, Spares, Where, owed_in, around_at, body_among, is_kept_at, KeepsAll, ways}
 use Rattle.ada_sound.proofs.Callers.{Suspension, rest_of, known_in}
+use Rattle.ada_sound.proofs.LeftFinalized.{finalized_gives, finalized_keeps, endings_leave}
 
 -- What obeys the rules breaks none.
 pub goes_anywhere : (normal : Option Holds) → GoesBy normal (λ holds. Unit {0})
@@ -88,7 +89,7 @@ module _ (program : Program) (procedure : Option ℕ) (gs : List Suspension) whe
   returns (g ∷ gs) holds gives = (refl, refl, refl, gives)
 
   abbrev outside : Ways
-  outside = Outside p.variables (gone_with p.declarations) behind
+  outside = Outside known (gone_with p.declarations) behind
 
   -- Its part: its declarations, its statements and its handlers, before the body is left.
   abbrev part : Outcome
@@ -100,6 +101,9 @@ module _ (program : Program) (procedure : Option ℕ) (gs : List Suspension) whe
 
   abbrev left_there : Holds → Holds
   left_there holds = left p.variables (gone_with p.declarations) holds
+
+  abbrev behind_there : Holds → Holds
+  behind_there holds = left_finalized p.variables known.implicit (gone_with p.declarations) holds
 
   part_goes : IsFine (body_flow p.types (effects_of known.implicit p) (keeping_of known.implicit p) (main_body p)) → Goes part (λ h. all_give_back (owed_in p) (left_there h) ≡ true) (λ h. KeepsAll kept (left_there h))
   part_goes fine =
@@ -116,24 +120,25 @@ module _ (program : Program) (procedure : Option ℕ) (gs : List Suspension) whe
   -- It runs, if it breaks no rule, no exit leads out of it, no suspended activation has an alias of what it may free, and its caller waits for what it
   -- keeps.
   pub body_runs : IsFine (body_flow p.types (effects_of known.implicit p) (keeping_of known.implicit p) (main_body p)) → have_exit p.statements ≡ false → handlers_have_exit p.handlers ≡ false → Spares known (body_frees p.types (effects_of known.implicit p) (main_body p)) → KeepsFor gs → RunsOn known (Elaborates p.declarations p.statements p.handlers ∷ rest_of gs) (gone_with p.declarations ∷ []) (first_holds p.formals p.variables)
-  body_runs fine none_out none_on spares same = (
-    all_among (collected p.declarations),
-    part_from known nowhere_yet (rest_of gs) p.declarations p.statements p.handlers outside (body_among known.implicit p) (first_holds p.formals p.variables)
-        (record {
-          by_declarations = λ e i. or_left (declarations_raise known.implicit (is_same e) p.declarations || stmts_raise (effects_of known.implicit p) (untaken p.handlers (is_same e)) p.statements) (handlers_raise (effects_of known.implicit p) (is_same e) p.handlers) (or_left (declarations_raise known.implicit (is_same e) p.declarations) (stmts_raise (effects_of known.implicit p) (untaken p.handlers (is_same e)) p.statements) i);
-          by_statements = λ e i. or_left (declarations_raise known.implicit (is_same e) p.declarations || stmts_raise (effects_of known.implicit p) (untaken p.handlers (is_same e)) p.statements) (handlers_raise (effects_of known.implicit p) (is_same e) p.handlers) (or_right (declarations_raise known.implicit (is_same e) p.declarations) (stmts_raise (effects_of known.implicit p) (untaken p.handlers (is_same e)) p.statements) i);
-          by_handlers = λ e i. or_right (declarations_raise known.implicit (is_same e) p.declarations || stmts_raise (effects_of known.implicit p) (untaken p.handlers (is_same e)) p.statements) (handlers_raise (effects_of known.implicit p) (is_same e) p.handlers) i;
-        })
-        (λ way place at comes. (way, comes))
-        (goes_map part (λ h. all_give_back (owed_in p) (left_there h) ≡ true) (λ h. KeepsAll kept (left_there h)) (To outside.normal) (Raised (body_among known.implicit p) outside)
-        (λ h gives. to_here outside.normal h (to_here behind.normal (left_there h) (ends gs (left_there h) gives)))
-        (λ h keeps. λ e i. to_here (outside.raised e) h (to_here (behind.raised e) (left_there h) (raises gs same e (left_there h) i keeps))) (part_goes fine))
-        (λ one h may. absurd (cc (one, none_out)))
-        (λ one h may. absurd (cc (one, none_on)))
-        (λ h gives. to_here behind.returned (left_there h) (returns gs (left_there h) gives))
-        (λ t i. spares t (freed_there t (or_left (stmts_free p.types p.variables (effects_of known.implicit p) t p.statements) (handlers_free p.types p.variables (effects_of known.implicit p) t p.handlers) i)))
-        (λ t i. spares t (freed_there t (or_right (stmts_free p.types p.variables (effects_of known.implicit p) t p.statements) (handlers_free p.types p.variables (effects_of known.implicit p) t p.handlers) i))),
-  )
+  body_runs fine none_out none_on spares same =
+      let may_end : MayEnd known (gone_with p.declarations) = λ t i. spares t (or_right (stmts_free p.types p.variables (effects_of known.implicit p) t p.statements || handlers_free p.types p.variables (effects_of known.implicit p) t p.handlers) (declarations_free known.implicit t p.declarations || leaving_frees known.implicit t p.declarations) (or_right (declarations_free known.implicit t p.declarations) (leaving_frees known.implicit t p.declarations) (endings_leave known.implicit t p.declarations i))) in (
+        all_among (collected p.declarations),
+        part_from known nowhere_yet (rest_of gs) p.declarations p.statements p.handlers outside (body_among known.implicit p) (first_holds p.formals p.variables)
+            (record {
+              by_declarations = λ e i. or_left (declarations_raise known.implicit (is_same e) p.declarations || stmts_raise (effects_of known.implicit p) (untaken p.handlers (is_same e)) p.statements) (handlers_raise (effects_of known.implicit p) (is_same e) p.handlers) (or_left (declarations_raise known.implicit (is_same e) p.declarations) (stmts_raise (effects_of known.implicit p) (untaken p.handlers (is_same e)) p.statements) i);
+              by_statements = λ e i. or_left (declarations_raise known.implicit (is_same e) p.declarations || stmts_raise (effects_of known.implicit p) (untaken p.handlers (is_same e)) p.statements) (handlers_raise (effects_of known.implicit p) (is_same e) p.handlers) (or_right (declarations_raise known.implicit (is_same e) p.declarations) (stmts_raise (effects_of known.implicit p) (untaken p.handlers (is_same e)) p.statements) i);
+              by_handlers = λ e i. or_right (declarations_raise known.implicit (is_same e) p.declarations || stmts_raise (effects_of known.implicit p) (untaken p.handlers (is_same e)) p.statements) (handlers_raise (effects_of known.implicit p) (is_same e) p.handlers) i;
+            })
+            (λ way place at comes. (way, comes))
+            (goes_map part (λ h. all_give_back (owed_in p) (left_there h) ≡ true) (λ h. KeepsAll kept (left_there h)) (To outside.normal) (Raised (body_among known.implicit p) outside)
+            (λ h gives. to_here outside.normal h (may_end, to_here behind.normal (behind_there h) (ends gs (behind_there h) (finalized_gives p.variables known.implicit (gone_with p.declarations) (owed_in p) h gives))))
+            (λ h keeps. λ e i. to_here (outside.raised e) h (may_end, to_here (behind.raised e) (behind_there h) (raises gs same e (behind_there h) i (λ x is. finalized_keeps p.variables known.implicit (gone_with p.declarations) h x (keeps x is))))) (part_goes fine))
+            (λ one h may. absurd (cc (one, none_out)))
+            (λ one h may. absurd (cc (one, none_on)))
+            (λ h gives. (may_end, to_here behind.returned (behind_there h) (returns gs (behind_there h) (finalized_gives p.variables known.implicit (gone_with p.declarations) (owed_in p) h gives))))
+            (λ t i. spares t (freed_there t (or_left (stmts_free p.types p.variables (effects_of known.implicit p) t p.statements) (handlers_free p.types p.variables (effects_of known.implicit p) t p.handlers) i)))
+            (λ t i. spares t (freed_there t (or_right (stmts_free p.types p.variables (effects_of known.implicit p) t p.statements) (handlers_free p.types p.variables (effects_of known.implicit p) t p.handlers) i))),
+      )
 
 -- The main body has no caller, so no suspended activation has an alias.
 pub none_suspended : (program : Program) (procedure : Option ℕ) → let known : Known = known_in program procedure [] in Spares known (body_frees known.program.types (effects_of known.implicit known.program) (main_body known.program))
@@ -182,7 +187,7 @@ unkept_borrows keeping (in_out_access path ∷ rest) holds x b =
     unless_borrows (first_kept keeping) path.root holds x (unkept_borrows (others_kept keeping) rest (unless_kept (first_kept keeping) path.root holds) x b)
 
 -- Neither has a caller that waits, nor those before it, and the call refers to no object of it.
-pub call_spares : (types : List TypeForm) (variables : List VariableForm) (effect : Option Effect) (actuals : List ActualForm) (places given : List Value) (referenced : List Reference) (holds : Holds) (outer : Outsiders) (t : ℕ) → call_frees effect t ≡ true → NoOuterAlias types outer t → (is_access types t ≡ true → (o : Id) → IsReferred referenced o t → ⊥) → NoOuterAlias types (record { given = given; suspended = record { variables = variables; places = places; holds = left_unkept [] actuals (left_by_call variables effect holds) } ∷ outer.suspended; referenced = referenced ++ outer.referenced }) t
+pub call_spares : (types : List TypeForm) (variables : List VariableForm) (effect : Option Effect) (actuals : List ActualForm) (places given : List Value) (referenced : List Reference) (holds : Holds) (outer : Outsiders) (t : ℕ) → call_frees effect t ≡ true → NoOuterAlias types outer t → (is_access types t ≡ true → (o : Id) → IsReferred referenced o t → ⊥) → NoOuterAlias types (record { given = given; suspended = record { variables = variables; places = places; holds = left_unkept [] actuals (left_by_call variables effect holds) } ∷ outer.suspended; referenced = referenced ++ outer.referenced; under = outer.under }) t
 call_spares types variables effect actuals places given referenced holds outer t is none passed = (
   (λ d x of b. aliases effect is d x of b),
   (λ o refers of. elim (referred_either referenced outer.referenced o t refers) [ inl here ↦ passed of o here | inr before ↦ none.1 o before of ]),

@@ -16,9 +16,10 @@ use Rattle.ada_sound.specs.Agreement.{Turning, IsFlowAt, IsBehind, running_proce
 use Rattle.ada_sound.proofs.Fits.{Reference}
 use Rattle.ada_sound.proofs.Bodies.{IsBody}
 use Rattle.ada_sound.proofs.Invariant.{Control, Rooms, Caller, Known, Standing}
+use Rattle.ada_meaning.specs.declared.state.Id.{Id}
 
 -- A suspended activation: of which body it is, the actual parameters of its call, their values, what refers to the components that get something back, the
--- objects to which all that refers leads, and what the procedure keeps of them; what is left to do once the call has come to its end, the masters that are
+-- objects to which all that refers leads, those that are under way, as a treatment finalizes them, and what the procedure keeps of the parameters; what is left to do once the call has come to its end, the masters that are
 -- entered then, and their rooms; what its variables hold, and what is known of them behind the call, as if nothing were handed over.
 pub record Suspension : Type 0 where
   pub procedure : Option ℕ
@@ -26,6 +27,7 @@ pub record Suspension : Type 0 where
   pub passed : List Value
   pub references : List Value
   pub referenced : List Reference
+  pub under : List Id
   pub kept : Keeping
   pub control : Control
   pub masters : List Master
@@ -52,6 +54,7 @@ caller_of program g gs = record {
   passed = g.passed;
   references = g.references;
   referenced = g.referenced;
+  under = g.under;
   kept = g.kept;
   control = g.control;
   masters = g.masters;

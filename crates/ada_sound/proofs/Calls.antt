@@ -25,10 +25,9 @@ use Rattle.ada_meaning.specs.Step as steps
 use Rattle.ada_meaning.specs.Step.{operand_count, given_values, references_in, blanks, given_places}
 use Rattle.ada_meaning.specs.Law.{items_of}
 use Rattle.ada_meaning.specs.Named.{Object, State, named, object_at}
-use Rattle.ada_owners.specs.Places.{variable, access_at}
+use Rattle.ada_owners.specs.Places.{is_there, variable, access_at}
 use Rattle.ada_owners.specs.Reliance.{Says, IsOf, Owns}
 use Rattle.ada_owners.specs.Keeping.{IsThere}
-use Rattle.ada_owners.specs.Walks.{ListedExist}
 use Rattle.ada_sound.proofs.Fits.{none_spared, Fit, Reference, IsReferred, referred_first, referred_either, IsPlace, ArePlain, plain_by, plain_object, IsSaid, IsRelied, is_object, place_at, weaker_fit, there_by}
 use Rattle.ada_sound.proofs.Orderings.{AsGood, called_good}
 use Rattle.ada_sound.proofs.Items.{item_below, height_is}
@@ -47,17 +46,17 @@ use Rattle.ada_sound.proofs.Callers.{Suspension, caller_of, callers_of, known_in
 use Rattle.ada_sound.proofs.Returns.{Crosses}
 
 -- What a variable is relied on to name is there, and its home is an item of a master that is entered.
-home_low : (heap : List Object) (masters : List Master) (o : Id) → Stored None heap masters → IsThere heap o → (object : Object) × (object_at heap o ≡ Some object) × (suc object.cell.home.item ≤ height masters)
-home_low heap masters o stored (object, found, listed) =
+home_low : {under : List Id} (heap : List Object) (masters : List Master) (o : Id) → Stored under heap masters → IsThere heap o → (object : Object) × (object_at heap o ≡ Some object) × (suc object.cell.home.item ≤ height masters)
+home_low {under} heap masters o stored (object, found, there) =
     let sane = stored.sane o object found in
-    let housed = sane.housed (out object sane object.out refl listed) in
+    let housed = sane.housed (out object sane object.out refl there) in
     let below = item_below object.cell.home.item object.cell.access object.cell.home.pool (items_of masters) stored.counted housed in
     let high = height_is masters in
     (object, found, omega (arith, below, high))
   where
-    out : (object : Object) → Sane None (items_of masters) o object → (b : Bool) → object.out ≡ b → object.listed ≡ true → object.out ≡ true
-    out object sane true e listed = e
-    out object sane false e listed = let gone = sane.back_gone e in let exists = sane.listed_exists listed in absurd (cc (gone, exists))
+    out : (object : Object) → Sane under (items_of masters) o object → (b : Bool) → object.out ≡ b → is_there object.stage ≡ true → object.out ≡ true
+    out object sane true e there = e
+    out object sane false e there = let gone = sane.back_gone e in let exists = sane.there_exists there in absurd (cc (gone, exists))
 
 relied_says : (heap : List Object) (h : Hold) (kind : Option ℕ) (o : Id) → IsRelied h → Says (access_at heap) h kind o → IsOf (access_at heap) kind o
 relied_says heap hold.Null kind o relied s = absurd relied
@@ -110,6 +109,7 @@ module _ (program : Program) (number : ℕ) (b : BodyForm) (given : List ActualF
     passed = values;
     references = references;
     referenced = referenced;
+    under = [];
     kept = kept_in caller number;
     control = k;
     masters = s.masters;
@@ -139,9 +139,6 @@ module _ (program : Program) (number : ℕ) (b : BodyForm) (given : List ActualF
 
       refer : ReferTo s.heap a.places given references
       refer = referred_in_order s.heap a.places given a.operands passed
-
-      exist : ListedExist s.heap
-      exist o x found listed = (w.stored.sane o x found).listed_exists listed
 
       abbrev begins : List Value
       begins = given_places named values b.variables
@@ -175,7 +172,7 @@ module _ (program : Program) (number : ℕ) (b : BodyForm) (given : List ActualF
       owner_left x there gives = left_owner caller.program.variables (effect_in caller number) w.holds x there gives
 
       abbrev Over : ℕ → Type 0
-      Over i = HandedOver caller.program.types (outers caller) (outer_of (caller_of program waiting gs)) values referenced none_spared s.heap b.variables begins (first_holds b.formals b.variables) waiting.before i
+      Over i = HandedOver caller.program.types (outers caller) (outer_of (caller_of program waiting gs)) values referenced [] none_spared s.heap b.variables begins (first_holds b.formals b.variables) waiting.before i
 
       abbrev over_by : (i : ℕ) → Given i → Owns (hold_at (first_holds b.formals b.variables) i) → Over i
       over_by i (inl none) own = let e = none.1 in absurd (rw e at own)
@@ -203,7 +200,7 @@ module _ (program : Program) (number : ℕ) (b : BodyForm) (given : List ActualF
       right_by i o names (inl none) = let e = none.1 in rw e tt
       right_by i o names (inr (inl (none, e, inl (plain, inl null)))) = absurd (cc (names, null))
       right_by i o names (inr (inl (none, e, inl (plain, inr l)))) =
-          rw (e, l.of) (path_names exist w.fit l.path l.access (place_at begins i) o l.names l.kept l.found names)
+          rw (e, l.of) (path_names w.fit l.path l.access (place_at begins i) o l.names l.kept l.found names)
       right_by i o names (inr (inl (none, e, inr p))) = let is = p.by.1 in absurd (cc (is, names))
       right_by i o names (inr (inr h)) =
           rw (h.0, h.1.of) (gives_says s.heap (hold_at waiting.before h.1.x) (variable_access caller.program.variables h.1.x) o (owner_left h.1.x h.1.there h.1.owner) (caller_fit.owners.fit.relied (variable h.1.x) o (sym (value_of h.1) ∙ names)))
@@ -221,7 +218,7 @@ module _ (program : Program) (number : ℕ) (b : BodyForm) (given : List ActualF
           plain_by caller.program.types (referenced ++ (outers caller).referenced) (variable_kind b.variables i) (place_at begins i) plain
           (walk_plain s.heap heap_plain (along a.places l.path) (begun a.places l.path) (place_at begins i) (whole_plain (place_at a.places l.path.root)) l.found)
       object_by i ne (inr (inl (none, e, inr p))) =
-          let h = record_referred exist w.fit p.p (place_at begins i) p.lies p.kept p.by in
+          let h = record_referred w.fit p.p (place_at begins i) p.lies p.kept p.by in
           let among = formal_referred caller.program.types caller.program.variables s.heap a.places (drop (length values) (blanks named b.variables)) b.formals b.variables given values suits.0 suits.1 order i p.object ne h.o h.place h.t h.is h.there in
           rw h.is (
             p.object,
@@ -241,7 +238,7 @@ module _ (program : Program) (number : ℕ) (b : BodyForm) (given : List ActualF
 
       begun_fit : Fit caller.program.types b.variables (outers callee) none_spared s.heap begins (first_holds b.formals b.variables)
       begun_fit =
-          called_fit caller.program.types (outers caller) (outer_of (caller_of program waiting gs)) values referenced none_spared s.heap b.variables begins (first_holds b.formals b.variables) waiting.before caller_fit waits_by
+          called_fit caller.program.types (outers caller) (outer_of (caller_of program waiting gs)) values referenced [] none_spared s.heap b.variables begins (first_holds b.formals b.variables) waiting.before caller_fit waits_by
           (λ x own. waiting_owns given waiting.before x own) over over_once (λ i o names. right_by i o names (formal i)) (λ i. said_by i (formal i)) (λ i ne. object_by i ne (formal i)) referred_there
 
       module _ (stands : Stands program gs (record s { activations = a ∷ rest })) where
@@ -291,8 +288,9 @@ module _ (program : Program) (number : ℕ) (b : BodyForm) (given : List ActualF
           lost = get_less given w.holds waiting.before (called_good caller.program.variables (effect_in caller number) w.holds) w.rest.4;
           hands = subst (λ (p : ProgramForm). Hands p caller.program given waiting.before) sees hands_before;
           passes = passes_by;
-          opened = all_opened caller.program.types caller.program.variables frees s.heap a.places w.holds exist w.fit (formal_kinds b) given values references suits.0 refer w.rest.6;
+          opened = all_opened caller.program.types caller.program.variables frees s.heap a.places w.holds w.fit (formal_kinds b) given values references suits.0 refer w.rest.6;
           covers = λ t may. (w.rest.3 t (freed_by_it t may)).1;
+          settled = refl;
         }
           where
             passes_by : (i x : ℕ) → handed_at given i ≡ Some x → place_at values i ≡ place_at a.places x
@@ -332,7 +330,7 @@ module _ (program : Program) (number : ℕ) (b : BodyForm) (given : List ActualF
             standing = record {
               suspended = (refl, refl, stands.standing.suspended);
               waiting = (caller_waits, stands.standing.waiting);
-              low = (caller_low, referred_low, stands.standing.low);
+              low = (caller_low, referred_low, (λ o none. absurd none), stands.standing.low);
             };
           };
         }
@@ -350,6 +348,6 @@ module _ (program : Program) (number : ℕ) (b : BodyForm) (given : List ActualF
       pub passes_spared : (t : ℕ) → frees t ≡ true → is_access caller.program.types t ≡ true → (o : Id) → IsReferred referenced o t → ⊥
       passes_spared t may of o is =
           let suits = (and_parts (actuals_fit caller.program.types caller.program.variables (formal_kinds b) given) (modes_fit b.formals given) w.rest.5).0 in
-          all_spared caller.program.types caller.program.variables frees s.heap a.places w.holds (λ p x found listed. (w.stored.sane p x found).listed_exists listed) w.fit
+          all_spared caller.program.types caller.program.variables frees s.heap a.places w.holds w.fit
           w.rest.7 t may of (λ p known. (w.rest.3 t may).0.1 p known of) (formal_kinds b) given values references suits
           (passed_in_order s.heap a.places given a.operands passed) (referred_in_order s.heap a.places given a.operands passed) w.rest.6 o is

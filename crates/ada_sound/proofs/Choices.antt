@@ -21,7 +21,7 @@ use Rattle.ada_meaning.specs.Event.{Quiet}
 use Rattle.ada_meaning.specs.Step.{halts, moves, tells, asks, picks}
 use Rattle.ada_meaning.specs.Named.{State, Next, next}
 use Rattle.ada_meaning.specs.Run.{Event, Choice, settled, grants, takes, Leads, Run, here, there, Halts, first_state}
-use Rattle.ada_quiet.specs.Quiet.{operations_are_in_use}
+use Rattle.ada_quiet.specs.InUse.{operations_are_in_use}
 use Rattle.ada_sound.specs.Always.{IsChecked, Breaks, IsIllFormed, IsIllNested, FreesOthers, NotInUse, InSomeRun, is_seen, IsFineAtEnds, HaltsAfter, HaltsSomewhere}
 
 -- Events, and the state that they lead to.

@@ -1,5 +1,6 @@
 -- Allocators without items (4.8): their objects hold at first what each component holds where no value is given, as if that were its item.
 
+use Rattle.ada_parts.specs.declared.tasks.Direction.{Direction}
 use Rattle.std.proofs.lemmas.Bool.{eqb-true}
 use Rattle.std.proofs.Common.{◌≡◌, ℕ, Bool, true, false, ◌&&◌, ◌==◌, List, [], ◌∷◌, map, refl, ap, sym, ◌∙◌}
 use Rattle.std.specs.Prelude.{Option, Some, None, is_some}
@@ -16,11 +17,11 @@ use Rattle.ada_program.specs.declared.program.TypeDefinition.{TypeDefinition}
 use Rattle.ada_program.specs.declared.program.TypeDefinition.TheVariants as definition
 use Rattle.ada_program.specs.ProgramForm.{TypeForm, type_form, VariableForm}
 use Rattle.ada_program.specs.Typed.{components_by, components_of, reached_of}
-use Rattle.ada_program.specs.WellFormed.{access_of, components_in, record_components, reached_components, items_fit, kind_takes}
+use Rattle.ada_program.specs.WellFormed.{finalization_of, access_of, components_in, record_components, reached_components, items_fit, kind_takes}
 use Rattle.ada_effects.specs.Effects.{items_raise}
 use Rattle.ada_flow.specs.Flow.{Holds, moved_by_items, uses_in}
 use Rattle.ada_meaning.specs.declared.state.Value.{Value}
-use Rattle.ada_meaning.specs.Step.{initial_value, in_front}
+use Rattle.ada_meaning.specs.Step.{record_tasks, initial_value, in_front}
 use Rattle.ada_meaning.specs.Named.{Object, named}
 use Rattle.ada_typed.proofs.Shown.{same_components}
 use Rattle.ada_sound.proofs.Invariant.{Known, Control, Rooms, ItemsKeep, FilledBy, Filling}
@@ -91,11 +92,12 @@ default_for types variables (variable.Access t) access takes =
     let f = there (reached_components types t.0) h.1 in
     record { goes = ap Some (sym same); components = f.0; reached = ap (λ u. reached_components types u) same ∙ f.1 }
 
--- The types that a run has lead to the components that flow speaks of.
+-- The types that a run has lead to the components that flow speaks of; and nothing is done for a record without controlled parts (7.6).
 abbrev pub Reaches : Known → List TypeDefinition → Type 0
 Reaches known types =
     ((access : ℕ) → reached_of types access ≡ reached_components known.program.types access)
     × ((t : ℕ) → components_of types t ≡ record_components known.program.types t)
+    × ((t : ℕ) → finalization_of known.program.types t ≡ None → (direction : Direction) (first : ℕ) → record_tasks types t direction first ≡ [])
 
 components_shown : (o : Option TypeDefinition) → components_in (option_map type_form o) ≡ components_by o
 components_shown None = refl

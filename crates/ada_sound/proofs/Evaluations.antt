@@ -30,7 +30,7 @@ use Rattle.ada_meaning.specs.Step.{in_front, initial_value, initial_values, owne
 use Rattle.ada_meaning.specs.Named.{Object, State, object_at, look, named, store, inside}
 use Rattle.ada_meaning.specs.Named.{whole as whole_of}
 use Rattle.ada_owners.specs.Keeping.{IsThere}
-use Rattle.ada_owners.specs.Places.{component, component_in, value_at}
+use Rattle.ada_owners.specs.Places.{is_there, component, component_in, value_at}
 use Rattle.ada_owners.proofs.Kernel.{same_place}
 use Rattle.ada_owners.proofs.Changes.{store_reads, store_value}
 use Rattle.ada_owners.specs.Walks.{walk}
@@ -103,7 +103,7 @@ module _ (known : Known) (k : Control) (a : Activation Value) (rest : List (Acti
       into (Scalar n) c k' kind takes fits' w' = absurd (w'.rest.0)
       into (Part object_id base) c k' kind takes fits' w' = absurd (w'.rest.0)
 
-      to : (More : Rooms → Holds → Type 0) (here : Spot) (cleared : Bool) (x : ℕ) (k' : Control) → is_object known.program.variables x ≡ false → is_object known.program.variables root ≡ false → variable_access known.program.variables x ≡ variable_access known.program.variables root → (rooms : Rooms) (holds : Holds) → Stored None s.heap s.masters → Roomed (below known) s.masters rooms → Fit known.program.types known.program.variables (outers known) none_spared s.heap a.places holds → ((h : Holds) → RunsOn known k' rooms h → More rooms h) → Goes (gives known.program.types known.program.variables here cleared x (value_of (at_path whole root [] spot)) holds) (RunsOn known k' rooms) (Raised (assignment_among known (value_of (at_path whole root [] spot))) (ways known k' rooms)) → Working known s.heap (slice_set a.places x (place_at a.places root)) s.masters More
+      to : (More : Rooms → Holds → Type 0) (here : Spot) (cleared : Bool) (x : ℕ) (k' : Control) → is_object known.program.variables x ≡ false → is_object known.program.variables root ≡ false → variable_access known.program.variables x ≡ variable_access known.program.variables root → (rooms : Rooms) (holds : Holds) → Stored (outers known).under s.heap s.masters → Roomed (below known) s.masters rooms → Fit known.program.types known.program.variables (outers known) none_spared s.heap a.places holds → ((h : Holds) → RunsOn known k' rooms h → More rooms h) → Goes (gives known.program.types known.program.variables here cleared x (value_of (at_path whole root [] spot)) holds) (RunsOn known k' rooms) (Raised (assignment_among known (value_of (at_path whole root [] spot))) (ways known k' rooms)) → Working known s.heap (slice_set a.places x (place_at a.places root)) s.masters More
       to More here cleared x k' none other same rooms holds stored roomed fit more g = by (is_borrower known.program.variables x) refl
         where
           by : (b : Bool) → is_borrower known.program.variables x ≡ b → Working known s.heap (slice_set a.places x (place_at a.places root)) s.masters More
@@ -166,7 +166,7 @@ module _ (known : Known) (k : Control) (a : Activation Value) (rest : List (Acti
   half_behind heap places whole root cs spot (f ∷ k') o c cleared last found there kept works = absurd cleared
 
   -- The value of a component is taken: what awaits it gets it, and the component is cleared next.
-  module _ (whole : Bool) (root : ℕ) (spot : Spot) (o : Id) (object : Object) (c : ℕ) (v : Value) (found : object_at s.heap o ≡ Some object) (listed : object.listed ≡ true) (at : slice_get object.cell.values c ≡ Some v) where
+  module _ (whole : Bool) (root : ℕ) (spot : Spot) (o : Id) (object : Object) (c : ℕ) (v : Value) (found : object_at s.heap o ≡ Some object) (listed : is_there object.stage ≡ true) (at : slice_get object.cell.values c ≡ Some v) where
     named_there : {holds : Holds} → Fit known.program.types known.program.variables (outers known) none_spared s.heap a.places holds → (p : Id) → v ≡ Names p → IsThere s.heap p
     named_there f p is = go (component_follows o object c v refl found listed at f)
       where
@@ -186,12 +186,12 @@ module _ (known : Known) (k : Control) (a : Activation Value) (rest : List (Acti
     borrow_component_by x d ds (hold.Alias r) none is kept f walks same = put_alias x v r none (plain o object c v found at) (rw same (λ p e. component_is o object c v p refl found listed at e f)) f
     borrow_component_by x d ds hold.Lost none is kept f walks same = absurd (cc kept)
 
-    borrow_to : (More : Rooms → Holds → Type 0) (here : Spot) (cleared : Bool) (x d : ℕ) (ds : List ℕ) (k' : Control) (rooms : Rooms) (holds : Holds) → is_object known.program.variables x ≡ false → is_borrower known.program.variables x ≡ true → Stored None s.heap s.masters → Roomed (below known) s.masters rooms → Fit known.program.types known.program.variables (outers known) none_spared s.heap a.places holds → WalksOn s.heap a.places (at_path whole root (d ∷ ds) spot) (Names o) (c ∷ []) → variable_access known.program.variables x ≡ component_access known.program.types object c → ((h : Holds) → RunsOn known k' rooms h → More rooms h) → Goes (gives known.program.types known.program.variables here cleared x (value_of (at_path whole root (d ∷ ds) spot)) holds) (RunsOn known k' rooms) (Raised (assignment_among known (value_of (at_path whole root (d ∷ ds) spot))) (ways known k' rooms)) → Working known s.heap (slice_set a.places x v) s.masters More
+    borrow_to : (More : Rooms → Holds → Type 0) (here : Spot) (cleared : Bool) (x d : ℕ) (ds : List ℕ) (k' : Control) (rooms : Rooms) (holds : Holds) → is_object known.program.variables x ≡ false → is_borrower known.program.variables x ≡ true → Stored (outers known).under s.heap s.masters → Roomed (below known) s.masters rooms → Fit known.program.types known.program.variables (outers known) none_spared s.heap a.places holds → WalksOn s.heap a.places (at_path whole root (d ∷ ds) spot) (Names o) (c ∷ []) → variable_access known.program.variables x ≡ component_access known.program.types object c → ((h : Holds) → RunsOn known k' rooms h → More rooms h) → Goes (gives known.program.types known.program.variables here cleared x (value_of (at_path whole root (d ∷ ds) spot)) holds) (RunsOn known k' rooms) (Raised (assignment_among known (value_of (at_path whole root (d ∷ ds) spot))) (ways known k' rooms)) → Working known s.heap (slice_set a.places x v) s.masters More
     borrow_to More here cleared x d ds k' rooms holds none is stored roomed f walks same more g =
         let h = borrow_gives known.program.types known.program.variables here cleared x whole root (d ∷ ds) spot holds (RunsOn known k' rooms) (Raised (assignment_among known (value_of (at_path whole root (d ∷ ds) spot))) (ways known k' rooms)) is g in
         record { rooms = rooms; holds = slice_set holds x (borrowed_hold (hold_at holds root)); stored = stored; roomed = roomed; fit = borrow_component_by x d ds (hold_at holds root) none refl h.0 f walks same; rest = more _ h.1 }
 
-    take_variable_by : (x d : ℕ) (ds : List ℕ) (k' : Control) (rooms : Rooms) (holds : Holds) (h : Hold) → is_object known.program.variables x ≡ false → hold_at holds root ≡ h → lost_by h spot ≡ None → Stored None s.heap s.masters → Roomed (below known) s.masters rooms → (f : Fit known.program.types known.program.variables (outers known) none_spared s.heap a.places holds) → x ≢ root → IsCleared (at_path whole root (d ∷ ds) spot) k' → WalksOn s.heap a.places (at_path whole root (d ∷ ds) spot) (Names o) (c ∷ []) → variable_access known.program.variables x ≡ component_access known.program.types object c → RunsOn known k' rooms (slice_set holds x (value_hold (d ∷ ds) h)) → HalfBy known k' s.heap (slice_set a.places x v) s.masters
+    take_variable_by : (x d : ℕ) (ds : List ℕ) (k' : Control) (rooms : Rooms) (holds : Holds) (h : Hold) → is_object known.program.variables x ≡ false → hold_at holds root ≡ h → lost_by h spot ≡ None → Stored (outers known).under s.heap s.masters → Roomed (below known) s.masters rooms → (f : Fit known.program.types known.program.variables (outers known) none_spared s.heap a.places holds) → x ≢ root → IsCleared (at_path whole root (d ∷ ds) spot) k' → WalksOn s.heap a.places (at_path whole root (d ∷ ds) spot) (Names o) (c ∷ []) → variable_access known.program.variables x ≡ component_access known.program.types object c → RunsOn known k' rooms (slice_set holds x (value_hold (d ∷ ds) h)) → HalfBy known k' s.heap (slice_set a.places x v) s.masters
     take_variable_by x d ds k' rooms holds hold.Null none is kept stored roomed f ne cleared walks same more = absurd (no_walk (begun a.places (at_path whole root (d ∷ ds) spot)) (inside (place_at a.places root) d) ds (ap whole_of (null_place f root spot is)) walks.0)
     take_variable_by x d ds k' rooms holds hold.Lost none is kept stored roomed f ne cleared walks same more = absurd (cc kept)
     take_variable_by x d ds k' rooms holds (hold.Kept r) none is kept stored roomed f ne cleared walks same more =
@@ -210,7 +210,7 @@ module _ (known : Known) (k : Control) (a : Activation Value) (rest : List (Acti
         (λ p e. named_there f p (sym (component_value s.heap [] o object c v found listed at) ∙ e))
         (record { rooms = rooms; holds = slice_set holds x (hold.Own r); stored = stored_after s.heap o c Null stored; roomed = roomed; fit = take_variable x r none o object c v (plain o object c v found at) found listed at same f; rest = more })
 
-    take_to : (here : Spot) (cleared : Bool) (x d : ℕ) (ds : List ℕ) (k' : Control) (rooms : Rooms) (holds : Holds) → is_object known.program.variables x ≡ false → is_borrower known.program.variables x ≡ false → Stored None s.heap s.masters → Roomed (below known) s.masters rooms → Fit known.program.types known.program.variables (outers known) none_spared s.heap a.places holds → WalksOn s.heap a.places (at_path whole root (d ∷ ds) spot) (Names o) (c ∷ []) → variable_access known.program.variables x ≡ component_access known.program.types object c → Goes (gives known.program.types known.program.variables here cleared x (value_of (at_path whole root (d ∷ ds) spot)) holds) (RunsOn known k' rooms) (Raised (assignment_among known (value_of (at_path whole root (d ∷ ds) spot))) (ways known k' rooms)) → Pairs cleared (value_of (at_path whole root (d ∷ ds) spot)) (λ path. x ≢ path.root) k' → HalfBy known k' s.heap (slice_set a.places x v) s.masters
+    take_to : (here : Spot) (cleared : Bool) (x d : ℕ) (ds : List ℕ) (k' : Control) (rooms : Rooms) (holds : Holds) → is_object known.program.variables x ≡ false → is_borrower known.program.variables x ≡ false → Stored (outers known).under s.heap s.masters → Roomed (below known) s.masters rooms → Fit known.program.types known.program.variables (outers known) none_spared s.heap a.places holds → WalksOn s.heap a.places (at_path whole root (d ∷ ds) spot) (Names o) (c ∷ []) → variable_access known.program.variables x ≡ component_access known.program.types object c → Goes (gives known.program.types known.program.variables here cleared x (value_of (at_path whole root (d ∷ ds) spot)) holds) (RunsOn known k' rooms) (Raised (assignment_among known (value_of (at_path whole root (d ∷ ds) spot))) (ways known k' rooms)) → Pairs cleared (value_of (at_path whole root (d ∷ ds) spot)) (λ path. x ≢ path.root) k' → HalfBy known k' s.heap (slice_set a.places x v) s.masters
     take_to here false x d ds k' rooms holds none owned stored roomed f walks same g pairs =
         let h = value_gives known.program.types known.program.variables here false x whole root (d ∷ ds) spot holds (RunsOn known k' rooms) (Raised (assignment_among known (value_of (at_path whole root (d ∷ ds) spot))) (ways known k' rooms)) owned g in
         let never = cleared_is false (hold_at holds root) spot h.0 in
@@ -227,14 +227,14 @@ module _ (known : Known) (k : Control) (a : Activation Value) (rest : List (Acti
         cc (none.0)
 
     -- A variable gets the value: a borrower as it is, any other with the first half of a take pair; a declaration is none.
-    stores_to : (here : Spot) (cleared : Bool) (x d : ℕ) (ds : List ℕ) (k' : Control) (rooms : Rooms) (holds : Holds) → is_object known.program.variables x ≡ false → Stored None s.heap s.masters → Roomed (below known) s.masters rooms → Fit known.program.types known.program.variables (outers known) none_spared s.heap a.places holds → WalksOn s.heap a.places (at_path whole root (d ∷ ds) spot) (Names o) (c ∷ []) → variable_access known.program.variables x ≡ component_access known.program.types object c → Goes (gives known.program.types known.program.variables here cleared x (value_of (at_path whole root (d ∷ ds) spot)) holds) (RunsOn known k' rooms) (Raised (assignment_among known (value_of (at_path whole root (d ∷ ds) spot))) (ways known k' rooms)) → Pairs cleared (value_of (at_path whole root (d ∷ ds) spot)) (λ path. x ≢ path.root) k' → Resumes known s.heap (slice_set a.places x v) s.masters k'
+    stores_to : (here : Spot) (cleared : Bool) (x d : ℕ) (ds : List ℕ) (k' : Control) (rooms : Rooms) (holds : Holds) → is_object known.program.variables x ≡ false → Stored (outers known).under s.heap s.masters → Roomed (below known) s.masters rooms → Fit known.program.types known.program.variables (outers known) none_spared s.heap a.places holds → WalksOn s.heap a.places (at_path whole root (d ∷ ds) spot) (Names o) (c ∷ []) → variable_access known.program.variables x ≡ component_access known.program.types object c → Goes (gives known.program.types known.program.variables here cleared x (value_of (at_path whole root (d ∷ ds) spot)) holds) (RunsOn known k' rooms) (Raised (assignment_among known (value_of (at_path whole root (d ∷ ds) spot))) (ways known k' rooms)) → Pairs cleared (value_of (at_path whole root (d ∷ ds) spot)) (λ path. x ≢ path.root) k' → Resumes known s.heap (slice_set a.places x v) s.masters k'
     stores_to here cleared x d ds k' rooms holds none stored roomed f walks same g pairs = by (is_borrower known.program.variables x) refl
       where
         by : (b : Bool) → is_borrower known.program.variables x ≡ b → Resumes known s.heap (slice_set a.places x v) s.masters k'
         by true is = inl (borrow_to (RunsOn known k') here cleared x d ds k' rooms holds none is stored roomed f walks same (λ h r. r) g)
         by false is = inr (take_to here cleared x d ds k' rooms holds none is stored roomed f walks same g pairs)
 
-    declares_to : (More : Rooms → Holds → Type 0) (here : Spot) (cleared : Bool) (x d : ℕ) (ds : List ℕ) (k' : Control) (rooms : Rooms) (holds : Holds) → is_object known.program.variables x ≡ false → Stored None s.heap s.masters → Roomed (below known) s.masters rooms → Fit known.program.types known.program.variables (outers known) none_spared s.heap a.places holds → WalksOn s.heap a.places (at_path whole root (d ∷ ds) spot) (Names o) (c ∷ []) → variable_access known.program.variables x ≡ component_access known.program.types object c → ((h : Holds) → RunsOn known k' rooms h → More rooms h) → Goes (gives known.program.types known.program.variables here cleared x (value_of (at_path whole root (d ∷ ds) spot)) holds) (RunsOn known k' rooms) (Raised (assignment_among known (value_of (at_path whole root (d ∷ ds) spot))) (ways known k' rooms)) → IsAlone cleared → Working known s.heap (slice_set a.places x v) s.masters More
+    declares_to : (More : Rooms → Holds → Type 0) (here : Spot) (cleared : Bool) (x d : ℕ) (ds : List ℕ) (k' : Control) (rooms : Rooms) (holds : Holds) → is_object known.program.variables x ≡ false → Stored (outers known).under s.heap s.masters → Roomed (below known) s.masters rooms → Fit known.program.types known.program.variables (outers known) none_spared s.heap a.places holds → WalksOn s.heap a.places (at_path whole root (d ∷ ds) spot) (Names o) (c ∷ []) → variable_access known.program.variables x ≡ component_access known.program.types object c → ((h : Holds) → RunsOn known k' rooms h → More rooms h) → Goes (gives known.program.types known.program.variables here cleared x (value_of (at_path whole root (d ∷ ds) spot)) holds) (RunsOn known k' rooms) (Raised (assignment_among known (value_of (at_path whole root (d ∷ ds) spot))) (ways known k' rooms)) → IsAlone cleared → Working known s.heap (slice_set a.places x v) s.masters More
     declares_to More here cleared x d ds k' rooms holds none stored roomed f walks same more g alone = by (is_borrower known.program.variables x) refl
       where
         by : (b : Bool) → is_borrower known.program.variables x ≡ b → Working known s.heap (slice_set a.places x v) s.masters More
@@ -242,7 +242,7 @@ module _ (known : Known) (k : Control) (a : Activation Value) (rest : List (Acti
         by false is = absurd (declares_none here cleared x d ds k' rooms holds is g alone)
 
     -- The same into a component: then the path has one selector.
-    take_into : (cleared : Bool) (target : PathForm) (q : Id) (holder : Object) (e d : ℕ) (ds : List ℕ) (k' : Control) (rooms : Rooms) (holds : Holds) → object_at s.heap q ≡ Some holder → holder.listed ≡ true → Stored None s.heap s.masters → Roomed (below known) s.masters rooms → Fit known.program.types known.program.variables (outers known) none_spared s.heap a.places holds → WalksOn s.heap a.places (at_path whole root (d ∷ ds) spot) (Names o) (c ∷ []) → component_access known.program.types holder e ≡ component_access known.program.types object c → Goes (gives_component known.program.types cleared target (value_of (at_path whole root (d ∷ ds) spot)) holds) (RunsOn known k' rooms) (Raised (component_among known (path_raises target) (value_of (at_path whole root (d ∷ ds) spot))) (ways known k' rooms)) → Pairs cleared (value_of (at_path whole root (d ∷ ds) spot)) (λ taken. IsOne taken.selectors) k' → HalfBy known k' (store s.heap (Names q) e v) a.places s.masters
+    take_into : (cleared : Bool) (target : PathForm) (q : Id) (holder : Object) (e d : ℕ) (ds : List ℕ) (k' : Control) (rooms : Rooms) (holds : Holds) → object_at s.heap q ≡ Some holder → is_there holder.stage ≡ true → Stored (outers known).under s.heap s.masters → Roomed (below known) s.masters rooms → Fit known.program.types known.program.variables (outers known) none_spared s.heap a.places holds → WalksOn s.heap a.places (at_path whole root (d ∷ ds) spot) (Names o) (c ∷ []) → component_access known.program.types holder e ≡ component_access known.program.types object c → Goes (gives_component known.program.types cleared target (value_of (at_path whole root (d ∷ ds) spot)) holds) (RunsOn known k' rooms) (Raised (component_among known (path_raises target) (value_of (at_path whole root (d ∷ ds) spot))) (ways known k' rooms)) → Pairs cleared (value_of (at_path whole root (d ∷ ds) spot)) (λ taken. IsOne taken.selectors) k' → HalfBy known k' (store s.heap (Names q) e v) a.places s.masters
     take_into false target q holder e d ds k' rooms holds at_q listed_q stored roomed f walks same g pairs =
         let h = value_fills known.program.types false target whole root (d ∷ ds) spot holds (RunsOn known k' rooms) (Raised (component_among known (path_raises target) (value_of (at_path whole root (d ∷ ds) spot))) (ways known k' rooms)) g in
         let no = cleared_is false (hold_at holds root) spot h.0 in
@@ -282,32 +282,32 @@ module _ (known : Known) (k : Control) (a : Activation Value) (rest : List (Acti
 
   -- A path that is moved is followed by one selector.
   module _ (whole : Bool) (root : ℕ) (cs : List ℕ) (spot : Spot) (below : List Value) where
-    at_last : (o : Id) (object : Object) (c : ℕ) (v : Value) (from : Option VariableKind) (to : VariableKind) (kinds : List OperandKind) → object_at s.heap o ≡ Some object → object.listed ≡ true → slice_get object.cell.values c ≡ Some v → access_of from ≡ Some object.cell.access → selected_kind known.program.types from c ≡ Some to → typed.Fits known.program (cells_of s.heap) (of_kind to ∷ kinds) k → WalksOn s.heap a.places (at_path whole root cs spot) (Names o) (c ∷ []) → Working known s.heap a.places s.masters (Takes known s.heap a.places (value_of (at_path whole root cs spot)) k) → ReadyIn known Running k s.heap a.places (v ∷ below) s.masters
+    at_last : (o : Id) (object : Object) (c : ℕ) (v : Value) (from : Option VariableKind) (to : VariableKind) (kinds : List OperandKind) → object_at s.heap o ≡ Some object → is_there object.stage ≡ true → slice_get object.cell.values c ≡ Some v → access_of from ≡ Some object.cell.access → selected_kind known.program.types from c ≡ Some to → typed.Fits known.program (cells_of s.heap) (of_kind to ∷ kinds) k → WalksOn s.heap a.places (at_path whole root cs spot) (Names o) (c ∷ []) → Working known s.heap a.places s.masters (Takes known s.heap a.places (value_of (at_path whole root cs spot)) k) → ReadyIn known Running k s.heap a.places (v ∷ below) s.masters
     at_last o object c v from to kinds found listed at own leads fits walks w = go cs walks w
       where
         go : (ds : List ℕ) → WalksOn s.heap a.places (at_path whole root ds spot) (Names o) (c ∷ []) → Working known s.heap a.places s.masters (Takes known s.heap a.places (value_of (at_path whole root ds spot)) k) → ReadyIn known Running k s.heap a.places (v ∷ below) s.masters
         go [] walks' w' = absurd (cc (walks'.1))
         go (d ∷ ds) walks' w' = take_ready whole root spot o object c v found listed at d ds to kinds below (selected_no_object known.program.types from c to leads) (selected_of known.program.types from object c to own leads) walks' fits w'
 
-    moved_on : (u : Value) (o : Id) (object : Object) (c : ℕ) (ds : List ℕ) (v : Value) (from : Option VariableKind) (to : VariableKind) (kinds : List OperandKind) → object_at s.heap o ≡ Some object → object.listed ≡ true → slice_get object.cell.values c ≡ Some v → access_of from ≡ Some object.cell.access → selectors_kind known.program.types from (c ∷ ds) ≡ Some to → typed.Fits known.program (cells_of s.heap) (of_kind to ∷ kinds) k → WalksOn s.heap a.places (at_path whole root cs spot) (Names o) (c ∷ ds) → (w : Working known s.heap a.places s.masters (Takes known s.heap a.places (value_of (at_path whole root cs spot)) k)) → RaisesAt known u ds k w.rooms w.holds → Stepped known s.heap (Followed (Names o)) (reading named ds v (running k (record a { operands = below }) rest s))
+    moved_on : (u : Value) (o : Id) (object : Object) (c : ℕ) (ds : List ℕ) (v : Value) (from : Option VariableKind) (to : VariableKind) (kinds : List OperandKind) → object_at s.heap o ≡ Some object → is_there object.stage ≡ true → slice_get object.cell.values c ≡ Some v → access_of from ≡ Some object.cell.access → selectors_kind known.program.types from (c ∷ ds) ≡ Some to → typed.Fits known.program (cells_of s.heap) (of_kind to ∷ kinds) k → WalksOn s.heap a.places (at_path whole root cs spot) (Names o) (c ∷ ds) → (w : Working known s.heap a.places s.masters (Takes known s.heap a.places (value_of (at_path whole root cs spot)) k)) → RaisesAt known u ds k w.rooms w.holds → Stepped known s.heap (Followed (Names o)) (reading named ds v (running k (record a { operands = below }) rest s))
     moved_on u o object c [] v from to kinds found listed at own leads fits walks w raise =
         stays known (Followed (Names o)) (running k (record a { operands = v ∷ below }) rest s)
         (tt, at_last o object c v from to kinds found listed at own leads fits walks w)
-        (record { id = o; object = object; is = refl; found = found; out = exists_out o object found ((w.stored.sane o object found).listed_exists listed) w.stored })
+        (record { id = o; object = object; is = refl; found = found; out = exists_out o object found ((w.stored.sane o object found).there_exists listed) w.stored })
     moved_on u o object c (d ∷ ds) v from to kinds found listed at own leads fits walks w raise =
-        let seen : walk s.heap (Names o) (c ∷ front (d ∷ ds)) ≡ walk s.heap v (front (d ∷ ds)) = walk_on s.heap o object c (front (d ∷ ds)) v found ((w.stored.sane o object found).listed_exists listed) at in
+        let seen : walk s.heap (Names o) (c ∷ front (d ∷ ds)) ≡ walk s.heap v (front (d ∷ ds)) = walk_on s.heap o object c (front (d ∷ ds)) v found ((w.stored.sane o object found).there_exists listed) at in
         stays known (Followed (Names o)) (running (Follows (d ∷ ds) ∷ k) (record a { operands = v ∷ below }) rest s)
         (tt, inl (at_work w (component_follows o object c v refl found listed at w.fit, inr ((λ may. raise), inr (inl (at_path whole root cs spot, (walks.0 ∙ seen, walks.1), w.rest))))))
-        (record { id = o; object = object; is = refl; found = found; out = exists_out o object found ((w.stored.sane o object found).listed_exists listed) w.stored })
+        (record { id = o; object = object; is = refl; found = found; out = exists_out o object found ((w.stored.sane o object found).there_exists listed) w.stored })
 
-    moved_component : (u : Value) (o : Id) (object : Object) (c : ℕ) (ds : List ℕ) (found_value : Option Value) (from : Option VariableKind) (to : VariableKind) (kinds : List OperandKind) → slice_get object.cell.values c ≡ found_value → object_at s.heap o ≡ Some object → object.listed ≡ true → access_of from ≡ Some object.cell.access → selectors_kind known.program.types from (c ∷ ds) ≡ Some to → typed.Fits known.program (cells_of s.heap) (of_kind to ∷ kinds) k → WalksOn s.heap a.places (at_path whole root cs spot) (Names o) (c ∷ ds) → (w : Working known s.heap a.places s.masters (Takes known s.heap a.places (value_of (at_path whole root cs spot)) k)) → RaisesAt known u ds k w.rooms w.holds → Fine known s.heap s.masters (component_next named (Names o) ds found_value (running k (record a { operands = below }) rest s))
+    moved_component : (u : Value) (o : Id) (object : Object) (c : ℕ) (ds : List ℕ) (found_value : Option Value) (from : Option VariableKind) (to : VariableKind) (kinds : List OperandKind) → slice_get object.cell.values c ≡ found_value → object_at s.heap o ≡ Some object → is_there object.stage ≡ true → access_of from ≡ Some object.cell.access → selectors_kind known.program.types from (c ∷ ds) ≡ Some to → typed.Fits known.program (cells_of s.heap) (of_kind to ∷ kinds) k → WalksOn s.heap a.places (at_path whole root cs spot) (Names o) (c ∷ ds) → (w : Working known s.heap a.places s.masters (Takes known s.heap a.places (value_of (at_path whole root cs spot)) k)) → RaisesAt known u ds k w.rooms w.holds → Fine known s.heap s.masters (component_next named (Names o) ds found_value (running k (record a { operands = below }) rest s))
     moved_component u o object c ds None from to kinds at found listed own leads fits walks w raise = tt
     moved_component u o object c ds (Some v) from to kinds at found listed own leads fits walks w raise = moved_on u o object c ds v from to kinds found listed at own leads fits walks w raise
 
     moves_fine : (c : ℕ) (ds : List ℕ) (u : Value) (from : Option VariableKind) (to : VariableKind) (kinds : List OperandKind) → MayFollow s.heap u → ((o : Id) (object : Object) → u ≡ Names o → object_at s.heap o ≡ Some object → access_of from ≡ Some object.cell.access) → selectors_kind known.program.types from (c ∷ ds) ≡ Some to → typed.Fits known.program (cells_of s.heap) (of_kind to ∷ kinds) k → WalksOn s.heap a.places (at_path whole root cs spot) u (c ∷ ds) → (w : Working known s.heap a.places s.masters (Takes known s.heap a.places (value_of (at_path whole root cs spot)) k)) → RaisesAt known u ds k w.rooms w.holds → Fine known s.heap s.masters (follow_next named u c ds (look s.heap u) (running k (record a { operands = below }) rest s))
     moves_fine c ds Null from to kinds follows own leads fits walks w raise = jumps_less known k (record a { operands = below }) rest s (Raising ConstraintError) (at_work w (raises_null known Null k w.rooms w.holds ds raise refl))
     moves_fine c ds (Names o) from to kinds follows own leads fits walks w raise =
-        rw (follows.1, (w.stored.sane o follows.0 follows.1).listed_exists follows.2)
+        rw (follows.1, (w.stored.sane o follows.0 follows.1).there_exists follows.2)
         (moved_component (Names o) o follows.0 c ds (slice_get follows.0.cell.values c) from to kinds refl follows.1 follows.2 (own o follows.0 refl follows.1) leads fits walks w raise)
     moves_fine c ds (Scalar n) from to kinds follows own leads fits walks w raise = tt
     moves_fine c ds (Part object_id base) from to kinds follows own leads fits walks w raise = tt
@@ -442,7 +442,7 @@ module _ (known : Known) (k : Control) (a : Activation Value) (rest : List (Acti
   nothing_ready : (kind : VariableKind) (kinds : List OperandKind) → names_object (Some kind) ≡ false → typed.Fits known.program (cells_of s.heap) (of_kind kind ∷ kinds) k → EvaluatesTo known nothing k s.heap a.places s.masters → ReadyIn known Running k s.heap a.places (Null ∷ a.operands) s.masters
   nothing_ready kind kinds none fits e = go k fits e
     where
-      to : (More : Rooms → Holds → Type 0) (here : Spot) (cleared : Bool) (x : ℕ) (k' : Control) (rooms : Rooms) (holds : Holds) → is_object known.program.variables x ≡ false → Stored None s.heap s.masters → Roomed (below known) s.masters rooms → Fit known.program.types known.program.variables (outers known) none_spared s.heap a.places holds → ((h : Holds) → RunsOn known k' rooms h → More rooms h) → Goes (gives known.program.types known.program.variables here cleared x nothing holds) (RunsOn known k' rooms) (Raised (assignment_among known nothing) (ways known k' rooms)) → Working known s.heap (slice_set a.places x Null) s.masters More
+      to : (More : Rooms → Holds → Type 0) (here : Spot) (cleared : Bool) (x : ℕ) (k' : Control) (rooms : Rooms) (holds : Holds) → is_object known.program.variables x ≡ false → Stored (outers known).under s.heap s.masters → Roomed (below known) s.masters rooms → Fit known.program.types known.program.variables (outers known) none_spared s.heap a.places holds → ((h : Holds) → RunsOn known k' rooms h → More rooms h) → Goes (gives known.program.types known.program.variables here cleared x nothing holds) (RunsOn known k' rooms) (Raised (assignment_among known nothing) (ways known k' rooms)) → Working known s.heap (slice_set a.places x Null) s.masters More
       to More here cleared x k' rooms holds other stored roomed fit more g = record { rooms = rooms; holds = slice_set holds x hold.Null; stored = stored; roomed = roomed; fit = put_null x other fit; rest = more _ g.0 }
 
       clears_in : (o : Value) (c : ℕ) (k' : Control) → Clearing known o c k' s.heap a.places s.masters → StoringIn known o c Null k' s.heap a.places s.masters

@@ -28,11 +28,12 @@ use Rattle.ada_sound.proofs.Choices.{accepted_in, run_in, last}
 use Rattle.ada_sound.proofs.Example.{steps, vec, link}
 use Rattle.ada_sound.proofs.ExampleOwners.{path, whole, part as component}
 use Rattle.ada_sound.proofs.ExampleOperations.{node_types, operation}
+use Rattle.ada_owners.specs.Places.{is_there}
 
 -- What a component of an object that is in its collection holds; and whether an object is gone.
 abbrev holds_there : Option Object → (c : ℕ) → Option Value
 holds_there None c = None
-holds_there (Some x) c = if x.listed then slice_get x.cell.values c else None
+holds_there (Some x) c = if is_there x.stage then slice_get x.cell.values c else None
 
 abbrev is_gone_by : Stage → Bool
 is_gone_by Building = false
@@ -45,13 +46,13 @@ is_gone (Some x) = is_gone_by x.stage
 
 -- Flow is not agreed with where a component names what is gone.
 module _ (program : Program) (s : State) (o p : Id) (c : ℕ) where
-  listed_holds : (x : Object) (listed : Bool) → x.listed ≡ listed → (if listed then slice_get x.cell.values c else None) ≡ Some (Names p) → (x.listed ≡ true) × (slice_get x.cell.values c ≡ Some (Names p))
-  listed_holds x true is at = (is, at)
-  listed_holds x false is at = absurd (cc at)
+  there_holds : (x : Object) (there : Bool) → is_there x.stage ≡ there → (if there then slice_get x.cell.values c else None) ≡ Some (Names p) → (is_there x.stage ≡ true) × (slice_get x.cell.values c ≡ Some (Names p))
+  there_holds x true is at = (is, at)
+  there_holds x false is at = absurd (cc at)
 
-  holder : (found : Option Object) → object_at s.heap o ≡ found → holds_there found c ≡ Some (Names p) → (x : Object) × (object_at s.heap o ≡ Some x) × (x.listed ≡ true) × (slice_get x.cell.values c ≡ Some (Names p))
+  holder : (found : Option Object) → object_at s.heap o ≡ found → holds_there found c ≡ Some (Names p) → (x : Object) × (object_at s.heap o ≡ Some x) × (is_there x.stage ≡ true) × (slice_get x.cell.values c ≡ Some (Names p))
   holder None at holds = absurd (cc holds)
-  holder (Some x) at holds = let h = listed_holds x x.listed refl holds in (x, at, h.0, h.1)
+  holder (Some x) at holds = let h = there_holds x (is_there x.stage) refl holds in (x, at, h.0, h.1)
 
   names_gone : holds_there (object_at s.heap o) c ≡ Some (Names p) → is_gone (object_at s.heap p) ≡ true → AgreesThere program s → ⊥
   names_gone holds gone there =

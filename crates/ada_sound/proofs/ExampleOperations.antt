@@ -35,7 +35,7 @@ use Rattle.ada_meaning.specs.declared.event.Why.TheVariants.{FollowsGone, Finali
 use Rattle.ada_meaning.specs.Named.{next}
 use Rattle.ada_meaning.specs.Run.{Choice, grants, takes}
 use Rattle.ada_sound.specs.Always.{IsChecked, FinishesAfter, NotInUse, HaltsAfter}
-use Rattle.ada_sound.specs.OperationExamples.{count_operations, count_bodies, operating_declarations, operating_stmts, operating_handlers, operating_events, node_operations, two_nodes, freeing_finalize, node_events, following_finalize, following_events}
+use Rattle.ada_sound.specs.OperationExamples.{count_operations, count_bodies, operating_declarations, operating_stmts, operating_handlers, operating_events, node_operations, two_nodes, freeing_finalize, freed_events, following_finalize, following_events}
 use Rattle.ada_sound.proofs.Choices.{accepted_in, not_in_use_in, halts_after_in}
 use Rattle.ada_sound.proofs.Example.{steps, vec, no_name, spot, link, with_number}
 use Rattle.ada_sound.proofs.ExampleOwners.{access_to, an_integer, an_access, path, whole, part as component}
@@ -162,12 +162,12 @@ node_types =
     ∷ definition.Object (record { 0 = 0 })
     ∷ []
 
--- Head := new Node; Second := new Node; Head.Next := Second; where Finalize does this statement
-abbrev node_program : Stmt → Program
-node_program statement = record {
+-- Head := new Node; Second := new Node; Head.Next := Second; where this is Finalize
+abbrev node_program_with : Procedure → Program
+node_program_with finalize = record {
   types = vec node_types (omega arith);
   pools = vec [] (omega arith);
-  procedures = vec (operation 2 (statement ∷ []) (omega arith) [] (omega arith) ∷ []) (omega arith);
+  procedures = vec (finalize ∷ []) (omega arith);
   variables = vec (link ∷ link ∷ []) (omega arith);
   texts = vec [] (omega arith);
   exceptions = vec [] (omega arith);
@@ -179,13 +179,25 @@ node_program statement = record {
   handlers = vec [] (omega arith);
 }
 
+-- The same, where it does this statement
+abbrev node_program : Stmt → Program
+node_program statement = node_program_with (operation 2 (statement ∷ []) (omega arith) [] (omega arith))
+
 -- Both nodes are granted, and the second one is picked first at the leaving; this comes behind its Finalize.
 abbrev to_second : List Choice
 to_second = steps 10 ++ grants true ∷ steps 4 ++ grants true ∷ steps 11 ++ takes 0 ∷ []
 
--- Free (N.Next);
+-- X : Link; X := N.Next; N.Next := null; Free (X);
 abbrev pub freeing : Program
-freeing = node_program (stmt.Free (record { 0 = 1 }) (of_object 0 1))
+freeing =
+    node_program_with
+    (record
+    (operation 2
+    (stmt.Assign (whole 1) (right.Path (of_object 0 1)) ∷ stmt.Assign (of_object 0 1) right.Null ∷ stmt.Free (record { 0 = 1 }) (whole 1) ∷ [])
+    (omega arith) [] (omega arith)) {
+      variables = vec (of_object_type 2 ∷ link ∷ []) (omega arith);
+      declarations = vec (declaration.Variable (record { 0 = 1 }) None ∷ []) (omega arith);
+    })
 
 pub freeing_operations : operations_of freeing.types.items 0 ≡ node_operations
 freeing_operations = refl
@@ -201,11 +213,11 @@ unfolding uses_in
 freeing_not_in_use = not_in_use_in freeing (freeing_finalize ∷ []) two_nodes no_handlers freeing_bodies freeing_form refl _ _ refl refl refl refl
 
 -- Finalize of the first node frees the second one, which is gone.
-pub frees_gone : HaltsAfter node_events (Erroneous FinalizesTwice) freeing
+pub frees_gone : HaltsAfter freed_events (Erroneous FinalizesTwice) freeing
 unfolding next
 frees_gone =
-    halts_after_in freeing (freeing_finalize ∷ []) two_nodes no_handlers freeing_bodies freeing_form refl [] (to_second ++ steps 12 ++ takes 0 ∷ steps 3)
-    node_events (Erroneous FinalizesTwice) refl refl refl
+    halts_after_in freeing (freeing_finalize ∷ []) two_nodes no_handlers freeing_bodies freeing_form refl [] (to_second ++ steps 22 ++ takes 0 ∷ steps 12)
+    freed_events (Erroneous FinalizesTwice) refl refl refl
 
 -- N.Next.Value
 abbrev value_behind : Path

@@ -25,6 +25,7 @@ use Rattle.ada_meaning.specs.Event.{Followed, Quiet}
 use Rattle.ada_meaning.specs.State.{Activation}
 use Rattle.ada_meaning.specs.Step.{moves, raised, reading, component_next, follow_next, path_next, expression_next, null_test_next, is_decided, link_next, links_next, outcome_next, selected}
 use Rattle.ada_meaning.specs.Named.{Object, State, object_at, look, named}
+use Rattle.ada_owners.specs.Places.{is_there}
 use Rattle.ada_sound.proofs.Fits.{MayFollow, place_at, component_follows}
 use Rattle.ada_sound.proofs.Stored.{exists_out}
 use Rattle.ada_sound.proofs.Roots.{root_object, object_there, raises_null, rest_raises}
@@ -41,18 +42,18 @@ module _ (known : Known) (k : Control) (a : Activation Value) (rest : List (Acti
     fails raise = jumps_less known k (record a { operands = below }) rest s (Raising ConstraintError) (at_work w raise)
 
     -- What is read is there, or is followed on.
-    read_fine : (u : Value) (o : Id) (object : Object) (cs : List ℕ) (v : Value) → object_at s.heap o ≡ Some object → object.listed ≡ true → MayFollow s.heap v → RaisesAt known u cs k w.rooms w.holds → Fine known s.heap s.masters (moves (Followed (Names o)) (reading named cs v (running k (record a { operands = below }) rest s)))
+    read_fine : (u : Value) (o : Id) (object : Object) (cs : List ℕ) (v : Value) → object_at s.heap o ≡ Some object → is_there object.stage ≡ true → MayFollow s.heap v → RaisesAt known u cs k w.rooms w.holds → Fine known s.heap s.masters (moves (Followed (Names o)) (reading named cs v (running k (record a { operands = below }) rest s)))
     read_fine u o object [] v found listed follows raise =
         stays known (Followed (Names o)) (running k (record a { operands = v ∷ below }) rest s)
         (tt, awaits_ready known k s.heap a.places v below s.masters w)
-        (record { id = o; object = object; is = refl; found = found; out = exists_out o object found ((w.stored.sane o object found).listed_exists listed) w.stored })
+        (record { id = o; object = object; is = refl; found = found; out = exists_out o object found ((w.stored.sane o object found).there_exists listed) w.stored })
     read_fine u o object (c ∷ cs) v found listed follows raise =
         stays known (Followed (Names o)) (running (Follows (c ∷ cs) ∷ k) (record a { operands = v ∷ below }) rest s)
         (tt, inl (at_work w (follows, inr ((λ may. raise), inl w.rest))))
-        (record { id = o; object = object; is = refl; found = found; out = exists_out o object found ((w.stored.sane o object found).listed_exists listed) w.stored })
+        (record { id = o; object = object; is = refl; found = found; out = exists_out o object found ((w.stored.sane o object found).there_exists listed) w.stored })
 
     -- A component of an object that is there is read.
-    component_fine : (u : Value) (o : Id) (object : Object) (c : ℕ) (cs : List ℕ) (v : Option Value) → slice_get object.cell.values c ≡ v → object_at s.heap o ≡ Some object → object.listed ≡ true → RaisesAt known u cs k w.rooms w.holds → Fine known s.heap s.masters (component_next named (Names o) cs v (running k (record a { operands = below }) rest s))
+    component_fine : (u : Value) (o : Id) (object : Object) (c : ℕ) (cs : List ℕ) (v : Option Value) → slice_get object.cell.values c ≡ v → object_at s.heap o ≡ Some object → is_there object.stage ≡ true → RaisesAt known u cs k w.rooms w.holds → Fine known s.heap s.masters (component_next named (Names o) cs v (running k (record a { operands = below }) rest s))
     component_fine u o object c cs None at found listed raise = tt
     component_fine u o object c cs (Some v) at found listed raise = read_fine u o object cs v found listed (component_follows o object c v refl found listed at w.fit) raise
 
@@ -60,7 +61,7 @@ module _ (known : Known) (k : Control) (a : Activation Value) (rest : List (Acti
     follow_fine : (c : ℕ) (cs : List ℕ) (v : Value) → MayFollow s.heap v → RaisesAt known v cs k w.rooms w.holds → Fine known s.heap s.masters (follow_next named v c cs (look s.heap v) (running k (record a { operands = below }) rest s))
     follow_fine c cs Null follows raise = fails (raises_null known Null k w.rooms w.holds cs raise refl)
     follow_fine c cs (Names o) follows raise =
-        rw (follows.1, (w.stored.sane o follows.0 follows.1).listed_exists follows.2)
+        rw (follows.1, (w.stored.sane o follows.0 follows.1).there_exists follows.2)
         (component_fine (Names o) o follows.0 c cs (slice_get follows.0.cell.values c) refl follows.1 follows.2 raise)
     follow_fine c cs (Scalar n) follows raise = tt
     follow_fine c cs (Part object_id base) follows raise = tt

@@ -27,7 +27,7 @@ use Rattle.ada_owners.specs.Reliance.{IsOf, Owns, kind_of, IsInHand, IsNotAmong,
 use Rattle.ada_owners.specs.Walks.{walk}
 use Rattle.ada_owners.proofs.Kernel as kernel
 use Rattle.ada_owners.proofs.Kernel.{same_or_not}
-use Rattle.ada_owners.proofs.Objects.{read_other, listed_at}
+use Rattle.ada_owners.proofs.Objects.{read_other, present_at}
 use Rattle.ada_typed.specs.Holding.{HasKind, HaveKinds, cells_of}
 use Rattle.ada_sound.proofs.Fits.{Outsiders, Fit, is_object, plain_object, IsSaid, IsOwn, kinds_of, stacked, none_spared, hold_in, place_at}
 use Rattle.ada_sound.proofs.Assigned.{kind_names}
@@ -340,9 +340,9 @@ module _ (types : List TypeForm) (variables : List VariableForm) (outer : Outsid
   right_kind : (kind : Option ℕ) (k : VariableKind) (o : Id) → IsOf (access_at heap) kind o → HasKind types (cells_of heap) k (Names o) → IsOf (access_at heap) (access_of (Some k)) o
   right_kind None k o of has = absurd of
   right_kind (Some t) k o of has =
-      let there = listed_at heap o t of in
+      let there = present_at heap o t of in
       let same : access_of (Some k) ≡ Some there.object.cell.access = kind_names types heap k o there.object has there.found in
-      rw (same, there.found, there.listed) refl
+      rw (same, there.found, there.there) refl
 
   -- All values of items are, from one component on.
   items_in_hand : (kind : ℕ → Option ℕ) (c : ℕ) (cs : List ComponentKind) (items : List ItemForm) (vs : List Value) (earlier : List PathForm) → ((n : ℕ) → kind (n + c) ≡ access_of (component_kind (slice_get cs n))) → ((x : ℕ) → is_one_of (moved_by_items items) x ≡ true → is_one_of xs x ≡ true) → items_fit types variables cs items ≡ true → ItemsKeep types spot target holds earlier items → FilledInOrder heap places items vs → HaveKinds types (cells_of heap) cs vs → AreInHand heap (stacked places outer) after kind c vs

@@ -6,7 +6,7 @@ use Rattle.std.specs.List.{slice_get}
 use Rattle.ada_program.specs.declared.program.Program.{Program}
 use Rattle.ada_program.specs.declared.program.TypeDefinition.{TypeDefinition}
 use Rattle.ada_program.specs.Controlled.{shapes_of}
-use Rattle.ada_program.specs.ProgramForm.{BodyForm, program_form, body_forms}
+use Rattle.ada_program.specs.ProgramForm.{TypeForm, BodyForm, program_form, body_forms}
 use Rattle.ada_program.specs.WellFormed.{IsWellFormed}
 use Rattle.ada_meaning.specs.declared.event.Halt.TheVariants.{Erroneous}
 use Rattle.ada_meaning.specs.declared.event.Why.TheVariants.{FinalizesTwice}
@@ -21,7 +21,7 @@ use Rattle.ada_meaning.specs.Step.{parts_held}
 use Rattle.ada_meaning.specs.Named.{Object, State, object_at, all_alive, next}
 use Rattle.ada_meaning.specs.Run.{Event, Run, Halts, first_state}
 use Rattle.ada_meaning.specs.Law.{FinalizedTwoValues}
-use Rattle.ada_meaning.specs.Finalization.{FinalizationLaw, PartsStand}
+use Rattle.ada_meaning.specs.Finalization.{FinalizationLaw, HasParts, PartsStand}
 use Rattle.ada_typed.specs.Holding.{seen_now}
 use Rattle.ada_typed.proofs.Control as typed
 use Rattle.ada_typed.proofs.Kept.{behind_call}
@@ -58,7 +58,23 @@ all_have (p ∷ parts) each =
     let later = all_have parts (λ n lt. each (suc n) (omega (arith, lt))) in
     rw (one, first.2) later
 
--- What a run of a well-formed program comes to, where no operation runs behind the call of the running body.
+-- What a run of a well-formed program comes to.
+module _ (program : Program) (well : IsWellFormed (program_form program)) (s : State) (reached : IsReached program s) where
+  -- An object has as many parts as its type says.
+  parts_counted_so : (o : Id) (x : Object) → object_at s.heap o ≡ Some x → length x.cell.parts ≡ parts_held program.types.items x.cell.access
+  parts_counted_so o x found =
+      let types = program.types.items in
+      let forms = (program_form program).types in
+      objects_have_their_parts program well reached.0 reached.1 s o x reached.2 found
+      ∙ (parts_counted types forms x.cell.access refl well.types_fit ∙ parts_shown types forms x.cell.access refl)
+
+  -- So where each number of a part has a value, all its parts have one.
+  pub parts_alive : (o : Id) (x : Object) → object_at s.heap o ≡ Some x → HasParts program.types.items x → all_alive x.cell.parts ≡ true
+  parts_alive o x found has =
+      let counted = parts_counted_so o x found in
+      all_have x.cell.parts (λ n lt. has n (omega (arith, lt, counted)))
+
+-- What it comes to, where no operation runs behind the call of the running body.
 module _ (program : Program) (well : IsWellFormed (program_form program)) (s : State) (reached : IsReached program s) (typing : typed.Typed (program_form program) s) (calm : IsCalm (behind_call s.control)) where
   abbrev types : List TypeDefinition
   types = program.types.items
@@ -66,23 +82,15 @@ module _ (program : Program) (well : IsWellFormed (program_form program)) (s : S
   abbrev bodies : List BodyForm
   bodies = body_forms program
 
-  -- An object has as many parts as its type says.
-  parts_counted_so : (o : Id) (x : Object) → object_at s.heap o ≡ Some x → length x.cell.parts ≡ parts_held types x.cell.access
-  parts_counted_so o x found =
-      let forms = (program_form program).types in
-      objects_have_their_parts program well reached.0 reached.1 s o x reached.2 found
-      ∙ (parts_counted types forms x.cell.access refl well.types_fit ∙ parts_shown types forms x.cell.access refl)
-
   -- No operation runs, if none ends next.
   none_runs : ends_operation s.control ≡ false → NoOperationRuns s.control
   none_runs none = typed_calm (seen_now (program_form program) s) s typing.inside none calm
 
   -- So each has a value, at a frame with which no treatment begins.
-  stand_before : (f : Frame Value) (k : List (Frame Value)) → s.control ≡ f ∷ k → TreatsNothing f → typed.is_operation f ≡ false → AllStand s.heap
-  stand_before f k is plain none o x found listed =
+  stand_before : (f : Frame Value) (k : List (Frame Value)) → s.control ≡ f ∷ k → TreatsNothing f → typed.is_operation f ≡ false → (forms : List TypeForm) → AllStand forms s.heap
+  stand_before f k is plain none forms o x found listed of =
       let untreated = nothing_treated_at program reached.0 reached.1 s (none_runs (rw is none)) reached.2 f k is plain in
-      let counted = parts_counted_so o x found in
-      all_have x.cell.parts (λ n lt. stands program reached.0 reached.1 s reached.2 untreated o x found listed n (omega (arith, lt, counted)))
+      parts_alive program well s reached o x found (stands program reached.0 reached.1 s reached.2 untreated o x found listed)
 
   -- A state with these parts.
   state_is : (mode : Mode) (k : List (Frame Value)) → s.mode ≡ mode → s.control ≡ k → s ≡ record s { mode = mode; control = k }
@@ -91,22 +99,22 @@ module _ (program : Program) (well : IsWellFormed (program_form program)) (s : S
       (subst (λ (j : List (Frame Value)). s ≡ record s { control = j }) is refl)
 
   -- What finalization leaves of a step, by the frame that is next.
-  by_frame : (f : Frame Value) (k : List (Frame Value)) → s.mode ≡ Running → s.control ≡ f ∷ k → FinalizesBy types bodies f (record s { mode = Running; control = k })
+  by_frame : (f : Frame Value) (k : List (Frame Value)) → s.mode ≡ Running → s.control ≡ f ∷ k → (forms : List TypeForm) → FinalizesBy forms types bodies f (record s { mode = Running; control = k })
   unfolding next
-  by_frame (frame.Does fs) k running is = stand_before (frame.Does fs) k is tt refl
-  by_frame (frame.FreesIn access c) k running is = stand_before (frame.FreesIn access c) k is tt refl
-  by_frame (frame.Treats v treatment tasks) k running is = λ twice.
+  by_frame (frame.Does fs) k running is forms = stand_before (frame.Does fs) k is tt refl forms
+  by_frame (frame.FreesIn access c) k running is forms = stand_before (frame.FreesIn access c) k is tt refl forms
+  by_frame (frame.Treats v treatment tasks) k running is forms = λ twice.
       never_twice program reached.0 reached.1 s (none_runs (rw is refl)) reached.2 v treatment tasks k is
       (subst (λ (t : State). Halts program t (Erroneous FinalizesTwice)) (sym (state_is Running (frame.Treats v treatment tasks ∷ k) running is)) twice)
-  by_frame f k running is = tt
+  by_frame f k running is forms = tt
 
-  by_mode : (mode : Mode) (k : List (Frame Value)) → s.mode ≡ mode → s.control ≡ k → FinalizesIn types bodies mode k s
-  by_mode Running [] running is = tt
-  by_mode Running (f ∷ k) running is = by_frame f k running is
-  by_mode (Raising e) k running is = tt
-  by_mode Exiting k running is = tt
-  by_mode Returning k running is = tt
+  by_mode : (mode : Mode) (k : List (Frame Value)) → s.mode ≡ mode → s.control ≡ k → (forms : List TypeForm) → FinalizesIn forms types bodies mode k s
+  by_mode Running [] running is forms = tt
+  by_mode Running (f ∷ k) running is forms = by_frame f k running is forms
+  by_mode (Raising e) k running is forms = tt
+  by_mode Exiting k running is forms = tt
+  by_mode Returning k running is forms = tt
 
   -- Each object that may be freed stands, and no treatment finalizes a value that does not exist.
-  pub finalizes_in : FinalizesIn types bodies s.mode s.control s
-  finalizes_in = by_mode s.mode s.control refl refl
+  pub finalizes_in : (forms : List TypeForm) → FinalizesIn forms types bodies s.mode s.control s
+  finalizes_in forms = by_mode s.mode s.control refl refl forms

@@ -1,6 +1,6 @@
 -- What is relied on in a run: variables of the running activation by their holds, and components, which own what they hold.
 
-use Rattle.std.proofs.Common.{◌≡◌, ◌≢◌, ℕ, zero, suc, ◌+◌, Bool, true, false, List, [], ◌∷◌, ◌++◌, map, refl, sym, ap, ◌∙◌, ◌⊎◌, inl, inr}
+use Rattle.std.proofs.Common.{not, ◌≡◌, ◌≢◌, ℕ, zero, suc, ◌+◌, Bool, true, false, List, [], ◌∷◌, ◌++◌, map, refl, sym, ap, ◌∙◌, ◌⊎◌, inl, inr, ◌&&◌}
 use Rattle.std.specs.Prelude.{Option, Some, None, ◌==◌, ◌||◌, if◌then◌else◌}
 use Rattle.std.specs.List.{slice_get, slice_set, slice_index_or}
 use Rattle.std.proofs.lemmas.Bool.{eqb-true}
@@ -20,18 +20,18 @@ use Rattle.ada_meaning.specs.declared.state.Value.TheVariants.{Null, Names, Scal
 use Rattle.ada_meaning.specs.Heap.{PartState, Cell}
 use Rattle.ada_meaning.specs.State.{Activation, Item}
 use Rattle.ada_meaning.specs.Named.{Object, object_at, changed, filled, create, created, store, parted, finished, returned, treated}
-use Rattle.ada_scopes.specs.Scopes.{is_number_of}
-use Rattle.ada_owners.specs.Places.{Place, variable, component, elsewhere, component_in, value_at, access_in, access_at, is_lent}
+use Rattle.ada_scopes.specs.Scopes.{is_declared_object, is_number_of}
+use Rattle.ada_owners.specs.Places.{is_there, Place, variable, component, elsewhere, component_in, value_at, access_in, access_at, is_lent}
 use Rattle.ada_owners.specs.Reliance.{IsOf, Says, Owns, Borrows, Kinds, kind_of, Reliance, component_hold, hold_of, with_hold, with_lent, Fits, IsInHand, AreInHand}
 use Rattle.ada_owners.specs.Keeping.{IsThere}
 use Rattle.ada_owners.proofs.Kernel as kernel
 use Rattle.ada_owners.proofs.Kernel.{same_or_not, same_id, same_place, lost_owns}
-use Rattle.ada_owners.proofs.Objects.{read_same, read_other, at_other, at_older, not_past, listed_at, component_listed}
+use Rattle.ada_owners.proofs.Objects.{read_same, read_other, at_other, at_older, not_past, present_at, component_there}
 use Rattle.ada_owners.proofs.Changes as changes
-use Rattle.ada_owners.proofs.Changes.{kinds_same, weaken, taken, nulls, put_fits, put_hand, put_blank, put_reads, put_value, at_here, changed_is, store_hand}
+use Rattle.ada_owners.proofs.Changes.{kinds_same, weaken, taken, nulls, put_fits, put_hand, put_blank, put_reads, put_value, at_here, changed_is, store_is, store_hand}
 use Rattle.ada_owners.proofs.Creations.{create_fits, created_hand}
-use Rattle.ada_sound.proofs.Objects.{read_beside}
-use Rattle.ada_owners.proofs.Ends.{IsUnnamed, kind_is, part_fits, finish_parted, back_fits}
+use Rattle.ada_sound.proofs.Objects.{read_beside, set_twice}
+use Rattle.ada_owners.proofs.Ends.{IsUnnamed, kind_is, part_fits, finish_fits, back_fits}
 use Rattle.ada_owners.proofs.Reliances.{good_same, good_lost, forget_good, forget_borrows, forget_owner}
 use Rattle.ada_owners.proofs.Keeping.{take_pairs_keep, component_pairs_keep, insertions_keep}
 
@@ -67,11 +67,12 @@ referred_either (r ∷ rs) ss o t (inl is) = inl (inl is)
 referred_either (r ∷ rs) ss o t (inr is) = elim (referred_either rs ss o t is) [ inl e ↦ inl (inr e) | inr e ↦ inr e ]
 
 -- What is outside of the running activation: what its call gave its formal parameters, and the suspended activations, the nearest one first; and the
--- objects that calls of these and of the running one refer to.
+-- objects that calls of these and of the running one refer to; and those that are under way, as treatments in suspended activations finalize them.
 pub record Outsiders : Type 0 where
   pub given : List Value
   pub suspended : List Outer
   pub referenced : List Reference
+  pub under : List Id
 
 -- The access type of a variable of a suspended activation, and what it is relied on for.
 abbrev pub outer_access : Option Outer → ℕ → Option ℕ
@@ -122,6 +123,15 @@ lies_among (Some x) items = is_number_of items x.cell.home.item
 
 abbrev pub going : List Object → List Item → Id → Bool
 going heap items o = lies_among (object_at heap o) items
+
+-- Is one of these items an object?
+abbrev pub objects_left : List Item → Bool
+objects_left [] = false
+objects_left (i ∷ is) = is_declared_object i.owned || objects_left is
+
+-- While these items of a master are left, its objects go first: then nothing relies on the components of what lies in its collections.
+abbrev pub sparing : List Object → List Item → Id → Bool
+sparing heap items o = not (objects_left items) && going heap items o
 
 -- What a place is relied on for.
 abbrev pub hold_in : Outsiders → (spared : Id → Bool) → Holds → Place → Hold
@@ -468,7 +478,7 @@ move_fit {types = types} {variables = variables} {outer = outer} {places = place
 -- What is relied on to name an object names one that is there.
 pub there_by : (heap : List Object) (kind : Option ℕ) (o : Id) → IsOf (access_at heap) kind o → IsThere heap o
 there_by heap None o s = absurd s
-there_by heap (Some t) o s = let h = listed_at heap o t s in (h.object, h.found, h.listed)
+there_by heap (Some t) o s = let h = present_at heap o t s in (h.object, h.found, h.there)
 
 follows_by : (heap : List Object) (v : Value) → ((o : Id) → v ≡ Names o → IsThere heap o) → MayFollow heap v
 follows_by heap Null there = tt
@@ -476,27 +486,27 @@ follows_by heap (Names o) there = there o refl
 follows_by heap (Scalar v) there = tt
 follows_by heap (Part o first) there = tt
 
--- What a component of an object in its collection holds, and its access type.
+-- What a component of an object that is there holds, and its access type.
 got : (values : List Value) (c : ℕ) (v : Value) → slice_get values c ≡ Some v → slice_index_or values c Null ≡ v
 got [] c v e = absurd (cc e)
 got (w ∷ values) zero v e = cc e
 got (w ∷ values) (suc c) v e = got values c v e
 
-pub component_value : (heap : List Object) (activations : List (Activation Value)) (o : Id) (object : Object) (c : ℕ) (v : Value) → object_at heap o ≡ Some object → object.listed ≡ true → slice_get object.cell.values c ≡ Some v → value_at heap activations (component o c) ≡ v
+pub component_value : (heap : List Object) (activations : List (Activation Value)) (o : Id) (object : Object) (c : ℕ) (v : Value) → object_at heap o ≡ Some object → is_there object.stage ≡ true → slice_get object.cell.values c ≡ Some v → value_at heap activations (component o c) ≡ v
 component_value heap activations o object c v found listed at =
-    ap (λ t. component_in t c) found ∙ component_listed object c listed ∙ got object.cell.values c v at
+    ap (λ t. component_in t c) found ∙ component_there object c listed ∙ got object.cell.values c v at
 
-pub access_is : (heap : List Object) (o : Id) (object : Object) → object_at heap o ≡ Some object → object.listed ≡ true → access_at heap o ≡ Some object.cell.access
+pub access_is : (heap : List Object) (o : Id) (object : Object) → object_at heap o ≡ Some object → is_there object.stage ≡ true → access_at heap o ≡ Some object.cell.access
 access_is heap o object found listed = rw (found, listed) refl
 
 -- What a component holds may be followed.
-pub component_is : {types : List TypeForm} {variables : List VariableForm} {outer : Outsiders} {spared : Id → Bool} {heap : List Object} {places : List Value} {holds : Holds} (o : Id) (object : Object) (c : ℕ) (v : Value) (p : Id) → spared o ≡ false → object_at heap o ≡ Some object → object.listed ≡ true → slice_get object.cell.values c ≡ Some v → v ≡ Names p → Fit types variables outer spared heap places holds → IsOf (access_at heap) (component_access types object c) p
+pub component_is : {types : List TypeForm} {variables : List VariableForm} {outer : Outsiders} {spared : Id → Bool} {heap : List Object} {places : List Value} {holds : Holds} (o : Id) (object : Object) (c : ℕ) (v : Value) (p : Id) → spared o ≡ false → object_at heap o ≡ Some object → is_there object.stage ≡ true → slice_get object.cell.values c ≡ Some v → v ≡ Names p → Fit types variables outer spared heap places holds → IsOf (access_at heap) (component_access types object c) p
 component_is {outer = outer} {spared = spared} {heap = heap} {places = places} o object c v p kept found listed at is f =
     let own : Owns (component_hold (spared o)) = rw kept tt in
     let names = component_value heap (stacked places outer) o object c v found listed at ∙ is in
     rw (access_is heap o object found listed) at (kernel.owned_at f.owners.fit (component o c) own p names)
 
-pub component_follows : {types : List TypeForm} {variables : List VariableForm} {outer : Outsiders} {spared : Id → Bool} {heap : List Object} {places : List Value} {holds : Holds} (o : Id) (object : Object) (c : ℕ) (v : Value) → spared o ≡ false → object_at heap o ≡ Some object → object.listed ≡ true → slice_get object.cell.values c ≡ Some v → Fit types variables outer spared heap places holds → MayFollow heap v
+pub component_follows : {types : List TypeForm} {variables : List VariableForm} {outer : Outsiders} {spared : Id → Bool} {heap : List Object} {places : List Value} {holds : Holds} (o : Id) (object : Object) (c : ℕ) (v : Value) → spared o ≡ false → object_at heap o ≡ Some object → is_there object.stage ≡ true → slice_get object.cell.values c ≡ Some v → Fit types variables outer spared heap places holds → MayFollow heap v
 component_follows {types = types} {outer = outer} {heap = heap} o object c v kept found listed at f =
     follows_by heap v (λ p is. there_by heap (component_access types object c) p (component_is o object c v p kept found listed at is f))
 
@@ -520,7 +530,7 @@ stored_referred outer heap o object c v found are k t is = stored_access heap o 
 created_referred : (outer : Outsiders) (heap : List Object) (words : ℕ) (cell : Cell Value) → AreReferred outer heap → AreReferred outer (create heap words cell)
 created_referred outer heap words cell are k t is =
     let at = are k t is in
-    let h = listed_at heap k t at in
+    let h = present_at heap k t at in
     ap access_in (at_older heap words cell k (not_past heap k h.object h.found)) ∙ at
 
 -- An object is not referred to.
@@ -552,7 +562,7 @@ store_blank {outer = outer} {spared = spared} {heap = heap} {holds = holds} o ob
   referred = stored_referred outer heap o object c v found f.referred;
 }
 
-pub store_owner : {types : List TypeForm} {variables : List VariableForm} {outer : Outsiders} {heap : List Object} {places : List Value} {holds : Holds} (o : Id) (object : Object) (c : ℕ) (v : Value) → object_at heap o ≡ Some object → object.listed ≡ true → Hand types variables outer none_spared heap places holds (component_access types object c) v → Fit types variables outer none_spared heap places holds → Fit types variables outer none_spared (store heap (Names o) c v) places holds
+pub store_owner : {types : List TypeForm} {variables : List VariableForm} {outer : Outsiders} {heap : List Object} {places : List Value} {holds : Holds} (o : Id) (object : Object) (c : ℕ) (v : Value) → object_at heap o ≡ Some object → is_there object.stage ≡ true → Hand types variables outer none_spared heap places holds (component_access types object c) v → Fit types variables outer none_spared heap places holds → Fit types variables outer none_spared (store heap (Names o) c v) places holds
 store_owner {outer = outer} {heap = heap} {holds = holds} o object c v found listed hand f = record {
   owners = store_hand heap o object found c v (hold_in outer none_spared holds) (λ q ne. refl) f.owners (λ e. cc e) (rw (access_is heap o object found listed) hand);
   said = f.said;
@@ -591,7 +601,7 @@ from_reliance_with : (outer : Outsiders) → {kinds : Kinds} {heap : List Object
 from_reliance_with outer holds x Whole f = from_reliance outer (slice_set holds x (hold.Own Whole)) f
 
 -- A take pair, T := O.C; O.C := null;, with another variable for T, or with a component.
-pub take_variable : {types : List TypeForm} {variables : List VariableForm} {outer : Outsiders} {heap : List Object} {places : List Value} {holds : Holds} (x : ℕ) (r : Region) → is_object variables x ≡ false → (o : Id) (object : Object) (c : ℕ) (v : Value) → IsPlain v → object_at heap o ≡ Some object → object.listed ≡ true → slice_get object.cell.values c ≡ Some v → variable_access variables x ≡ component_access types object c → Fit types variables outer none_spared heap places holds → Fit types variables outer none_spared (store heap (Names o) c Null) (slice_set places x v) (slice_set holds x (hold.Own r))
+pub take_variable : {types : List TypeForm} {variables : List VariableForm} {outer : Outsiders} {heap : List Object} {places : List Value} {holds : Holds} (x : ℕ) (r : Region) → is_object variables x ≡ false → (o : Id) (object : Object) (c : ℕ) (v : Value) → IsPlain v → object_at heap o ≡ Some object → is_there object.stage ≡ true → slice_get object.cell.values c ≡ Some v → variable_access variables x ≡ component_access types object c → Fit types variables outer none_spared heap places holds → Fit types variables outer none_spared (store heap (Names o) c Null) (slice_set places x v) (slice_set holds x (hold.Own r))
 take_variable {types = types} {variables = variables} {outer = outer} {heap = heap} {places = places} {holds = holds} x r none o object c v plain found listed at same f =
     let t = object.cell.access in
     let at_t = access_is heap o object found listed in
@@ -603,7 +613,7 @@ take_variable {types = types} {variables = variables} {outer = outer} {heap = he
       referred = stored_referred outer heap o object c Null found f.referred;
     }
 
-pub take_component : {types : List TypeForm} {variables : List VariableForm} {outer : Outsiders} {heap : List Object} {places : List Value} {holds : Holds} (k : Id) (holder : Object) (d : ℕ) (o : Id) (object : Object) (c : ℕ) (v : Value) → object_at heap k ≡ Some holder → holder.listed ≡ true → object_at heap o ≡ Some object → object.listed ≡ true → slice_get object.cell.values c ≡ Some v → component_access types holder d ≡ component_access types object c → Fit types variables outer none_spared heap places holds → Fit types variables outer none_spared (store (store heap (Names k) d v) (Names o) c Null) places holds
+pub take_component : {types : List TypeForm} {variables : List VariableForm} {outer : Outsiders} {heap : List Object} {places : List Value} {holds : Holds} (k : Id) (holder : Object) (d : ℕ) (o : Id) (object : Object) (c : ℕ) (v : Value) → object_at heap k ≡ Some holder → is_there holder.stage ≡ true → object_at heap o ≡ Some object → is_there object.stage ≡ true → slice_get object.cell.values c ≡ Some v → component_access types holder d ≡ component_access types object c → Fit types variables outer none_spared heap places holds → Fit types variables outer none_spared (store (store heap (Names k) d v) (Names o) c Null) places holds
 take_component {types = types} {variables = variables} {outer = outer} {heap = heap} {places = places} {holds = holds} k holder d o object c v at_k listed_k found listed at same f =
     let u = holder.cell.access in
     let t = object.cell.access in
@@ -631,7 +641,7 @@ lent_good outer holds o c (component k d) = spared_good (is_lent (component o c 
 lent_good outer holds o c (elsewhere d x) = good_same (outer_hold (slice_get outer.suspended d) x)
 
 -- A new object, whose items were in hand as long as a component is lent, goes into that component.
-pub insert_fit : {types : List TypeForm} {variables : List VariableForm} {outer : Outsiders} {heap : List Object} {places : List Value} {holds : Holds} (words : ℕ) (cell : Cell Value) (o : Id) (object : Object) (c : ℕ) → object_at heap o ≡ Some object → object.listed ≡ true → component_access types object c ≡ Some cell.access → AreInHand heap (stacked places outer) (hold_of (with_lent o c (as_reliance outer holds))) (λ d. access_of (kind_among (reached_components types cell.access) d)) 0 cell.values → Fit types variables outer none_spared heap places holds → Fit types variables outer none_spared (store (create heap words cell) (Names o) c (created heap words)) places holds
+pub insert_fit : {types : List TypeForm} {variables : List VariableForm} {outer : Outsiders} {heap : List Object} {places : List Value} {holds : Holds} (words : ℕ) (cell : Cell Value) (o : Id) (object : Object) (c : ℕ) → object_at heap o ≡ Some object → is_there object.stage ≡ true → component_access types object c ≡ Some cell.access → AreInHand heap (stacked places outer) (hold_of (with_lent o c (as_reliance outer holds))) (λ d. access_of (kind_among (reached_components types cell.access) d)) 0 cell.values → Fit types variables outer none_spared heap places holds → Fit types variables outer none_spared (store (create heap words cell) (Names o) c (created heap words)) places holds
 insert_fit {types = types} {variables = variables} {outer = outer} {heap = heap} {places = places} {holds = holds} words cell o object c found listed same items f =
     let lent = weaken (hold_of (with_lent o c (as_reliance outer holds))) (lent_good outer holds o c) f.owners in
     let kept = insertions_keep (kinds_of types variables outer) heap (stacked places outer) (as_reliance outer holds) o c object.cell.access words cell lent (access_is heap o object found listed) same items in
@@ -644,21 +654,21 @@ hand_is_unnamed outer types variables spared heap places holds kind o hand none 
   unborrowed = none;
 }
 
--- An object that no owner names leaves its collection; then it ceases to exist, and its words go back.
-pub part_fit : {types : List TypeForm} {variables : List VariableForm} {outer : Outsiders} {spared : Id → Bool} {heap : List Object} {places : List Value} {holds : Holds} (o : Id) (x : Object) → object_at heap o ≡ Some x → IsUnnamed heap (stacked places outer) (hold_in outer spared holds) o → IsUnreferred outer o → Fit types variables outer spared heap places holds → Fit types variables outer spared (slice_set heap o.0 (parted x)) places holds
-part_fit {outer = outer} {heap = heap} o x found none unreferred f = record {
-  owners = rw (changed_is heap o x found (parted x) parted refl) at (part_fits heap o x found f.owners none);
+-- An object leaves its collection; it ceases to exist, where no owner names it; and its words go back.
+pub part_fit : {types : List TypeForm} {variables : List VariableForm} {outer : Outsiders} {spared : Id → Bool} {heap : List Object} {places : List Value} {holds : Holds} (o : Id) (x : Object) → object_at heap o ≡ Some x → Fit types variables outer spared heap places holds → Fit types variables outer spared (slice_set heap o.0 (parted x)) places holds
+part_fit {outer = outer} {heap = heap} o x found f = record {
+  owners = rw (changed_is heap o x found (parted x) parted refl) at (part_fits heap o x found f.owners);
   said = f.said;
   objects = f.objects;
-  referred = other_referred outer heap o (parted x) unreferred f.referred;
+  referred = λ k t is. same_access heap o x (parted x) found refl k ∙ f.referred k t is;
 }
 
-pub finish_fit : {types : List TypeForm} {variables : List VariableForm} {outer : Outsiders} {spared : Id → Bool} {heap : List Object} {places : List Value} {holds : Holds} (o : Id) (x : Object) → object_at heap o ≡ Some x → x.listed ≡ false → Fit types variables outer spared heap places holds → Fit types variables outer spared (slice_set heap o.0 (finished x)) places holds
-finish_fit {outer = outer} {heap = heap} o x found off f = record {
-  owners = rw (changed_is heap o x found (finished x) finished refl) at (finish_parted heap o x found off f.owners);
+pub finish_fit : {types : List TypeForm} {variables : List VariableForm} {outer : Outsiders} {spared : Id → Bool} {heap : List Object} {places : List Value} {holds : Holds} (o : Id) (x : Object) → object_at heap o ≡ Some x → IsUnnamed heap (stacked places outer) (hold_in outer spared holds) o → IsUnreferred outer o → Fit types variables outer spared heap places holds → Fit types variables outer spared (slice_set heap o.0 (finished x)) places holds
+finish_fit {outer = outer} {heap = heap} o x found none unreferred f = record {
+  owners = rw (changed_is heap o x found (finished x) finished refl) at (finish_fits heap o x found f.owners none);
   said = f.said;
   objects = f.objects;
-  referred = λ k t is. same_access heap o x (finished x) found (sym (ap (λ (b : Bool). if b then Some x.cell.access else None) off)) k ∙ f.referred k t is;
+  referred = other_referred outer heap o (finished x) unreferred f.referred;
 }
 
 pub back_fit : {types : List TypeForm} {variables : List VariableForm} {outer : Outsiders} {spared : Id → Bool} {heap : List Object} {places : List Value} {holds : Holds} (o : Id) (x : Object) → object_at heap o ≡ Some x → Fit types variables outer spared heap places holds → Fit types variables outer spared (slice_set heap o.0 (returned x)) places holds
@@ -669,8 +679,8 @@ back_fit {outer = outer} {heap = heap} o x found f = record {
   referred = λ k t is. same_access heap o x (returned x) found refl k ∙ f.referred k t is;
 }
 
--- An object that is in no collection changes no place: what fits does so beside one.
-module _ (heap : List Object) (y : Object) (off : y.listed ≡ false) where
+-- An object that is gone changes no place: what fits does so beside one.
+module _ (heap : List Object) (y : Object) (off : is_there y.stage ≡ false) where
   beside_access : (k : Id) → access_at (heap ++ y ∷ []) k ≡ access_at heap k
   beside_access k = read_beside access_in heap y (ap (λ (b : Bool). if b then Some y.cell.access else None) off) k.0
 
@@ -762,7 +772,7 @@ freed_unnamed {variables = variables} {outer = outer} {spared = spared} {heap = 
         (sym (put_reads heap (stacked places outer) x Null q ne) ∙ b)
 
 -- Free (O.C): C is null then, its object has no owner, and no alias names it.
-pub component_unnamed : {types : List TypeForm} {variables : List VariableForm} {outer : Outsiders} {heap : List Object} {places : List Value} {holds : Holds} (o : Id) (object : Object) (c : ℕ) (p : Id) (kind : Option ℕ) → NoOuterAliases types outer kind → object_at heap o ≡ Some object → object.listed ≡ true → slice_get object.cell.values c ≡ Some (Names p) → IsOf (access_at heap) kind p → Fit types variables outer none_spared heap places holds → Fit types variables outer none_spared (store heap (Names o) c Null) places (behind_end variables kind holds) × IsUnnamed (store heap (Names o) c Null) (stacked places outer) (hold_in outer none_spared (behind_end variables kind holds)) p × IsUnreferred outer p
+pub component_unnamed : {types : List TypeForm} {variables : List VariableForm} {outer : Outsiders} {heap : List Object} {places : List Value} {holds : Holds} (o : Id) (object : Object) (c : ℕ) (p : Id) (kind : Option ℕ) → NoOuterAliases types outer kind → object_at heap o ≡ Some object → is_there object.stage ≡ true → slice_get object.cell.values c ≡ Some (Names p) → IsOf (access_at heap) kind p → Fit types variables outer none_spared heap places holds → Fit types variables outer none_spared (store heap (Names o) c Null) places (behind_end variables kind holds) × IsUnnamed (store heap (Names o) c Null) (stacked places outer) (hold_in outer none_spared (behind_end variables kind holds)) p × IsUnreferred outer p
 component_unnamed {variables = variables} {outer = outer} {heap = heap} {places = places} {holds = holds} o object c p kind spares found listed at of f = (
   store_blank o object c Null found (λ k e. cc e) (behind_fit kind f),
   record {
@@ -790,7 +800,7 @@ component_unnamed {variables = variables} {outer = outer} {heap = heap} {places 
     unborrowed q (inr ne) a b = behind_borrows kind p spares of f q a (before q ne b)
 
 -- Components of other objects are spared, none of which names anything.
-respare : {types : List TypeForm} {variables : List VariableForm} {outer : Outsiders} {heap : List Object} {places : List Value} {holds : Holds} (spared to : Id → Bool) → ((o : Id) (c : ℕ) (k : Id) → component_in (object_at heap o) c ≡ Names k → to o ≡ spared o) → Fit types variables outer spared heap places holds → Fit types variables outer to heap places holds
+pub respare : {types : List TypeForm} {variables : List VariableForm} {outer : Outsiders} {heap : List Object} {places : List Value} {holds : Holds} (spared to : Id → Bool) → ((o : Id) (c : ℕ) (k : Id) → component_in (object_at heap o) c ≡ Names k → to o ≡ spared o) → Fit types variables outer spared heap places holds → Fit types variables outer to heap places holds
 respare {outer = outer} {heap = heap} {places = places} {holds = holds} spared to same f = record {
   owners = record { fit = kernel.held_same f.owners.fit (hold_in outer to holds) go };
   said = f.said;
@@ -815,36 +825,131 @@ first_only : (b rest : Bool) → (b ≡ true → ⊥) → rest ≡ b || rest
 first_only true rest none = absurd (none refl)
 first_only false rest none = refl
 
--- A component that names something is one of an object in its collection.
-is_listed : (b : Bool) (v : Value) (k : Id) → (if b then v else Null) ≡ Names k → b ≡ true
-is_listed true v k e = refl
-is_listed false v k e = absurd (cc e)
+-- A component that names something is one of an object that is there.
+is_present : (b : Bool) (v : Value) (k : Id) → (if b then v else Null) ≡ Names k → b ≡ true
+is_present true v k e = refl
+is_present false v k e = absurd (cc e)
 
-shorter_stays : (item : Item) (items : List Item) (t : Option Object) (c : ℕ) (k : Id) → ((x : Object) → t ≡ Some x → x.listed ≡ true → x.cell.home.item ≡ item.number → ⊥) → component_in t c ≡ Names k → lies_among t items ≡ lies_among t (item ∷ items)
+shorter_stays : (item : Item) (items : List Item) (t : Option Object) (c : ℕ) (k : Id) → ((x : Object) → t ≡ Some x → is_there x.stage ≡ true → x.cell.home.item ≡ item.number → ⊥) → component_in t c ≡ Names k → lies_among t items ≡ lies_among t (item ∷ items)
 shorter_stays item items None c k none e = refl
 shorter_stays item items (Some x) c k none e =
-    let listed = is_listed x.listed (slice_index_or x.cell.values c Null) k e in
-    first_only (item.number == x.cell.home.item) (is_number_of items x.cell.home.item) (λ is. none x refl listed (sym (eqb-true item.number x.cell.home.item is)))
+    let there = is_present (is_there x.stage) (slice_index_or x.cell.values c Null) k e in
+    first_only (item.number == x.cell.home.item) (is_number_of items x.cell.home.item) (λ is. none x refl there (sym (eqb-true item.number x.cell.home.item is)))
 
 lies_nowhere : (t : Option Object) → false ≡ lies_among t []
 lies_nowhere None = refl
 lies_nowhere (Some x) = refl
 
 -- While a master is left, homes stay as they are; an item goes whose collection is empty; and where none is left, all is relied on again.
-pub going_set : (outer : Outsiders) → {types : List TypeForm} {variables : List VariableForm} {places : List Value} {holds : Holds} (heap : List Object) (items : List Item) (o : Id) (x y : Object) → object_at heap o ≡ Some x → y.cell.home ≡ x.cell.home → Fit types variables outer (going heap items) (slice_set heap o.0 y) places holds → Fit types variables outer (going (slice_set heap o.0 y) items) (slice_set heap o.0 y) places holds
-going_set outer heap items o x y found same f =
-    respare (going heap items) (going (slice_set heap o.0 y) items) (λ k c n e. going_stays heap items o x y found same k) f
+sparing_stays : (heap : List Object) (items : List Item) (o : Id) (x y : Object) → object_at heap o ≡ Some x → y.cell.home ≡ x.cell.home → (k : Id) → sparing (slice_set heap o.0 y) items k ≡ sparing heap items k
+sparing_stays heap items o x y found same k = ap (λ b. not (objects_left items) && b) (going_stays heap items o x y found same k)
 
-pub going_shorter : {types : List TypeForm} {variables : List VariableForm} {outer : Outsiders} {heap : List Object} {places : List Value} {holds : Holds} (item : Item) (items : List Item) → ((o : Id) (x : Object) → object_at heap o ≡ Some x → x.listed ≡ true → x.cell.home.item ≡ item.number → ⊥) → Fit types variables outer (going heap (item ∷ items)) heap places holds → Fit types variables outer (going heap items) heap places holds
-going_shorter {outer = outer} {heap = heap} item items none f =
-    respare (going heap (item ∷ items)) (going heap items) (λ o c k e. shorter_stays item items (object_at heap o) c k (none o) e) f
+pub sparing_set : (outer : Outsiders) → {types : List TypeForm} {variables : List VariableForm} {places : List Value} {holds : Holds} (heap : List Object) (items : List Item) (o : Id) (x y : Object) → object_at heap o ≡ Some x → y.cell.home ≡ x.cell.home → Fit types variables outer (sparing heap items) (slice_set heap o.0 y) places holds → Fit types variables outer (sparing (slice_set heap o.0 y) items) (slice_set heap o.0 y) places holds
+sparing_set outer heap items o x y found same f =
+    respare (sparing heap items) (sparing (slice_set heap o.0 y) items) (λ k c n e. sparing_stays heap items o x y found same k) f
 
-pub going_left : {types : List TypeForm} {variables : List VariableForm} {outer : Outsiders} {heap : List Object} {places : List Value} {holds : Holds} → Fit types variables outer (going heap []) heap places holds → Fit types variables outer none_spared heap places holds
-going_left {outer = outer} {heap = heap} f = respare (going heap []) none_spared (λ o c k e. lies_nowhere (object_at heap o)) f
+pub sparing_shorter : {types : List TypeForm} {variables : List VariableForm} {outer : Outsiders} {heap : List Object} {places : List Value} {holds : Holds} (item : Item) (items : List Item) → ((o : Id) (x : Object) → object_at heap o ≡ Some x → is_there x.stage ≡ true → x.cell.home.item ≡ item.number → ⊥) → Fit types variables outer (sparing heap (item ∷ items)) heap places holds → Fit types variables outer (sparing heap items) heap places holds
+sparing_shorter {types} {variables} {outer} {heap} {places} {holds} item items none f = by (is_declared_object item.owned) (objects_left items) refl refl
+  where
+    by : (here later : Bool) → is_declared_object item.owned ≡ here → objects_left items ≡ later → Fit types variables outer (sparing heap items) heap places holds
+    by true later here rest = spare_fit (sparing heap items) (respare (sparing heap (item ∷ items)) none_spared (λ o c k e. rw here refl) f)
+    by false true here rest = respare (sparing heap (item ∷ items)) (sparing heap items) (λ o c k e. rw (here, rest) refl) f
+    by false false here rest = respare (sparing heap (item ∷ items)) (sparing heap items) (λ o c k e. rw (here, rest) (shorter_stays item items (object_at heap o) c k (none o) e)) f
+
+pub sparing_left : {types : List TypeForm} {variables : List VariableForm} {outer : Outsiders} {heap : List Object} {places : List Value} {holds : Holds} → Fit types variables outer (sparing heap []) heap places holds → Fit types variables outer none_spared heap places holds
+sparing_left {outer = outer} {heap = heap} f = respare (sparing heap []) none_spared (λ o c k e. lies_nowhere (object_at heap o)) f
+
+-- What no place is relied on to name is so still, where homes stay as they are.
+pub sparing_unnamed : (outer : Outsiders) (heap : List Object) (items : List Item) (o : Id) (x y : Object) → object_at heap o ≡ Some x → y.cell.home ≡ x.cell.home → (places : List Value) (holds : Holds) (p : Id) → IsUnnamed (slice_set heap o.0 y) (stacked places outer) (hold_in outer (sparing heap items) holds) p → IsUnnamed (slice_set heap o.0 y) (stacked places outer) (hold_in outer (sparing (slice_set heap o.0 y) items) holds) p
+sparing_unnamed outer heap items o x y found same places holds p none = record {
+  unowned = λ q own e. none.unowned q (rw (one q) at own) e;
+  unborrowed = λ q b e. none.unborrowed q (rw (one q) at b) e;
+}
+  where
+    one : (q : Place) → hold_in outer (sparing (slice_set heap o.0 y) items) holds q ≡ hold_in outer (sparing heap items) holds q
+    one (variable z) = refl
+    one (component k c) = ap component_hold (sparing_stays heap items o x y found same k)
+    one (elsewhere d z) = refl
+
+-- So it is where less is relied on: what was called null names nothing.
+module _ (heap : List Object) (kind : Option ℕ) (o : Id) where
+  less_owns : (g h : Hold) → is_as_good g h ≡ true → Says (access_at heap) g kind o → Owns h → Owns g
+  less_owns hold.Null h good says own = absurd says
+  less_owns (hold.Kept r) h good says own = tt
+  less_owns (hold.Own r) h good says own = tt
+  less_owns (hold.Alias r) (hold.Kept q) good says own = absurd (cc good)
+  less_owns (hold.Alias r) (hold.Own q) good says own = absurd (cc good)
+  less_owns (hold.Alias r) hold.Null good says own = absurd own
+  less_owns (hold.Alias r) (hold.Alias q) good says own = absurd own
+  less_owns (hold.Alias r) hold.Lost good says own = absurd own
+  less_owns hold.Lost (hold.Kept q) good says own = absurd (cc good)
+  less_owns hold.Lost (hold.Own q) good says own = absurd (cc good)
+  less_owns hold.Lost hold.Null good says own = absurd own
+  less_owns hold.Lost (hold.Alias q) good says own = absurd own
+  less_owns hold.Lost hold.Lost good says own = absurd own
+
+  less_borrows : (g h : Hold) → is_as_good g h ≡ true → Says (access_at heap) g kind o → Borrows h → Borrows g
+  less_borrows hold.Null h good says b = absurd says
+  less_borrows (hold.Alias r) h good says b = tt
+  less_borrows (hold.Kept r) hold.Null good says b = absurd b
+  less_borrows (hold.Kept r) (hold.Kept q) good says b = absurd b
+  less_borrows (hold.Kept r) (hold.Own q) good says b = absurd b
+  less_borrows (hold.Kept r) (hold.Alias q) good says b = absurd (cc good)
+  less_borrows (hold.Kept r) hold.Lost good says b = absurd b
+  less_borrows (hold.Own r) hold.Null good says b = absurd b
+  less_borrows (hold.Own r) (hold.Kept q) good says b = absurd b
+  less_borrows (hold.Own r) (hold.Own q) good says b = absurd b
+  less_borrows (hold.Own r) (hold.Alias q) good says b = absurd (cc good)
+  less_borrows (hold.Own r) hold.Lost good says b = absurd b
+  less_borrows hold.Lost hold.Null good says b = absurd b
+  less_borrows hold.Lost (hold.Kept q) good says b = absurd b
+  less_borrows hold.Lost (hold.Own q) good says b = absurd b
+  less_borrows hold.Lost (hold.Alias q) good says b = absurd (cc good)
+  less_borrows hold.Lost hold.Lost good says b = absurd b
+
+pub less_unnamed : {types : List TypeForm} {variables : List VariableForm} {outer : Outsiders} {spared : Id → Bool} {heap : List Object} {places : List Value} {holds : Holds} (less : Holds) → ((x : ℕ) → is_as_good (hold_at holds x) (hold_at less x) ≡ true) → (o : Id) → Fit types variables outer spared heap places holds → IsUnnamed heap (stacked places outer) (hold_in outer spared holds) o → IsUnnamed heap (stacked places outer) (hold_in outer spared less) o
+less_unnamed {types = types} {variables = variables} {outer = outer} {spared = spared} {heap = heap} {holds = holds} less good o f none = record {
+  unowned = λ q own e. none.unowned q (less_owns heap (kind_of (kinds_of types variables outer) (access_at heap) q) o (hold_in outer spared holds q) (hold_in outer spared less q) (weaker_holds outer spared holds less good q) (f.owners.fit.relied q o e) own) e;
+  unborrowed = λ q b e. none.unborrowed q (less_borrows heap (kind_of (kinds_of types variables outer) (access_at heap) q) o (hold_in outer spared holds q) (hold_in outer spared less q) (weaker_holds outer spared holds less good q) (f.owners.fit.relied q o e) b) e;
+}
+
+-- So it is where an object changes that looks the same, and where a component gets a value that names nothing.
+module _ (heap : List Object) (o : Id) (x : Object) (found : object_at heap o ≡ Some x) {activations : List (Activation Value)} {hold : Place → Hold} (p : Id) (none : IsUnnamed heap activations hold p) where
+  pub same_unnamed : (y : Object) → access_in (Some y) ≡ access_in (Some x) → ((c : ℕ) → component_in (Some y) c ≡ component_in (Some x) c) → IsUnnamed (slice_set heap o.0 y) activations hold p
+  same_unnamed y access components = record {
+    unowned = λ q own e. none.unowned q own (sym (changes.values_set heap o x found y access components activations q) ∙ e);
+    unborrowed = λ q b e. none.unborrowed q b (sym (changes.values_set heap o x found y access components activations q) ∙ e);
+  }
+
+  pub wrote_unnamed : (c : ℕ) (v : Value) → ((k : Id) → v ≡ Names k → ⊥) → IsUnnamed (slice_set heap o.0 (filled c v x)) activations hold p
+  wrote_unnamed c v nameless = rw (store_is heap o x found c v) at stored
+    where
+      before : (q : Place) → (q ≡ component o c) ⊎ (q ≢ component o c) → value_at (store heap (Names o) c v) activations q ≡ Names p → value_at heap activations q ≡ Names p
+      before q (inl e) names = absurd (nameless p (changes.store_value heap o x found c v activations p (rw e at names)))
+      before q (inr ne) names = sym (changes.store_reads heap o x found c v activations q ne) ∙ names
+
+      stored : IsUnnamed (store heap (Names o) c v) activations hold p
+      stored = record {
+        unowned = λ q own e. none.unowned q own (before q (same_place q (component o c)) e);
+        unborrowed = λ q b e. none.unborrowed q b (before q (same_place q (component o c)) e);
+      }
+
+-- Where an object is gone, what it was does not matter.
+pub gone_fit : {types : List TypeForm} {variables : List VariableForm} {outer : Outsiders} {spared : Id → Bool} {places : List Value} {holds : Holds} (heap : List Object) (o : Id) (x y : Object) → object_at heap o ≡ Some x → Fit types variables outer spared (slice_set heap o.0 (finished x)) places holds → Fit types variables outer spared (slice_set heap o.0 (finished y)) places holds
+gone_fit {types} {variables} {outer} {spared} {places} {holds} heap o x y found f =
+    let still = at_here heap o x found (finished x) in
+    let again = set_twice heap o.0 (finished x) (finished y) in
+    let later : Fit types variables outer spared (slice_set (slice_set heap o.0 (finished x)) o.0 (finished y)) places holds = record {
+      owners = changes.looks_same (slice_set heap o.0 (finished x)) o (finished x) still (finished y) refl (λ c. refl) f.owners;
+      said = f.said;
+      objects = f.objects;
+      referred = λ k t is. same_access (slice_set heap o.0 (finished x)) o (finished x) (finished y) still refl k ∙ f.referred k t is;
+    } in
+    rw again at later
 
 -- Nothing is outside of the main body.
 abbrev pub no_outsiders : Outsiders
-no_outsiders = record { given = []; suspended = []; referenced = [] }
+no_outsiders = record { given = []; suspended = []; referenced = []; under = [] }
 
 -- Before anything is allocated, all variables are lost.
 pub first_fit : (types : List TypeForm) (variables : List VariableForm) (places : List Value) (holds : Holds) → ((x : ℕ) → hold_at holds x ≡ hold.Lost) → Fit types variables no_outsiders none_spared [] places holds

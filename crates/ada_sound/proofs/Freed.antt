@@ -15,7 +15,7 @@ use Rattle.ada_flow.specs.declared.rule.Hold.TheVariants as hold
 use Rattle.ada_flow.specs.declared.rule.Region.{Region}
 use Rattle.ada_flow.specs.declared.rule.Rule.{Rule}
 use Rattle.ada_flow.specs.declared.rule.Rule.TheVariants.{LostValue}
-use Rattle.ada_flow.specs.Flow.{Holds, hold_at, faults, goes, raising_if, ends_with, Breach, unless_broken, variable_access, without_alias, freed_behind, Outcome, passes_type, passes_own, passes_reached, released_behind, without_aliases, without_freed, is_freed, behind_end, freed, released, frees_path, finalizes}
+use Rattle.ada_flow.specs.Flow.{Holds, hold_at, faults, goes, raising_if, ends_with, Breach, unless_broken, variable_access, without_alias, freed_behind, Outcome, passes_type, passes_own, passes_reached, formal_reached, way_reached, released_behind, without_aliases, without_freed, is_freed, behind_end, freed, released, frees_path, finalizes}
 use Rattle.ada_sound.specs.Agreement.{IsOwner}
 use Rattle.ada_sound.specs.Owners.{OwnsNothing, RaisedFreeLeavesNoAlias, FreedLiesOffItsWay, LostIsNotFreedBehind, OnlyOwnersAreFreed, FreedOwnsNothing, FreeLeavesNoAlias}
 use Rattle.ada_sound.proofs.Values.{read_same, read_other, same_or_not}
@@ -61,17 +61,17 @@ raised_is false holds raised e = absurd (cc e)
 
 -- Free (P.C) comes to its end, and raises, with aliases of its access type lost; and the rules do not refuse it.
 record Behind (types : List TypeForm) (variables : List VariableForm) (implicit : Implicit) (path : PathForm) (holds : Holds) (access : Option ℕ) (normal raising : Option Holds) : Type 0 where
-  kept : freed_behind (passes_own types variables path access || passes_reached types variables implicit path access) (hold_at holds path.root) path.spot ≡ None
+  kept : freed_behind (way_reached types variables implicit path (hold_at holds path.root) access) (hold_at holds path.root) path.spot ≡ None
   normal_is : normal ≡ Some (behind_end variables access holds)
   raising_is : (raised : Holds) → raising ≡ Some raised → raised ≡ behind_end variables access holds
 
 behind_goes : (types : List TypeForm) (variables : List VariableForm) (implicit : Implicit) (path : PathForm) (holds : Holds) (access : Option ℕ) (normal raising : Option Holds) → released_behind types variables implicit path holds access ≡ goes normal raising → Behind types variables implicit path holds access normal raising
-behind_goes types variables implicit path holds access normal raising e = go (freed_behind (passes_own types variables path access || passes_reached types variables implicit path access) (hold_at holds path.root) path.spot) refl e
+behind_goes types variables implicit path holds access normal raising e = go (freed_behind (way_reached types variables implicit path (hold_at holds path.root) access) (hold_at holds path.root) path.spot) refl e
   where
     after : Holds
     after = behind_end variables access holds
 
-    go : (b : Option Breach) → freed_behind (passes_own types variables path access || passes_reached types variables implicit path access) (hold_at holds path.root) path.spot ≡ b → unless_broken b (ends_with (path_raises path) after after) ≡ goes normal raising → Behind types variables implicit path holds access normal raising
+    go : (b : Option Breach) → freed_behind (way_reached types variables implicit path (hold_at holds path.root) access) (hold_at holds path.root) path.spot ≡ b → unless_broken b (ends_with (path_raises path) after after) ≡ goes normal raising → Behind types variables implicit path holds access normal raising
     go None is e' = record { kept = is; normal_is = cc e'; raising_is = λ raised at. raised_is (path_raises path) after raised (let same : raising_if (path_raises path) after ≡ raising = cc e' in same ∙ at) }
     go (Some breach) is e' = absurd (cc e')
 
@@ -223,7 +223,9 @@ component_kept types variables implicit (c ∷ cs) t path holds normal raising s
     let b = behind_goes types variables implicit path holds (Some t) normal raising (rw own at e) in
     let own_way = passes_own types variables path (Some t) in
     let reached = passes_reached types variables implicit path (Some t) in
-    (neither own_way reached (passes_none (own_way || reached) (hold_at holds path.root) path.spot b.kept)).0
+    let formal = formal_reached types variables implicit path (hold_at holds path.root) (Some t) in
+    let safe = passes_none (way_reached types variables implicit path (hold_at holds path.root) (Some t)) (hold_at holds path.root) path.spot b.kept in
+    (neither own_way reached (neither (own_way || reached) formal safe).0).0
 
 pub freed_lies_off_its_way : FreedLiesOffItsWay
 freed_lies_off_its_way types variables access t c path before behind holds kept own is =
@@ -241,7 +243,7 @@ lost_behind_is false spot = refl
 lost_is_fault : (types : List TypeForm) (variables : List VariableForm) (implicit : Implicit) (cs : List ℕ) (path : PathForm) (holds : Holds) → hold_at holds path.root ≡ hold.Lost → frees_path types variables implicit cs path holds ≡ faults path.spot LostValue
 lost_is_fault types variables implicit [] path holds lost = rw lost refl
 lost_is_fault types variables implicit (c ∷ cs) path holds lost =
-    rw (lost, lost_behind_is (passes_own types variables path (path_access types variables path) || passes_reached types variables implicit path (path_access types variables path)) path.spot) refl
+    rw (lost, lost_behind_is (way_reached types variables implicit path hold.Lost (path_access types variables path)) path.spot) refl
 
 finalizes_fault : (variables : List VariableForm) (implicit : Implicit) (access : Option ℕ) (spot : Spot) (rule : Rule) → finalizes variables implicit access (faults spot rule) ≡ faults spot rule
 finalizes_fault variables implicit None spot rule = refl

@@ -19,9 +19,9 @@ use Rattle.ada_meaning.specs.Event.{Quiet}
 use Rattle.ada_meaning.specs.State.{Activation, home_of, pool_freed_to}
 use Rattle.ada_meaning.specs.Step.{all_tasks, free_next}
 use Rattle.ada_meaning.specs.Named.{State, named, parted}
-use Rattle.ada_sound.proofs.Fits.{NoOuterAlias, is_object, IsOwn, IsSaid, place_at, weaker_fit, null_fit, behind_fit, freed_unnamed, part_fit}
+use Rattle.ada_sound.proofs.Fits.{NoOuterAlias, is_object, IsOwn, IsSaid, place_at, weaker_fit, null_fit, behind_fit, freed_unnamed, less_unnamed, same_unnamed, part_fit}
 use Rattle.ada_sound.proofs.Objects.{set_here}
-use Rattle.ada_sound.proofs.Homes.{HaveHomes, same_one, freed_home}
+use Rattle.ada_sound.proofs.Homes.{HaveHomes, same_one, stands_there, freed_home}
 use Rattle.ada_sound.proofs.Stored.{stored_part}
 use Rattle.ada_sound.proofs.Alters.{alters_set}
 use Rattle.ada_sound.proofs.Taken.{root_access}
@@ -36,7 +36,7 @@ own_kept (hold.Own r) spot own = refl
 own_kept (hold.Alias r) spot own = absurd own
 own_kept hold.Lost spot own = absurd own
 
-module _ (known : Known) (a : Activation Value) (rest : List (Activation Value)) (s : State) (types : List TypeDefinition) (access x : ℕ) (none : is_object known.program.variables x ≡ false) (spot : Spot) (fs : StmtsForm) (k : Control) (raised : Rooms → Holds → Type 0) (homes : HaveHomes known.program.types s.heap s.masters) (own_type : ℕ) (by_own : own_type ≡ access) (of_type : variable_access known.program.variables x ≡ Some own_type) (is_type : is_access known.program.types own_type ≡ true) (spares : NoOuterAlias known.program.types (outers known) own_type × CoveredIn known.implicit known.program own_type) (w : Working known s.heap a.places s.masters (λ rooms holds. Goes (released known.program.variables x spot holds (hold_at holds x)) (To (RunsOn known (Does fs ∷ k) rooms)) (raised rooms))) where
+module _ (known : Known) (a : Activation Value) (rest : List (Activation Value)) (s : State) (types : List TypeDefinition) (access x : ℕ) (none : is_object known.program.variables x ≡ false) (spot : Spot) (fs : StmtsForm) (k : Control) (raised : Rooms → Holds → Type 0) (homes : HaveHomes known.program.types (outers known).under s.heap s.masters) (own_type : ℕ) (by_own : own_type ≡ access) (of_type : variable_access known.program.variables x ≡ Some own_type) (is_type : is_access known.program.types own_type ≡ true) (spares : NoOuterAlias known.program.types (outers known) own_type × CoveredIn known.implicit known.program own_type) (w : Working known s.heap a.places s.masters (λ rooms holds. Goes (released known.program.variables x spot holds (hold_at holds x)) (To (RunsOn known (Does fs ∷ k) rooms)) (raised rooms))) where
   -- X is null: nothing happens.
   free_null : place_at a.places x ≡ Null → To (RunsOn known (Does fs ∷ k) w.rooms) (freed known.program.variables x w.holds) → Stepped known s.heap Quiet (running (Does fs ∷ k) a rest s)
   free_null is more = runs_on known (Does fs ∷ k) a rest s (record { rooms = w.rooms; holds = more.0; stored = w.stored; roomed = w.roomed; fit = weaker_fit more.0 more.1 (null_fit x none is (behind_fit (variable_access known.program.variables x) w.fit)); rest = more.2 }) Quiet tt
@@ -48,7 +48,7 @@ module _ (known : Known) (a : Activation Value) (rest : List (Activation Value))
       let after = freed_unnamed x o (λ t same. (let one : own_type ≡ t = cc (of_type, same) in rw (← one) (is_type, spares.0))) none own is w.fit in
       let there = after.2 in
       let found = there.1 in
-      let exists = (w.stored.sane o there.0 found).listed_exists there.2 in
+      let exists = (w.stored.sane o there.0 found).there_exists there.2 in
       let of_own = root_access w.fit x spot o there.0 (own_kept (hold_at w.holds x) spot own) is found in
       let one : own_type ≡ there.0.cell.access = cc (of_type, of_own) in
       let home = freed_home access o there.0 homes w.stored found exists (rw (← one) is_type) (sym one ∙ by_own) in
@@ -58,7 +58,7 @@ module _ (known : Known) (a : Activation Value) (rest : List (Activation Value))
         exists = exists;
         parted = refl;
         stored = stored_part o there.0 found w.stored;
-        covered = subst (λ (u : ℕ). CoveredIn known.implicit known.program u) one spares.1;
+        covered = (subst (λ (u : ℕ). CoveredIn known.implicit known.program u) one spares.1, rw (← one) is_type);
         rest = (
           refl,
           home,
@@ -66,12 +66,14 @@ module _ (known : Known) (a : Activation Value) (rest : List (Activation Value))
             rooms = w.rooms;
             holds = more.0;
             roomed = w.roomed;
-            fit = weaker_fit more.0 more.1 (part_fit o there.0 found after.1 after.3 after.0);
+            fit = weaker_fit more.0 more.1 (part_fit o there.0 found after.0);
+            aside = (less_unnamed more.0 more.1 o (part_fit o there.0 found after.0) (same_unnamed s.heap o there.0 found o after.1 (parted there.0) refl (λ c. refl)), after.3);
             rest = more.2;
           },
         );
       } in
-      rw (found, there.2, homes.stand o there.0 found there.2) (rw (same_one (Some (pool_freed_to (home_of access s.masters))) there.0.cell.home.pool home) (rw found (record {
+      let stands = stands_there o there.0 homes w.stored found there.2 (rw (← one) is_type) in
+      rw (found, stands.0, stands.1) (rw (same_one (Some (pool_freed_to (home_of access s.masters))) there.0.cell.home.pool home) (rw found (record {
         ready = (
           tt,
           treats_ready known (Names o) (ends (Freeing s.next)) (all_tasks types there.0.cell.access WholeFirst) (Ends (Names o) ∷ GivesBack (Names o) (Freeing s.next) (Some (pool_freed_to (home_of access s.masters))) ∷ Clears x ∷ Does fs ∷ k) (slice_set s.heap o.0 (parted there.0)) a.places a.operands s.masters (inl (refl, under)),

@@ -1,6 +1,6 @@
 -- A Free gives words back home: the collection that an access type denotes is the home of each object of it, since it has no other one.
 
-use Rattle.std.proofs.Common.{◌≡◌, ◌≢◌, ℕ, zero, suc, Bool, true, false, List, [], ◌∷◌, ◌++◌, refl, sym, ap, ◌∙◌, inl, inr, arith}
+use Rattle.std.proofs.Common.{◌≡◌, ◌≢◌, ℕ, zero, suc, Bool, true, false, List, [], ◌∷◌, ◌++◌, refl, sym, ap, ◌∙◌, inl, inr, arith, ◌⊎◌}
 use Rattle.std.specs.Prelude.{Option, Some, None, ◌==◌, if◌then◌else◌}
 use Rattle.std.specs.List.{AllPairs, Contains}
 use Rattle.std.proofs.lemmas.Bool.{eqb-true, eq-eqb}
@@ -10,12 +10,13 @@ use Rattle.ada_meaning.specs.declared.state.Id.{Id}
 use Rattle.ada_meaning.specs.declared.state.Stage.TheVariants.{Existing}
 use Rattle.ada_meaning.specs.State.{Owned, declared, collection, record_object, storage_pool, Item, Master, Destination, destination, collection_in, home_among, home_of, pool_freed_to}
 use Rattle.ada_meaning.specs.Step.{same_pool}
-use Rattle.ada_meaning.specs.Named.{Object, object_at}
+use Rattle.ada_meaning.specs.Named.{all_alive, Object, object_at}
 use Rattle.ada_meaning.specs.Law.{Differ, items_of}
 use Rattle.ada_scopes.specs.Scopes.{type_collected, CollectTwoTypes}
 use Rattle.ada_sound.proofs.Items.{Houses, HasItem}
 use Rattle.ada_sound.proofs.Standing.{AllStand}
-use Rattle.ada_sound.proofs.Stored.{Stored, exists_out}
+use Rattle.ada_sound.proofs.Stored.{IsUnder, Stored, exists_out}
+use Rattle.ada_owners.specs.Places.{is_there}
 
 -- The newest collection of an access type among all items.
 home_append : (access : ℕ) (is js : List Item) (outer : Option Destination) → home_among access (is ++ js) outer ≡ home_among access is (home_among access js outer)
@@ -79,15 +80,31 @@ same_one (Some n) (Some m) e = eq-eqb n m (cc e)
 abbrev pub Pooled : List TypeForm → List Object → Type 0
 Pooled types heap = (o : Id) (object : Object) → object_at heap o ≡ Some object → is_access types object.cell.access ≡ true → (pool : ℕ) × (object.cell.home.pool ≡ Some pool)
 
+-- An object that is under way is of no access type.
+abbrev pub NoneIsUnder : List TypeForm → (under : List Id) → List Object → Type 0
+NoneIsUnder types under heap = (o : Id) (x : Object) → IsUnder under o → object_at heap o ≡ Some x → is_access types x.cell.access ≡ false
+
 -- Objects of access types are from pools, and no access type has two open collections; and those that are in their collections have the values of all
--- their parts.
-pub record HaveHomes (types : List TypeForm) (heap : List Object) (masters : List Master) : Type 0 where
+-- their parts. None is under way.
+pub record HaveHomes (types : List TypeForm) (under : List Id) (heap : List Object) (masters : List Master) : Type 0 where
   pub pooled : Pooled types heap
   pub lone : AllPairs CollectTwoTypes (items_of masters)
-  pub stand : AllStand heap
+  pub stand : AllStand types heap
+  pub aside : NoneIsUnder types under heap
+
+-- So one that is there is in its collection, and has the values of all its parts.
+pub stands_there : {types : List TypeForm} {under : List Id} {heap : List Object} {masters : List Master} (o : Id) (x : Object) → HaveHomes types under heap masters → Stored under heap masters → object_at heap o ≡ Some x → is_there x.stage ≡ true → is_access types x.cell.access ≡ true → (x.listed ≡ true) × (all_alive x.cell.parts ≡ true)
+stands_there {under = under} o x homes stored found there is =
+    let exists = (stored.sane o x found).there_exists there in
+    let listed = by ((stored.sane o x found).out_listed (exists_out o x found exists stored)) in
+    (listed, homes.stand o x found listed is)
+  where
+    by : (x.listed ≡ true) ⊎ IsUnder under o → x.listed ≡ true
+    by (inl listed) = listed
+    by (inr one) = let other = homes.aside o x one found in absurd (cc (is, other))
 
 -- What is freed by the instance for its own access type goes back to its own pool.
-pub freed_home : {types : List TypeForm} {heap : List Object} {masters : List Master} (access : ℕ) (o : Id) (x : Object) → HaveHomes types heap masters → Stored None heap masters → object_at heap o ≡ Some x → x.stage ≡ Existing → is_access types x.cell.access ≡ true → x.cell.access ≡ access → Some (pool_freed_to (home_of access masters)) ≡ x.cell.home.pool
+pub freed_home : {under : List Id} {types : List TypeForm} {heap : List Object} {masters : List Master} (access : ℕ) (o : Id) (x : Object) → HaveHomes types under heap masters → Stored under heap masters → object_at heap o ≡ Some x → x.stage ≡ Existing → is_access types x.cell.access ≡ true → x.cell.access ≡ access → Some (pool_freed_to (home_of access masters)) ≡ x.cell.home.pool
 freed_home {masters = masters} access o x homes stored found exists is own =
     let from = homes.pooled o x found is in
     let housed : HasItem x.cell.home.item access (Some from.0) (items_of masters) = rw (own, from.1) at ((stored.sane o x found).housed (exists_out o x found exists stored)) in

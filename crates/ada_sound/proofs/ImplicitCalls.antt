@@ -1,21 +1,30 @@
 -- What the rules say of operations of controlled types, which are called implicitly: which aliases are lost, and which paths are spared.
 
-use Rattle.std.proofs.Common.{◌≡◌, ◌≢◌, ℕ, zero, suc, Bool, true, false, ◌||◌, List, [], ◌∷◌, ◌++◌, refl, sym, ap, ◌∙◌, ◌⊎◌, inl, inr}
+use Rattle.std.proofs.Common.{◌≡◌, ◌≢◌, ℕ, zero, suc, ◌<◌, Bool, true, false, ◌&&◌, ◌||◌, List, [], ◌∷◌, ◌++◌, length, refl, sym, ap, ◌∙◌, ◌⊎◌, inl, inr, arith}
 use Rattle.std.specs.Prelude.{Option, Some, None, not, if◌then◌else◌}
 use Rattle.std.specs.List.{slice_get, slice_set}
+use Rattle.std.proofs.lemmas.Bool.{or_left, or_cases, and_parts, eqb-true}
 use Rattle.ada_text.specs.declared.spot.Spot.{Spot}
+use Rattle.ada_program.specs.declared.program.FormalMode.{FormalMode}
+use Rattle.ada_program.specs.declared.program.FormalMode.TheVariants.{In, InOut}
+use Rattle.ada_program.specs.declared.program.TypeNo.{TypeNo}
 use Rattle.ada_program.specs.declared.program.VariableKind.{VariableKind}
+use Rattle.ada_program.specs.declared.program.VariableKind.TheVariants as variable_kinds
 use Rattle.ada_program.specs.Form.{PathForm, RecordPathForm, ItemForm, item_of_record, allocates_default, DeclarationForm, creates_pool, collects, declares, declares_record}
 use Rattle.ada_program.specs.ProgramForm.{TypeForm, VariableForm}
-use Rattle.ada_program.specs.WellFormed.{access_of, variable_kind, selected_kind, path_access}
-use Rattle.ada_effects.specs.Effects.{Implicit, record_path_raises, items_raise, initial_frees, assignment_frees, endings_free}
+use Rattle.ada_program.specs.WellFormed.{access_of, designated_type, is_record, is_this, object_in, variable_kind, selected_kind, path_access}
+use Rattle.ada_effects.specs.Effects.{Implicit, path_raises, record_path_raises, items_raise, initial_raises, initial_starts, initial_frees, assignment_frees, endings_free}
 use Rattle.ada_flow.specs.declared.rule.Hold.{Hold}
 use Rattle.ada_flow.specs.declared.rule.Hold.TheVariants as hold
 use Rattle.ada_flow.specs.declared.rule.Region.{Region}
+use Rattle.ada_flow.specs.declared.rule.Region.TheVariants.{Whole}
 use Rattle.ada_flow.specs.declared.rule.Rule.TheVariants.{LoopState}
-use Rattle.ada_flow.specs.Flow.{Holds, Outcome, faults, goes, hold_at, is_freed, is_among, if_own, without_alias, without_freed, without_types, without_variables, Gone, gone_with, collected, left, left_option, leaves_block, leaves_finalized, loses, declared_at, gives, gives_path, frees_path, waits_for, uses_in_record, uses_in_copy, uses_in_assignment, passes_it, passes_freed, component_passes, record_passes, passes_own, passes_reached, freed_behind, using_paths, ends_with, unless_broken, is_as_good, are_as_good, unless_worse, exit_of}
+use Rattle.ada_flow.specs.Flow.{Holds, Outcome, faults, goes, hold_at, is_freed, is_among, if_own, without_alias, without_freed, without_types, without_variables, Gone, gone_with, collected, left, left_option, leaves_block, leaves_finalized, loses, declared_at, gives, gives_path, frees_path, waits_for, uses_in_record, uses_in_copy, uses_in_assignment, passes_it, passes_freed, component_passes, record_passes, passes_own, passes_reached, formal_record, formal_reached, way_reached, freed_behind, using_paths, ends_with, unless_broken, is_as_good, are_as_good, unless_worse, exit_of, reaches_part, formal_hold, uses_in_initial, passes_type, object_record, stays_inside, finalizes, released_behind, behind_end, without_freed_option, raising_if, Breach}
+use Rattle.ada_flow.specs.Aliases.{is_alias}
+use Rattle.ada_flow.specs.Parts.{has_part, has_part_within}
+use Rattle.ada_flow.proofs.Parts.{depths_are_enough, designate_is, designate_from}
 use Rattle.ada_sound.specs.Callees.{IsFollowed, FollowsTo}
-use Rattle.ada_sound.specs.ImplicitCalls.{HaveNoAlias, LeavesNoAlias, FinalizedFreeLeavesNoAlias, MayFreeAtEnd, EndedBlockLeavesNoAlias, ExitsLeaveNoAlias, DeclaredRecordLeavesNoAlias, DeclaredObjectLeavesNoAlias, StartsSpareTheTarget, AssignmentsSpareTheTarget, AssignmentsSpareTheSource, FreesSpareTheWay}
+use Rattle.ada_sound.specs.ImplicitCalls.{HaveNoAlias, LeavesNoAlias, FinalizedFreeLeavesNoAlias, MayFreeAtEnd, EndedBlockLeavesNoAlias, ExitsLeaveNoAlias, DeclaredRecordLeavesNoAlias, DeclaredObjectLeavesNoAlias, StartsSpareTheTarget, AssignmentsSpareTheTarget, AssignmentsSpareTheSource, FreesSpareTheWay, LiesInFormal, FreesSpareTheFormal, SafeFreesAreLetThrough, FormalsAreAnothers, DeclaredRecordsAreTheirOwn}
 use Rattle.ada_sound.proofs.Invariant.{NoneBroken}
 use Rattle.ada_sound.proofs.Followings.{first_kept, kept_apart}
 use Rattle.ada_sound.proofs.Handings.{passed_safe}
@@ -243,11 +252,199 @@ frees types variables implicit [] path holds u t normal raising own e is here fo
 frees types variables implicit (c ∷ cs) path holds u t normal raising own e is here followed =
     let own_way = passes_own types variables path (Some u) in
     let reached = passes_reached types variables implicit path (Some u) in
-    freed_safe (own_way || reached) (hold_at holds path.root) path.spot _ normal raising (rw own at e)
-    (or_more own_way reached (passes types (implicit.end_reaches u) (variable_kind variables path.root) path.selectors t is followed))
+    let formal = formal_reached types variables implicit path (hold_at holds path.root) (Some u) in
+    freed_safe (way_reached types variables implicit path (hold_at holds path.root) (Some u)) (hold_at holds path.root) path.spot _ normal raising (rw own at e)
+    (or_left (own_way || reached) formal
+    (or_more own_way reached (passes types (implicit.end_reaches u) (variable_kind variables path.root) path.selectors t is followed)))
 
 pub frees_spare_the_way : FreesSpareTheWay
 frees_spare_the_way types variables around cleared access u t path holds normal raising e own is followed =
     let implicit = around.effects.implicit in
     let through = loses_through variables (implicit.end_frees u) (frees_path types variables implicit path.selectors path holds) normal raising (rw own at e) in
     frees types variables implicit path.selectors path holds u t through.0 through.1 own through.2 is followed followed
+
+-- A component of a record parameter's own is freed only where the finalization reaches no object in which the parameter may lie.
+
+frees_formal : (types : List TypeForm) (variables : List VariableForm) (implicit : Implicit) (cs : List ℕ) (path : PathForm) (holds : Holds) (u t r whole : ℕ) (normal raising : Option Holds) → cs ≡ path.selectors → path_access types variables path ≡ Some u → frees_path types variables implicit cs path holds ≡ goes normal raising → LiesInFormal types variables path holds r → implicit.end_reaches u t ≡ true → designated_type types t ≡ Some whole → has_part types r whole ≡ true → ⊥
+frees_formal types variables implicit [] path holds u t r whole normal raising same own e lies is at has =
+    let (object, kind, of_type, held, (c, stays)) = lies in
+    cc (same, stays)
+frees_formal types variables implicit (d ∷ ds) path holds u t r whole normal raising same own e lies is at has =
+    let (object, kind, of_type, (region, held), (c, stays)) = lies in
+    let own_way = passes_own types variables path (Some u) in
+    let reached = passes_reached types variables implicit path (Some u) in
+    let here : formal_record types variables path (hold_at holds path.root) ≡ Some r = rw (held, stays, kind) of_type in
+    let formal : formal_reached types variables implicit path (hold_at holds path.root) (Some u) ≡ true =
+    ap (reaches_part types implicit u) here ∙ designate_from types (implicit.end_reaches u) r t whole is at has in
+    freed_safe (way_reached types variables implicit path (hold_at holds path.root) (Some u)) (hold_at holds path.root) path.spot _ normal raising (rw own at e)
+    (or_more (own_way || reached) (formal_reached types variables implicit path (hold_at holds path.root) (Some u)) formal)
+
+pub frees_spare_the_formal : FreesSpareTheFormal
+frees_spare_the_formal types variables around cleared access u t r whole path holds normal raising e own lies is_record is at has =
+    let implicit = around.effects.implicit in
+    let through = loses_through variables (implicit.end_frees u) (frees_path types variables implicit path.selectors path holds) normal raising (rw own at e) in
+    frees_formal types variables implicit path.selectors path holds u t r whole through.0 through.1 refl own through.2 lies is at
+    ((depths_are_enough types r whole is_record).1 has)
+
+-- The record parameters of a body are another's where it begins.
+
+record_formal : (m : FormalMode) (object : TypeNo) → formal_hold m (variable_kinds.Record object) ≡ hold.Alias Whole
+record_formal In object = refl
+record_formal InOut object = refl
+
+pub formals_are_anothers : FormalsAreAnothers
+formals_are_anothers modes [] x object kind = absurd (cc kind)
+formals_are_anothers [] (v ∷ vs) zero object kind = ((λ lt. absurd (omega (arith, lt))), (λ le. refl))
+formals_are_anothers [] (v ∷ vs) (suc x) object kind =
+    let others = formals_are_anothers [] vs x object kind in
+    ((λ lt. absurd (omega (arith, lt))), (λ le. others.1 (omega arith)))
+formals_are_anothers (m ∷ ms) (v ∷ vs) zero object kind =
+    let same : v.kind ≡ variable_kinds.Record object = cc kind in
+    ((λ lt. ap (formal_hold m) same ∙ record_formal m object), (λ le. absurd (omega (arith, le))))
+formals_are_anothers (m ∷ ms) (v ∷ vs) (suc x) object kind =
+    let others = formals_are_anothers ms vs x object kind in
+    ((λ lt. others.0 (omega (arith, lt))), (λ le. others.1 (omega (arith, le))))
+
+-- A record object is its own where it is declared.
+
+own_kept : (b : Bool) → without_alias b (hold.Own Whole) ≡ hold.Own Whole
+own_kept false = refl
+own_kept true = refl
+
+own_there : (variables : List VariableForm) (may : ℕ → Bool) (holds : Holds) (x : ℕ) → x < length holds → x < length variables → hold_at (without_freed variables may (slice_set holds x (hold.Own Whole))) x ≡ hold.Own Whole
+own_there [] may holds x lt inside = absurd (omega (arith, inside))
+own_there (v ∷ vs) may [] x lt inside = absurd (omega (arith, lt))
+own_there (v ∷ vs) may (h ∷ hs) zero lt inside = own_kept (is_freed may (access_of (Some v.kind)))
+own_there (v ∷ vs) may (h ∷ hs) (suc x) lt inside = own_there vs may hs x (omega (arith, lt)) (omega (arith, inside))
+
+pub declared_records_are_their_own : DeclaredRecordsAreTheirOwn
+declared_records_are_their_own types variables implicit x object initial holds after raising lt inside e =
+    let may : ℕ → Bool = λ t. initial_frees implicit t object initial in
+    let raises = initial_raises initial || initial_starts implicit (λ e. true) object initial in
+    let declared = slice_set holds x (hold.Own Whole) in
+    let uses = uses_in_initial types (declared_at variables x) object initial in
+    let less = loses_ended variables may (using_paths uses holds (ends_with raises holds declared)) after raising e in
+    let kept = kept_uses uses holds (ends_with raises holds declared) (Some less.0) less.1 less.2 in
+    let same : declared ≡ less.0 = cc kept.1 in
+    rw (less.3, ← same) (own_there variables may holds x lt inside)
+
+-- A component is freed where its way is safe.
+
+not_true : (b : Bool) → (b ≡ true → ⊥) → b ≡ false
+not_true true never = absurd (never refl)
+not_true false never = refl
+
+freed_one : (may : ℕ → Bool) (access : Option ℕ) → is_freed may access ≡ true → (t : ℕ) × (may t ≡ true) × (access ≡ Some t)
+freed_one may None is = absurd (cc is)
+freed_one may (Some t) is = (t, is, refl)
+
+passes_one : (types : List TypeForm) (may : ℕ → Bool) (kind : Option VariableKind) (cs : List ℕ) → passes_freed types may kind cs ≡ true → (t : ℕ) × (may t ≡ true) × IsFollowed types kind cs t
+passes_one types may kind [] is = absurd (cc is)
+passes_one types may kind (c ∷ cs) is = elim (or_cases (is_freed may (access_of kind)) (passes_freed types may (selected_kind types kind c) cs) is) [
+  | inl here ↦ let (t, known, same) = freed_one may (access_of kind) here in (t, known, inl same)
+  | inr later ↦ let (t, known, followed) = passes_one types may (selected_kind types kind c) cs later in (t, known, inr followed)
+]
+
+this_one : (t : ℕ) (access : Option ℕ) → is_this t access ≡ true → access ≡ Some t
+this_one t None is = absurd (cc is)
+this_one t (Some u) is = ap (λ (n : ℕ). Some n) (eqb-true u t is)
+
+passes_this : (types : List TypeForm) (kind : Option VariableKind) (cs : List ℕ) (t : ℕ) → passes_type types kind cs t ≡ true → IsFollowed types kind cs t
+passes_this types kind [] t is = absurd (cc is)
+passes_this types kind (c ∷ cs) t is = elim (or_cases (is_this t (access_of kind)) (passes_type types (selected_kind types kind c) cs t) is) [
+  | inl here ↦ inl (this_one t (access_of kind) here)
+  | inr later ↦ inr (passes_this types (selected_kind types kind c) cs t later)
+]
+
+alias_is : (h : Hold) → is_alias h ≡ true → (region : Region) × (h ≡ hold.Alias region)
+alias_is hold.Null is = absurd (cc is)
+alias_is (hold.Kept r) is = absurd (cc is)
+alias_is (hold.Own r) is = absurd (cc is)
+alias_is (hold.Alias r) is = (r, refl)
+alias_is hold.Lost is = absurd (cc is)
+
+one_inside : (cs : List ℕ) (c : ℕ) (ds : List ℕ) → cs ≡ c ∷ ds → stays_inside cs ≡ true → cs ≡ c ∷ []
+one_inside [] c ds same is = absurd (cc same)
+one_inside (b ∷ []) c ds same is = let first : b ≡ c = cc same in ap (λ (n : ℕ). n ∷ []) first
+one_inside (b ∷ d ∷ bs) c ds same is = absurd (cc is)
+
+object_is : (types : List TypeForm) (kind : Option VariableKind) (r : ℕ) → object_record types kind ≡ Some r → (object : TypeNo) × (kind ≡ Some (variable_kinds.Record object)) × (object_in (slice_get types object.0) ≡ Some r)
+object_is types None r is = absurd (cc is)
+object_is types (Some variable_kinds.Integer) r is = absurd (cc is)
+object_is types (Some variable_kinds.Boolean) r is = absurd (cc is)
+object_is types (Some (variable_kinds.Access access)) r is = absurd (cc is)
+object_is types (Some (variable_kinds.Record object)) r is = (object, refl, is)
+
+formal_is : (types : List TypeForm) (variables : List VariableForm) (path : PathForm) (h : Hold) (r : ℕ) → formal_record types variables path h ≡ Some r → (is_alias h ≡ true) × (stays_inside path.selectors ≡ true) × (object_record types (variable_kind variables path.root) ≡ Some r)
+formal_is types variables path h r is = go (is_alias h && stays_inside path.selectors) refl is
+  where
+    go : (b : Bool) → (is_alias h && stays_inside path.selectors) ≡ b → (if b then object_record types (variable_kind variables path.root) else None) ≡ Some r → (is_alias h ≡ true) × (stays_inside path.selectors ≡ true) × (object_record types (variable_kind variables path.root) ≡ Some r)
+    go true both e = let parts = and_parts (is_alias h) (stays_inside path.selectors) both in (parts.0, parts.1, e)
+    go false both e = absurd (cc e)
+
+lies_in : (types : List TypeForm) (variables : List VariableForm) (path : PathForm) (holds : Holds) (c : ℕ) (cs : List ℕ) (r : ℕ) → path.selectors ≡ c ∷ cs → formal_record types variables path (hold_at holds path.root) ≡ Some r → LiesInFormal types variables path holds r
+lies_in types variables path holds c cs r is formal =
+    let (alias, inside, object) = formal_is types variables path (hold_at holds path.root) r formal in
+    let (number, kind, of_type) = object_is types (variable_kind variables path.root) r object in
+    (number, kind, of_type, alias_is (hold_at holds path.root) alias, (c, one_inside path.selectors c cs is inside))
+
+reaches_one : (types : List TypeForm) (implicit : Implicit) (u : ℕ) (o : Option ℕ) → reaches_part types implicit u o ≡ true → (r t whole : ℕ) × (o ≡ Some r) × (implicit.end_reaches u t ≡ true) × (designated_type types t ≡ Some whole) × (has_part types r whole ≡ true)
+reaches_one types implicit u None is = absurd (cc is)
+reaches_one types implicit u (Some r) is =
+    let (t, whole, known, at, has) = designate_is types (implicit.end_reaches u) r is in
+    (r, t, whole, refl, known, at, has)
+
+safe_none : (b : Bool) (h : Hold) (spot : Spot) → b ≡ false → h ≢ hold.Lost → freed_behind b h spot ≡ None
+safe_none true h spot safe there = absurd (cc safe)
+safe_none false hold.Null spot safe there = refl
+safe_none false (hold.Kept r) spot safe there = refl
+safe_none false (hold.Own r) spot safe there = refl
+safe_none false (hold.Alias r) spot safe there = refl
+safe_none false hold.Lost spot safe there = absurd (there refl)
+
+either_no : (a b : Bool) → (a ≡ true → ⊥) → (b ≡ true → ⊥) → (a || b) ≡ true → ⊥
+either_no true b no_a no_b is = no_a refl
+either_no false b no_a no_b is = no_b is
+
+pub safe_frees_are_let_through : SafeFreesAreLetThrough
+safe_frees_are_let_through types variables around cleared access u c cs path holds is own there own_free reached_free formal_free = (
+  Some (without_freed variables may after),
+  without_freed_option variables may (raising_if (path_raises path) after),
+  ap (λ (ds : List ℕ). finalizes variables implicit (path_access types variables path) (frees_path types variables implicit ds path holds)) is
+      ∙ ap (λ (o : Option ℕ). finalizes variables implicit o (released_behind types variables implicit path holds o)) own
+      ∙ ap (λ (b : Option Breach). loses variables may (unless_broken b (ends_with (path_raises path) after after))) unbroken,
+)
+  where
+    implicit : Implicit
+    implicit = around.effects.implicit
+
+    may : ℕ → Bool
+    may = implicit.end_frees u
+
+    after : Holds
+    after = behind_end variables (Some u) holds
+
+    held : Hold
+    held = hold_at holds path.root
+
+    no_own : passes_own types variables path (Some u) ≡ true → ⊥
+    no_own h = own_free (passes_this types (variable_kind variables path.root) path.selectors u h)
+
+    no_reached : passes_reached types variables implicit path (Some u) ≡ true → ⊥
+    no_reached h =
+        let (t, known, followed) = passes_one types (implicit.end_reaches u) (variable_kind variables path.root) path.selectors h in
+        reached_free t known followed
+
+    no_formal : formal_reached types variables implicit path held (Some u) ≡ true → ⊥
+    no_formal h =
+        let (r, t, whole, formal, known, at, has) = reaches_one types implicit u (formal_record types variables path held) h in
+        let of_record = (and_parts (is_record types r) (has_part_within types (length types) r whole) has).0 in
+        formal_free r t whole (lies_in types variables path holds c cs r is formal) of_record known at ((depths_are_enough types r whole of_record).0 has)
+
+    unbroken : freed_behind (way_reached types variables implicit path held (Some u)) held path.spot ≡ None
+    unbroken =
+        safe_none (way_reached types variables implicit path held (Some u)) held path.spot
+        (not_true (way_reached types variables implicit path held (Some u))
+        (either_no (passes_own types variables path (Some u) || passes_reached types variables implicit path (Some u)) (formal_reached types variables implicit path held (Some u))
+        (either_no (passes_own types variables path (Some u)) (passes_reached types variables implicit path (Some u)) no_own no_reached) no_formal))
+        there

@@ -9,16 +9,17 @@ use Rattle.ada_program.specs.declared.program.Exception.TheVariants.{ConstraintE
 use Rattle.ada_program.specs.Form.{ActualForm, in_value, in_null, in_access, in_record, in_out_path, in_out_access, in_out_component, in_out_record, PathForm, RecordPathForm, ExpressionForm, ItemForm, null_item, item_of_path, item_of_value, item_of_record, RightForm, nothing, value_of, allocates, allocates_default, computes, assigns, StmtsForm, a_stmt, BranchesForm, HandlersForm, DeclarationForm}
 use Rattle.ada_program.specs.declared.program.ComponentKind.{ComponentKind}
 use Rattle.ada_parts.specs.Task.{Task}
+use Rattle.ada_program.specs.declared.program.Finalization.{Finalization}
 use Rattle.ada_program.specs.ProgramForm.{TypeForm, VariableForm, BodyForm, ProgramForm, main_body}
 use Rattle.ada_program.specs.declared.program.VariableKind.{VariableKind}
 use Rattle.ada_program.specs.declared.program.VariableKind.TheVariants as variable
 use Rattle.ada_program.specs.declared.program.TypeNo.{TypeNo}
-use Rattle.ada_program.specs.WellFormed.{is_access, access_of, kind_among, selectors_kind, variable_kind, record_components, reached_components, items_fit, is_record_object, profile_of, suits_profile}
+use Rattle.ada_program.specs.WellFormed.{finalization_of, is_access, access_of, kind_among, selectors_kind, variable_kind, record_components, reached_components, items_fit, is_record_object, profile_of, suits_profile}
 use Rattle.ada_program.specs.Handling.{is_same, handler_of}
-use Rattle.ada_effects.specs.Effects.{expression_raises, links_raise, items_raise, path_raises, record_path_raises, condition_raises, unary_raises, binary_raises, right_raises, right_starts, declaration_raises, stmts_raise, branches_raise, handlers_raise, Effect, Implicit, call_raises, body_raises, stmts_free, branches_free, handlers_free, body_frees, call_frees, effects_of}
+use Rattle.ada_effects.specs.Effects.{expression_raises, links_raise, items_raise, path_raises, record_path_raises, condition_raises, unary_raises, binary_raises, right_raises, right_starts, declaration_raises, stmts_raise, branches_raise, handlers_raise, Effect, Implicit, call_raises, body_raises, stmts_free, branches_free, handlers_free, body_frees, call_frees, effects_of, endings_free}
 use Rattle.ada_flow.specs.declared.rule.Hold.TheVariants as hold
 use Rattle.ada_flow.specs.declared.rule.Region.TheVariants.{Whole}
-use Rattle.ada_flow.specs.Flow.{Holds, hold_at, variable_access, lost_by, Outcome, faults, goes, Use, uses_in, uses_in_links, uses_in_item, named_by_item, is_owning, is_owning_record, owns_at_first, broken_among, without_values, moved_by_items, passes_type, behind_end, gives, gives_component, clears, compares_it, uses_in_actuals, Keeping, keeping_of, kept_at, is_kept, handed_back, left_unkept, owed_from, gives_back, all_give_back, are_as_good, have_exit, branches_have_exit, handlers_have_exit, is_left, condition_flow, stmts_flow, branches_flow, handlers_flow, declaration_flow, Gone as GoneWith, collected, is_among, left, left_by_call, nothing_gone, Around}
+use Rattle.ada_flow.specs.Flow.{Holds, hold_at, variable_access, lost_by, Outcome, faults, goes, Use, uses_in, uses_in_links, uses_in_item, named_by_item, is_owning, is_owning_record, owns_at_first, broken_among, without_values, moved_by_items, passes_type, behind_end, gives, gives_component, clears, compares_it, uses_in_actuals, Keeping, keeping_of, kept_at, is_kept, handed_back, left_unkept, owed_from, gives_back, all_give_back, are_as_good, have_exit, branches_have_exit, handlers_have_exit, is_left, condition_flow, stmts_flow, branches_flow, handlers_flow, declaration_flow, Gone as GoneWith, collected, is_among, left, left_finalized, left_by_call, nothing_gone, Around}
 use Rattle.ada_meaning.specs.declared.state.Id.{Id}
 use Rattle.ada_meaning.specs.declared.state.Place.{Place}
 use Rattle.ada_meaning.specs.declared.state.Value.{Value}
@@ -38,16 +39,18 @@ use Rattle.ada_meaning.specs.Event.{Born, Finalized, Back, Followed, Left, Line,
 use Rattle.ada_meaning.specs.State.{Activation, Owned, declared, collection, record_object, storage_pool, Item, Master, height}
 use Rattle.ada_meaning.specs.Heap.{Home, Cell, finds}
 use Rattle.ada_meaning.specs.Step.{halts, moves, tells, asks, picks, first_or, older, in_front, before_last, last_of, selected, place_in, places, operands, treating}
-use Rattle.ada_meaning.specs.Named.{Object, State, Next, object_at, look, named, on_object, parted, store, whole, inside}
+use Rattle.ada_meaning.specs.Named.{Object, State, Next, object_at, look, named, on_object, finished, store, whole, inside}
 use Rattle.ada_meaning.specs.Run.{Event}
 use Rattle.ada_meaning.specs.Law.{leaving_by, LeavesHome}
 use Rattle.ada_sound.specs.Agreement.{Turning, Comes, ComesBy, ComesTo}
 use Rattle.ada_sound.proofs.Items.{NoMaster}
-use Rattle.ada_sound.proofs.Stored.{Stored}
+use Rattle.ada_sound.proofs.Stored.{IsUnder, Stored}
+use Rattle.ada_owners.specs.Reliance.{Borrows}
 use Rattle.ada_owners.specs.Keeping.{IsThere}
-use Rattle.ada_owners.specs.Places.{component_in}
+use Rattle.ada_owners.specs.Places.{is_there, component_in}
+use Rattle.ada_owners.proofs.Ends.{IsUnnamed}
 use Rattle.ada_owners.specs.Walks.{walk}
-use Rattle.ada_sound.proofs.Fits.{Outer, Reference, IsReferred, IsPlace, Outsiders, NoOuterAlias, IsSaid, place_at, Fit, IsRelied, MayFollow, component_access, is_object, none_spared, going}
+use Rattle.ada_sound.proofs.Fits.{Outer, Reference, IsReferred, IsPlace, Outsiders, NoOuterAlias, IsSaid, place_at, Fit, IsRelied, IsUnreferred, MayFollow, component_access, is_object, hold_in, stacked, none_spared, sparing}
 use Rattle.ada_sound.proofs.Orderings.{AsGood}
 use Rattle.ada_sound.proofs.Alters.{BackIn, Alters}
 
@@ -76,8 +79,8 @@ Roomed below [] (gone ∷ rooms) = ⊥
 Roomed below (m ∷ ms) (gone ∷ rooms) = ItemsAmong m.items gone.types × Roomed below ms rooms
 
 -- A caller, whose activation is suspended: what is known of implicit calls; the program as its body sees it, and what is known where flow comes to a place
--- in it; the actual parameters of its call, their values, what refers to the components that get something back, the objects to which all that refers leads, and what the procedure keeps
--- of them; what is left to do once the call has come to its end, the masters that are entered then, and their rooms; what its variables hold, and what is
+-- in it; the actual parameters of its call, their values, what refers to the components that get something back, the objects to which all that refers leads, those that are under
+-- way, as a treatment finalizes them, and what the procedure keeps of the parameters; what is left to do once the call has come to its end, the masters that are entered then, and their rooms; what its variables hold, and what is
 -- known of them behind the call, as if nothing were handed over.
 pub record Caller : Type 1 where
   pub implicit : Implicit
@@ -87,6 +90,7 @@ pub record Caller : Type 1 where
   pub passed : List Value
   pub references : List Value
   pub referenced : List Reference
+  pub under : List Id
   pub kept : Keeping
   pub control : Control
   pub masters : List Master
@@ -124,8 +128,13 @@ abbrev pub referenced_in : List Caller → List Reference
 referenced_in [] = []
 referenced_in (w ∷ ws) = w.referenced ++ referenced_in ws
 
+-- The objects that are under way in these.
+abbrev pub under_in : List Caller → List Id
+under_in [] = []
+under_in (w ∷ ws) = w.under ++ under_in ws
+
 abbrev pub outers : Known → Outsiders
-outers known = record { given = given_in known.callers; suspended = outer_in known.callers; referenced = referenced_in known.callers }
+outers known = record { given = given_in known.callers; suspended = outer_in known.callers; referenced = referenced_in known.callers; under = under_in known.callers }
 
 -- The masters that the callers have entered.
 abbrev pub below_callers : List Caller → List Master
@@ -177,12 +186,12 @@ FromTo known around k hs holds =
     (way : List Turning) (place : Control) (at : Holds) → ComesTo known.program.types known.program.variables around k hs holds way place at → known.At place at
 
 -- What may leave a loop with this start, through blocks with which this goes, does so with no less known.
-abbrev pub MayExit : List VariableForm → Option Holds → GoneWith → Holds → Type 0
-MayExit variables None inside holds = Unit {0}
-MayExit variables (Some start) inside holds = are_as_good (left variables inside holds) start ≡ true
+abbrev pub MayExit : List VariableForm → Implicit → Option Holds → GoneWith → Holds → Type 0
+MayExit variables implicit None inside holds = Unit {0}
+MayExit variables implicit (Some start) inside holds = are_as_good (left_finalized variables implicit inside holds) start ≡ true
 
 abbrev pub OnExit : List VariableForm → Bool → Around → (Holds → Type 0) → Type 0
-OnExit variables has_one around exited = has_one ≡ true → (holds : Holds) → MayExit variables around.start around.inside holds → exited holds
+OnExit variables has_one around exited = has_one ≡ true → (holds : Holds) → MayExit variables around.effects.implicit around.start around.inside holds → exited holds
 
 -- What leaves a body by a return, through blocks with which this goes, gives back what these formal parameters owe.
 abbrev pub MayReturn : List VariableForm → (owed : List ℕ) → (within : GoneWith) → Holds → Type 0
@@ -195,9 +204,9 @@ OnReturn variables around returned = (holds : Holds) → MayReturn variables aro
 abbrev pub CoveredIn : Implicit → ProgramForm → (access : ℕ) → Type 0
 CoveredIn implicit p t = body_frees p.types (effects_of implicit p) (main_body p) t ≡ true
 
--- Where words go back by a Free, it is of such a type.
+-- Where words go back by a Free, it is of such a type, which is an access type.
 abbrev pub IsCovered : Implicit → ProgramForm → Cause → (access : ℕ) → Type 0
-IsCovered implicit p (Freeing number) t = CoveredIn implicit p t
+IsCovered implicit p (Freeing number) t = CoveredIn implicit p t × (is_access p.types t ≡ true)
 IsCovered implicit p (Leaving m item) t = Unit {0}
 IsCovered implicit p (Assigning number) t = Unit {0}
 IsCovered implicit p (Undoing number) t = Unit {0}
@@ -299,13 +308,20 @@ Handled known hs k w = record w {
   raised = λ e holds. TakenBy known k w e (handler_of e hs) holds;
 }
 
--- Behind a master with which this goes.
-abbrev pub Outside : List VariableForm → GoneWith → Ways → Ways
-Outside variables gone w = record {
-  normal = λ holds. To w.normal (left variables gone holds);
-  raised = λ e holds. To (w.raised e) (left variables gone holds);
-  exited = λ holds. To w.exited (left variables gone holds);
-  returned = λ holds. To w.returned (left variables gone holds);
+-- The objects that go with a master may be finalized (7.6.1): of what that may free no suspended activation has an alias, and the running body may free it.
+abbrev pub MayEnd : Known → GoneWith → Type 0
+MayEnd known gone = Spares known (endings_free known.implicit gone.types)
+
+-- Behind a master with which this goes, whose objects are finalized.
+abbrev pub BehindMaster : Known → GoneWith → (Holds → Type 0) → Holds → Type 0
+BehindMaster known gone more holds = MayEnd known gone × To more (left_finalized known.program.variables known.implicit gone holds)
+
+abbrev pub Outside : Known → GoneWith → Ways → Ways
+Outside known gone w = record w {
+  normal = λ holds. BehindMaster known gone w.normal holds;
+  raised = λ e holds. BehindMaster known gone (w.raised e) holds;
+  exited = λ holds. BehindMaster known gone w.exited holds;
+  returned = λ holds. BehindMaster known gone w.returned holds;
 }
 
 -- Declarations, and what is behind them.
@@ -322,9 +338,17 @@ By (Raising e) w holds = w.raised e holds
 By Exiting w holds = w.exited holds
 By Returning w holds = w.returned holds
 
+-- No variable has an alias of what may be freed.
+abbrev pub Unaliased : List VariableForm → (may : ℕ → Bool) → Holds → Type 0
+Unaliased variables may holds = (x t : ℕ) → variable_access variables x ≡ Some t → may t ≡ true → Borrows (hold_at holds x) → ⊥
+
 -- No variable is relied on to name an object of one of these access types.
 abbrev pub NamesNone : List VariableForm → List ℕ → Holds → Type 0
 NamesNone variables types holds = (x : ℕ) → IsRelied (hold_at holds x) → is_among types (variable_access variables x) ≡ false
+
+-- The objects that go with a master may be finalized, and no variable has an alias of what that may free.
+abbrev pub LeavesWell : Known → GoneWith → Holds → Type 0
+LeavesWell known gone holds = MayEnd known gone × Unaliased known.program.variables (endings_free known.implicit gone.types) holds
 
 abbrev pub nowhere : Ways
 nowhere = record { normal = λ holds. ⊥; raised = λ e holds. ⊥; exited = λ holds. ⊥; returned = λ holds. ⊥ }
@@ -368,8 +392,8 @@ ways known [] (gone ∷ rooms) = nowhere
 ways known (Returns actuals references ∷ k) [] = returning known.implicit known.program known.callers actuals references k
 ways known (Returns actuals references ∷ k) (gone ∷ rooms) = nowhere
 ways known (Elaborates ds fs hs ∷ k) [] = nowhere
-ways known (Elaborates ds fs hs ∷ k) (gone ∷ rooms) = record (Outside known.program.variables gone (ways known k rooms)) {
-  normal = λ holds. AllAmong (collected ds) gone.types × Elaborating known ds (Doing known fs (Handles hs ∷ Closes ∷ k) (Handled known hs (Closes ∷ k) (Outside known.program.variables gone (ways known k rooms)))) (Outside known.program.variables gone (ways known k rooms)) holds;
+ways known (Elaborates ds fs hs ∷ k) (gone ∷ rooms) = record (Outside known gone (ways known k rooms)) {
+  normal = λ holds. AllAmong (collected ds) gone.types × Elaborating known ds (Doing known fs (Handles hs ∷ Closes ∷ k) (Handled known hs (Closes ∷ k) (Outside known gone (ways known k rooms)))) (Outside known gone (ways known k rooms)) holds;
 }
 ways known (Does fs ∷ k) rooms = record (ways known k rooms) { normal = λ holds. Doing known fs k (ways known k rooms) holds }
 ways known (Repeats condition body ∷ k) rooms = record (ways known k rooms) {
@@ -382,9 +406,9 @@ ways known (Counts x next last body ∷ k) rooms = record (ways known k rooms) {
 }
 ways known (Handles hs ∷ k) rooms = Handled known hs k (ways known k rooms)
 ways known (Closes ∷ k) [] = nowhere
-ways known (Closes ∷ k) (gone ∷ rooms) = Outside known.program.variables gone (ways known k rooms)
+ways known (Closes ∷ k) (gone ∷ rooms) = Outside known gone (ways known k rooms)
 ways known (Leaves mode ∷ k) [] = nowhere
-ways known (Leaves mode ∷ k) (gone ∷ rooms) = record nowhere { normal = λ holds. NamesNone known.program.variables gone.types holds × To (By mode (ways known k rooms)) holds }
+ways known (Leaves mode ∷ k) (gone ∷ rooms) = record nowhere { normal = λ holds. NamesNone known.program.variables gone.types holds × LeavesWell known gone holds × To (By mode (ways known k rooms)) holds }
 ways known (frame.Awaits v by done of part tasks ∷ k) rooms = nowhere
 ways known (frame.Confines ∷ k) rooms = nowhere
 ways known (frame.Resumes mode ∷ k) rooms = nowhere
@@ -521,7 +545,7 @@ Takes known heap places right (f ∷ k) rooms holds = ⊥
 abbrev pub Accepts : Known → List Object → Value → (c : ℕ) → Option ℕ → Type 0
 Accepts known heap Null c access = ⊥
 Accepts known heap (Names o) c access =
-    (object : Object) × (object_at heap o ≡ Some object) × (object.listed ≡ true) × (component_access known.program.types object c ≡ access)
+    (object : Object) × (object_at heap o ≡ Some object) × (is_there object.stage ≡ true) × (component_access known.program.types object c ≡ access)
 Accepts known heap (Scalar v) c access = ⊥
 Accepts known heap (Part o first) c access = ⊥
 
@@ -621,7 +645,7 @@ RunsBehind known (f ∷ k) rooms holds = To (RunsOn known (f ∷ k) rooms) holds
 abbrev pub IsPlainIn : Known → List Object → Value → (first count : ℕ) → Type 0
 IsPlainIn known heap Null first count = ⊥
 IsPlainIn known heap (Names o) first count =
-    (object : Object) × (object_at heap o ≡ Some object) × (object.listed ≡ true)
+    (object : Object) × (object_at heap o ≡ Some object) × (is_there object.stage ≡ true)
     × ((components : List ComponentKind) → reached_components known.program.types object.cell.access ≡ Some components
     → list_any is_owning (take count (drop first components)) ≡ false)
 IsPlainIn known heap (Scalar v) first count = ⊥
@@ -805,11 +829,19 @@ IsTarget known heap count v = (o : Id) × (place : Place) × (v ≡ Part o place
 abbrev pub IsSource : List Object → Value → Type 0
 IsSource heap v = (o : Id) × (place : Place) × (v ≡ Part o place) × IsThere heap o
 
+-- Records of this type may be copied as a whole: where they have controlled parts, the type is not limited (7.5).
+abbrev pub MayCopy : Known → (record_type : ℕ) → Type 0
+MayCopy known t = (f : Finalization) → finalization_of known.program.types t ≡ Some f → f.limited ≡ false
+
+-- So it is of this one, and it has controlled parts.
+abbrev pub IsCopied : Known → (record_type : ℕ) → Type 0
+IsCopied known t = (f : Finalization) × (finalization_of known.program.types t ≡ Some f) × (f.limited ≡ false)
+
 -- The two newest operands refer to records of a type, without access values, of which the newest one is assigned to the other (5.2, 7.6).
 abbrev pub AreAssigned : Known → List Object → (record_type : ℕ) → (operands : List Value) → Type 0
 AreAssigned known heap t operands =
     (kinds : List ComponentKind) × (record_components known.program.types t ≡ Some kinds)
-    × IsTarget known heap (length kinds) (first_or Null (older operands)) × IsSource heap (first_or Null operands)
+    × IsTarget known heap (length kinds) (first_or Null (older operands)) × IsSource heap (first_or Null operands) × MayCopy known t
 
 -- Actual parameters are evaluated next, with these operands, and then comes the call; or records are found, of which one is assigned to the other.
 abbrev pub PassesTo : Known → List Object → List Value → (operands : List Value) → Control → Rooms → Holds → Type 0
@@ -870,7 +902,7 @@ Computing known heap places operands e k rooms holds =
 pub record Working (known : Known) (heap : List Object) (places : List Value) (masters : List Master) (more : Rooms → Holds → Type 0) : Type 0 where
   pub rooms : Rooms
   pub holds : Holds
-  pub stored : Stored None heap masters
+  pub stored : Stored (outers known).under heap masters
   pub roomed : Roomed (below known) masters rooms
   pub fit : Fit known.program.types known.program.variables (outers known) none_spared heap places holds
   pub rest : more rooms holds
@@ -880,52 +912,81 @@ abbrev pub innermost : List Master → List Item
 innermost [] = []
 innermost (m ∷ ms) = m.items
 
--- The same while the innermost master is being left: nothing relies on the components of its objects.
+-- The same while the innermost master is being left: once its objects are gone, nothing relies on the components of what lies in its collections.
 pub record Parting (known : Known) (heap : List Object) (places : List Value) (masters : List Master) (more : Rooms → Holds → Type 0) : Type 0 where
   pub rooms : Rooms
   pub holds : Holds
-  pub stored : Stored None heap masters
+  pub stored : Stored (outers known).under heap masters
   pub roomed : Roomed (below known) masters rooms
-  pub fit : Fit known.program.types known.program.variables (outers known) (going heap (innermost masters)) heap places holds
+  pub fit : Fit known.program.types known.program.variables (outers known) (sparing heap (innermost masters)) heap places holds
   pub rest : more rooms holds
 
--- The same while an object is under way, which nothing relies on.
-pub record Freed (known : Known) (spared : Id → Bool) (heap : List Object) (places : List Value) (masters : List Master) (more : Rooms → Holds → Type 0) : Type 0 where
+-- No place is relied on to name an object that is under way, if there is one, and no call refers to it.
+abbrev pub IsAside : Known → (spared : Id → Bool) → List Object → (places : List Value) → Holds → (under : Option Id) → Type 0
+IsAside known spared heap places holds None = Unit {0}
+IsAside known spared heap places holds (Some o) =
+    IsUnnamed heap (stacked places (outers known)) (hold_in (outers known) spared holds) o × IsUnreferred (outers known) o
+
+-- The same while an object is under way: it is there still, and its components own what they hold, but nothing relies on the object.
+pub record Freed (known : Known) (under : Option Id) (spared : Id → Bool) (heap : List Object) (places : List Value) (masters : List Master) (more : Rooms → Holds → Type 0) : Type 0 where
   pub rooms : Rooms
   pub holds : Holds
   pub roomed : Roomed (below known) masters rooms
   pub fit : Fit known.program.types known.program.variables (outers known) spared heap places holds
+  pub aside : IsAside known spared heap places holds under
   pub rest : more rooms holds
 
+-- Another object than this one, if there is this one.
+abbrev pub IsOther : Value → (under : Option Id) → Type 0
+IsOther v None = Unit {0}
+IsOther v (Some o) = v ≢ Names o
+
+-- The objects, where this one counts as gone already.
+abbrev pub gone_in : (under : Option Id) → List Object → List Object
+gone_in None heap = heap
+gone_in (Some o) heap = on_object finished heap (Names o)
+
 -- What is behind an object under way, by what ends it: a Free, whose variable or component becomes null; the leaving of a master, at the object's
--- home; or an exception that came out of its initialization, and goes on (7.6.1). A component counts as null already, and so does its object, which is
--- another one.
-abbrev pub ClearsTo : Known → List Object → List Value → List Master → Control → Type 0
-ClearsTo known heap places masters [] = ⊥
-ClearsTo known heap places masters (Clears x ∷ k) = Freed known none_spared heap (slice_set places x Null) masters (RunsOn known k)
-ClearsTo known heap places masters (ClearsIn o c ∷ k) = IsHolder heap o × Freed known none_spared (store heap o c Null) places masters (RunsOn known k)
-ClearsTo known heap places masters (f ∷ k) = ⊥
+-- home; or an exception that came out of its initialization, and goes on (7.6.1): then the object counts as gone already. A component that is freed counts as
+-- null already, and its object is another one.
+abbrev pub ClearsTo : Known → (under : Option Id) → List Object → List Value → List Master → Control → Type 0
+ClearsTo known under heap places masters [] = ⊥
+ClearsTo known under heap places masters (Clears x ∷ k) = Freed known under none_spared heap (slice_set places x Null) masters (RunsOn known k)
+ClearsTo known under heap places masters (ClearsIn o c ∷ k) =
+    IsHolder heap o × IsOther o under × Freed known under none_spared (store heap o c Null) places masters (RunsOn known k)
+ClearsTo known under heap places masters (f ∷ k) = ⊥
 
-abbrev pub LeavesTo : Known → List Object → List Value → List Master → Control → Type 0
-LeavesTo known heap places masters [] = ⊥
-LeavesTo known heap places masters (Leaves mode ∷ k) = Freed known (going heap (innermost masters)) heap places masters (RunsOn known (Leaves mode ∷ k))
-LeavesTo known heap places masters (f ∷ k) = ⊥
+-- The newest of these items has this number.
+abbrev pub IsNewest : (number : ℕ) → List Item → Type 0
+IsNewest number [] = ⊥
+IsNewest number (i ∷ is) = i.number ≡ number
 
-abbrev pub ResumesTo : Known → List Object → List Value → List Master → Control → Type 0
-ResumesTo known heap places masters [] = ⊥
-ResumesTo known heap places masters (frame.Resumes mode ∷ k) = Freed known none_spared heap places masters (λ rooms holds. To (By mode (ways known k rooms)) holds)
-ResumesTo known heap places masters (f ∷ k) = ⊥
+abbrev pub LeavesTo : Known → (under : Option Id) → List Object → List Value → List Master → Control → Type 0
+LeavesTo known under heap places masters [] = ⊥
+LeavesTo known under heap places masters (Leaves mode ∷ k) =
+    Freed known under (sparing heap (innermost masters)) heap places masters (RunsOn known (Leaves mode ∷ k))
+LeavesTo known under heap places masters (f ∷ k) = ⊥
 
-abbrev pub Behind : Known → Cause → (home : ℕ) → List Object → List Value → List Master → Control → Type 0
-Behind known (Leaving m item) home heap places masters k = (item ≡ home) × LeavesTo known heap places masters k
-Behind known (Freeing number) home heap places masters k = ClearsTo known heap places masters k
-Behind known (Assigning number) home heap places masters k = ⊥
-Behind known (Undoing number) home heap places masters k = ResumesTo known heap places masters k
+-- What goes on came out of the initialization of some object (7.6).
+abbrev pub CameOut : Known → Mode → Type 0
+CameOut known mode = (e : Exception) × (access : ℕ) × (mode ≡ Raising e) × (list_any (is_same e) (known.implicit.start_raises access) ≡ true)
+
+abbrev pub ResumesTo : Known → (under : Option Id) → List Object → List Value → List Master → Control → Type 0
+ResumesTo known under heap places masters [] = ⊥
+ResumesTo known under heap places masters (frame.Resumes mode ∷ k) =
+    CameOut known mode × Freed known None none_spared (gone_in under heap) places masters (λ rooms holds. To (By mode (ways known k rooms)) holds)
+ResumesTo known under heap places masters (f ∷ k) = ⊥
+
+abbrev pub Behind : Known → Cause → (under : Option Id) → (home : ℕ) → List Object → List Value → List Master → Control → Type 0
+Behind known (Leaving m item) under home heap places masters k = (item ≡ home) × IsNewest home (innermost masters) × LeavesTo known under heap places masters k
+Behind known (Freeing number) under home heap places masters k = ClearsTo known under heap places masters k
+Behind known (Assigning number) under home heap places masters k = ⊥
+Behind known (Undoing number) under home heap places masters k = ResumesTo known under heap places masters k
 
 -- Its words go back next to the pool of its home.
 abbrev pub ThenBack : Known → Id → Home → List Object → List Value → List Master → Control → Type 0
 ThenBack known o home heap places masters [] = ⊥
-ThenBack known o home heap places masters (GivesBack (Names p) cause pool ∷ k) = (p ≡ o) × (pool ≡ home.pool) × Behind known cause home.item heap places masters k
+ThenBack known o home heap places masters (GivesBack (Names p) cause pool ∷ k) = (p ≡ o) × (pool ≡ home.pool) × Behind known cause (Some o) home.item heap places masters k
 ThenBack known o home heap places masters (f ∷ k) = ⊥
 
 -- An object is to cease to exist.
@@ -934,7 +995,7 @@ pub record Ending (known : Known) (o : Id) (k : Control) (heap : List Object) (p
   pub found : object_at heap o ≡ Some object
   pub exists : object.stage ≡ Existing
   pub parted : object.listed ≡ false
-  pub stored : Stored (Some o) heap masters
+  pub stored : Stored (o ∷ (outers known).under) heap masters
   pub covered : WillBeCovered known.implicit known.program object.cell.access k
   pub rest : ThenBack known o object.cell.home heap places masters k
 
@@ -951,9 +1012,9 @@ pub record Backing (known : Known) (o : Id) (cause : Cause) (pool : Option ℕ) 
   pub gone : object.stage ≡ Gone
   pub out : object.out ≡ true
   pub own : pool ≡ object.cell.home.pool
-  pub stored : Stored (Some o) heap masters
+  pub stored : Stored (o ∷ (outers known).under) heap masters
   pub covered : IsCovered known.implicit known.program cause object.cell.access
-  pub rest : Behind known cause object.cell.home.item heap places masters k
+  pub rest : Behind known cause None object.cell.home.item heap places masters k
 
 abbrev pub BackingBy : Known → Value → Cause → Option ℕ → Control → List Object → List Value → List Master → Type 0
 BackingBy known Null cause pool k heap places masters = ⊥
@@ -1094,7 +1155,7 @@ StoresBehind known heap (f ∷ k) rooms holds = ⊥
 abbrev pub CopiesBehind : Known → Control → List Object → (places operands : List Value) → List Master → Type 0
 CopiesBehind known [] heap places operands masters = ⊥
 CopiesBehind known (Copies first t ∷ k) heap places operands masters =
-    Working known heap places masters (λ rooms holds. IsHolder heap (first_or Null operands) × StoresBehind known heap k rooms holds)
+    IsCopied known t × Working known heap places masters (λ rooms holds. IsHolder heap (first_or Null operands) × StoresBehind known heap k rooms holds)
 CopiesBehind known (f ∷ k) heap places operands masters = ⊥
 
 -- This exception may come out of the initialization of the object that a value names (7.6).
@@ -1102,15 +1163,15 @@ abbrev pub StartsRaise : Known → List Object → Value → Exception → Type 
 StartsRaise known heap v e =
     (o : Id) × (x : Object) × (v ≡ Names o) × (object_at heap o ≡ Some x) × (list_any (is_same e) (known.implicit.start_raises x.cell.access) ≡ true)
 
--- What is behind the initialization of an object goes on with an exception (7.6.1): the object counts as out of its collection already.
+-- What is behind the initialization of an object goes on with an exception (7.6.1): the object counts as gone already.
 abbrev pub UndoneTo : Known → Value → Control → List Object → List Value → List Master → Exception → Type 0
 UndoneTo known v k heap places masters e =
-    Freed known none_spared (on_object parted heap v) places masters (λ rooms holds. To ((ways known k rooms).raised e) holds)
+    Freed known None none_spared (on_object finished heap v) places masters (λ rooms holds. To ((ways known k rooms).raised e) holds)
 
 -- A new object may be undone, where an exception comes out of its initialization; what is copied or adjusted never is (7.6, 7.6.1).
 abbrev pub MayUndo : Known → Value → Birth → Control → List Object → List Value → List Master → Type 0
 MayUndo known v Creation k heap places masters =
-    Stored None heap masters × ((e : Exception) → StartsRaise known heap v e → UndoneTo known v k heap places masters e)
+    Stored (outers known).under heap masters × ((e : Exception) → StartsRaise known heap v e → UndoneTo known v k heap places masters e)
 MayUndo known v Copy k heap places masters = Unit {0}
 MayUndo known v (Adjustment number) k heap places masters = Unit {0}
 
@@ -1195,11 +1256,11 @@ ReadyBy known (ClearsIn o c) k heap places operands masters = Clearing known o c
 -- undone (7.6.1).
 abbrev pub RaisesBy : Known → Exception → Frame Value → Control → List Object → List Value → List Master → Type 0
 RaisesBy known e (frame.Awaits v by done of part tasks) k heap places masters =
-    (by ≡ Creation) × IsLive heap v × Stored None heap masters × UndoneTo known v k heap places masters e
+    (by ≡ Creation) × IsLive heap v × Stored (outers known).under heap masters × StartsRaise known heap v e × UndoneTo known v k heap places masters e
 RaisesBy known e f k heap places masters = Working known heap places masters (GoesOn known (Raising e) (f ∷ k))
 
 abbrev pub ReadyIn : Known → Mode → Control → List Object → (places operands : List Value) → List Master → Type 0
-ReadyIn known mode [] heap places operands masters = Stored None heap masters × NoMaster masters
+ReadyIn known mode [] heap places operands masters = Stored [] heap masters × NoMaster masters
 ReadyIn known Running (f ∷ k) heap places operands masters = ReadyBy known f k heap places operands masters
 ReadyIn known (Raising e) (f ∷ k) heap places operands masters = RaisesBy known e f k heap places masters
 ReadyIn known Exiting (f ∷ k) heap places operands masters = Working known heap places masters (GoesOn known Exiting (f ∷ k))
@@ -1254,8 +1315,8 @@ AreOpened types referenced (r ∷ rs) =
 
 -- A caller waits for a body: it goes on with what is known of its variables, behind the call and where the body raises an exception; its masters have their
 -- rooms; what is called null is null, what is kept holds what was given, and a record object that is not lost is there; nothing relies on the Integers and
--- Booleans that get something back; what is handed over is what the formal parameters were given; and the components that get something back hold
--- Integers or Booleans.
+-- Booleans that get something back; what is handed over is what the formal parameters were given; the components that get something back hold
+-- Integers or Booleans; and no object is under way in it.
 pub record Waits (implicit : Implicit) (body : ProgramForm) (w : Caller) (ws : List Caller) : Type 0 where
   pub goes_on : To (RunsOn (known_of w ws) w.control w.rooms) (handed_back w.actuals w.before)
   pub raises : (e : Exception) → body_among implicit body e ≡ true → To ((ways (known_of w ws) w.control w.rooms).raised e) (left_unkept w.kept w.actuals w.before)
@@ -1267,6 +1328,7 @@ pub record Waits (implicit : Implicit) (body : ProgramForm) (w : Caller) (ws : L
   pub passes : (i x : ℕ) → handed_at w.actuals i ≡ Some x → place_at w.passed i ≡ place_at w.places x
   pub opened : AreOpened w.program.types w.referenced w.references
   pub covers : (t : ℕ) → CoveredIn implicit body t → CoveredIn w.implicit w.program t
+  pub settled : w.under ≡ []
 
 -- So does each caller, for the body that it called.
 abbrev pub AllWait : Implicit → ProgramForm → List Caller → Type 0
@@ -1280,13 +1342,14 @@ AreSuspended [] (w ∷ ws) = ⊥
 AreSuspended (a ∷ rest) [] = ⊥
 AreSuspended (a ∷ rest) (w ∷ ws) = (a.places ≡ w.places) × (a.operands ≡ []) × AreSuspended rest ws
 
--- What a caller's variable is relied on to name, and what its call refers to, lies in an item of a master that was entered before its call.
+-- What a caller's variable is relied on to name, what its call refers to, and what is under way in it lies in an item of a master that was entered before its call.
 abbrev pub LieBelow : List Object → List Caller → Type 0
 LieBelow heap [] = Unit {0}
 LieBelow heap (w ∷ ws) =
     ((x : ℕ) (o : Id) → IsRelied (hold_at (waiting_holds w) x) → place_at w.places x ≡ Names o
     → (object : Object) × (object_at heap o ≡ Some object) × (suc object.cell.home.item ≤ height w.masters))
     × ((o : Id) (t : ℕ) → IsReferred w.referenced o t → (object : Object) × (object_at heap o ≡ Some object) × (suc object.cell.home.item ≤ height w.masters))
+    × ((o : Id) → IsUnder w.under o → (object : Object) × (object_at heap o ≡ Some object) × (suc object.cell.home.item ≤ height w.masters))
     × LieBelow heap ws
 
 -- The callers of a state are as they are known.
@@ -1336,8 +1399,8 @@ pub record Stepped (known : Known) (before : List Object) (e : Event) (after : S
 
 -- No run ends at an erroneous action, or by an exception that leaves an operation; where one comes to its end, no master is left.
 abbrev pub EndsWell : Halt → List Object → List Master → Type 0
-EndsWell Finished heap masters = Stored None heap masters × NoMaster masters
-EndsWell (Unhandled e) heap masters = Stored None heap masters × NoMaster masters
+EndsWell Finished heap masters = Stored [] heap masters × NoMaster masters
+EndsWell (Unhandled e) heap masters = Stored [] heap masters × NoMaster masters
 EndsWell (Escaped e) heap masters = ⊥
 EndsWell (Erroneous why) heap masters = ⊥
 EndsWell Stuck heap masters = Unit {0}

@@ -5,7 +5,7 @@ use Rattle.std.specs.Prelude.{Option, Some, None}
 use Rattle.ada_program.specs.declared.program.Exception.{Exception}
 use Rattle.ada_program.specs.Form.{StmtsForm, no_stmts, a_stmt, HandlersForm, DeclarationForm}
 use Rattle.ada_program.specs.Handling.{handler_of}
-use Rattle.ada_flow.specs.Flow.{Holds, left}
+use Rattle.ada_flow.specs.Flow.{Holds}
 use Rattle.ada_meaning.specs.declared.state.Value.{Value}
 use Rattle.ada_meaning.specs.declared.state.Mode.{Mode}
 use Rattle.ada_meaning.specs.declared.state.Mode.TheVariants.{Running, Raising, Exiting, Returning}
@@ -16,14 +16,15 @@ use Rattle.ada_meaning.specs.Event.{Quiet}
 use Rattle.ada_meaning.specs.State.{Activation}
 use Rattle.ada_meaning.specs.Step.{pass_next, unwound}
 use Rattle.ada_meaning.specs.Named.{State, named}
-use Rattle.ada_sound.proofs.Invariant.{Known, Control, Rooms, To, By, TakenBy, Outside, RunsOn, GoesOn, RaisesBy, Working, Stepped, Fine, ways}
+use Rattle.ada_sound.proofs.Invariant.{Known, Control, Rooms, To, By, TakenBy, Outside, BehindMaster, RunsOn, GoesOn, RaisesBy, Working, Stepped, Fine, ways}
 use Rattle.ada_sound.proofs.Ready.{running, in_mode, at_work, at_less, runs_on, goes_in_mode}
-use Rattle.ada_sound.proofs.Leavings.{left_good, names_none}
+use Rattle.ada_flow.specs.Flow.{left_finalized}
+use Rattle.ada_sound.proofs.LeftFinalized.{finalized_good, finalized_none, finalized_unaliased}
 use Rattle.ada_sound.proofs.Undone.{undo_fine}
 
 module _ (known : Known) (k : Control) where
   -- What comes to the end of a master leaves it.
-  closes_by : (mode : Mode) (gone : _) (rooms : Rooms) (holds : Holds) → By mode (Outside known.program.variables gone (ways known k rooms)) holds → To (By mode (ways known k rooms)) (left known.program.variables gone holds)
+  closes_by : (mode : Mode) (gone : _) (rooms : Rooms) (holds : Holds) → By mode (Outside known gone (ways known k rooms)) holds → BehindMaster known gone (By mode (ways known k rooms)) holds
   closes_by Running gone rooms holds r = r
   closes_by (Raising e) gone rooms holds r = r
   closes_by Exiting gone rooms holds r = r
@@ -37,7 +38,13 @@ module _ (known : Known) (k : Control) where
 
   pub leaves_from : (mode : Mode) (rooms : Rooms) (holds : Holds) → GoesOn known mode (Closes ∷ k) rooms holds → To (RunsOn known (Leaves mode ∷ k) rooms) holds
   leaves_from mode [] holds r = absurd (none_closes mode holds r)
-  leaves_from mode (gone ∷ rooms) holds r = (left known.program.variables gone holds, left_good known.program.variables gone holds, (names_none known.program.variables gone holds, closes_by mode gone rooms holds r))
+  leaves_from mode (gone ∷ rooms) holds r =
+      let variables = known.program.variables in
+      let behind = closes_by mode gone rooms holds r in (
+        left_finalized variables known.implicit gone holds,
+        finalized_good variables known.implicit gone holds,
+        (finalized_none variables known.implicit gone holds, (behind.0, finalized_unaliased variables known.implicit gone holds), behind.1),
+      )
 
   -- An exception in declarations, and what never is one, leaves the master as well.
   module _ (ds : List DeclarationForm) (fs : StmtsForm) (hs : HandlersForm) where
@@ -83,7 +90,7 @@ module _ (known : Known) (k : Control) where
     raising_fine e (Handles hs) stays w = handled_fine e (handler_of e hs) (at_work w w.rest)
     raising_fine e (Leaves mode) stays w = absurd (raised_leaves mode e w.rooms w.holds w.rest)
     raising_fine e (Returns actuals references) stays w = absurd (cc stays)
-    raising_fine e (frame.Awaits v Creation done of part tasks) stays r = undo_fine known k a rest s e done v r.1 r.2 r.3
+    raising_fine e (frame.Awaits v Creation done of part tasks) stays r = undo_fine known k a rest s e done v r.1 r.2 r.3 r.4
     raising_fine e (frame.Awaits v Copy done of part tasks) stays r = let never = r.0 in absurd (cc never)
     raising_fine e (frame.Awaits v (Adjustment number) done of part tasks) stays r = let never = r.0 in absurd (cc never)
     raising_fine e frame.Confines stays w = absurd (w.rest)

@@ -1,11 +1,12 @@
 -- Behind a block its collections are gone: what is known of variables, and that a member that is taken has no owner.
 
+use Rattle.ada_sound.proofs.Items.{Houses}
 use Rattle.std.proofs.Common.{◌≡◌, ◌≢◌, ℕ, zero, suc, Bool, true, false, ◌||◌, not, List, [], ◌∷◌, ◌++◌, refl, sym, ap, ◌∙◌, ◌⊎◌, inl, inr}
 use Rattle.std.proofs.lemmas.Bool.{eq-eqb}
 use Rattle.std.specs.Prelude.{Option, Some, None, if◌then◌else◌}
 use Rattle.std.specs.List.{slice_get, slice_set, slice_index_or}
 use Rattle.ada_program.specs.ProgramForm.{TypeForm, VariableForm}
-use Rattle.ada_program.specs.WellFormed.{access_of, is_this}
+use Rattle.ada_program.specs.WellFormed.{kind_among, access_of, is_this, reached_components}
 use Rattle.ada_flow.specs.declared.rule.Hold.{Hold}
 use Rattle.ada_flow.specs.declared.rule.Hold.TheVariants as hold
 use Rattle.ada_effects.specs.Effects.{Implicit, endings_free}
@@ -15,11 +16,12 @@ use Rattle.ada_meaning.specs.declared.state.Value.{Value}
 use Rattle.ada_meaning.specs.declared.state.Value.TheVariants.{Null, Names}
 use Rattle.ada_meaning.specs.State.{Item, Master}
 use Rattle.ada_meaning.specs.Named.{Object, object_at}
-use Rattle.ada_scopes.specs.Scopes.{is_innermost, Holds as HoldsName}
-use Rattle.ada_owners.specs.Places.{Place, variable, component, elsewhere, component_in, value_at, access_at}
-use Rattle.ada_owners.specs.Reliance.{IsOf, Says, Owns, Borrows, component_hold}
+use Rattle.ada_scopes.specs.Scopes.{is_innermost}
+use Rattle.ada_owners.specs.Places.{is_there, Place, variable, component, elsewhere, component_in, value_at, access_at}
+use Rattle.ada_owners.specs.Reliance.{component_kind, IsOf, Says, Owns, Borrows, component_hold}
 use Rattle.ada_owners.proofs.Ends.{IsUnnamed}
-use Rattle.ada_sound.proofs.Fits.{IsReferred, IsUnreferred, Outsiders, Fit, IsRelied, outer_hold, hold_in, stacked, outer_value, outer_value_at, place_at, going, lies_among, hand_is_unnamed}
+use Rattle.ada_sound.proofs.Fits.{IsReferred, IsUnreferred, Outsiders, Fit, IsRelied, outer_hold, hold_in, stacked, outer_value, outer_value_at, place_at, objects_left, sparing, kinds_of, lies_among, hand_is_unnamed}
+use Rattle.ada_sound.proofs.Stored.{IsUnder}
 use Rattle.ada_sound.proofs.Orderings.{AsGood, as_good, good_here, good_lost, good_losing, good_to_lost, without_freed_good}
 use Rattle.ada_sound.proofs.Raising.{both}
 use Rattle.ada_sound.proofs.Values.{read_other, same_or_not, lost_here}
@@ -196,9 +198,15 @@ pub all_among : (ts : List ℕ) → AllAmong ts ts
 all_among [] = tt
 all_among (t ∷ ts) = (among_here t ts, all_more ts ts t (all_among ts))
 
+-- A component of the one object names the other, and both are there.
+abbrev pub HoldsThere : List Object → (holder held : Object) → Type 0
+HoldsThere heap holder held =
+    (o : Id) × (p : Id) × (c : ℕ) × ((object_at heap o ≡ Some holder) × (is_there holder.stage ≡ true)) × ((object_at heap p ≡ Some held) × (is_there held.stage ≡ true))
+    × (slice_get holder.cell.values c ≡ Some (Names p))
+
 -- While a master is left, whatever object holds the name of one whose home is an item of the innermost master has its own home there.
 abbrev pub HeldIn : List Object → List Master → Type 0
-HeldIn heap ms = (holder held : Object) → HoldsName heap holder held → is_innermost ms held.cell.home.item ≡ true → is_innermost ms holder.cell.home.item ≡ true
+HeldIn heap ms = (holder held : Object) → HoldsThere heap holder held → is_innermost ms held.cell.home.item ≡ true → is_innermost ms holder.cell.home.item ≡ true
 
 -- What a list holds that is a name.
 get_named : (vs : List Value) (c : ℕ) (o : Id) → slice_index_or vs c Null ≡ Names o → slice_get vs c ≡ Some (Names o)
@@ -206,19 +214,19 @@ get_named [] c o e = absurd (cc e)
 get_named (v ∷ vs) zero o e = ap Some e
 get_named (v ∷ vs) (suc c) o e = get_named vs c o e
 
-listed_names : (b : Bool) (v : Value) (o : Id) → (if b then v else Null) ≡ Names o → (b ≡ true) × (v ≡ Names o)
-listed_names true v o e = (refl, e)
-listed_names false v o e = absurd (cc e)
+there_names : (b : Bool) (v : Value) (o : Id) → (if b then v else Null) ≡ Names o → (b ≡ true) × (v ≡ Names o)
+there_names true v o e = (refl, e)
+there_names false v o e = absurd (cc e)
 
 -- What owns, and what borrows, is relied on.
-owns_relied : (h : Hold) → Owns h → IsRelied h
+pub owns_relied : (h : Hold) → Owns h → IsRelied h
 owns_relied hold.Null a = a
 owns_relied (hold.Kept r) a = a
 owns_relied (hold.Own r) a = a
 owns_relied (hold.Alias r) a = tt
 owns_relied hold.Lost a = a
 
-borrows_relied : (h : Hold) → Borrows h → IsRelied h
+pub borrows_relied : (h : Hold) → Borrows h → IsRelied h
 borrows_relied hold.Null a = a
 borrows_relied (hold.Kept r) a = tt
 borrows_relied (hold.Own r) a = tt
@@ -232,23 +240,35 @@ says_of heap (hold.Own r) kind o a s = s
 says_of heap (hold.Alias r) kind o a s = s
 says_of heap hold.Lost kind o a s = absurd a
 
-component_borrows : (b : Bool) → Borrows (component_hold b) → ⊥
+pub component_borrows : (b : Bool) → Borrows (component_hold b) → ⊥
 component_borrows true b = b
 component_borrows false b = b
 
--- What a variable of a suspended activation is relied on to name, and what a call refers to, has no home in the innermost master.
+-- The newest item goes: that of an object, whose name no component holds, or, once no object is left, a collection.
+abbrev pub GoesInOrder : List TypeForm → Item → List Item → Type 0
+GoesInOrder types item items =
+    (objects_left (item ∷ items) ≡ false)
+    ⊎ ((access : ℕ) (pool : Option ℕ) → Houses item.owned access pool
+    → (holder c : ℕ) → access_of (kind_among (reached_components types holder) c) ≡ Some access → ⊥)
+
+abbrev pub AreInOrder : List TypeForm → List Item → Type 0
+AreInOrder types [] = Unit {0}
+AreInOrder types (i ∷ is) = GoesInOrder types i is
+
+-- What a variable of a suspended activation is relied on to name, what a call refers to, and what is under way has no home in the innermost master.
 abbrev pub NamedBelow : Outsiders → List Object → List Master → Type 0
 NamedBelow outer heap ms =
     ((d x : ℕ) (o : Id) (object : Object) → IsRelied (outer_hold (slice_get outer.suspended d) x) → outer_value (slice_get outer.suspended d) x ≡ Names o
     → object_at heap o ≡ Some object → is_innermost ms object.cell.home.item ≡ true → ⊥)
     × ((o : Id) (t : ℕ) (object : Object) → IsReferred outer.referenced o t → object_at heap o ≡ Some object
     → is_innermost ms object.cell.home.item ≡ true → ⊥)
+    × ((o : Id) (object : Object) → IsUnder outer.under o → object_at heap o ≡ Some object → is_innermost ms object.cell.home.item ≡ true → ⊥)
 
 -- A member of the newest collection of the innermost master, of a type of which no variable is relied on to name an object, is in hand where nothing relies on the
 -- components of that master's objects.
-module _ (types : List TypeForm) (variables : List VariableForm) (outer : Outsiders) (heap : List Object) (places : List Value) (holds : Holds) (number : ℕ) (item : Item) (items : List Item) (ms : List Master) (gone : List ℕ) (fit : Fit types variables outer (going heap (item ∷ items)) heap places holds) (none : NamesNone variables gone holds) (held : HeldIn heap (record { number = number; items = item ∷ items } ∷ ms)) (below : NamedBelow outer heap (record { number = number; items = item ∷ items } ∷ ms)) (o : Id) (x : Object) (found : object_at heap o ≡ Some x) (listed : x.listed ≡ true) (home : x.cell.home.item ≡ item.number) (among : is_among gone (Some x.cell.access) ≡ true) where
+module _ (types : List TypeForm) (variables : List VariableForm) (outer : Outsiders) (heap : List Object) (places : List Value) (holds : Holds) (number : ℕ) (item : Item) (items : List Item) (ms : List Master) (gone : List ℕ) (fit : Fit types variables outer (sparing heap (item ∷ items)) heap places holds) (none : NamesNone variables gone holds) (held : HeldIn heap (record { number = number; items = item ∷ items } ∷ ms)) (below : NamedBelow outer heap (record { number = number; items = item ∷ items } ∷ ms)) (o : Id) (x : Object) (found : object_at heap o ≡ Some x) (there : is_there x.stage ≡ true) (home : x.cell.home.item ≡ item.number) (among : is_among gone (Some x.cell.access) ≡ true) (pool : Option ℕ) (houses : Houses item.owned x.cell.access pool) (order : GoesInOrder types item items) where
   access_here : access_at heap o ≡ Some x.cell.access
-  access_here = rw (found, listed) refl
+  access_here = rw (found, there) refl
 
   no_variable : (y : ℕ) (kind : Option ℕ) → variable_access variables y ≡ kind → IsRelied (hold_at holds y) → IsOf (access_at heap) kind o → ⊥
   no_variable y None is own of = of
@@ -258,12 +278,25 @@ module _ (types : List TypeForm) (variables : List VariableForm) (outer : Outsid
       absurd (cc (among, apart, is, of, here))
 
   -- An object that names it lies in the same master, and so it does not count.
-  no_component : (p : Id) (c : ℕ) (t : Option Object) → object_at heap p ≡ t → Owns (component_hold (lies_among t (item ∷ items))) → component_in t c ≡ Names o → ⊥
-  no_component p c None at own names = cc names
-  no_component p c (Some holder) at own names =
-      let it = listed_names holder.listed (slice_index_or holder.cell.values c Null) o names in
-      let inside = held holder x (p, o, c, (at, it.0), (found, listed), get_named holder.cell.values c o it.1) (rw (eq-eqb item.number x.cell.home.item (sym home)) refl) in
+  no_holder : (p : Id) (c : ℕ) (t : Option Object) → object_at heap p ≡ t → Owns (component_hold (lies_among t (item ∷ items))) → component_in t c ≡ Names o → ⊥
+  no_holder p c None at own names = cc names
+  no_holder p c (Some holder) at own names =
+      let it = there_names (is_there holder.stage) (slice_index_or holder.cell.values c Null) o names in
+      let inside = held holder x (p, o, c, (at, it.0), (found, there), get_named holder.cell.values c o it.1) (rw (eq-eqb item.number x.cell.home.item (sym home)) refl) in
       rw inside at own
+
+  -- Or no component is of its type.
+  no_kind : (c : ℕ) (holder access : Option ℕ) → ((t u d : ℕ) → access_of (kind_among (reached_components types u) d) ≡ Some t → t ≡ x.cell.access → ⊥) → component_kind (kinds_of types variables outer) holder c ≡ access → IsOf (access_at heap) access o → ⊥
+  no_kind c None None none is of = of
+  no_kind c None (Some t) none is of = cc is
+  no_kind c (Some u) None none is of = of
+  no_kind c (Some u) (Some t) none is of = let here = access_here in none t u c is (cc (here, of))
+
+  no_component : (p : Id) (c : ℕ) → GoesInOrder types item items → Owns (hold_in outer (sparing heap (item ∷ items)) holds (component p c)) → component_in (object_at heap p) c ≡ Names o → ⊥
+  no_component p c (inl left) own names = no_holder p c (object_at heap p) refl (rw left at own) names
+  no_component p c (inr none) own names =
+      let of = says_of heap (component_hold (sparing heap (item ∷ items) p)) (component_kind (kinds_of types variables outer) (access_at heap p) c) o (owns_relied (component_hold (sparing heap (item ∷ items) p)) own) (fit.owners.fit.relied (component p c) o names) in
+      no_kind c (access_at heap p) (component_kind (kinds_of types variables outer) (access_at heap p) c) (λ t u d is same. none x.cell.access pool houses u d (rw same at is)) refl of
 
   no_name : (y : ℕ) → IsRelied (hold_at holds y) → place_at places y ≡ Names o → ⊥
   no_name y is names =
@@ -275,18 +308,18 @@ module _ (types : List TypeForm) (variables : List VariableForm) (outer : Outsid
   no_elsewhere d y is names =
       below.0 d y o x is (sym (outer_value_at heap places outer d y) ∙ names) found (rw (eq-eqb item.number x.cell.home.item (sym home)) refl)
 
-  no_borrower : (q : Place) → Borrows (hold_in outer (going heap (item ∷ items)) holds q) → value_at heap (stacked places outer) q ≡ Names o → ⊥
+  no_borrower : (q : Place) → Borrows (hold_in outer (sparing heap (item ∷ items)) holds q) → value_at heap (stacked places outer) q ≡ Names o → ⊥
   no_borrower (variable y) b names = no_name y (borrows_relied (hold_at holds y) b) names
-  no_borrower (component p c) b names = component_borrows (lies_among (object_at heap p) (item ∷ items)) b
+  no_borrower (component p c) b names = component_borrows (sparing heap (item ∷ items) p) b
   no_borrower (elsewhere d y) b names = no_elsewhere d y (borrows_relied (outer_hold (slice_get outer.suspended d) y) b) names
 
-  no_owner : (q : Place) → Owns (hold_in outer (going heap (item ∷ items)) holds q) → value_at heap (stacked places outer) q ≡ Names o → ⊥
+  no_owner : (q : Place) → Owns (hold_in outer (sparing heap (item ∷ items)) holds q) → value_at heap (stacked places outer) q ≡ Names o → ⊥
   no_owner (variable y) own names = no_name y (owns_relied (hold_at holds y) own) names
-  no_owner (component p c) own names = no_component p c (object_at heap p) refl own names
+  no_owner (component p c) own names = no_component p c order own names
   no_owner (elsewhere d y) own names = no_elsewhere d y (owns_relied (outer_hold (slice_get outer.suspended d) y) own) names
 
-  pub taken_unnamed : IsUnnamed heap (stacked places outer) (hold_in outer (going heap (item ∷ items)) holds) o
-  taken_unnamed = hand_is_unnamed outer types variables (going heap (item ∷ items)) heap places holds (Some x.cell.access) o (record {
+  pub taken_unnamed : IsUnnamed heap (stacked places outer) (hold_in outer (sparing heap (item ∷ items)) holds) o
+  taken_unnamed = hand_is_unnamed outer types variables (sparing heap (item ∷ items)) heap places holds (Some x.cell.access) o (record {
     hand = record {
       right = λ p e. let same : o ≡ p = name_is o p e in rw (← same) access_here;
       free = λ p e q own names. let same : o ≡ p = name_is o p e in no_owner q own (rw (← same) at names);

@@ -16,7 +16,7 @@ use Rattle.ada_meaning.specs.declared.state.Value.TheVariants.{Names}
 use Rattle.ada_meaning.specs.Heap.{Found, on_null, on_gone, on_other, finds}
 use Rattle.ada_meaning.specs.Step.{before_last, last_of, selected}
 use Rattle.ada_meaning.specs.Named.{Object, object_at, named, inside}
-use Rattle.ada_owners.specs.Places.{Place, variable, component, elsewhere, value_at}
+use Rattle.ada_owners.specs.Places.{is_there, Place, variable, component, elsewhere, value_at}
 use Rattle.ada_owners.specs.Reliance.{Owns, component_hold, hold_of, with_lent}
 use Rattle.ada_owners.specs.Walks.{then_found, behind, walk}
 use Rattle.ada_sound.proofs.Fits.{Outsiders, stacked, none_spared, hold_in, place_at, as_reliance, component_value}
@@ -40,7 +40,7 @@ split_at heap v u c cs d first last =
     walk_split heap v c cs ∙ (ap (λ (f : Found Value). then_found f (λ w. walk heap w (last_of c cs ∷ []))) first ∙ ap (λ (e : ℕ). walk heap u (e ∷ [])) last)
 
 -- The value of a component that a path leads to.
-component_found : (heap : List Object) (places : List Value) (path : PathForm) (cs : List ℕ) (o : Id) (object : Object) (d : ℕ) (v : Value) → path.selectors ≡ cs → object_at heap o ≡ Some object → object.listed ≡ true → LeadsTo heap places (Names o) [] d path → walk heap (begun places path) (selected named (place_at places path.root) cs) ≡ finds v → value_at heap [] (component o d) ≡ v
+component_found : (heap : List Object) (places : List Value) (path : PathForm) (cs : List ℕ) (o : Id) (object : Object) (d : ℕ) (v : Value) → path.selectors ≡ cs → object_at heap o ≡ Some object → is_there object.stage ≡ true → LeadsTo heap places (Names o) [] d path → walk heap (begun places path) (selected named (place_at places path.root) cs) ≡ finds v → value_at heap [] (component o d) ≡ v
 component_found heap places path [] o object d v whole found listed leads walks = let e = ap (λ (ds : List ℕ). final (selected named (place_at places path.root) ds)) (sym whole) ∙ leads.1 in absurd (cc e)
 component_found heap places path (c ∷ cs) o object d v whole found listed leads walks =
     let e = inside (place_at places path.root) c in
@@ -91,7 +91,7 @@ lends_none outer heap places holds target xs none = record {
 lent_owns : (o : Id) (d : ℕ) → Owns (component_hold ((((o.0 == o.0) && (d == d)) || false))) → ⊥
 lent_owns o d own = rw (eq-eqb o.0 o.0 refl, eq-eqb d d refl) at own
 
-pub lends_some : (outer : Outsiders) (heap : List Object) (places : List Value) (holds : Holds) (target : Option PathForm) (xs : List ℕ) (o : Id) (object : Object) (d : ℕ) → object_at heap o ≡ Some object → object.listed ≡ true → ((path : PathForm) → target ≡ Some path → LeadsTo heap places (Names o) [] d path) → Lends outer heap places holds target xs (hold_of (with_lent o d (as_reliance outer (without_values xs holds))))
+pub lends_some : (outer : Outsiders) (heap : List Object) (places : List Value) (holds : Holds) (target : Option PathForm) (xs : List ℕ) (o : Id) (object : Object) (d : ℕ) → object_at heap o ≡ Some object → is_there object.stage ≡ true → ((path : PathForm) → target ≡ Some path → LeadsTo heap places (Names o) [] d path) → Lends outer heap places holds target xs (hold_of (with_lent o d (as_reliance outer (without_values xs holds))))
 lends_some outer heap places holds target xs o object d found listed into = record {
   h = o;
   d = d;

@@ -42,6 +42,8 @@ pub mod Outcomes
 pub mod Raising
 -- what is known behind a block
 pub mod Leavings
+-- the same where its objects are finalized
+pub mod LeftFinalized
 -- what a call gives to formal parameters
 pub mod Handings
 -- what a call passes by reference
@@ -92,6 +94,8 @@ pub mod Waiting
 pub mod Operating
 -- where none does
 pub mod Calm
+-- a frugal body of a Finalize runs
+pub mod FrugalBodies
 -- what overrides an operation is plain, or quiet
 pub mod QuietOperations
 -- what comes out of the initialization of an object
@@ -108,6 +112,18 @@ pub mod OperationStatements
 pub mod OperationFrames
 pub mod OperationRuns
 pub mod OperationLaw
+-- what it raises
+pub mod FrugalRaises
+pub mod FrugalControl
+pub mod FrugalFrees
+pub mod FrugalFrames
+pub mod FrugalSteps
+-- where a Finalize may be frugal
+pub mod FrugalUseParts
+pub mod FrugalUseEnds
+pub mod FrugalUseFrees
+pub mod FrugalUseCopies
+pub mod FrugalUseStarts
 -- what Free of a component does
 pub mod Releases
 -- record objects are declared
@@ -124,10 +140,30 @@ pub mod CallStatements
 pub mod Statements
 -- jumps on their way
 pub mod Jumps
+-- the body of a Finalize that touches storage
+pub mod Finalizing
 -- the first state
 pub mod Starts
 -- one step
 pub mod Steps
+-- objects go first, then collections
+pub mod InOrder
+-- of which records a treatment speaks
+pub mod Operated
+pub mod FinalizingEnds
+-- what is behind its object, where it is called
+pub mod FinalizingRests
+-- where its body begins
+pub mod FinalizingBegins
+pub mod FinalizingStarts
+-- what a body sees
+pub mod Sees
+-- its steps, and its end
+pub mod FinalizingSteps
+-- while it leaves a master of its own
+pub mod FinalizingLeaves
+-- what stands there
+pub mod FinalizingStands
 -- whole runs
 pub mod Runs
 -- the laws of order
@@ -187,6 +223,7 @@ pub mod ExampleControlled
 -- and those that override operations of controlled types
 pub mod ExampleOperations
 pub mod ExampleUndone
+pub mod ExampleTidying
 -- where flow is not agreed with
 pub mod ExampleInside
 -- where a statement begins

@@ -13,10 +13,11 @@ use Rattle.ada_meaning.specs.Frame.{Does, Repeats, Counts, Handles, Closes}
 use Rattle.ada_sound.specs.Agreement.{Turning, past, into, counting, behind, in_branches, in_body, in_count, in_enclosed, in_others, in_this, in_next, to_this, to_next, ComesInside, in_statements, in_handlers}
 use Rattle.ada_sound.proofs.Orderings.{AsGood, as_good_then, good_each, all_good, good_to_lost}
 use Rattle.ada_sound.proofs.Values.{lost_here}
-use Rattle.ada_sound.proofs.Invariant.{Known, Where, around_at, in_turn, Spares, Control, Goes, To, Ways, Raised, From, MayExit, OnExit, MayReturn, OnReturn, owed_in, Doing, Choosing, Handling, TurnsTo, condition_among, Repeating, Counting, TakenBy, Handled, Outside, Elaborating, NoneBroken}
+use Rattle.ada_sound.proofs.Invariant.{Known, Where, around_at, in_turn, Spares, Control, Goes, To, Ways, Raised, From, MayExit, OnExit, MayReturn, OnReturn, owed_in, Doing, Choosing, Handling, TurnsTo, condition_among, Repeating, Counting, TakenBy, Handled, MayEnd, Outside, Elaborating, NoneBroken}
 use Rattle.ada_sound.proofs.Outcomes.{goes_map, goes_with, to_here, to_before, raised_before, raised_less, then_goes, either_goes, computed_goes, worse_goes, turn_goes, left_goes, loses_goes, block_goes, handled_goes}
 use Rattle.ada_sound.proofs.Raising.{or_left, or_right, raises_untaken, raises_past}
-use Rattle.ada_sound.proofs.Leavings.{left_good, left_twice, finalized_less, good_all}
+use Rattle.ada_sound.proofs.Leavings.{left_twice}
+use Rattle.ada_sound.proofs.LeftFinalized.{finalized_good, finalized_twice, freed_gives, endings_leave}
 
 -- A loop that an exit leaves is left.
 exit_leaves : (condition : Option ExpressionForm) (body : StmtsForm) → have_exit body ≡ true → is_left condition body ≡ true
@@ -150,8 +151,10 @@ module _ (known : Known) where
       )
 
   -- What may leave a loop is known behind it.
-  exits_loop : (start : Holds) (w : Ways) → To w.normal start → (holds : Holds) → MayExit known.program.variables (Some start) nothing_gone holds → To w.normal holds
-  exits_loop start w behind' holds may = to_before w.normal holds start (as_good_then holds (left known.program.variables nothing_gone holds) start (left_good known.program.variables nothing_gone holds) (good_each (left known.program.variables nothing_gone holds) start may)) behind'
+  exits_loop : (start : Holds) (w : Ways) → To w.normal start → (holds : Holds) → MayExit known.program.variables known.implicit (Some start) nothing_gone holds → To w.normal holds
+  exits_loop start w behind' holds may =
+      let behind = left_finalized known.program.variables known.implicit nothing_gone holds in
+      to_before w.normal holds start (as_good_then holds behind start (finalized_good known.program.variables known.implicit nothing_gone holds) (good_each behind start may)) behind'
 
   -- The body of a loop is followed by the next turn, and its exits lead behind the loop.
   abbrev pub Again : Option ExpressionForm → StmtsForm → Control → Ways → Ways
@@ -215,13 +218,11 @@ module _ (known : Known) where
   )
 
   -- An exit goes behind the loop, or on (5.7).
-  pub exit_parts : (start : Option Holds) (inside : Gone) (condition : Option ExpressionForm) (spot : Spot) (holds : Holds) (more raised exited : Holds → Type 0) → Goes (exit_flow known.program.variables known.implicit start inside condition spot holds) more raised → ((h : Holds) → MayExit known.program.variables start inside h → exited h) → Goes (exit_of condition holds) more raised × exited holds
+  pub exit_parts : (start : Option Holds) (inside : Gone) (condition : Option ExpressionForm) (spot : Spot) (holds : Holds) (more raised exited : Holds → Type 0) → Goes (exit_flow known.program.variables known.implicit start inside condition spot holds) more raised → ((h : Holds) → MayExit known.program.variables known.implicit start inside h → exited h) → Goes (exit_of condition holds) more raised × exited holds
   exit_parts None inside condition spot holds more raised exited g out = (g, out holds tt)
   exit_parts (Some start) inside condition spot holds more raised exited g out =
-      let finalized = left_finalized known.program.variables known.implicit inside holds in
-      let h = worse_goes start finalized spot (exit_of condition holds) more raised g in
-      let plain = left known.program.variables inside holds in
-      (h.1, out holds (good_all plain start (as_good_then plain finalized start (finalized_less known.program.variables known.implicit inside holds) (good_each finalized start h.0))))
+      let h = worse_goes start (left_finalized known.program.variables known.implicit inside holds) spot (exit_of condition holds) more raised g in
+      (h.1, out holds h.0)
 
   -- A handler takes an exception, or it passes all of them (11.4).
   pub taken_from : (e : Exception) (hs : HandlersForm) (k : Control) (w : Ways) (holds : Holds) → Handling known hs k w holds → (handler_of e hs ≡ None → To (w.raised e) holds) → TakenBy known k w e (handler_of e hs) holds
@@ -301,23 +302,24 @@ module _ (known : Known) where
       (then_goes (declarations_flow known.program.types v known.implicit ds holds) part (To o.normal) (Raised among o) (raised_before among o) g))
 
   -- What leaves a block on its way behind a loop.
-  exits_block : (gone inside : Gone) (start : Option Holds) (holds : Holds) → MayExit known.program.variables start (gone_with_both gone inside) holds → MayExit known.program.variables start inside (left known.program.variables gone holds)
+  exits_block : (gone inside : Gone) (start : Option Holds) (holds : Holds) → MayExit known.program.variables known.implicit start (gone_with_both gone inside) holds → MayExit known.program.variables known.implicit start inside (left_finalized known.program.variables known.implicit gone holds)
   exits_block gone inside None holds may = tt
-  exits_block gone inside (Some start) holds may = rw (← left_twice known.program.variables gone inside holds) may
+  exits_block gone inside (Some start) holds may = rw (← finalized_twice known.program.variables known.implicit gone inside holds) may
 
   -- What leaves it by a return leaves the blocks around it, too.
-  returns_block : (gone within : Gone) (owed : List ℕ) (holds : Holds) → MayReturn known.program.variables owed (gone_with_both gone within) holds → MayReturn known.program.variables owed within (left known.program.variables gone holds)
-  returns_block gone within owed holds may = rw (← left_twice known.program.variables gone within holds) may
+  returns_block : (gone within : Gone) (owed : List ℕ) (holds : Holds) → MayReturn known.program.variables owed (gone_with_both gone within) holds → MayReturn known.program.variables owed within (left_finalized known.program.variables known.implicit gone holds)
+  returns_block gone within owed holds may = freed_gives known.program.variables known.implicit gone within owed holds (rw (← left_twice known.program.variables gone within holds) may)
 
   -- A block begins with its declarations (5.6).
   pub encloses_from : (here : Where) (ds : List DeclarationForm) (body : StmtsForm) (hs : HandlersForm) (fs : StmtsForm) (k : Control) (w : Ways) (holds : Holds) → Starting here (encloses ds body hs) fs k w holds
-      → Elaborating known ds (Doing known body (Handles hs ∷ Closes ∷ Does fs ∷ k) (Handled known hs (Closes ∷ Does fs ∷ k) (Outside known.program.variables (gone_with ds) (Then fs k w)))) (Outside known.program.variables (gone_with ds) (Then fs k w)) holds
+      → Elaborating known ds (Doing known body (Handles hs ∷ Closes ∷ Does fs ∷ k) (Handled known hs (Closes ∷ Does fs ∷ k) (Outside known (gone_with ds) (Then fs k w)))) (Outside known (gone_with ds) (Then fs k w)) holds
   encloses_from here ds body hs fs k w holds (from, g, out, returns', spares) =
       let v = known.program.variables in
       let gone = gone_with ds in
       let may = endings_free known.implicit (gone_with ds).types in
       let inner : Where = record { start = here.start; inside = gone_with_both (gone_with ds) here.inside; within = gone_with_both (gone_with ds) here.within } in
-      let o : Ways = Outside v (gone_with ds) (Then fs k w) in
+      let o : Ways = Outside known (gone_with ds) (Then fs k w) in
+      let ends : MayEnd known gone = λ t i. spares t (or_right (stmts_may t body || handlers_may t hs) (parts_may t ds) (or_right (declarations_free known.implicit t ds) (leaving_frees known.implicit t ds) (endings_leave known.implicit t ds i))) in
       let among : Exception → Bool = λ e. stmt_raises effects (is_same e) (encloses ds body hs) in
       let flow : Outcome = then_flow (declarations_flow known.program.types v known.implicit ds holds) (λ at. handled (passes effects body hs) (handlers_flow known.program.types v (around_at known inner) hs) (stmts_flow known.program.types v (around_at known inner) body at)) in
       part_from inner (Does fs ∷ k) ds body hs o among holds
@@ -328,12 +330,12 @@ module _ (known : Known) where
       })
       (λ way place at c. from (into ∷ way) place at (in_enclosed c))
       (goes_map flow (λ h. Doing known fs k w (left_finalized v known.implicit gone h)) (λ h. Raised among w (left_finalized v known.implicit gone h)) (To o.normal) (Raised among o)
-      (λ h n. to_here o.normal h (left_finalized v known.implicit gone h, finalized_less v known.implicit gone h, n))
-      (λ h r. λ e i. to_here (o.raised e) h (to_before (w.raised e) (left v gone h) (left_finalized v known.implicit gone h) (finalized_less v known.implicit gone h) (r e i)))
+      (λ h n. to_here o.normal h (ends, to_here (Then fs k w).normal (left_finalized v known.implicit gone h) n))
+      (λ h r. λ e i. to_here (o.raised e) h (ends, r e i))
       (loses_goes v may flow (λ h. Doing known fs k w (left v gone h)) (λ h. Raised among w (left v gone h))
       (block_goes v gone (loses v may flow) (Doing known fs k w) (Raised among w) g)))
-      (λ one h may. to_here w.exited (left v gone h) (out (or_left (have_exit body) (handlers_have_exit hs) one) (left v gone h) (exits_block gone here.inside here.start h may)))
-      (λ one h may. to_here w.exited (left v gone h) (out (or_right (have_exit body) (handlers_have_exit hs) one) (left v gone h) (exits_block gone here.inside here.start h may)))
-      (λ h may. to_here w.returned (left v gone h) (returns' (left v gone h) (returns_block gone here.within (owed_in known.program) h may)))
+      (λ one h may. (let behind = left_finalized v known.implicit gone h in (ends, to_here w.exited behind (out (or_left (have_exit body) (handlers_have_exit hs) one) behind (exits_block gone here.inside here.start h may)))))
+      (λ one h may. (let behind = left_finalized v known.implicit gone h in (ends, to_here w.exited behind (out (or_right (have_exit body) (handlers_have_exit hs) one) behind (exits_block gone here.inside here.start h may)))))
+      (λ h may. (let behind = left_finalized v known.implicit gone h in (ends, to_here w.returned behind (returns' behind (returns_block gone here.within (owed_in known.program) h may)))))
       (λ t i. spares t (or_left (stmts_may t body || handlers_may t hs) (parts_may t ds) (or_left (stmts_may t body) (handlers_may t hs) i)))
       (λ t i. spares t (or_left (stmts_may t body || handlers_may t hs) (parts_may t ds) (or_right (stmts_may t body) (handlers_may t hs) i)))

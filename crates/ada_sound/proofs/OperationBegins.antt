@@ -1,7 +1,7 @@
 -- The body of an operation begins in a sound state: it is plain, its formal parameter stands for a record in the object that is treated, and what comes out of
 -- it comes out of the initialization of that object (7.6).
 
-use Rattle.std.proofs.Common.{◌≡◌, ℕ, zero, suc, true, List, [], ◌∷◌, refl, sym, ap, subst, ◌∙◌, inl, inr}
+use Rattle.std.proofs.Common.{false, ◌≡◌, ℕ, zero, suc, true, List, [], ◌∷◌, refl, sym, ap, subst, ◌∙◌}
 use Rattle.std.specs.Prelude.{Option, Some, None}
 use Rattle.std.specs.List.{slice_get}
 use Rattle.ada_program.specs.declared.program.ComponentKind.{ComponentKind}
@@ -40,15 +40,15 @@ use Rattle.ada_typed.proofs.Values.{OperandKind, filled_at}
 use Rattle.ada_typed.proofs.Control as typed
 use Rattle.ada_typed.proofs.Kept.{behind_call}
 use Rattle.ada_typed.proofs.Runs.{typed_holds}
-use Rattle.ada_quiet.specs.Quiet.{holds_elementary, operations_are_in_use}
+use Rattle.ada_quiet.specs.Quiet.{holds_elementary}
 use Rattle.ada_sound.proofs.Begins.{record_kind}
 use Rattle.ada_sound.proofs.Calm.{filled_in}
 use Rattle.ada_sound.proofs.Callers.{Suspension, known_in, Stands}
 use Rattle.ada_sound.proofs.Fits.{IsWithin}
 use Rattle.ada_sound.proofs.Invariant.{Control}
 use Rattle.ada_sound.proofs.OperationStarts.{operation_begins}
-use Rattle.ada_sound.proofs.Operating.{Sight, WaitsFor, IsCalled, IsCalm, IsScalar, Holds, HoldScalars, lets_out, Operates}
-use Rattle.ada_sound.proofs.QuietOperations.{OverridesLater, Overrides, plain_body, raises_nothing}
+use Rattle.ada_sound.proofs.Operating.{Sight, WaitsFor, IsCalled, IsCalm, PlainBody, IsScalar, Holds, HoldScalars, lets_out, Operates}
+use Rattle.ada_sound.proofs.QuietOperations.{LetsNothingOut}
 use Rattle.ada_sound.proofs.Raising.{body_more}
 use Rattle.ada_sound.proofs.Ready.{running}
 use Rattle.ada_sound.proofs.Returns.{same_types}
@@ -81,7 +81,7 @@ module _ (types : List TypeForm) (cells : Cells) where
   kinds_scalar (kind ∷ kinds) (w ∷ vs) (suc c) v is have at = kinds_scalar kinds vs c v is have.1 at
 
   -- What its formal parameter stands for.
-  lies_within : (access first : ℕ) (kind : TypeNo) → has_record_at (reached_components types access) first (reached_components types kind.0) ≡ true → IsWithin types (Some (variable.Record kind)) access first
+  pub lies_within : (access first : ℕ) (kind : TypeNo) → has_record_at (reached_components types access) first (reached_components types kind.0) ≡ true → IsWithin types (Some (variable.Record kind)) access first
   lies_within access first kind has c k is = record_kind (reached_components types access) (reached_components types kind.0) first c k has is
 
 module _ (program : Program) (number : ℕ) (b : BodyForm) (o : Id) (place : Place) (after : State) (begun : (more : List Value) × (places after ≡ Part o place ∷ more)) (x : Object) (found : object_at after.heap o ≡ Some x) where
@@ -91,7 +91,7 @@ module _ (program : Program) (number : ℕ) (b : BodyForm) (o : Id) (place : Pla
   abbrev sight : Sight
   sight = record { program = own; object = o; access = x.cell.access }
 
-  formal_holds : typed.TypedIn own after → Holds sight (variable_kind b.variables 0) (Part o place)
+  pub formal_holds : typed.TypedIn own after → Holds sight (variable_kind b.variables 0) (Part o place)
   formal_holds inside = by (variable_kind b.variables 0) refl
     where
       here : held named after 0 ≡ Part o place
@@ -136,22 +136,15 @@ part_behind p cells callee v by done of part tasks k a rest (waits, others) = go
     go (typed.for_operation w) = begins_part (seen_in a.procedure p) cells w.kinds (frame.Awaits v by done of part tasks ∷ k) w.awaits
 
 -- What may come out of the body: nothing, unless it overrides Initialize, which begins a part of a new object.
-module _ (program : Program) (well : IsWellFormed (program_form program)) (uses : operations_are_in_use (program_form program) ≡ true) (of number : ℕ) (b : BodyForm) (there : slice_get (body_forms program) number ≡ Some b) where
-  overrides_by : (treatment : Treatment) → IsCalled (operations_of program.types.items of) treatment number → Overrides (operations_of program.types.items of) number
-  overrides_by (begins Creation done) called = inl called
-  overrides_by (begins Copy done) called = inr (inl called)
-  overrides_by (begins (Adjustment n) done) called = inr (inl called)
-  overrides_by (ends cause) called = inr (inr called)
-
-  none_out : OverridesLater (operations_of program.types.items of) number → (e : Exception) → body_raises no_calls b (is_same e) ≡ true → ⊥
-  none_out later e may =
-      let none = raises_nothing program uses of number b later there in
+module _ (program : Program) (well : IsWellFormed (program_form program)) (of number : ℕ) (b : BodyForm) (there : slice_get (body_forms program) number ≡ Some b) where
+  none_out : body_raises no_calls b (λ f. true) ≡ false → (e : Exception) → body_raises no_calls b (is_same e) ≡ true → ⊥
+  none_out none e may =
       let more : body_raises no_calls b (λ f. true) ≡ true = body_more no_calls tt (program_form program).types b (is_same e) (λ f. true) (λ f same. refl) may in
       cc (none, more)
 
-  comes_out : (a : Activation Value) (rest : List (Activation Value)) (o : Id) (heap : List Object) (x : Object) → object_at heap o ≡ Some x → (treatment : Treatment) (k behind : Control) → IsCalled (operations_of program.types.items of) treatment number → WaitsFor o of treatment k behind
+  comes_out : (a : Activation Value) (rest : List (Activation Value)) (o : Id) (heap : List Object) (x : Object) → object_at heap o ≡ Some x → (treatment : Treatment) (k behind : Control) → LetsNothingOut treatment b → IsCalled (operations_of program.types.items of) treatment number → WaitsFor o of treatment k behind
       → typed.Waiting (program_form program) (cells_of heap) (Some number) (Returns [] [] ∷ behind) (a ∷ rest) → (e : Exception) → body_raises no_calls b (is_same e) ≡ true → lets_out (implicit_of (program_form program)) x.cell.access treatment e ≡ true
-  comes_out a rest o heap x found (begins Creation done) k behind called (part, tasks, is) waiting e may =
+  comes_out a rest o heap x found (begins Creation done) k behind quiet called (part, tasks, is) waiting e may =
       let t : typed.IsTreated (seen_in a.procedure (program_form program)).types (cells_of heap) (Names o) (begins Creation done) (performs of part ∷ tasks) =
       part_behind (program_form program) (cells_of heap) (Some number) (Names o) Creation done of part tasks k a rest (rw is at waiting) in
       let operable : IsOperable (program_form program).types t.0 of part =
@@ -162,21 +155,20 @@ module _ (program : Program) (well : IsWellFormed (program_form program)) (uses 
     where
       some_same : {c d : Cell Value} → Some c ≡ Some d → c ≡ d
       some_same e' = cc e'
-  comes_out a rest o heap x found (begins Copy done) k behind called waits waiting e may = absurd (none_out (inl called) e may)
-  comes_out a rest o heap x found (begins (Adjustment n) done) k behind called waits waiting e may = absurd (none_out (inl called) e may)
-  comes_out a rest o heap x found (ends cause) k behind called waits waiting e may = absurd (none_out (inr called) e may)
+  comes_out a rest o heap x found (begins Copy done) k behind quiet called waits waiting e may = absurd (none_out quiet e may)
+  comes_out a rest o heap x found (begins (Adjustment n) done) k behind quiet called waits waiting e may = absurd (none_out quiet e may)
+  comes_out a rest o heap x found (ends cause) k behind quiet called waits waiting e may = absurd (none_out quiet e may)
 
 -- The body begins.
-module _ (program : Program) (well : IsWellFormed (program_form program)) (uses : operations_are_in_use (program_form program) ≡ true) (a : Activation Value) (rest : List (Activation Value)) (gs : List Suspension) (s : State) (k : Control) where
-  pub begins_operation : (e : Event) (after : State) → Stands program gs (record s { activations = a ∷ rest }) → IsCalm (behind_call k)
-      → typed.Typed (program_form program) after → Begins (known_in program a.procedure gs) a rest s program.types.items (body_forms program) k e after → Operates program after
-  begins_operation e after stands calm typing c =
+module _ (program : Program) (well : IsWellFormed (program_form program)) (a : Activation Value) (rest : List (Activation Value)) (gs : List Suspension) (s : State) (k : Control) where
+  pub begins_operation : (IsOperated : Treatment → Id → ℕ → Type 0) (e : Event) (after : State) → Stands program gs (record s { activations = a ∷ rest }) → IsCalm (behind_call k)
+      → typed.Typed (program_form program) after → (c : Begins (known_in program a.procedure gs) a rest s program.types.items (body_forms program) k IsOperated e after) → PlainBody (program_form program).types c.b × LetsNothingOut c.treatment c.b → Operates program after
+  begins_operation IsOperated e after stands calm typing c (plain, quiet) =
       let begun = operating named c.number c.b (Part c.o c.place) c.behind (record (running k a rest s) { heap = c.heap }) in
       let now : typed.Typed (program_form program) begun = rw c.is at typing in
       let inside : typed.TypedIn (seen_in (Some c.number) (program_form program)) begun = now.inside in
       let own : typed.TypedIn (seen_by c.number c.b (program_form program)) begun = rw (seen_as (program_form program) c.number c.b c.there) at inside in
-      let overrides = overrides_by program well uses c.of c.number c.b c.there c.treatment c.called in
-      rw c.is (operation_begins program c.number c.b c.there (plain_body program uses well c.of c.number c.b overrides c.there) a rest gs s stands c.o c.of c.treatment k c.behind (Part c.o c.place)
+      rw c.is (operation_begins program c.number c.b c.there plain a rest gs s stands c.o c.of c.treatment k c.behind (Part c.o c.place)
       e c.heap c.x c.found c.live c.alters c.waits c.treats
       (formal_holds program c.number c.b c.o c.place begun (_, refl) c.x c.found own) (scalars_hold program c.number c.b c.o c.place begun (_, refl) c.x c.found own) calm
-      (comes_out program well uses c.of c.number c.b c.there a rest c.o c.heap c.x c.found c.treatment k c.behind c.called c.waits (now.waiting)))
+      (comes_out program well c.of c.number c.b c.there a rest c.o c.heap c.x c.found c.treatment k c.behind quiet c.called c.waits (now.waiting)))

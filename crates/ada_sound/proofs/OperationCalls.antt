@@ -38,7 +38,7 @@ ready_for known o of (ends cause) k behind heap places operands ms live (tasks, 
 ready_raising : (known : Known) (o : Id) (of : ℕ) (treatment : Treatment) (access : ℕ) (k behind : Control) (heap : List Object) (places operands : List Value) (ms : List Master) (e : Exception) (x : Object) → object_at heap o ≡ Some x → x.cell.access ≡ access → IsLive heap (Names o) → WaitsFor o of treatment k behind
     → lets_out known.implicit access treatment e ≡ true → TreatsBy known (Names o) treatment k heap places operands ms → ReadyIn known (Raising e) behind heap places operands ms
 ready_raising known o of (begins Creation done) access k behind heap places operands ms e x found same live (part, tasks, is) out r =
-    rw is (refl, live, r.1.0, r.1.1 e (o, x, refl, found, rw same out))
+    rw is (refl, live, r.1.0, (o, x, refl, found, rw same out), r.1.1 e (o, x, refl, found, rw same out))
 ready_raising known o of (begins Copy done) access k behind heap places operands ms e x found same live waits out r = absurd (cc out)
 ready_raising known o of (begins (Adjustment number) done) access k behind heap places operands ms e x found same live waits out r = absurd (cc out)
 ready_raising known o of (ends cause) access k behind heap places operands ms e x found same live waits out r = absurd (cc out)

@@ -96,7 +96,7 @@ starts sight b same out plain behind m = (
 )
 
 -- No operation but this one runs.
-calm_behind : (o : Id) (of : ℕ) (treatment : Treatment) (k behind : Control) → WaitsFor o of treatment k behind → IsCalm (behind_call k) → IsCalm (behind_call behind)
+pub calm_behind : (o : Id) (of : ℕ) (treatment : Treatment) (k behind : Control) → WaitsFor o of treatment k behind → IsCalm (behind_call k) → IsCalm (behind_call behind)
 calm_behind o of (begins by done) k behind (part, tasks, is) calm = rw is calm
 calm_behind o of (ends cause) k behind (tasks, is) calm = rw (is, behind_treating (Names o) (ends cause) tasks k) calm
 

@@ -104,7 +104,7 @@ module _ (known : Known) (k : Control) (a : Activation Value) (rest : List (Acti
   referred_fine place t count Null below w = jumps_less known k (record a { operands = below }) rest s (Raising ConstraintError) (at_work w (w.rest.1.0 refl))
   referred_fine place t count (Names o) below w =
       let there : IsThere s.heap o = w.rest.0 in
-      let looks : look s.heap (Names o) ≡ finds there.0.cell = rw (there.1, (w.stored.sane o there.0 there.1).listed_exists there.2) refl in
+      let looks : look s.heap (Names o) ≡ finds there.0.cell = rw (there.1, (w.stored.sane o there.0 there.1).there_exists there.2) refl in
       rw looks (referred_on o there place below (record_in there.0.cell.values place.component count) (at_work w (w.rest.1.1 o refl)))
   referred_fine place t count (Scalar n) below w = tt
   referred_fine place t count (Part object_id base) below w = tt
@@ -120,7 +120,7 @@ module _ (known : Known) (k : Control) (a : Activation Value) (rest : List (Acti
   opened_fine c Null below w = jumps_less known k (record a { operands = below }) rest s (Raising ConstraintError) (at_work w (w.rest.1.0 refl))
   opened_fine c (Names o) below w =
       let there : IsThere s.heap o = w.rest.0 in
-      let looks : look s.heap (Names o) ≡ finds there.0.cell = rw (there.1, (w.stored.sane o there.0 there.1).listed_exists there.2) refl in
+      let looks : look s.heap (Names o) ≡ finds there.0.cell = rw (there.1, (w.stored.sane o there.0 there.1).there_exists there.2) refl in
       rw looks (opened_on o there c below (slice_get there.0.cell.values c) (λ v. at_work w (w.rest.1.1 o v refl)))
   opened_fine c (Scalar n) below w = tt
   opened_fine c (Part object_id base) below w = tt

@@ -1,7 +1,7 @@
--- What overrides an operation is plain (7.6): so it creates no collection and no record object, and calls nothing. What overrides Adjust or Finalize is quiet: it
+-- What overrides an operation is plain or frugal (7.6): so it creates no collection and no record object, and calls nothing. What overrides Adjust or Finalize
 -- lets no exception out either.
 
-use Rattle.std.proofs.Common.{◌≡◌, ℕ, zero, suc, ◌+◌, Bool, true, false, ◌&&◌, if◌then◌else◌, List, [], ◌∷◌, ◌++◌, length, map, refl, sym, ap, ◌∙◌, arith, length-append, ◌⊎◌, inl, inr}
+use Rattle.std.proofs.Common.{◌≡◌, ℕ, zero, suc, ◌+◌, Bool, true, false, ◌&&◌, ◌||◌, if◌then◌else◌, List, [], ◌∷◌, ◌++◌, length, map, refl, sym, ap, ◌∙◌, arith, length-append, ◌⊎◌, inl, inr}
 use Rattle.std.specs.Prelude.{Option, Some, None, not, find}
 use Rattle.std.specs.List.{list_all, slice_get}
 use Rattle.std.specs.Option.{option_map}
@@ -21,11 +21,17 @@ use Rattle.ada_effects.specs.Effects.{no_calls, body_raises}
 use Rattle.ada_flow.specs.Flow.{have_exit, handlers_have_exit}
 use Rattle.ada_typed.proofs.Bodies.{seen_as, seen_fits}
 use Rattle.ada_scopes.specs.Scopes.{NestsAnywhere, AllNestAnywhere, OperationsNest}
-use Rattle.ada_quiet.specs.Quiet.{is_quiet_stmt, are_quiet, are_quiet_branches, are_quiet_handlers, are_quiet_declarations, is_plain_body, is_plain_procedure, is_quiet_procedure, is_plain_operation, is_quiet_operation, uses_operations, adjusts_access, operations_are_in_use}
+use Rattle.ada_quiet.specs.Quiet.{is_quiet_stmt, are_quiet, are_quiet_branches, are_quiet_handlers, are_quiet_declarations, is_plain_body, is_plain_procedure, is_quiet_procedure, is_plain_operation, is_quiet_operation, adjusts_access}
+use Rattle.ada_quiet.specs.Frugal.{is_frugal_body, is_frugal_procedure, is_frugal_operation}
+use Rattle.ada_quiet.specs.InUse.{may_be_frugal, uses_finalize, uses_operations, operations_are_in_use}
 use Rattle.ada_quiet.proofs.InUse.{plain_procedure, plain_operation}
 use Rattle.ada_sound.proofs.Exits.{no_exits, no_exit_handlers}
 use Rattle.ada_sound.proofs.OperationStarts.{apart}
-use Rattle.ada_sound.proofs.Operating.{PlainBody}
+use Rattle.ada_meaning.specs.declared.event.Birth.TheVariants.{Creation, Copy, Adjustment}
+use Rattle.ada_meaning.specs.declared.event.Cause.{Cause}
+use Rattle.ada_meaning.specs.Frame.{Treatment, begins, ends}
+use Rattle.ada_sound.proofs.FrugalBodies.{frugal_nests}
+use Rattle.ada_sound.proofs.Operating.{IsCalled, PlainBody}
 
 -- Quiet statements create nothing but Integers and Booleans.
 module _ (types : List TypeForm) (variables : List VariableForm) where
@@ -107,13 +113,6 @@ no_no : (b : Bool) → not b ≡ true → b ≡ false
 no_no true e = absurd (cc e)
 no_no false e = refl
 
--- A procedure overrides Adjust or Finalize, or one of the three.
-abbrev pub OverridesLater : Operations → ℕ → Type 0
-OverridesLater o number = (procedure_number o.adjust ≡ Some number) ⊎ (procedure_number o.finalize ≡ Some number)
-
-abbrev pub Overrides : Operations → ℕ → Type 0
-Overrides o number = (procedure_number o.initialize ≡ Some number) ⊎ OverridesLater o number
-
 module _ (p : ProgramForm) where
   abbrev IsPlain : ℕ → Type 0
   IsPlain number = is_plain_procedure p.types (slice_get p.bodies number) ≡ true
@@ -121,9 +120,14 @@ module _ (p : ProgramForm) where
   abbrev IsQuiet : ℕ → Type 0
   IsQuiet number = is_quiet_procedure p.types (slice_get p.bodies number) ≡ true
 
-  -- What overrides one of these operations is plain, and it is quiet unless that is Initialize alone.
-  abbrev AreUsed : Operations → ℕ → Type 0
-  AreUsed o number = (Overrides o number → IsPlain number) × (OverridesLater o number → IsQuiet number)
+  abbrev IsFrugal : ℕ → Type 0
+  IsFrugal number = (may_be_frugal p ≡ true) × (is_frugal_procedure (slice_get p.bodies number) ≡ true)
+
+  -- What overrides Initialize is plain, what overrides Adjust is quiet, and what overrides Finalize is quiet or frugal.
+  record AreUsed (o : Operations) (number : ℕ) : Type 0 where
+    initializes : procedure_number o.initialize ≡ Some number → IsPlain number
+    adjusts : procedure_number o.adjust ≡ Some number → IsQuiet number
+    finalizes : procedure_number o.finalize ≡ Some number → IsQuiet number ⊎ IsFrugal number
 
   plain_one : (o : Option ProcedureNo) (number : ℕ) → is_plain_operation p o ≡ true → procedure_number o ≡ Some number → IsPlain number
   plain_one None number plain is = absurd (cc is)
@@ -133,28 +137,30 @@ module _ (p : ProgramForm) where
   quiet_one None number quiet is = absurd (cc is)
   quiet_one (Some procedure) number quiet is = let same : procedure.0 ≡ number = cc is in rw same at quiet
 
-  later_used : (f : Finalization) (number : ℕ) → uses_operations p (Some f) ≡ true → OverridesLater f.operations number → IsQuiet number
-  later_used f number uses (inl is) = quiet_one f.operations.adjust number (apart _ _ (apart _ _ uses).0).1 is
-  later_used f number uses (inr is) = quiet_one f.operations.finalize number (apart _ _ uses).1 is
+  frugal_one : (o : Option ProcedureNo) (number : ℕ) → is_frugal_operation p o ≡ true → procedure_number o ≡ Some number → is_frugal_procedure (slice_get p.bodies number) ≡ true
+  frugal_one None number frugal is = absurd (cc is)
+  frugal_one (Some procedure) number frugal is = let same : procedure.0 ≡ number = cc is in rw same at frugal
 
-  one_used : (f : Finalization) (number : ℕ) → uses_operations p (Some f) ≡ true → Overrides f.operations number → IsPlain number
-  one_used f number uses (inl is) = plain_one f.operations.initialize number (apart _ _ (apart _ _ uses).0).0 is
-  one_used f number uses (inr later) = plain_procedure p.types (slice_get p.bodies number) (later_used f number uses later)
-
-  none_used : (number : ℕ) → AreUsed (operations_in None) number
-  none_used number = (none, later)
+  finalize_one : (o : Option ProcedureNo) (number : ℕ) → uses_finalize p o ≡ true → procedure_number o ≡ Some number → IsQuiet number ⊎ IsFrugal number
+  finalize_one o number uses is = by (is_quiet_operation p o) refl uses
     where
-      later : OverridesLater (operations_in None) number → IsQuiet number
-      later (inl is) = absurd (cc is)
-      later (inr is) = absurd (cc is)
-
-      none : Overrides (operations_in None) number → IsPlain number
-      none (inl is) = absurd (cc is)
-      none (inr is) = plain_procedure p.types (slice_get p.bodies number) (later is)
+      by : (quiet : Bool) → is_quiet_operation p o ≡ quiet → (quiet || (may_be_frugal p && is_frugal_operation p o)) ≡ true → IsQuiet number ⊎ IsFrugal number
+      by true quiet uses' = inl (quiet_one o number quiet is)
+      by false quiet uses' = let both = apart (may_be_frugal p) (is_frugal_operation p o) uses' in inr (both.0, frugal_one o number both.1 is)
 
   three_used : (f : Option Finalization) (number : ℕ) → uses_operations p f ≡ true → AreUsed (operations_in f) number
-  three_used None number uses = none_used number
-  three_used (Some f) number uses = (one_used f number uses, later_used f number uses)
+  three_used None number uses = record { initializes = λ is. absurd (cc is); adjusts = λ is. absurd (cc is); finalizes = λ is. absurd (cc is) }
+  three_used (Some f) number uses =
+      let three = apart _ _ uses in
+      let two = apart _ _ three.0 in
+      record {
+        initializes = λ is. plain_one f.operations.initialize number two.0 is;
+        adjusts = λ is. quiet_one f.operations.adjust number two.1 is;
+        finalizes = λ is. finalize_one f.operations.finalize number three.1 is;
+      }
+
+  none_used : (number : ℕ) → AreUsed (operations_in None) number
+  none_used number = three_used None number refl
 
   used_by : (t : TypeDefinition) (number : ℕ) → uses_operations p (finalization_in (Some (type_form t))) ≡ true → AreUsed (operations_by (Some t)) number
   used_by (definition.Record name parts components finalization) number uses = three_used finalization number uses
@@ -206,18 +212,29 @@ module _ (p : ProgramForm) where
       let at : length more + i ≡ length before + suc i = omega (arith, length-append before (body_nests p.types before c ∷ [])) in
       (later.0, rw at at later.1)
 
-  nests_there : (number : ℕ) (b : BodyForm) → slice_get p.bodies number ≡ Some b → IsPlain number → (around : List ℕ) → call_nests (slice_get (callees_of p) number) around ≡ true
-  nests_there number b there plain around =
+  nests_there : (number : ℕ) (b : BodyForm) → slice_get p.bodies number ≡ Some b → ((callees : Callees) (around : List ℕ) → body_nests p.types callees b around ≡ true) → (around : List ℕ) → call_nests (slice_get (callees_of p) number) around ≡ true
+  nests_there number b there nests around =
       let c = callee_is [] p.bodies number b there in
       let at : zero + number ≡ number = omega arith in
       let found : slice_get (callees_of p) number ≡ Some (body_nests p.types c.0 b) = rw at at c.1 in
-      rw found (body_is p.types c.0 b around (rw there at plain))
+      rw found (nests c.0 around)
 
-  nests_one : (t : ℕ) (o : Option ProcedureNo) → overrides_rightly p.types (callable_in p) t o ≡ true → is_plain_operation p o ≡ true → NestsAnywhere (callees_of p) o
-  nests_one t None right plain = tt
-  nests_one t (Some procedure) right plain =
+  plain_nests : (t : ℕ) (o : Option ProcedureNo) → overrides_rightly p.types (callable_in p) t o ≡ true → is_plain_operation p o ≡ true → NestsAnywhere (callees_of p) o
+  plain_nests t None right plain = tt
+  plain_nests t (Some procedure) right plain =
       let b = there_one t (Some procedure) procedure.0 right refl in
-      nests_there procedure.0 b.0 b.1 plain
+      nests_there procedure.0 b.0 b.1 (λ callees around. body_is p.types callees b.0 around (rw (b.1) at plain))
+
+  finalize_nests : (t : ℕ) (o : Option ProcedureNo) → overrides_rightly p.types (callable_in p) t o ≡ true → uses_finalize p o ≡ true → NestsAnywhere (callees_of p) o
+  finalize_nests t None right uses = tt
+  finalize_nests t (Some procedure) right uses = by (finalize_one (Some procedure) procedure.0 uses refl)
+    where
+      b : (c : BodyForm) × (slice_get p.bodies procedure.0 ≡ Some c)
+      b = there_one t (Some procedure) procedure.0 right refl
+
+      by : IsQuiet procedure.0 ⊎ IsFrugal procedure.0 → NestsAnywhere (callees_of p) (Some procedure)
+      by (inl quiet) = plain_nests t (Some procedure) right (plain_operation p (Some procedure) quiet)
+      by (inr frugal) = nests_there procedure.0 b.0 b.1 (λ callees around. frugal_nests p.types callees b.0 around (rw (b.1) at (frugal.1)))
 
   nests_three : (t : ℕ) (f : Option Finalization) → has_operations p.types (callable_in p) t f ≡ true → uses_operations p f ≡ true → AllNestAnywhere (callees_of p) (operations_in f)
   nests_three t None right uses = (tt, tt, tt)
@@ -226,7 +243,7 @@ module _ (p : ProgramForm) where
       let three = apart _ _ two.0 in
       let uses_two = apart _ _ uses in
       let uses_three = apart _ _ uses_two.0 in
-      (nests_one t f.operations.initialize three.0 uses_three.0, nests_one t f.operations.adjust three.1 (plain_operation p f.operations.adjust uses_three.1), nests_one t f.operations.finalize two.1 (plain_operation p f.operations.finalize uses_two.1))
+      (plain_nests t f.operations.initialize three.0 uses_three.0, plain_nests t f.operations.adjust three.1 (plain_operation p f.operations.adjust uses_three.1), finalize_nests t f.operations.finalize two.1 uses_two.1)
 
   nests_at : (ts : List TypeForm) (n i : ℕ) → have_operations p.types (callable_in p) n ts ≡ true → list_all (λ t. uses_operations p (finalization_in (Some t)) && not (adjusts_access p t)) ts ≡ true → AllNestAnywhere (callees_of p) (operations_in (finalization_in (slice_get ts i)))
   nests_at [] n i right uses = (tt, tt, tt)
@@ -236,24 +253,45 @@ module _ (p : ProgramForm) where
   pub operations_nest : IsWellFormed p → operations_are_in_use p ≡ true → OperationsNest p
   operations_nest well uses t = nests_at p.types 0 t well.operations_fit uses
 
--- What overrides an operation, by the number of the type among the controlled ones, has a plain body; what overrides Adjust or Finalize raises nothing.
-module _ (program : Program) (uses : operations_are_in_use (program_form program) ≡ true) where
-  used_of : (of number : ℕ) → AreUsed (program_form program) (operations_of program.types.items of) number
-  used_of of number = used_found (program_form program) (λ t. is_number of (number_by (Some t))) program.types.items number uses
+-- The body of a procedure lets no exception out, unless it initializes a new object (7.6).
+abbrev pub LetsNothingOut : Treatment → BodyForm → Type 0
+LetsNothingOut (begins Creation done) b = Unit {0}
+LetsNothingOut (begins Copy done) b = body_raises no_calls b (λ e. true) ≡ false
+LetsNothingOut (begins (Adjustment number) done) b = body_raises no_calls b (λ e. true) ≡ false
+LetsNothingOut (ends cause) b = body_raises no_calls b (λ e. true) ≡ false
 
-  pub plain_body : IsWellFormed (program_form program) → (of number : ℕ) (b : BodyForm) → Overrides (operations_of program.types.items of) number → slice_get (body_forms program) number ≡ Some b → PlainBody (program_form program).types b
-  plain_body well of number b overrides there =
-      let p = program_form program in
-      let plain : is_plain_procedure p.types (slice_get p.bodies number) ≡ true = (used_of of number).0 overrides in
-      let own = seen_in (Some number) p in
-      let fits = seen_fits p well (Some number) in
-      let seen = seen_as p number b there in
-      plain_is p.types b (rw there at plain)
+-- What is called is plain, or it is a frugal Finalize.
+abbrev pub IsUsedAs : ProgramForm → Treatment → BodyForm → Type 0
+IsUsedAs p treatment b =
+    (PlainBody p.types b × LetsNothingOut treatment b)
+    ⊎ ((cause : Cause) × (treatment ≡ ends cause) × (may_be_frugal p ≡ true) × (is_frugal_body b ≡ true))
+
+-- What overrides an operation, by the number of the type among the controlled ones.
+module _ (program : Program) (uses : operations_are_in_use (program_form program) ≡ true) (well : IsWellFormed (program_form program)) (of number : ℕ) (b : BodyForm) (there : slice_get (body_forms program) number ≡ Some b) where
+  abbrev whole : ProgramForm
+  whole = program_form program
+
+  used : AreUsed whole (operations_of program.types.items of) number
+  used = used_found whole (λ t. is_number of (number_by (Some t))) program.types.items number uses
+
+  plain_body : IsPlain whole number → PlainBody whole.types b
+  plain_body plain =
+      let own = seen_in (Some number) whole in
+      let fits = seen_fits whole well (Some number) in
+      let seen = seen_as whole number b there in
+      plain_is whole.types b (rw there at plain)
       (rw seen at (no_exits own.types own.variables own.texts own.exceptions _ own.statements fits.statements_fit))
       (rw seen at (no_exit_handlers own.types own.variables own.texts own.exceptions _ own.handlers fits.handlers_fit))
 
-  pub raises_nothing : (of number : ℕ) (b : BodyForm) → OverridesLater (operations_of program.types.items of) number → slice_get (body_forms program) number ≡ Some b → body_raises no_calls b (λ e. true) ≡ false
-  raises_nothing of number b overrides there =
-      let p = program_form program in
-      let quiet : is_quiet_procedure p.types (slice_get p.bodies number) ≡ true = (used_of of number).1 overrides in
-      no_no (body_raises no_calls b (λ e. true)) (apart _ _ (rw there at quiet)).1
+  quiet_body : IsQuiet whole number → PlainBody whole.types b × (body_raises no_calls b (λ e. true) ≡ false)
+  quiet_body quiet = (plain_body (plain_procedure whole.types (slice_get whole.bodies number) quiet), no_no (body_raises no_calls b (λ e. true)) (apart _ _ (rw there at quiet)).1)
+
+  finalizes_as : (cause : Cause) → IsQuiet whole number ⊎ IsFrugal whole number → IsUsedAs whole (ends cause) b
+  finalizes_as cause (inl quiet) = inl (quiet_body quiet)
+  finalizes_as cause (inr frugal) = inr (cause, refl, frugal.0, rw there at (frugal.1))
+
+  pub used_as : (treatment : Treatment) → IsCalled (operations_of program.types.items of) treatment number → IsUsedAs whole treatment b
+  used_as (begins Creation done) called = inl (plain_body (used.initializes called), tt)
+  used_as (begins Copy done) called = inl (quiet_body (used.adjusts called))
+  used_as (begins (Adjustment n) done) called = inl (quiet_body (used.adjusts called))
+  used_as (ends cause) called = finalizes_as cause (used.finalizes called)

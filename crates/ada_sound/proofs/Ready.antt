@@ -19,10 +19,11 @@ use Rattle.ada_meaning.specs.Step.{first_or, older, jumping, treating}
 use Rattle.ada_meaning.specs.Named.{Object, State}
 use Rattle.ada_meaning.specs.Run.{Event}
 use Rattle.ada_sound.proofs.Items.{NoMaster}
-use Rattle.ada_sound.proofs.Fits.{MayFollow, weaker_fit, spare_fit, put_lost, going}
+use Rattle.ada_sound.proofs.Fits.{MayFollow, weaker_fit, spare_fit, put_lost, sparing}
 use Rattle.ada_sound.proofs.Orderings.{AsGood}
 use Rattle.ada_sound.proofs.Alters.{alters_same}
-use Rattle.ada_sound.proofs.Invariant.{StoresOn, Caller, below_callers, below, at_end, nowhere, Known, Control, Rooms, Roomed, To, RunsOn, RunsBehind, GoesOn, RaisesAt, CopiesTo, PassesTo, Awaits, IsHolder, Working, Parting, HalfBy, Resumes, NamesTo, BegunTo, EndsTo, StoresBehind, CopiesBehind, TreatsBy, RaisesBy, ReadyIn, Ready, Says, Stepped, By, innermost, ways}
+use Rattle.ada_sound.proofs.Stored.{Stored}
+use Rattle.ada_sound.proofs.Invariant.{under_in, outers, StoresOn, Caller, below_callers, below, at_end, nowhere, Known, Control, Rooms, Roomed, To, RunsOn, RunsBehind, GoesOn, RaisesAt, CopiesTo, PassesTo, Awaits, IsHolder, Working, Parting, HalfBy, Resumes, NamesTo, BegunTo, EndsTo, StoresBehind, CopiesBehind, TreatsBy, RaisesBy, ReadyIn, Ready, Says, Stepped, By, innermost, ways}
 
 -- The state at work on something, with a running activation; and in another mode.
 abbrev pub running : Control → Activation Value → List (Activation Value) → State → State
@@ -57,6 +58,15 @@ pub none_left : (known : Known) (mode : Mode) (ms : List Master) (rooms : Rooms)
 none_left known mode ms [] holds r g = none_by known.callers mode ms holds r g
 none_left known mode ms (gone ∷ rooms) holds r g = nowhere_goes mode holds g
 
+none_stored : (callers : List Caller) (mode : Mode) (heap : List Object) (ms : List Master) (holds : Holds) → By mode (at_end callers) holds → Stored (under_in callers) heap ms → Stored [] heap ms
+none_stored [] mode heap ms holds g stored = stored
+none_stored (w ∷ ws) mode heap ms holds g stored = nowhere_goes mode holds g
+
+-- Nor is an object under way then.
+pub left_stored : (known : Known) (mode : Mode) (heap : List Object) (ms : List Master) (rooms : Rooms) (holds : Holds) → GoesOn known mode [] rooms holds → Stored (outers known).under heap ms → Stored [] heap ms
+left_stored known mode heap ms [] holds g stored = none_stored known.callers mode heap ms holds g stored
+left_stored known mode heap ms (gone ∷ rooms) holds g stored = nowhere_goes mode holds g
+
 module _ (known : Known) where
   -- A step that leaves objects as they are.
   pub stays : (e : Event) (after : State) → Ready known after → Says known.implicit known.program e after.heap after → Stepped known after.heap e after
@@ -64,10 +74,10 @@ module _ (known : Known) where
 
   -- Where a master is to be left, nothing relies on the components of its objects.
   pub parts : {heap : List Object} {places : List Value} {ms : List Master} {more : Rooms → Holds → Type 0} → Working known heap places ms more → Parting known heap places ms more
-  parts {heap} {places} {ms} w = record { rooms = w.rooms; holds = w.holds; stored = w.stored; roomed = w.roomed; fit = spare_fit (going heap (innermost ms)) w.fit; rest = w.rest }
+  parts {heap} {places} {ms} w = record { rooms = w.rooms; holds = w.holds; stored = w.stored; roomed = w.roomed; fit = spare_fit (sparing heap (innermost ms)) w.fit; rest = w.rest }
 
   pub runs_ready : (k : Control) (heap : List Object) (places operands : List Value) (ms : List Master) → Working known heap places ms (RunsOn known k) → ReadyIn known Running k heap places operands ms
-  runs_ready [] heap places operands ms w = (w.stored, none_left known Running ms w.rooms w.holds w.roomed w.rest)
+  runs_ready [] heap places operands ms w = (left_stored known Running heap ms w.rooms w.holds w.rest w.stored, none_left known Running ms w.rooms w.holds w.roomed w.rest)
   runs_ready (Elaborates ds fs hs ∷ k) heap places operands ms w = w
   runs_ready (Does fs ∷ k) heap places operands ms w = inl w
   runs_ready (Repeats condition body ∷ k) heap places operands ms w = w
@@ -105,11 +115,11 @@ module _ (known : Known) where
   -- What is left goes on in a mode.
   pub goes_ready : (mode : Mode) (k : Control) (heap : List Object) (places operands : List Value) (ms : List Master) → Working known heap places ms (GoesOn known mode k) → ReadyIn known mode k heap places operands ms
   goes_ready Running k heap places operands ms w = runs_ready k heap places operands ms w
-  goes_ready (Raising e) [] heap places operands ms w = (w.stored, none_left known (Raising e) ms w.rooms w.holds w.roomed w.rest)
+  goes_ready (Raising e) [] heap places operands ms w = (left_stored known (Raising e) heap ms w.rooms w.holds w.rest w.stored, none_left known (Raising e) ms w.rooms w.holds w.roomed w.rest)
   goes_ready (Raising e) (f ∷ k) heap places operands ms w = raises_by e f k heap places ms w
-  goes_ready Exiting [] heap places operands ms w = (w.stored, none_left known Exiting ms w.rooms w.holds w.roomed w.rest)
+  goes_ready Exiting [] heap places operands ms w = (left_stored known Exiting heap ms w.rooms w.holds w.rest w.stored, none_left known Exiting ms w.rooms w.holds w.roomed w.rest)
   goes_ready Exiting (f ∷ k) heap places operands ms w = w
-  goes_ready Returning [] heap places operands ms w = (w.stored, none_left known Returning ms w.rooms w.holds w.roomed w.rest)
+  goes_ready Returning [] heap places operands ms w = (left_stored known Returning heap ms w.rooms w.holds w.rest w.stored, none_left known Returning ms w.rooms w.holds w.roomed w.rest)
   goes_ready Returning (f ∷ k) heap places operands ms w = w
 
   -- So does what is left with the second half of a take pair.
@@ -157,15 +167,18 @@ module _ (known : Known) where
   stores_copied heap places t below (StoresRecord o first count ∷ k) rooms holds r = r
   stores_copied heap places t below (f ∷ k) rooms holds r = absurd r
 
-  pub copies_ready : (k : Control) (heap : List Object) (places operands : List Value) (ms : List Master) → CopiesBehind known k heap places operands ms → ReadyIn known Running k heap places operands ms
-  copies_ready [] heap places operands ms r = absurd r
-  copies_ready (Copies first t ∷ k) heap places operands ms w =
+  pub copies_on : (first t : ℕ) (k : Control) (heap : List Object) (places operands : List Value) (ms : List Master) → Working known heap places ms (λ rooms holds. IsHolder heap (first_or Null operands) × StoresBehind known heap k rooms holds) → ReadyIn known Running (Copies first t ∷ k) heap places operands ms
+  copies_on first t k heap places operands ms w =
       let v = first_or Null operands in
       at_work w (
         holder_follows heap v w.rest.0,
         holder_raises heap v k w.rooms w.holds w.rest.0,
         stores_copied heap places t (older operands) k w.rooms w.holds w.rest.1,
       )
+
+  copies_ready : (k : Control) (heap : List Object) (places operands : List Value) (ms : List Master) → CopiesBehind known k heap places operands ms → ReadyIn known Running k heap places operands ms
+  copies_ready [] heap places operands ms r = absurd r
+  copies_ready (Copies first t ∷ k) heap places operands ms (copied, w) = copies_on first t k heap places operands ms w
   copies_ready (f ∷ k) heap places operands ms r = absurd r
 
   -- An object is treated first, if anything is to be done.

@@ -1,7 +1,10 @@
 -- Records that have controlled parts are assigned to one another (5.2, 7.6): both are found first; then the target is finalized, its components get the values
 -- of the other one's, and it is adjusted. Their components are Integers and Booleans.
 
-use Rattle.std.proofs.Common.{◌≡◌, ℕ, suc, ◌+◌, Bool, true, false, ◌||◌, ◌&&◌, List, [], ◌∷◌, ◌++◌, length, take, drop, refl, ◌∙◌, inr}
+use Rattle.ada_meaning.specs.declared.state.Mode.TheVariants.{Running}
+use Rattle.ada_parts.specs.Task.{Task}
+use Rattle.ada_program.specs.declared.program.Finalization.{Finalization}
+use Rattle.std.proofs.Common.{not, ◌≡◌, ℕ, suc, ◌+◌, Bool, true, false, ◌||◌, ◌&&◌, List, [], ◌∷◌, ◌++◌, length, take, drop, refl, ◌∙◌, inr}
 use Rattle.std.proofs.lemmas.Bool.{and_parts}
 use Rattle.std.specs.Prelude.{Option, Some, None}
 use Rattle.std.specs.List.{list_any, list_all}
@@ -16,7 +19,7 @@ use Rattle.ada_program.specs.Form.{RecordPathForm, ItemForm, null_item, item_of_
 use Rattle.ada_program.specs.ProgramForm.{TypeForm, VariableForm}
 use Rattle.ada_program.specs.Handling.{is_same}
 use Rattle.ada_program.specs.Typed.{width_of}
-use Rattle.ada_program.specs.WellFormed.{held_kind, kind_among, record_components, reached_components, is_record_path, item_fits, is_filled, item_owns, copies_whole, finalization_of, record_fits}
+use Rattle.ada_program.specs.WellFormed.{is_copy, held_kind, kind_among, record_components, reached_components, is_record_path, item_fits, is_filled, item_owns, copies_whole, finalization_of, record_fits}
 use Rattle.ada_effects.specs.Effects.{effects_of, record_path_raises, item_raises, items_raise, stmt_raises, assignment_frees}
 use Rattle.ada_flow.specs.Flow.{Holds, hold_at, lost_by, is_owning, is_owning_record, reaches_it, passes_it, copies_to, uses_in_items, uses_in_record, uses_in_copy, record_passes, gives_record, using_paths, ends_with}
 use Rattle.ada_meaning.specs.declared.event.Birth.TheVariants.{Adjustment}
@@ -28,17 +31,16 @@ use Rattle.ada_meaning.specs.Frame.{Does, Refers, Assigns, Copies, StoresRecord,
 use Rattle.ada_meaning.specs.State.{Activation}
 use Rattle.ada_meaning.specs.Step.{first_or, older, treating, record_tasks, assigning, assigns_next, copy_next, moves}
 use Rattle.ada_meaning.specs.Named.{State, named, whole, base, part_base, same}
-use Rattle.ada_owners.specs.Walks.{ListedExist}
-use Rattle.ada_owners.proofs.Objects.{listed_at}
+use Rattle.ada_owners.proofs.Objects.{present_at}
 use Rattle.ada_sound.proofs.Begins.{Referred, record_referred, drop_kind}
 use Rattle.ada_sound.proofs.Copied.{copied_plain, record_there}
 use Rattle.ada_sound.proofs.Defaults.{Reaches}
 use Rattle.ada_sound.proofs.Followings.{first_kept, kept_apart}
 use Rattle.ada_sound.proofs.Handings.{passed_safe}
-use Rattle.ada_sound.proofs.Invariant.{outers, Known, Control, Rooms, Goes, To, Raised, RunsOn, IsPlainIn, IsHolder, ReferredBy, IsTarget, IsSource, PassesTo, Working, Fine, ways}
+use Rattle.ada_sound.proofs.Invariant.{outers, Known, Control, Rooms, Goes, To, Raised, RunsOn, IsPlainIn, IsHolder, ReferredBy, IsTarget, IsSource, PassesTo, Working, Fine, ways, MayCopy, StoresBehind, ReadyIn}
 use Rattle.ada_sound.proofs.Outcomes.{raised_before, using_goes, ends_goes, loses_to}
 use Rattle.ada_sound.proofs.Raising.{or_left, or_right}
-use Rattle.ada_sound.proofs.Ready.{running, at_work, at_less, stays, ready_on, runs_on, treats_ready, treating_behind}
+use Rattle.ada_sound.proofs.Ready.{running, at_work, at_less, stays, ready_on, runs_on, treats_ready, treating_behind, copies_on}
 use Rattle.ada_sound.proofs.Wholes.{width_is}
 
 -- Where a record without access values lies in an object, its components there are no access values.
@@ -85,22 +87,34 @@ source_lies types variables t source fits = go (record_components types t) fille
         let item = (and_parts (item_fits types variables components (item_of_record source)) _ e).0 in
         (and_parts (is_record_path types variables source) _ item).0
 
+-- And its type is not limited, where it has controlled parts.
+may_copy : (types : List TypeForm) (variables : List VariableForm) (t : ℕ) (items : List ItemForm) → record_fits types variables t items ≡ true → (f : Finalization) → finalization_of types t ≡ Some f → f.limited ≡ false
+may_copy types variables t items fits f is = by (finalization_of types t) is whole
+  where
+    whole : copies_whole t (finalization_of types t) items ≡ true
+    whole = (and_parts (is_filled types variables (record_components types t) items && list_all (item_owns variables) items) (copies_whole t (finalization_of types t) items) fits).1
+
+    no_not : (b : Bool) → not b ≡ true → b ≡ false
+    no_not true e = absurd (cc e)
+    no_not false e = refl
+
+    by : (found : Option Finalization) → found ≡ Some f → copies_whole t found items ≡ true → f.limited ≡ false
+    by None at copies = absurd (cc at)
+    by (Some g) at copies = let same : g ≡ f = cc at in rw (← same) (no_not g.limited (and_parts (not g.limited) (is_copy t items) copies).0)
+
 module _ (known : Known) (a : Activation Value) (rest : List (Activation Value)) (s : State) where
   module _ {more : Rooms → Holds → Type 0} (w : Working known s.heap a.places s.masters more) where
-    exist : ListedExist s.heap
-    exist o x found listed = (w.stored.sane o x found).listed_exists listed
-
     -- A record that is found lies in an object that is there.
     found_there : (p : RecordPathForm) (v : Value) → is_record_path known.program.types known.program.variables p ≡ true → lost_by (hold_at w.holds p.object.root) p.object.spot ≡ None → ReferredBy s.heap a.places p v → Referred known.program.types known.program.variables (outers known).referenced s.heap p v
-    found_there p v lies kept by = record_referred exist w.fit p v lies kept by
+    found_there p v lies kept by = record_referred w.fit p v lies kept by
 
     source_there : (p : RecordPathForm) (v : Value) → Referred known.program.types known.program.variables (outers known).referenced s.heap p v → IsSource s.heap v
-    source_there p v r = let h = listed_at s.heap r.o r.t r.there in (r.o, r.place, r.is, (h.object, h.found, h.listed))
+    source_there p v r = let h = present_at s.heap r.o r.t r.there in (r.o, r.place, r.is, (h.object, h.found, h.there))
 
     -- Its components there are no access values, if it has none.
     target_there : (p : RecordPathForm) (v : Value) (kinds : List ComponentKind) → record_components known.program.types p.record_type ≡ Some kinds → is_owning_record known.program.types p.record_type ≡ false → Referred known.program.types known.program.variables (outers known).referenced s.heap p v → IsTarget known s.heap (length kinds) v
     target_there p v kinds is plain r =
-        let h = listed_at s.heap r.o r.t r.there in
+        let h = present_at s.heap r.o r.t r.there in
         let none : list_any is_owning kinds ≡ false = rw is at plain in (
           r.o,
           r.place,
@@ -108,7 +122,7 @@ module _ (known : Known) (a : Activation Value) (rest : List (Activation Value))
           (
             h.object,
             h.found,
-            h.listed,
+            h.there,
             λ components reached. (
                 let reaches : reached_components known.program.types r.t ≡ Some components = rw (h.access) at reached in
                 plain_within components kinds r.place.component (λ c k at'. let within = r.within c k (rw is at') in rw reaches at within) none
@@ -160,6 +174,7 @@ module _ (known : Known) (a : Activation Value) (rest : List (Activation Value))
               there.components,
               target_there w target v there.kinds there.components (copied_plain owning path.spot plain.0) (found_there w target v lies reached by),
               source_there w source u (found_there w source u (source_lies program.types program.variables target.record_type source fits) kept by'),
+              may_copy program.types program.variables target.record_type items fits,
             ),
             n.0,
           )),
@@ -168,8 +183,8 @@ module _ (known : Known) (a : Activation Value) (rest : List (Activation Value))
 
   -- Both are found: nothing is done, where they are one.
   module _ (types : List TypeDefinition) (reaches : Reaches known types) (k : Control) where
-    begins_assigning : (t : ℕ) (v u : Value) (below : List Value) (kinds : List ComponentKind) → record_components known.program.types t ≡ Some kinds → IsTarget known s.heap (length kinds) v → IsSource s.heap u → Working known s.heap a.places s.masters (λ rooms holds. To (RunsOn known k rooms) holds) → Fine known s.heap s.masters (moves Quiet (assigning named types t v u (running k (record a { operands = below }) rest s)))
-    begins_assigning t v u below kinds is (o, place, to, plain) (p, other, from, there) w =
+    begins_assigning : (t : ℕ) (v u : Value) (below : List Value) (kinds : List ComponentKind) → record_components known.program.types t ≡ Some kinds → IsTarget known s.heap (length kinds) v → IsSource s.heap u → (found : Option Finalization) → finalization_of known.program.types t ≡ found → MayCopy known t → Working known s.heap a.places s.masters (λ rooms holds. To (RunsOn known k rooms) holds) → Fine known s.heap s.masters (moves Quiet (assigning named types t v u (running k (record a { operands = below }) rest s)))
+    begins_assigning t v u below kinds is (o, place, to, plain) (p, other, from, there) found at may w =
         let adjusts = treating (whole v) (begins (Adjustment s.next) []) (record_tasks types t PartsFirst (part_base v)) k in
         let stores = StoresRecord (whole v) (base v) (width_of types t) ∷ adjusts in
         let holder : IsHolder s.heap (whole u) = rw from there in
@@ -177,9 +192,15 @@ module _ (known : Known) (a : Activation Value) (rest : List (Activation Value))
         let behind = treating_behind known (whole v) s.next (record_tasks types t PartsFirst (part_base v)) k w.rooms w.holds w.rest in
         stays known Quiet (assigning named types t v u (running k (record a { operands = below }) rest s)) (
           tt,
-          treats_ready known (whole v) (ends (Assigning s.next)) (record_tasks types t WholeFirst (part_base v)) (Copies (base u) t ∷ stores) s.heap a.places (whole u ∷ below) s.masters
-              (inr (at_work w (holder, (gets, behind)))),
+          by found at (record_tasks types t WholeFirst (part_base v)) (λ none. reaches.2 t none WholeFirst (part_base v)) stores (at_work w (holder, (gets, behind))),
         ) tt
+      where
+        by : (f : Option Finalization) → finalization_of known.program.types t ≡ f → (tasks : List Task) → (finalization_of known.program.types t ≡ None → tasks ≡ []) → (stores : Control)
+            → Working known s.heap a.places s.masters (λ rooms holds. IsHolder s.heap (whole u) × StoresBehind known s.heap stores rooms holds)
+            → ReadyIn known Running (treating (whole v) (ends (Assigning s.next)) tasks (Copies (base u) t ∷ stores)) s.heap a.places (whole u ∷ below) s.masters
+        by None none tasks empty stores works = rw (empty none) (copies_on known (base u) t stores s.heap a.places (whole u ∷ below) s.masters works)
+        by (Some f) some tasks empty stores works =
+            treats_ready known (whole v) (ends (Assigning s.next)) tasks (Copies (base u) t ∷ stores) s.heap a.places (whole u ∷ below) s.masters (inr ((f, some, may f some), works))
 
     pub assigns_fine : (t : ℕ) (operands : List Value) → Working known s.heap a.places s.masters (PassesTo known s.heap a.places operands (Assigns t ∷ k)) → Fine known s.heap s.masters (assigns_next named types t (first_or Null (older operands)) (first_or Null operands) (same (first_or Null (older operands)) (first_or Null operands)) (running k (record a { operands = older (older operands) }) rest s))
     assigns_fine t operands w = go (same (first_or Null (older operands)) (first_or Null operands))
@@ -189,4 +210,4 @@ module _ (known : Known) (a : Activation Value) (rest : List (Activation Value))
         go (Some true) = runs_on known k (record a { operands = older (older operands) }) rest s (at_less w w.rest.1) Quiet tt
         go (Some false) =
             let are = w.rest.0 in
-            begins_assigning t (first_or Null (older operands)) (first_or Null operands) (older (older operands)) are.0 are.1 are.2 are.3 (at_work w w.rest.1)
+            begins_assigning t (first_or Null (older operands)) (first_or Null operands) (older (older operands)) are.0 are.1 are.2 are.3 (finalization_of known.program.types t) refl are.4 (at_work w w.rest.1)

@@ -21,7 +21,7 @@ use Rattle.ada_program.specs.WellFormed.{access_of, held_kind, kind_among, reach
 use Rattle.ada_flow.specs.declared.rule.Hold.{Hold}
 use Rattle.ada_flow.specs.declared.rule.Hold.TheVariants as hold
 use Rattle.ada_flow.specs.declared.rule.Region.TheVariants.{Whole}
-use Rattle.ada_flow.specs.Flow.{Holds, Gone, left, is_among, variable_access, is_owning, owns_at_first, declared_at, copies_to, uses_in_items, using_paths, ends_with}
+use Rattle.ada_flow.specs.Flow.{Holds, Gone, is_among, variable_access, is_owning, owns_at_first, declared_at, copies_to, uses_in_items, using_paths, ends_with}
 use Rattle.ada_meaning.specs.declared.state.Id.{Id}
 use Rattle.ada_meaning.specs.declared.state.Value.{Value}
 use Rattle.ada_meaning.specs.declared.state.Value.TheVariants.{Null, Names}
@@ -50,7 +50,8 @@ use Rattle.ada_sound.proofs.Outcomes.{to_before, raised_before, using_goes, ends
 use Rattle.ada_sound.proofs.Raising.{or_left, or_right, any_more}
 use Rattle.ada_sound.proofs.Values.{lost_here}
 use Rattle.ada_sound.proofs.Orderings.{good_losing, good_to_lost}
-use Rattle.ada_sound.proofs.Leavings.{left_losing}
+use Rattle.ada_flow.specs.Flow.{left_finalized}
+use Rattle.ada_sound.proofs.LeftFinalized.{finalized_losing}
 use Rattle.ada_sound.proofs.Undone.{new_may_undo}
 use Rattle.ada_sound.proofs.Followings.{first_kept}
 use Rattle.ada_sound.proofs.Copied.{items_keep, copied_plain}
@@ -137,7 +138,7 @@ module _ (known : Known) (rest : List (Activation Value)) (s : State) (types : L
   StartsBy Copy k rooms holds = Unit {0}
   StartsBy (Adjustment number) k rooms holds = Unit {0}
 
-  may_undo_by : (by : Birth) (k : Control) (cell : Cell Value) (words : ℕ) (places : List Value) (ms : List Master) (rooms : Rooms) (holds : Holds) → cell.access ≡ t → Stored None (create s.heap words cell) ms → Roomed (below known) ms rooms → Fit known.program.types known.program.variables (outers known) none_spared s.heap places (slice_set holds x hold.Lost) → StartsBy by k rooms holds → MayUndo known (created s.heap words) by k (create s.heap words cell) places ms
+  may_undo_by : (by : Birth) (k : Control) (cell : Cell Value) (words : ℕ) (places : List Value) (ms : List Master) (rooms : Rooms) (holds : Holds) → cell.access ≡ t → Stored (outers known).under (create s.heap words cell) ms → Roomed (below known) ms rooms → Fit known.program.types known.program.variables (outers known) none_spared s.heap places (slice_set holds x hold.Lost) → StartsBy by k rooms holds → MayUndo known (created s.heap words) by k (create s.heap words cell) places ms
   may_undo_by Creation k cell words places ms rooms holds of stored roomed fit starts = new_may_undo known s.heap words cell k places ms rooms (slice_set holds x hold.Lost) stored roomed fit (rw of starts)
   may_undo_by Copy k cell words places ms rooms holds of stored roomed fit starts = tt
   may_undo_by (Adjustment number) k cell words places ms rooms holds of stored roomed fit starts = tt
@@ -169,12 +170,15 @@ module _ (known : Known) (rest : List (Activation Value)) (s : State) (types : L
 
 module _ (known : Known) (a : Activation Value) (rest : List (Activation Value)) (s : State) (types : List TypeDefinition) (x t : ℕ) (ds : List DeclarationForm) (fs : StmtsForm) (hs : HandlersForm) (k : Control) where
   -- What passes the frames with what was known before passes them also where the variable is lost, whose record object goes with the block.
-  raised_losing : (gone : Gone) (rooms : Rooms) (e : Exception) (holds : Holds) → is_among gone.types (variable_access known.program.variables x) ≡ true → To ((Outside known.program.variables gone (ways known k rooms)).raised e) holds → To ((Outside known.program.variables gone (ways known k rooms)).raised e) (slice_set holds x hold.Lost)
-  raised_losing gone rooms e holds among (less, good, goes) =
+  raised_losing : (gone : Gone) (rooms : Rooms) (e : Exception) (holds : Holds) → is_among gone.types (variable_access known.program.variables x) ≡ true → To ((Outside known gone (ways known k rooms)).raised e) holds → To ((Outside known gone (ways known k rooms)).raised e) (slice_set holds x hold.Lost)
+  raised_losing gone rooms e holds among (less, good, (may_end, goes)) =
       let variables = known.program.variables in (
         slice_set less x hold.Lost,
         good_losing x holds (slice_set less x hold.Lost) (lost_here less x) (good_to_lost x holds less good),
-        to_before ((ways known k rooms).raised e) (left variables gone (slice_set less x hold.Lost)) (left variables gone less) (left_losing variables gone less x among) goes,
+        (
+          may_end,
+          to_before ((ways known k rooms).raised e) (left_finalized variables known.implicit gone (slice_set less x hold.Lost)) (left_finalized variables known.implicit gone less) (finalized_losing variables known.implicit gone less x among) goes,
+        ),
       )
 
   -- What is known where a record object comes to be: without an initial value, or behind one.
@@ -182,7 +186,7 @@ module _ (known : Known) (a : Activation Value) (rest : List (Activation Value))
   by_default holds [] is e = absurd e
   by_default holds (gone ∷ rooms) is e =
       let program = known.program in
-      let o = Outside program.variables gone (ways known k rooms) in
+      let o = Outside known gone (ways known k rooms) in
       let more = Elaborating known ds (Doing known fs (Handles hs ∷ Closes ∷ k) (Handled known hs (Closes ∷ k) o)) o in
       let among : Exception → Bool = λ e'. declaration_raises known.implicit (is_same e') (declares_record x t None) in
       let may = initial_raises None || initial_starts known.implicit (λ e'. true) t None in
@@ -202,7 +206,7 @@ module _ (known : Known) (a : Activation Value) (rest : List (Activation Value))
   by_items items holds [] is e = absurd e
   by_items items holds (gone ∷ rooms) is e =
       let program = known.program in
-      let o = Outside program.variables gone (ways known k rooms) in
+      let o = Outside known gone (ways known k rooms) in
       let spot = declared_at program.variables x in
       let owning = owns_at_first program.types t in
       let used = uses_in_items program.types spot None [] items in

@@ -26,7 +26,6 @@ use Rattle.ada_meaning.specs.declared.state.Value.TheVariants.{Null, Names, Scal
 use Rattle.ada_meaning.specs.Step.{operand_count, given_values, references_in}
 use Rattle.ada_meaning.specs.Named.{Object}
 use Rattle.ada_owners.specs.Places.{access_at}
-use Rattle.ada_owners.specs.Walks as walks
 use Rattle.ada_sound.proofs.Fits.{Outsiders, Reference, IsReferred, referred_first, referred_behind, referred_either, Fit, none_spared, place_at, names_object, is_object}
 use Rattle.ada_sound.proofs.Begins.{Opened, IsSpared, component_opened, record_referred, from_root}
 use Rattle.ada_sound.proofs.Followings as followings
@@ -243,7 +242,7 @@ selectors_no_object types from c (d ∷ cs) to is = selectors_no_object types (s
 true_name : (found : Option ℕ) (t : ℕ) → found ≡ Some t → names_value found ≡ true
 true_name found t e = rw e refl
 
-module _ (types : List TypeForm) (own : List VariableForm) (may : ℕ → Bool) {outer : Outsiders} (heap : List Object) (places : List Value) (holds : Holds) (exist : walks.ListedExist heap) (f : Fit types own outer none_spared heap places holds) where
+module _ (types : List TypeForm) (own : List VariableForm) (may : ℕ → Bool) {outer : Outsiders} (heap : List Object) (places : List Value) (holds : Holds) (f : Fit types own outer none_spared heap places holds) where
   -- A component that is given holds an Integer or a Boolean, and is passed safely.
   pub record GivenScalar (path : PathForm) : Type 0 where
     pub to : VariableKind
@@ -289,7 +288,7 @@ module _ (types : List TypeForm) (own : List VariableForm) (may : ℕ → Bool) 
   OpensIt path r to = Opened types own outer.referenced heap path to r
 
   opens_it_by : (path : PathForm) (r : Value) (s : GivenScalar path) → OpenedBy heap places path r → OpensIt path r s.to
-  opens_it_by path r s by = component_opened exist f path s.to r s.leads s.kept by
+  opens_it_by path r s by = component_opened f path s.to r s.leads s.kept by
 
   -- So all that refers to components leads to Integers and Booleans in objects that are there.
   more_opened : (rs ss : List Reference) (references : List Value) → ((o : Id) (t : ℕ) → IsReferred rs o t → IsReferred ss o t) → AreOpened types rs references → AreOpened types ss references
@@ -358,7 +357,7 @@ module _ (types : List TypeForm) (own : List VariableForm) (may : ℕ → Bool) 
 
     record_spared : (p : RecordPathForm) (v : Value) (o : Id) → is_record_path types own p ≡ true → ReferredBy heap places p v → lost_by (hold_at holds p.object.root) p.object.spot ≡ None → record_passes types own may p ≡ false → IsReferred (referred_of heap v) o t → ⊥
     record_spared p v o lies by kept safe refers =
-        let h = record_referred exist f p v lies kept by in
+        let h = record_referred f p v lies kept by in
         let same = part_same v h.o o h.place h.t h.is h.there refers in
         go h.o h.t h.spared same
       where

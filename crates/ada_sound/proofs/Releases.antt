@@ -16,7 +16,7 @@ use Rattle.ada_program.specs.ProgramForm.{TypeForm, VariableForm}
 use Rattle.ada_program.specs.WellFormed.{is_access, access_of, variable_kind, selected_kind, selectors_kind, path_kind, path_access, is_this, is_freed_by}
 use Rattle.ada_flow.specs.declared.rule.Hold.{Hold}
 use Rattle.ada_flow.specs.declared.rule.Hold.TheVariants as hold
-use Rattle.ada_flow.specs.Flow.{Holds, hold_at, Breach, lost_by, unless_broken, ends_with, behind_end, passes_type, passes_own, passes_reached, freed_behind, released_behind, frees_path}
+use Rattle.ada_flow.specs.Flow.{Holds, hold_at, Breach, lost_by, unless_broken, ends_with, behind_end, passes_type, passes_own, passes_reached, formal_reached, way_reached, freed_behind, released_behind, frees_path}
 use Rattle.ada_meaning.specs.declared.state.Id.{Id}
 use Rattle.ada_meaning.specs.declared.state.Value.{Value}
 use Rattle.ada_meaning.specs.declared.state.Value.TheVariants.{Null, Names, Scalar, Part}
@@ -26,17 +26,17 @@ use Rattle.ada_meaning.specs.declared.event.Cause.TheVariants.{Freeing}
 use Rattle.ada_meaning.specs.Frame.{Does, FreesIn, Ends, GivesBack, ClearsIn, ends}
 use Rattle.ada_meaning.specs.State.{Activation, home_of, pool_freed_to}
 use Rattle.ada_meaning.specs.Step.{all_tasks, before_last, last_of, path_next, freed_next, free_component_next, free_in_next}
-use Rattle.ada_meaning.specs.Named.{Object, State, object_at, look, named, parted, inside}
+use Rattle.ada_meaning.specs.Named.{store, Object, State, object_at, look, named, parted, inside}
 use Rattle.ada_owners.specs.Keeping.{IsThere}
-use Rattle.ada_owners.specs.Places.{access_at}
+use Rattle.ada_owners.specs.Places.{is_there, access_at}
 use Rattle.ada_owners.specs.Reliance.{IsOf}
-use Rattle.ada_owners.proofs.Objects.{listed_at}
-use Rattle.ada_sound.proofs.Fits.{Outsiders, IsReferred, NoOuterAlias, MayFollow, place_at, component_access, component_is, weaker_fit, behind_fit, component_unnamed, part_fit}
+use Rattle.ada_owners.proofs.Objects.{present_at}
+use Rattle.ada_sound.proofs.Fits.{Outsiders, IsReferred, NoOuterAlias, MayFollow, place_at, component_access, component_is, weaker_fit, behind_fit, component_unnamed, less_unnamed, same_unnamed, part_fit}
 use Rattle.ada_sound.proofs.Objects.{set_here}
 use Rattle.ada_sound.proofs.Stored.{stored_part}
 use Rattle.ada_sound.proofs.Alters.{alters_set}
 use Rattle.ada_sound.proofs.Assigned.{this_is, freed_at}
-use Rattle.ada_sound.proofs.Homes.{HaveHomes, same_one, freed_home}
+use Rattle.ada_sound.proofs.Homes.{HaveHomes, same_one, stands_there, freed_home}
 use Rattle.ada_sound.proofs.Invariant.{Spares, CoveredIn, begun, outers, Known, Control, Goes, To, Raised, RunsOn, PassesNone, Releasing, Working, Ending, Stepped, Fine, ways}
 use Rattle.ada_sound.proofs.Ready.{running, at_work, stays, runs_ready, jumps_less, treats_ready}
 use Rattle.ada_sound.proofs.Outcomes.{ends_goes}
@@ -52,12 +52,12 @@ front_last : (c : ℕ) (cs : List ℕ) → before_last c cs ++ last_of c cs ∷ 
 front_last c [] = refl
 front_last c (d ∷ ds) = ap (λ (es : List ℕ). c ∷ es) (front_last d ds)
 
--- What flow says of a component that is freed: its path follows nothing lost, and passes its own type nowhere, nor one that the finalization reaches.
-released_goes : (types : List TypeForm) (variables : List VariableForm) (implicit : Implicit) (path : PathForm) (holds : Holds) (access : Option ℕ) (more raised : Holds → Type 0) → Goes (released_behind types variables implicit path holds access) more raised → (freed_behind (passes_own types variables path access || passes_reached types variables implicit path access) (hold_at holds path.root) path.spot ≡ None) × more (behind_end variables access holds) × (path_raises path ≡ true → raised (behind_end variables access holds))
+-- What flow says of a component that is freed: its path follows nothing lost, and the way to it is safe.
+released_goes : (types : List TypeForm) (variables : List VariableForm) (implicit : Implicit) (path : PathForm) (holds : Holds) (access : Option ℕ) (more raised : Holds → Type 0) → Goes (released_behind types variables implicit path holds access) more raised → (freed_behind (way_reached types variables implicit path (hold_at holds path.root) access) (hold_at holds path.root) path.spot ≡ None) × more (behind_end variables access holds) × (path_raises path ≡ true → raised (behind_end variables access holds))
 released_goes types variables implicit path holds access more raised g = go (freed_behind passes (hold_at holds path.root) path.spot) refl g
   where
     passes : Bool
-    passes = passes_own types variables path access || passes_reached types variables implicit path access
+    passes = way_reached types variables implicit path (hold_at holds path.root) access
 
     after : Holds
     after = behind_end variables access holds
@@ -127,8 +127,9 @@ module _ (known : Known) (a : Activation Value) (rest : List (Activation Value))
       let at = freed_at types variables access path freed in
       let leads = access_leads (path_kind types variables path) at.0 at.1 in
       let g = released_goes types variables known.implicit path w.holds own (To (RunsOn known (Does fs ∷ k) w.rooms)) (Raised among (ways known k w.rooms)) w.rest in
-      let kept = freed_kept (passes_own types variables path own || passes_reached types variables known.implicit path own) (hold_at w.holds path.root) path.spot g.0 in
-      let none_own = first_false (passes_own types variables path own) (passes_reached types variables known.implicit path own) kept.1 in
+      let kept = freed_kept (way_reached types variables known.implicit path (hold_at w.holds path.root) own) (hold_at w.holds path.root) path.spot g.0 in
+      let own_or_reached = passes_own types variables path own || passes_reached types variables known.implicit path own in
+      let none_own = first_false (passes_own types variables path own) (passes_reached types variables known.implicit path own) (first_false own_or_reached (formal_reached types variables known.implicit path (hold_at w.holds path.root) own) kept.1) in
       let v = place_at a.places path.root in
       let b = root_at path.root path.spot kept.0 w.fit in
       let to = kind_named (selectors_kind types (variable_kind variables path.root) path.selectors) at.0 at.2 in
@@ -155,7 +156,7 @@ module _ (known : Known) (a : Activation Value) (rest : List (Activation Value))
       }))
       (root_follows path.root path.spot kept.0 w.fit)
 
-  module _ (types : List TypeDefinition) (access c : ℕ) (k : Control) (below : List Value) (homes : HaveHomes known.program.types s.heap s.masters) where
+  module _ (types : List TypeDefinition) (access c : ℕ) (k : Control) (below : List Value) (homes : HaveHomes known.program.types (outers known).under s.heap s.masters) where
     -- The component is null: nothing happens.
     null_freed : (o : Id) → IsThere s.heap o → Working known s.heap a.places s.masters (Releasing known s.heap (Names o) [] access c k) → Stepped known s.heap (Followed (Names o)) (running k (record a { operands = below }) rest s)
     null_freed o there w =
@@ -164,7 +165,7 @@ module _ (known : Known) (a : Activation Value) (rest : List (Activation Value))
         (followed o there w.stored)
 
     -- What the component names has the component's access type, and is another object than its own.
-    named_type : (o : Id) (object : Object) (p : Id) → object_at s.heap o ≡ Some object → object.listed ≡ true → slice_get object.cell.values c ≡ Some (Names p) → (w : Working known s.heap a.places s.masters (Releasing known s.heap (Names o) [] access c k)) → IsOf (access_at s.heap) w.rest.access p
+    named_type : (o : Id) (object : Object) (p : Id) → object_at s.heap o ≡ Some object → is_there object.stage ≡ true → slice_get object.cell.values c ≡ Some (Names p) → (w : Working known s.heap a.places s.masters (Releasing known s.heap (Names o) [] access c k)) → IsOf (access_at s.heap) w.rest.access p
     named_type o object p found listed at w =
         let here = w.rest.is_from o object refl found in
         let same : component_access known.program.types object c ≡ w.rest.access = sym (selected_access known.program.types w.rest.from object c here) ∙ w.rest.of_type in
@@ -175,17 +176,19 @@ module _ (known : Known) (a : Activation Value) (rest : List (Activation Value))
         let one : is_this t (Some u) ≡ true = eq-eqb u t same in
         cc (rw here at passes, one)
 
-    ends_next : (o : Id) (object : Object) (p : Id) (t : ℕ) → object_at s.heap o ≡ Some object → object.listed ≡ true → slice_get object.cell.values c ≡ Some (Names p) → (w : Working known s.heap a.places s.masters (Releasing known s.heap (Names o) [] access c k)) → w.rest.access ≡ Some t → access_at s.heap p ≡ Some t → Fine known s.heap s.masters (freed_next named types access (Names o) c (Names p) (named.standing s.heap (Names p)) (running k (record a { operands = below }) rest s))
-    ends_next o object p t found listed at w is_t of_t =
-        let there = listed_at s.heap p t of_t in
-        let exists = (w.stored.sane p there.object there.found).listed_exists there.listed in
+    ends_next : (o : Id) (object : Object) (p : Id) (t : ℕ) → object_at s.heap o ≡ Some object → is_there object.stage ≡ true → slice_get object.cell.values c ≡ Some (Names p) → (w : Working known s.heap a.places s.masters (Releasing known s.heap (Names o) [] access c k)) → w.rest.access ≡ Some t → access_at s.heap p ≡ Some t → Fine known s.heap s.masters (freed_next named types access (Names o) c (Names p) (named.standing s.heap (Names p)) (running k (record a { operands = below }) rest s))
+    ends_next o object p t found held at w is_t of_t =
+        let there = present_at s.heap p t of_t in
+        let exists = (w.stored.sane p there.object there.found).there_exists there.there in
         let apart : o ≢ p = λ same. (
         let one : object ≡ there.object = let f = there.found in cc (rw same at found, f) in
         other_type object.cell.access w.rest.from t (w.rest.is_from o object refl found) (rw is_t at w.rest.passes) (ap (λ (x : Object). x.cell.access) one ∙ there.access)
         ) in
-        let unnamed = component_unnamed o object c p (Some t) (λ u e. (w.rest.own u (is_t ∙ e), w.rest.spares u (is_t ∙ e))) found listed at of_t w.fit in
+        let unnamed = component_unnamed o object c p (Some t) (λ u e. (w.rest.own u (is_t ∙ e), w.rest.spares u (is_t ∙ e))) found held at of_t w.fit in
         let elsewhere = stored_elsewhere s.heap o object c p there.object (parted there.object) found there.found apart in
-        let after = part_fit p there.object elsewhere.1 unnamed.1 unnamed.2 unnamed.0 in
+        let after = part_fit p there.object elsewhere.1 unnamed.0 in
+        let aside = same_unnamed (store s.heap (Names o) c Null) p there.object elsewhere.1 p unnamed.1 (parted there.object) refl (λ c. refl) in
+        let stands = stands_there p there.object homes w.stored there.found there.there (rw there.access (w.rest.own t is_t)) in
         let runs : To (RunsOn known k w.rooms) (behind_end known.program.variables (Some t) w.holds) = rw is_t at w.rest.runs in
         let by_own : t ≡ access = let own = w.rest.frees_own in cc (is_t, own) in
         let home = freed_home access p there.object homes w.stored there.found exists (rw there.access (w.rest.own t is_t)) (there.access ∙ by_own) in
@@ -195,39 +198,41 @@ module _ (known : Known) (a : Activation Value) (rest : List (Activation Value))
           exists = exists;
           parted = refl;
           stored = stored_part p there.object there.found w.stored;
-          covered = subst (λ (u : ℕ). CoveredIn known.implicit known.program u) (sym there.access) (w.rest.covered t is_t);
+          covered = (subst (λ (u : ℕ). CoveredIn known.implicit known.program u) (sym there.access) (w.rest.covered t is_t), rw there.access (w.rest.own t is_t));
           rest = (
             refl,
             home,
             (
-              (object, elsewhere.0, listed),
+              (object, elsewhere.0, held),
+              (λ same. apart (cc same)),
               record {
                 rooms = w.rooms;
                 holds = runs.0;
                 roomed = w.roomed;
                 fit = weaker_fit runs.0 runs.1 (rw elsewhere.2 after);
+                aside = rw elsewhere.2 (less_unnamed runs.0 runs.1 p after aside, unnamed.2);
                 rest = runs.2;
               },
             ),
           );
         } in
-        rw (there.found, there.listed, homes.stand p there.object there.found there.listed) (rw (same_one (Some (pool_freed_to (home_of access s.masters))) there.object.cell.home.pool home) (rw there.found (record {
+        rw (there.found, stands.0, stands.1) (rw (same_one (Some (pool_freed_to (home_of access s.masters))) there.object.cell.home.pool home) (rw there.found (record {
           ready = (
             tt,
             treats_ready known (Names p) (ends (Freeing s.next)) (all_tasks types there.object.cell.access WholeFirst) (Ends (Names p) ∷ GivesBack (Names p) (Freeing s.next) (Some (pool_freed_to (home_of access s.masters))) ∷ ClearsIn (Names o) c ∷ k) (slice_set s.heap p.0 (parted there.object)) a.places below s.masters (inl (refl, under)),
           );
           alters = alters_set s.heap (Followed (Names o)) p there.object (parted there.object) there.found (refl, refl, refl) (λ h. h) (λ h. inl h);
-          says = followed o (object, found, listed) w.stored;
+          says = followed o (object, found, held) w.stored;
         })))
 
-    object_freed : (o : Id) (object : Object) (p : Id) → object_at s.heap o ≡ Some object → object.listed ≡ true → slice_get object.cell.values c ≡ Some (Names p) → (w : Working known s.heap a.places s.masters (Releasing known s.heap (Names o) [] access c k)) → Fine known s.heap s.masters (freed_next named types access (Names o) c (Names p) (named.standing s.heap (Names p)) (running k (record a { operands = below }) rest s))
+    object_freed : (o : Id) (object : Object) (p : Id) → object_at s.heap o ≡ Some object → is_there object.stage ≡ true → slice_get object.cell.values c ≡ Some (Names p) → (w : Working known s.heap a.places s.masters (Releasing known s.heap (Names o) [] access c k)) → Fine known s.heap s.masters (freed_next named types access (Names o) c (Names p) (named.standing s.heap (Names p)) (running k (record a { operands = below }) rest s))
     object_freed o object p found listed at w = by w.rest.access refl (named_type o object p found listed at w)
       where
         by : (kind : Option ℕ) → w.rest.access ≡ kind → IsOf (access_at s.heap) kind p → Fine known s.heap s.masters (freed_next named types access (Names o) c (Names p) (named.standing s.heap (Names p)) (running k (record a { operands = below }) rest s))
         by None is of = absurd of
         by (Some t) is of = ends_next o object p t found listed at w is of
 
-    component_freed : (o : Id) (object : Object) (held : Option Value) → slice_get object.cell.values c ≡ held → object_at s.heap o ≡ Some object → object.listed ≡ true → Working known s.heap a.places s.masters (Releasing known s.heap (Names o) [] access c k) → Fine known s.heap s.masters (free_component_next named types access (Names o) c held (running k (record a { operands = below }) rest s))
+    component_freed : (o : Id) (object : Object) (held : Option Value) → slice_get object.cell.values c ≡ held → object_at s.heap o ≡ Some object → is_there object.stage ≡ true → Working known s.heap a.places s.masters (Releasing known s.heap (Names o) [] access c k) → Fine known s.heap s.masters (free_component_next named types access (Names o) c held (running k (record a { operands = below }) rest s))
     component_freed o object None at found listed w = tt
     component_freed o object (Some Null) at found listed w = null_freed o (object, found, listed) w
     component_freed o object (Some (Names p)) at found listed w = object_freed o object p found listed at w
@@ -239,7 +244,7 @@ module _ (known : Known) (a : Activation Value) (rest : List (Activation Value))
     free_in_fine Null w = jumps_less known k (record a { operands = below }) rest s (Raising ConstraintError) (at_work w (raises_less known k w.rooms w.holds w.rest.1.access (w.rest.1.raises refl)))
     free_in_fine (Names o) w =
         let there : IsThere s.heap o = w.rest.0 in
-        rw (there.1, (w.stored.sane o there.0 there.1).listed_exists there.2)
+        rw (there.1, (w.stored.sane o there.0 there.1).there_exists there.2)
         (component_freed o there.0 (slice_get there.0.cell.values c) refl there.1 there.2 (at_work w w.rest.1))
     free_in_fine (Scalar n) w = tt
     free_in_fine (Part object_id base) w = tt

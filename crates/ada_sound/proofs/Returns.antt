@@ -22,7 +22,7 @@ use Rattle.ada_sound.specs.Agreement.{running_procedure}
 use Rattle.ada_sound.proofs.Fits.{none_spared, Fit, IsReferred, referred_first, component_access, plain_object}
 use Rattle.ada_meaning.specs.declared.state.Id.{Id}
 use Rattle.ada_owners.specs.Places.{access_at}
-use Rattle.ada_owners.proofs.Objects.{listed_at}
+use Rattle.ada_owners.proofs.Objects.{present_at}
 use Rattle.ada_program.specs.WellFormed.{access_of, kind_among, reached_components}
 use Rattle.ada_sound.proofs.Stored.{Stored}
 use Rattle.ada_sound.proofs.Activations.{returned_fit}
@@ -76,7 +76,7 @@ module _ (program : Program) (procedure : Option ℕ) (g : Suspension) (gs : Lis
     back_fit holds waits placed gave f =
         let w = caller_of program g gs in
         let ws = callers_of program gs in
-        returned_fit (outer_of w) callee.program.variables places holds (handed_at g.actuals) given_back (handed_back g.actuals g.before) caller.program.types (outers caller) g.passed g.referenced none_spared heap
+        returned_fit (outer_of w) callee.program.variables places holds (handed_at g.actuals) given_back (handed_back g.actuals g.before) caller.program.types (outers caller) g.passed g.referenced g.under none_spared heap
         (since_back callee.implicit callee.program w ws waits places holds placed gave) (fit_there holds f)
         (said_back callee.implicit callee.program w ws waits places holds placed gave) (objects_back callee.implicit callee.program w ws waits places holds placed gave (λ i x is. plain_object i (gives_some (hold_at holds i) (waits.hands.owes i x is holds gave)) (waits.hands.formal i x is) f))
 
@@ -84,16 +84,20 @@ module _ (program : Program) (procedure : Option ℕ) (g : Suspension) (gs : Lis
     left_fit holds waits keeps f =
         let w = caller_of program g gs in
         let ws = callers_of program gs in
-        returned_fit (outer_of w) callee.program.variables places holds (handed_at g.actuals) g.places (left_unkept g.kept g.actuals g.before) caller.program.types (outers caller) g.passed g.referenced none_spared heap
+        returned_fit (outer_of w) callee.program.variables places holds (handed_at g.actuals) g.places (left_unkept g.kept g.actuals g.before) caller.program.types (outers caller) g.passed g.referenced g.under none_spared heap
         (since_left callee.implicit callee.program w ws waits places holds keeps f.said) (fit_there holds f)
         (said_left callee.implicit callee.program w ws waits places holds keeps f.said) (objects_left callee.implicit callee.program w ws waits places holds keeps f.said)
 
+    -- No more objects are under way in the callee's view.
+    stored_there : WaitsForIt → Stored (outers callee).under heap masters → Stored (outers caller).under heap masters
+    stored_there waits stored = subst (λ (under : List Id). Stored (under ++ (outers caller).under) heap masters) waits.settled stored
+
     -- The caller at work, once its masters are the innermost ones: with what it held, or with what it gets back.
-    abbrev caller_works : (held : List Value) (after : Holds) → Stored None heap masters → WaitsForIt → masters ≡ g.masters → Fit caller.program.types caller.program.variables (outers caller) none_spared heap held after → Working caller heap held masters (λ rooms known. Unit {0})
+    abbrev caller_works : (held : List Value) (after : Holds) → Stored (outers callee).under heap masters → WaitsForIt → masters ≡ g.masters → Fit caller.program.types caller.program.variables (outers caller) none_spared heap held after → Working caller heap held masters (λ rooms known. Unit {0})
     caller_works held after stored waits same fit = record {
       rooms = g.rooms;
       holds = after;
-      stored = stored;
+      stored = stored_there waits stored;
       roomed = rw same waits.roomed;
       fit = fit;
       rest = tt;
@@ -103,28 +107,28 @@ module _ (program : Program) (procedure : Option ℕ) (g : Suspension) (gs : Lis
     stores_behind : (rooms : Rooms) (holds : Holds) (k : Control) (references : List Value) → AreOpened caller.program.types g.referenced references → ((o : Id) (t : ℕ) → IsReferred g.referenced o t → access_at heap o ≡ Some t) → RunsOn caller k rooms holds → StoresOn caller heap (storing named references k) rooms holds
     stores_behind rooms holds k [] opened there runs = runs_stores caller k heap rooms holds runs
     stores_behind rooms holds k (r ∷ rs) ((o, place, t, is, refers, none), later) there runs =
-        let h = listed_at heap o t (there o t refers) in
+        let h = present_at heap o t (there o t refers) in
         let plain : component_access caller.program.types h.object place.component ≡ None = ap (λ (u : ℕ). access_of (kind_among (reached_components caller.program.types u) place.component)) h.access ∙ none in
-        rw is ((h.object, h.found, h.listed, plain), stores_behind rooms holds k rs later there runs)
+        rw is ((h.object, h.found, h.there, plain), stores_behind rooms holds k rs later there runs)
 
     module _ (actuals : List ActualForm) (references : List Value) (k : Control) (waits : WaitsForIt) where
       abbrev BacksTo : Type 0
       BacksTo = Working caller heap (copied_back actuals places g.places) masters (StoresOn caller heap (storing named references k))
 
-      gets_back : (holds : Holds) → Stored None heap masters → masters ≡ g.masters → ArePlaced callee.program.variables places → FitsHere holds → (actuals ≡ g.actuals) × (references ≡ g.references) × (k ≡ g.control) × (all_give_back (owed_in callee.program) holds ≡ true) → BacksTo
+      gets_back : (holds : Holds) → Stored (outers callee).under heap masters → masters ≡ g.masters → ArePlaced callee.program.variables places → FitsHere holds → (actuals ≡ g.actuals) × (references ≡ g.references) × (k ≡ g.control) × (all_give_back (owed_in callee.program) holds ≡ true) → BacksTo
       gets_back holds stored same placed f (given, refers, is, gave) =
           let w : Working caller heap given_back masters (GoesOn caller Running g.control) = at_less (caller_works given_back (handed_back g.actuals g.before) stored waits same (back_fit holds waits placed gave f)) waits.goes_on in
           rw (given, refers, is) (at_work w (stores_behind w.rooms w.holds g.control g.references waits.opened (λ o t refers'. f.referred o t (referred_first g.referenced (outers caller).referenced o t refers')) w.rest))
 
-      returns_by : (rooms : Rooms) (holds : Holds) → Stored None heap masters → Roomed (below callee) masters rooms → ArePlaced callee.program.variables places → FitsHere holds → GoesOn callee Running (Returns actuals references ∷ k) rooms holds → BacksTo
+      returns_by : (rooms : Rooms) (holds : Holds) → Stored (outers callee).under heap masters → Roomed (below callee) masters rooms → ArePlaced callee.program.variables places → FitsHere holds → GoesOn callee Running (Returns actuals references ∷ k) rooms holds → BacksTo
       returns_by [] holds stored roomed placed fit is = gets_back holds stored roomed placed fit is
       returns_by (gone ∷ rooms) holds stored roomed placed fit is = absurd is
 
-      returning_by : (rooms : Rooms) (holds : Holds) → Stored None heap masters → Roomed (below callee) masters rooms → ArePlaced callee.program.variables places → FitsHere holds → GoesOn callee Returning (Returns actuals references ∷ k) rooms holds → BacksTo
+      returning_by : (rooms : Rooms) (holds : Holds) → Stored (outers callee).under heap masters → Roomed (below callee) masters rooms → ArePlaced callee.program.variables places → FitsHere holds → GoesOn callee Returning (Returns actuals references ∷ k) rooms holds → BacksTo
       returning_by [] holds stored roomed placed fit is = gets_back holds stored roomed placed fit is
       returning_by (gone ∷ rooms) holds stored roomed placed fit is = absurd is
 
-      raising_by : (e : Exception) (rooms : Rooms) (holds : Holds) → Stored None heap masters → Roomed (below callee) masters rooms → FitsHere holds → GoesOn callee (Raising e) (Returns actuals references ∷ k) rooms holds → Working caller heap g.places masters (GoesOn caller (Raising e) k)
+      raising_by : (e : Exception) (rooms : Rooms) (holds : Holds) → Stored (outers callee).under heap masters → Roomed (below callee) masters rooms → FitsHere holds → GoesOn callee (Raising e) (Returns actuals references ∷ k) rooms holds → Working caller heap g.places masters (GoesOn caller (Raising e) k)
       raising_by e [] holds stored roomed fit (may, is, keeps) =
           rw is (at_less (caller_works g.places (left_unkept g.kept g.actuals g.before) stored waits roomed (left_fit holds waits keeps fit)) (waits.raises e may))
       raising_by e (gone ∷ rooms) holds stored roomed fit is = absurd is
@@ -189,7 +193,7 @@ module _ (program : Program) (a : Activation Value) (actuals : List ActualForm) 
           standing = record {
             suspended = stands.standing.suspended.2;
             waiting = subst (λ (procedure : Option ℕ). AllWait (implicit_of (program_form program)) (seen_in procedure (program_form program)) (callers_of program gs)) (sym of) stands.standing.waiting.1;
-            low = stands.standing.low.2;
+            low = stands.standing.low.3;
           };
         };
       }

@@ -31,8 +31,6 @@ use Rattle.ada_finalized.specs.Law.{NoOperationRuns}
 use Rattle.ada_sound.specs.Agreement.{running_procedure}
 use Rattle.ada_sound.specs.Callees.{IsCovered}
 use Rattle.ada_program.specs.declared.program.Exception.{Exception}
-use Rattle.ada_program.specs.WellFormed.{record_components, reached_components}
-use Rattle.ada_program.specs.Typed.{components_of, reached_of}
 use Rattle.ada_meaning.specs.Step.{halts, moves, tells, asks, picks, older, procedure_of, storing, frame_next, pass_next, jump_next, mode_next}
 use Rattle.ada_meaning.specs.Named.{Object, State, Next, named, object_at, filled, next}
 use Rattle.ada_meaning.specs.Run.{Event, Choice, settled, grants, takes, Leads, Step, Run, here, there, Halts, run_more}
@@ -42,32 +40,36 @@ use Rattle.ada_typed.proofs.Values.{filled_at, active_placed}
 use Rattle.ada_sound.proofs.GivenBack.{ArePlaced}
 use Rattle.ada_typed.proofs.Control as typed
 use Rattle.ada_typed.proofs.Evaluations as typing
-use Rattle.ada_typed.proofs.Bodies.{seen_fits, sees, own_bodies}
+use Rattle.ada_typed.proofs.Bodies.{own_bodies}
 use Rattle.ada_typed.proofs.Kept.{behind_call, crosses, is_treatment, Keeps, Each}
 use Rattle.ada_typed.proofs.KeptSteps.{step_keeps, pass_keeps}
 use Rattle.ada_typed.proofs.Runs.{step_typed}
-use Rattle.ada_scopes.specs.Scopes.{InnermostHeldInside}
+use Rattle.ada_scopes.specs.Scopes.{InnermostHeldInside, is_innermost, Holds as HoldsName}
 use Rattle.ada_scopes.proofs.Components.{AreOfKinds, collect_two, held_outside, held_inside}
 use Rattle.ada_scopes.proofs.Runs.{step_nested}
-use Rattle.ada_sound.proofs.Defaults.{reached_same, Reaches}
 use Rattle.ada_sound.proofs.Items.{NoMaster, HasItem, has_after, items_fall}
-use Rattle.ada_sound.proofs.Stored.{Stored}
+use Rattle.ada_sound.proofs.Stored.{IsUnder, Stored, there_listed}
+use Rattle.ada_sound.proofs.Leavings.{HeldIn}
+use Rattle.ada_sound.proofs.InOrder.{in_order}
+use Rattle.ada_sound.proofs.Sees.{reaches_in, may_call}
+use Rattle.ada_sound.proofs.QuietOperations.{IsUsedAs, used_as}
+use Rattle.ada_sound.proofs.FinalizingStarts.{finalizing_starts}
+use Rattle.ada_sound.proofs.FinalizingSteps.{InFinalize, Went, GoesFinalizing, finalizing_step}
+use Rattle.ada_sound.proofs.Finalizing.{Finalizing, waiting_for}
+use Rattle.ada_sound.proofs.Operated.{OperatedOn, operated_by}
+use Rattle.ada_parts.specs.declared.tasks.Next.TheVariants.{Perform}
 use Rattle.ada_sound.proofs.Alters.{BackIn, StaysItself, Alters, alters_same, alters_set}
-use Rattle.ada_sound.proofs.Invariant.{Known, Control, Working, RunsOn, CallsOn, Spares, Says, GoesOn, Stepped, EndsWell, Fine, outers, ArePassed}
-use Rattle.ada_sound.proofs.Callers.{Suspension, rest_of, known_in, Stands}
+use Rattle.ada_sound.proofs.Invariant.{Known, Control, Working, RunsOn, CallsOn, Spares, Says, GoesOn, Stepped, EndsWell, Fine, outers, ArePassed, under_in}
+use Rattle.ada_sound.proofs.Callers.{Suspension, callers_of, known_in, Stands}
 use Rattle.ada_sound.proofs.Bodies.{IsBody, seen_is, callee_get}
 use Rattle.ada_sound.proofs.Returns.{Crosses, same_types, resumed_in, behind_call as behind_mode, behind_frames, behind_body, left_fine}
 use Rattle.ada_sound.proofs.Fits.{NoOuterAlias}
-use Rattle.ada_typed.proofs.Objects.{record_no_access}
-use Rattle.std.proofs.lemmas.Bool.{eq-eqb}
 use Rattle.ada_sound.proofs.Calls.{callee, values, waiting, freed_by_call, calls_fine, references, referenced, passes_spared}
 use Rattle.ada_sound.proofs.Waiting.{SameBody, stands_kept}
 use Rattle.ada_sound.proofs.Keepings.{callee_keeps}
 use Rattle.ada_sound.proofs.Ready.{at_work}
 use Rattle.ada_sound.proofs.BodyRuns.{body_runs, call_spares}
-use Rattle.ada_sound.proofs.Below.{named_below}
-use Rattle.ada_sound.proofs.Scalars.{scalars_lost}
-use Rattle.ada_sound.proofs.CallStatements.{MayCall}
+use Rattle.ada_sound.proofs.Below.{named_below, none_under}
 use Rattle.ada_sound.proofs.Steps as inside
 use Rattle.ada_sound.proofs.StoredStates.{IsStored, ready_stored}
 use Rattle.ada_sound.proofs.Finalization.{finalizes_in}
@@ -198,7 +200,8 @@ pub record InOperation (program : Program) (before : List Object) (e : Event) (a
 
 -- What a step leads to: the ordinary invariant, or the body of an operation runs.
 abbrev pub Led : Program → List Object → Event → State → Type 0
-Led program before e after = (Crosses program before e after × IsCalm (behind_call after.control)) ⊎ InOperation program before e after
+Led program before e after =
+    (Crosses program before e after × IsCalm (behind_call after.control)) ⊎ (InOperation program before e after ⊎ InFinalize program before e after)
 
 -- What tells of no storage says nothing of objects, and covers nothing.
 told_says : (e : Event) (before : List Object) (after : State) → TellsNothing e → (implicit : Implicit) (p : ProgramForm) → Says implicit p e before after
@@ -295,26 +298,20 @@ held_inside_it program s sound o =
     held_inside s (items_fall (items_of s.masters) (stored_in program s o).1.counted)
     (held_outside (program_form program) s sound.nested (subst (λ (ts : List TypeForm). AreOfKinds ts s) (same_types (running_procedure s) (program_form program)) (are_of_kinds own s sound.typed.inside)))
 
+none_is_under : (program : Program) (procedure : Option ℕ) (gs : List Suspension) (s : State) → Stands program gs s → (o : Id) → IsUnder (outers (known_in program procedure gs)).under o → ⊥
+none_is_under program procedure gs s stands o under =
+    let none : under_in (callers_of program gs) ≡ [] = none_under (implicit_of (program_form program)) (seen_in (running_procedure s) (program_form program)) (callers_of program gs) stands.standing.waiting in
+    let nothing : IsUnder [] o = rw none at under in
+    nothing
+
+-- What is there is in its collection then.
+held_there : (heap : List Object) (ms : List Master) → Stored [] heap ms → ((holder held : Object) → HoldsName heap holder held → is_innermost ms held.cell.home.item ≡ true → is_innermost ms holder.cell.home.item ≡ true) → HeldIn heap ms
+held_there heap ms stored inside holder held (o, p, c, holds, names, at') =
+    inside holder held (o, p, c, (holds.0, there_listed o holder holds.0 holds.1 stored), (names.0, there_listed p held names.0 names.1 stored), at')
+
 -- A state with these parts.
 abbrev state_with : Mode → Control → List (Activation Value) → State → State
 state_with mode k all s = record s { mode = mode; control = k; activations = all }
-
--- The types that a body sees are those of the program.
-reaches_in : (program : Program) (procedure : Option ℕ) (gs : List Suspension) → Reaches (known_in program procedure gs) program.types.items
-reaches_in program procedure gs =
-    subst (λ (types : List TypeForm). ((access : ℕ) → reached_of program.types.items access ≡ reached_components types access) × ((t : ℕ) → components_of program.types.items t ≡ record_components types t))
-    (sym (same_types procedure (program_form program))) (reached_same program.types.items)
-
--- What a body sees is there, and in it flow calls Integers and Booleans lost.
-may_call : (program : Program) (procedure : Option ℕ) (gs : List Suspension) → IsWellFormed (program_form program) → MayCall (known_in program procedure gs) (body_forms program)
-may_call program procedure gs well = record {
-  among = sees (program_form program) procedure;
-  lost = λ place at reached. scalars_lost program procedure (rest_of gs) reached.0 place at (seen_fits (program_form program) well procedure) reached.1;
-  records = λ x t is. (
-      let p = seen_in procedure (program_form program) in
-      record_no_access p.types p.variables x t.0 (seen_fits (program_form program) well procedure).variables_fit (rw is (eq-eqb t.0 t.0 refl))
-      );
-}
 
 -- A step that begins no call and ends none, and treats nothing.
 ordinary : (program : Program) (s : State) (sound : Sound program s) (o : Ordinary program s) → inside.crosses s.mode s.control ≡ false → (n : Next) → mode_next named program.types.items (body_forms program) s.mode s ≡ n → Each (Stays s) n → FineIn program s n
@@ -322,8 +319,15 @@ unfolding next
 ordinary program s sound o inner n is same =
     let known = known_in program (running_procedure s) o.suspensions in
     fine_in program s o.suspensions o.stands o.calm n same
-    (subst (λ (coming : Next). Fine known s.heap s.masters coming) is (inside.fine known program.types.items (reaches_in program (running_procedure s) o.suspensions) (body_forms program) (may_call program (running_procedure s) o.suspensions sound.well) s inner sound.typed.inside (own_bodies (program_form program) sound.frees_own (running_procedure s)) (collect_two (program_form program) s sound.nested) (finalizes_in program sound.well s sound.reached sound.typed o.calm) (held_inside_it program s sound o)
-    (λ left behind runs at_leaving. named_below known s.heap o.stands.standing.waiting o.stands.standing.low left behind s.masters (rw (runs, at_leaving) at (o.ready.1)))
+    (subst (λ (coming : Next). Fine known s.heap s.masters coming) is (inside.fine known program.types.items (reaches_in program (running_procedure s) o.suspensions) (body_forms program) (may_call program (running_procedure s) o.suspensions sound.well) s inner sound.typed.inside (own_bodies (program_form program) sound.frees_own (running_procedure s)) (collect_two (program_form program) s sound.nested) (finalizes_in program sound.well s sound.reached sound.typed o.calm known.program.types)
+    (λ p x under found. absurd (none_is_under program (running_procedure s) o.suspensions s o.stands p under))
+    (λ left behind runs at_leaving.
+    let parting = rw (runs, at_leaving) at (o.ready.1) in
+    let none = none_under known.implicit known.program known.callers o.stands.standing.waiting in (
+      held_there s.heap s.masters (rw none at parting.stored) (held_inside_it program s sound o),
+      named_below known s.heap o.stands.standing.waiting o.stands.standing.low left behind s.masters parting,
+      in_order program sound.well s sound.nested known.program.types (same_types (running_procedure s) (program_form program)) s.masters refl,
+    ))
     o.ready))
 
 -- A frame at which no call begins is none behind which the body of one is left.
@@ -366,21 +370,37 @@ module _ (program : Program) (a : Activation Value) (rest : List (Activation Val
     abbrev treater : Known
     treater = known_in program a.procedure o.suspensions
 
-    goes_here : (e : Event) (after : State) → Stepped treater s.heap e after × StaysHere treater a rest s program.types.items (body_forms program) k after → Led program s.heap e after
+    -- A record that is controlled itself lies in objects of the type of the one that is treated.
+    abbrev IsOperated : Treatment → Id → ℕ → Type 0
+    IsOperated by o of = (by ≡ treatment) × OperatedOn (program_form program).types (cells_of s.heap) o of
+
+    goes_here : (e : Event) (after : State) → Stepped treater s.heap e after × StaysHere treater a rest s program.types.items (body_forms program) k IsOperated after → Led program s.heap e after
     goes_here e after (st, (acts, behind)) =
         kept_on program whole after o.suspensions o.stands o.calm e
         (record { same = record { procedure = ap procedure_of acts; suspended = ap older acts }; behind = behind }) st
 
-    begins_there : (e : Event) (after : State) → next program.types.items (body_forms program) whole ≡ moves e after → Begins treater a rest s program.types.items (body_forms program) k e after → Led program s.heap e after
-    begins_there e after is c = inr (record {
-      operates = begins_operation program sound.well sound.in_use a rest o.suspensions s k e after (restand Running (Treats v treatment tasks) o.suspensions o.stands) o.calm
-          (step_typed program sound.well whole after settled e sound.typed (rw is (refl, refl))) c;
+    calm_here : NoOperationRuns whole.control
+    calm_here = typed_calm (seen_in a.procedure (program_form program)) whole sound.typed.inside refl o.calm
+
+    begun_as : (e : Event) (after : State) → next program.types.items (body_forms program) whole ≡ moves e after → (c : Begins treater a rest s program.types.items (body_forms program) k IsOperated e after) → IsUsedAs (program_form program) c.treatment c.b → Led program s.heap e after
+    begun_as e after is c (inl plain) = inr (inl (record {
+      operates = begins_operation program sound.well a rest o.suspensions s k IsOperated e after (restand Running (Treats v treatment tasks) o.suspensions o.stands) o.calm
+          (step_typed program sound.well whole after settled e sound.typed (rw is (refl, refl))) c plain;
       alters = rw c.is c.alters;
       says = told_says e s.heap after c.tells;
       covered = told_covered program e c.tells;
-    })
+    }))
+    begun_as e after is c (inr (cause, ends_so, may, frugal)) = inr (inr (record {
+      finalizing = finalizing_starts program a rest s k v treatment tasks o.suspensions c.o cause may whole refl refl sound calm_here o.calm (restand Running (Treats v treatment tasks) o.suspensions o.stands) e after c ends_so frugal
+          (step_typed program sound.well whole after settled e sound.typed (rw is (refl, refl)));
+      alters = rw c.is c.alters;
+      says = told_says e s.heap after c.tells _ _;
+    }))
 
-    treated_led : (n : Next) → next program.types.items (body_forms program) whole ≡ n → Treated treater a rest s program.types.items (body_forms program) k n → FineIn program whole n
+    begins_there : (e : Event) (after : State) → next program.types.items (body_forms program) whole ≡ moves e after → Begins treater a rest s program.types.items (body_forms program) k IsOperated e after → Led program s.heap e after
+    begins_there e after is c = begun_as e after is c (used_as program sound.in_use sound.well c.of c.number c.b c.there c.treatment c.called)
+
+    treated_led : (n : Next) → next program.types.items (body_forms program) whole ≡ n → Treated treater a rest s program.types.items (body_forms program) k IsOperated n → FineIn program whole n
     treated_led (halts halt) is t = t
     treated_led (moves e after) is (inl st) = goes_here e after st
     treated_led (moves e after) is (inr c) = begins_there e after is c
@@ -388,10 +408,17 @@ module _ (program : Program) (a : Activation Value) (rest : List (Activation Val
     treated_led (asks request answered) is t = absurd t
     treated_led (picks n taken) is t = λ i lt. goes_here Quiet (taken i) (t i lt)
 
+    operated : (of part : ℕ) → task_next tasks ≡ Perform of part → (o : Id) → v ≡ Names o → IsOperated treatment o of
+    operated of part next o named = (
+      refl,
+      subst (λ (types : List TypeForm). OperatedOn types (cells_of s.heap) o of) (same_types a.procedure (program_form program))
+          (operated_by (seen_in a.procedure (program_form program)) whole v treatment tasks k refl refl sound.typed.inside of part next o named),
+    )
+
     treating_step : FineIn program whole (frame_next named program.types.items (body_forms program) (Treats v treatment tasks) (state_with Running k (a ∷ rest) s))
     unfolding next
     treating_step =
-        treated_led _ refl (treats_fine treater a rest s program.types.items (body_forms program) k v (task_next tasks) treatment tasks (finalizes_in program sound.well whole sound.reached sound.typed o.calm) o.ready.1)
+        treated_led _ refl (treats_fine treater a rest s program.types.items (body_forms program) k IsOperated v (task_next tasks) treatment tasks operated (finalizes_in program sound.well whole sound.reached sound.typed o.calm treater.program.types) o.ready.1)
 
   passing_none : (mode : Mode) (f : Frame Value) → inside.crosses mode (f ∷ k) ≡ false → behind_call (f ∷ k) ≡ behind_call k → (n : Next) → mode_next named program.types.items (body_forms program) mode (state_with mode (f ∷ k) (a ∷ rest) s) ≡ n → n ≡ pass_next named (is_master f) (landing mode f) mode (state_with mode k (a ∷ rest) s) → (sound : Sound program (state_with mode (f ∷ k) (a ∷ rest) s)) → Ordinary program (state_with mode (f ∷ k) (a ∷ rest) s) → FineIn program (state_with mode (f ∷ k) (a ∷ rest) s) n
   passing_none mode f none behind n is passes sound o =
@@ -490,12 +517,12 @@ module _ (program : Program) (s : State) (o : Operates program s) where
 
   led_on : (n : Next) → StepsOn sight o.procedure o.caller o.rest o.lower o.behind program.types.items (body_forms program) s o.places o.operands n → FineIn program s n
   led_on (halts halt) is = rw is tt
-  led_on (moves e after) (inl a) = inr (record {
+  led_on (moves e after) (inl a) = inr (inl (record {
     operates = operates_on program s after e o a;
     alters = after_alters e after.heap a.wrote;
     says = λ implicit p. mild_says implicit p e after a.mild;
     covered = mild_covered e a.mild;
-  })
+  }))
   led_on (moves e after) (inr (quiet, inl is)) = rw (quiet, is) (inl (operation_ends program s o, o.suspended.calm))
   led_on (moves e after) (inr (quiet, inr (x, may, is))) = rw (quiet, is) (inl (operation_raises program s o x may, o.suspended.calm))
   led_on (tells request e after) is = absurd is
@@ -515,14 +542,27 @@ module _ (program : Program) (s : State) (o : Operates program s) where
       (subst (λ (t : State). StepsOn sight o.procedure o.caller o.rest o.lower o.behind program.types.items (body_forms program) s o.places o.operands (mode_next named program.types.items (body_forms program) s.mode t)) state_is
       (steps_on sight o.procedure o.caller o.rest o.lower o.behind program.types.items (body_forms program) s o.places o.operands s.mode o.upper s.control o.body))
 
+-- A step of the body of a Finalize that touches storage.
+led_went : (program : Program) (before : List Object) (e : Event) (after : State) → Went program before e after → Led program before e after
+led_went program before e after (inl f) = inr (inr f)
+led_went program before e after (inr o) = inl o
+
+led_finalizing : (program : Program) (s : State) (n : Next) → GoesFinalizing program s n → FineIn program s n
+led_finalizing program s (halts halt) g = g
+led_finalizing program s (moves e after) g = led_went program s.heap e after g
+led_finalizing program s (tells request e after) g = led_went program s.heap e after g
+led_finalizing program s (asks request answered) g = absurd g
+led_finalizing program s (picks n taken) g = absurd g
+
 -- So what comes next keeps the invariant, and each state that a sound one steps to is sound.
 step_fine : (program : Program) (s : State) → Sound program s → FineIn program s (next program.types.items (body_forms program) s)
 unfolding next
 step_fine program s sound = by sound.goes
   where
-    by : Ordinary program s ⊎ Operates program s → FineIn program s (next program.types.items (body_forms program) s)
+    by : Ordinary program s ⊎ (Operates program s ⊎ Finalizing program s) → FineIn program s (next program.types.items (body_forms program) s)
     by (inl o) = step_by program s.mode s.control s.activations s sound o
-    by (inr o) = operating_step program s o
+    by (inr (inl o)) = operating_step program s o
+    by (inr (inr f)) = led_finalizing program s (next program.types.items (body_forms program) s) (finalizing_step program s sound f)
 
 -- Where a choice leads, the invariant holds.
 leads_fine : (program : Program) (s : State) (n : Next) (choice : Choice) (e : Event) (after : State) → FineIn program s n → Leads n choice e after → Led program s.heap e after
@@ -545,14 +585,16 @@ led program s choice e after r step = leads_fine program s (next program.types.i
 
 does_so : (program : Program) (before : List Object) (e : Event) (after : State) → Led program before e after → Does before e after
 does_so program before e after (inl (c, calm)) = record { implicit = implicit_of (program_form program); body = (known_in program (running_procedure after) c.suspensions).program; alters = c.stepped.alters; says = c.stepped.says }
-does_so program before e after (inr c) = record { implicit = implicit_of (program_form program); body = program_form program; alters = c.alters; says = c.says (implicit_of (program_form program)) (program_form program) }
+does_so program before e after (inr (inr c)) = record { implicit = implicit_of (program_form program); body = seen_in (Some c.finalizing.procedure) (program_form program); alters = c.alters; says = c.says }
+does_so program before e after (inr (inl c)) = record { implicit = implicit_of (program_form program); body = program_form program; alters = c.alters; says = c.says (implicit_of (program_form program)) (program_form program) }
 
 pub stepped : (program : Program) (s : State) (choice : Choice) (e : Event) (after : State) → Sound program s → Step program s choice e after → Does s.heap e after
 stepped program s choice e after r step = does_so program s.heap e after (led program s choice e after r step)
 
-goes_so : (program : Program) (before : List Object) (e : Event) (after : State) → Led program before e after → Ordinary program after ⊎ Operates program after
+goes_so : (program : Program) (before : List Object) (e : Event) (after : State) → Led program before e after → Ordinary program after ⊎ (Operates program after ⊎ Finalizing program after)
 goes_so program before e after (inl (c, calm)) = inl (record { suspensions = c.suspensions; ready = c.stepped.ready; stands = c.stands; calm = calm })
-goes_so program before e after (inr c) = inr c.operates
+goes_so program before e after (inr (inl c)) = inr (inl c.operates)
+goes_so program before e after (inr (inr c)) = inr (inr c.finalizing)
 
 reached_then : (program : Program) (s : State) (choice : Choice) (e : Event) (after : State) → IsReached program s → Step program s choice e after → IsReached program after
 reached_then program s choice e after (input, events, run) step = (input, events ++ e ∷ [], run_more e choice after run step)
@@ -581,9 +623,10 @@ below_has n access pool (m ∷ upper) lower has = has_after n access pool m.item
 pub housed : (program : Program) (s : State) → Sound program s → (o : Id) (x : Object) → object_at s.heap o ≡ Some x → x.out ≡ true → HasItem x.cell.home.item x.cell.access x.cell.home.pool (items_of s.masters)
 housed program s sound o x found out = by sound.goes
   where
-    by : Ordinary program s ⊎ Operates program s → HasItem x.cell.home.item x.cell.access x.cell.home.pool (items_of s.masters)
+    by : Ordinary program s ⊎ (Operates program s ⊎ Finalizing program s) → HasItem x.cell.home.item x.cell.access x.cell.home.pool (items_of s.masters)
     by (inl n) = ((stored_in program s n).1.sane o x found).housed out
-    by (inr n) =
+    by (inr (inr f)) = ((ready_stored (known_in program (Some f.procedure) (waiting_for program s f)) s f.ready).1.sane o x found).housed out
+    by (inr (inl n)) =
         let c = operation_ends program s n in
         let stored = ready_stored (known_in program n.caller.procedure c.suspensions) (behind_operation (n.caller ∷ n.rest) n.behind n.lower s) c.stepped.ready in
         rw n.masters (below_has x.cell.home.item x.cell.access x.cell.home.pool n.upper n.lower ((stored.1.sane o x found).housed out))
@@ -600,7 +643,7 @@ no_master : (ms : List Master) → NoMaster ms → ms ≡ []
 no_master [] none = refl
 no_master (m ∷ ms) none = absurd none
 
-back_at_end : (heap : List Object) → Stored None heap [] → All IsBack heap
+back_at_end : (heap : List Object) → Stored [] heap [] → All IsBack heap
 back_at_end heap stored k d lt = go (slice_index_or heap k d) (slice_get-get_or heap k d lt)
   where
     go : (x : Object) → object_at heap (record { 0 = k }) ≡ Some x → x.out ≡ false

@@ -16,7 +16,7 @@ use Rattle.ada_flow.specs.declared.rule.Hold.{Hold}
 use Rattle.ada_flow.specs.declared.rule.Region.TheVariants.{Whole}
 use Rattle.ada_flow.specs.declared.rule.Hold.TheVariants.{Null, Own, Alias, Lost, Kept}
 use Rattle.ada_flow.specs.declared.rule.Rule.TheVariants.{LoopState, FormalNotOwned}
-use Rattle.ada_flow.specs.Flow.{Holds, hold_at, variable_access, join, join_option, Outcome, faults, goes, also_raises, then_flow, raising_if, ends_with, Use, uses_in, uses_in_right, uses_in_target, Breach, broken_among, unless_broken, using_paths, computed, left_by_move, without_value, without_values, moved_by_right, right_hold, evaluation_raises, gives, gives_path, without_alias, without_aliases, without_freed, without_freed_option, loses, initializes, finalizes, uses_in_start, uses_in_assignment, left_by_call, uses_in_actuals, behind_end, freed, released, passes_own, passes_reached, freed_behind, frees_path, gets_path, either_of, are_as_good, opened_hold, opened, opened_target, opened_by, opened_by_all, opened_by_branches, opened_by_handlers, ends_turn, left_with, is_left, condition_flow, loop_flow, Gone, gone_with, declared_at, uses_in_initial, without_types, without_variables, if_own, left, left_option, leaves_block, left_finalized, handled, Around, in_loop, in_block, exit_of, exit_flow, declaration_flow, declarations_flow, bounds_flow, counting_start, begins_pair, stmt_flow, stmts_flow, branches_flow, handlers_flow, all_touched, touched, touched_hold, touched_by_all, variable_of, opened_by_actuals, handed_back, left_unkept, unless_kept, first_kept, others_kept, Keeping, all_give_back, formal_hold, first_holds, kept_at}
+use Rattle.ada_flow.specs.Flow.{Holds, hold_at, variable_access, join, join_option, Outcome, faults, goes, also_raises, then_flow, raising_if, ends_with, Use, uses_in, uses_in_right, uses_in_target, Breach, broken_among, unless_broken, using_paths, computed, left_by_move, without_value, without_values, moved_by_right, right_hold, evaluation_raises, gives, gives_path, without_alias, without_aliases, without_freed, without_freed_option, loses, initializes, finalizes, uses_in_start, uses_in_assignment, left_by_call, uses_in_actuals, behind_end, freed, released, way_reached, freed_behind, frees_path, gets_path, either_of, are_as_good, opened_hold, opened, opened_target, opened_by, opened_by_all, opened_by_branches, opened_by_handlers, ends_turn, left_with, is_left, condition_flow, loop_flow, Gone, gone_with, declared_at, uses_in_initial, without_types, without_variables, if_own, left, left_option, leaves_block, left_finalized, handled, Around, in_loop, in_block, exit_of, exit_flow, declaration_flow, declarations_flow, bounds_flow, counting_start, begins_pair, stmt_flow, stmts_flow, branches_flow, handlers_flow, all_touched, touched, touched_hold, touched_by_all, variable_of, opened_by_actuals, handed_back, left_unkept, unless_kept, first_kept, others_kept, Keeping, all_give_back, formal_hold, first_holds, kept_at}
 use Rattle.ada_typed.proofs.Bodies.{SeenFits}
 use Rattle.ada_sound.proofs.Assigned.{root_or_none}
 use Rattle.ada_sound.specs.Agreement.{Place, Turning, Comes, here, behind, in_branches, in_body, in_count, in_enclosed, ComesBy, in_others, in_this, in_next, ComesTo, to_this, to_next, ComesInside, in_statements, in_handlers, IsFlowAt}
@@ -251,7 +251,7 @@ module _ (types : List TypeForm) (variables : List VariableForm) (texts exceptio
   frees_keeps implicit (c ∷ cs) access path holds fits s =
       let own = path_access types variables path in
       let after = behind_end variables own holds in
-      unless_keeps (freed_behind (passes_own types variables path own || passes_reached types variables implicit path own) (hold_at holds path.root) path.spot) (ends_with (path_raises path) after after)
+      unless_keeps (freed_behind (way_reached types variables implicit path (hold_at holds path.root) own) (hold_at holds path.root) path.spot) (ends_with (path_raises path) after after)
       (ends_keep (path_raises path) after after (behind_end_keeps own holds s) (behind_end_keeps own holds s))
 
   gets_keeps : (cs : List ℕ) (path : PathForm) (holds : Holds) → Scalars holds → Keeps (gets_path cs path holds)

@@ -24,14 +24,14 @@ use Rattle.ada_typed.proofs.Inner.{lies_at}
 use Rattle.ada_typed.proofs.Lying.{Lies, IsOperable}
 
 -- The record type of the objects that the values of a type name is that of its objects.
-record_named : (u : ℕ) (o : Option TypeForm) (r : ℕ) → named_in o ≡ Some r → record_in u o ≡ Some r
+pub record_named : (u : ℕ) (o : Option TypeForm) (r : ℕ) → named_in o ≡ Some r → record_in u o ≡ Some r
 record_named u None r is = absurd (cc is)
 record_named u (Some (record_of name parts components finalization)) r is = absurd (cc is)
 record_named u (Some (access_to name designated pool)) r is = is
 record_named u (Some (object_of record_type)) r is = is
 
 -- The procedure of a number.
-numbered_one : (o : Option ProcedureNo) (number : ℕ) → procedure_number o ≡ Some number → (procedure : ProcedureNo) × (o ≡ Some procedure) × (procedure.0 ≡ number)
+pub numbered_one : (o : Option ProcedureNo) (number : ℕ) → procedure_number o ≡ Some number → (procedure : ProcedureNo) × (o ≡ Some procedure) × (procedure.0 ≡ number)
 numbered_one None number is = absurd (cc is)
 numbered_one (Some procedure) number is = (procedure, refl, cc is)
 

@@ -17,7 +17,7 @@ use Rattle.ada_meaning.specs.Named.{State, named}
 use Rattle.ada_meaning.specs.Run.{Event, Run, here, first_state}
 use Rattle.ada_typed.proofs.Kept.{behind_call}
 use Rattle.ada_sound.specs.Agreement.{running_procedure}
-use Rattle.ada_quiet.specs.Quiet.{operations_are_in_use}
+use Rattle.ada_quiet.specs.InUse.{operations_are_in_use}
 use Rattle.ada_typed.proofs.Bodies.{seen_fits}
 use Rattle.ada_typed.proofs.Control as typed
 use Rattle.ada_typed.proofs.Runs.{first_typed}
@@ -28,6 +28,7 @@ use Rattle.ada_sound.proofs.BodyRuns.{body_runs, none_suspended}
 use Rattle.ada_sound.proofs.Exits.{no_exits, no_exit_handlers}
 use Rattle.ada_sound.proofs.Invariant.{Ready}
 use Rattle.ada_sound.proofs.Callers.{Suspension, known_in, Stands}
+use Rattle.ada_sound.proofs.Finalizing.{Finalizing}
 use Rattle.ada_sound.proofs.Operating.{IsCalm, Operates}
 use Rattle.ada_sound.proofs.QuietOperations.{operations_nest}
 use Rattle.ada_sound.proofs.Returns.{same_types}
@@ -43,14 +44,15 @@ pub record Ordinary (program : Program) (s : State) : Type 0 where
   pub stands : Stands program suspensions s
   pub calm : IsCalm (behind_call s.control)
 
--- What every state of a run keeps: that invariant, or the body of an operation runs; values are of their kinds, and collections nest.
+-- What every state of a run keeps: that invariant, or the body of an operation runs, one that touches no storage or a Finalize that does; values are of
+-- their kinds, and collections nest.
 pub record Sound (program : Program) (s : State) : Type 0 where
   pub reached : IsReached program s
   pub well : IsWellFormed (program_form program)
   pub in_use : operations_are_in_use (program_form program) ≡ true
   pub frees_own : FreesItsOwn (program_form program)
   pub obeys : ObeysRules program
-  pub goes : Ordinary program s ⊎ Operates program s
+  pub goes : Ordinary program s ⊎ (Operates program s ⊎ Finalizing program s)
   pub typed : typed.Typed (program_form program) s
   pub nested : Scoped (program_form program) s
 
@@ -72,7 +74,7 @@ none_on program procedure well =
     no_exit_handlers p.types p.variables p.texts p.exceptions _ p.handlers (seen_fits (program_form program) well procedure).handlers_fit
 
 -- No variable of the main body is declared yet.
-lost_first : (variables : List VariableForm) (x : ℕ) → hold_at (first_holds [] variables) x ≡ hold.Lost
+pub lost_first : (variables : List VariableForm) (x : ℕ) → hold_at (first_holds [] variables) x ≡ hold.Lost
 lost_first [] x = refl
 lost_first (v ∷ vs) zero = refl
 lost_first (v ∷ vs) (suc x) = lost_first vs x

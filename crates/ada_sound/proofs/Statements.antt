@@ -34,7 +34,7 @@ use Rattle.ada_sound.proofs.Copied.{record_there}
 use Rattle.ada_sound.proofs.Records.{has_place, record_fine}
 use Rattle.ada_sound.proofs.Wholes.{record_begins}
 use Rattle.ada_sound.proofs.RecordAssignments.{copy_begins}
-use Rattle.ada_sound.proofs.Invariant.{Spares, owed_in, Known, Where, below, Control, Rooms, Roomed, Goes, To, Raised, Doing, Choosing, TurnsTo, condition_among, assignment_among, component_among, Counting, Elaborating, Handled, Outside, RunsOn, RunsAfter, Deciding, TurningOn, ExitingTo, Computing, IsOne, Pairs, Takes, Working, Resumes, EvaluatesTo, Fine, ways}
+use Rattle.ada_sound.proofs.Invariant.{outers, Spares, owed_in, Known, Where, below, Control, Rooms, Roomed, Goes, To, Raised, Doing, Choosing, TurnsTo, condition_among, assignment_among, component_among, Counting, Elaborating, Handled, Outside, RunsOn, RunsAfter, Deciding, TurningOn, ExitingTo, Computing, IsOne, Pairs, Takes, Working, Resumes, EvaluatesTo, Fine, ways}
 use Rattle.ada_sound.proofs.Ready.{running, at_work, with_less, at_less, stays, lost_stored, ready_on, runs_on, jumps, jumps_less}
 use Rattle.ada_sound.proofs.Nestings.{Starting, starts, others_do, branch_does, chooses_from, repeats_from, turn_runs, counts_from, count_runs, exit_parts, encloses_from}
 use Rattle.ada_sound.proofs.Outcomes.{return_goes, goes_map, to_before, raised_before, raised_less, then_goes, using_goes, computed_goes, initializes_after, finalizes_to}
@@ -114,7 +114,7 @@ module _ (known : Known) where
   declares_more : (heap : List Object) (places : List Value) (x : ℕ) (right : RightForm) (ds : List DeclarationForm) (fs : StmtsForm) (hs : HandlersForm) (k : Control) (holds : Holds) (rooms : Rooms) → RunsOn known (Elaborates (declares x right ∷ ds) fs hs ∷ k) rooms holds → Takes known heap places right (Declares x ∷ Elaborates ds fs hs ∷ k) rooms holds
   declares_more heap places x right ds fs hs k holds [] e = absurd e
   declares_more heap places x right ds fs hs k holds (gone ∷ rooms) e =
-      let o = Outside known.program.variables gone (ways known k rooms) in
+      let o = Outside known gone (ways known k rooms) in
       let flow = gives known.program.types known.program.variables (declared_at known.program.variables x) false x right holds in
       let among = assignment_among known right in (
         tt,
@@ -207,7 +207,7 @@ module _ (known : Known) where
         let cleared = begins_pair (assigns target right) fs in
         component_begins known a rest s cleared c cs target right fs k is whole (at_work w (w.rest, pairs_component c cs target right fs k is))
 
-    frees_fine : (defined : List TypeDefinition) (cs : List ℕ) (access : ℕ) (path : PathForm) (fs : StmtsForm) (k : Control) → HaveHomes known.program.types s.heap s.masters → is_freed_by known.program.types access (path_access known.program.types known.program.variables path) ≡ true → is_this access (path_access known.program.types known.program.variables path) ≡ true → Spares known (λ t. is_this t (path_access known.program.types known.program.variables path)) → path.selectors ≡ cs → Working known s.heap a.places s.masters (λ rooms holds. Goes (frees_path known.program.types known.program.variables known.implicit cs path holds) (To (RunsOn known (Does fs ∷ k) rooms)) (Raised (free_among path) (ways known k rooms))) → Fine known s.heap s.masters (frees_next named defined cs access path.root (running (Does fs ∷ k) a rest s))
+    frees_fine : (defined : List TypeDefinition) (cs : List ℕ) (access : ℕ) (path : PathForm) (fs : StmtsForm) (k : Control) → HaveHomes known.program.types (outers known).under s.heap s.masters → is_freed_by known.program.types access (path_access known.program.types known.program.variables path) ≡ true → is_this access (path_access known.program.types known.program.variables path) ≡ true → Spares known (λ t. is_this t (path_access known.program.types known.program.variables path)) → path.selectors ≡ cs → Working known s.heap a.places s.masters (λ rooms holds. Goes (frees_path known.program.types known.program.variables known.implicit cs path holds) (To (RunsOn known (Does fs ∷ k) rooms)) (Raised (free_among path) (ways known k rooms))) → Fine known s.heap s.masters (frees_next named defined cs access path.root (running (Does fs ∷ k) a rest s))
     frees_fine defined [] access path fs k homes freed by_own spares is w =
         let own = freed_at known.program.types known.program.variables access path freed in
         let at : path_access known.program.types known.program.variables path ≡ Some access = this_is access (path_access known.program.types known.program.variables path) by_own in
@@ -308,7 +308,7 @@ module _ (known : Known) where
         (first.0, (λ may. first.2 may ConstraintError (or_left (expression_raises low) (expression_raises high) may)), (second.0, (λ may. second.2 may ConstraintError (or_right (expression_raises low) (expression_raises high) may)), (λ v. second.1)))
 
     -- Statements.
-    stmt_fine : (defined : List TypeDefinition) (bodies : List BodyForm) → MayCall known bodies → (inside : Bool) (here : Where) (f : StmtForm) (fs : StmtsForm) (k : Control) → HaveHomes known.program.types s.heap s.masters → statement_fits known.program.types known.program.variables known.program.texts known.program.exceptions (callable_in known.program) inside f ≡ true → statement_frees_own known.program.types known.program.variables f ≡ true → Working known s.heap a.places s.masters (λ rooms holds. Starting known here f fs k (ways known k rooms) holds) → Fine known s.heap s.masters (stmt_next named defined bodies f (running (Does fs ∷ k) a rest s))
+    stmt_fine : (defined : List TypeDefinition) (bodies : List BodyForm) → MayCall known bodies → (inside : Bool) (here : Where) (f : StmtForm) (fs : StmtsForm) (k : Control) → HaveHomes known.program.types (outers known).under s.heap s.masters → statement_fits known.program.types known.program.variables known.program.texts known.program.exceptions (callable_in known.program) inside f ≡ true → statement_frees_own known.program.types known.program.variables f ≡ true → Working known s.heap a.places s.masters (λ rooms holds. Starting known here f fs k (ways known k rooms) holds) → Fine known s.heap s.masters (stmt_next named defined bodies f (running (Does fs ∷ k) a rest s))
     stmt_fine defined bodies calling inside here skips fs k homes fits own w = runs_on known (Does fs ∷ k) a rest s (at_work w w.rest.1.0) Quiet tt
     stmt_fine defined bodies calling inside here (assigns target right) fs k homes fits own w =
         let types = known.program.types in
@@ -371,7 +371,7 @@ module _ (known : Known) where
           },
         ) tt
 
-    pub stmts_fine : (defined : List TypeDefinition) (bodies : List BodyForm) → MayCall known bodies → (inside : Bool) (fs : StmtsForm) (k : Control) → HaveHomes known.program.types s.heap s.masters → stmts_fit known.program.types known.program.variables known.program.texts known.program.exceptions (callable_in known.program) inside fs ≡ true → statements_free_own known.program.types known.program.variables fs ≡ true → Resumes known s.heap a.places s.masters (Does fs ∷ k) → Fine known s.heap s.masters (stmts_next named defined bodies fs (running k a rest s))
+    pub stmts_fine : (defined : List TypeDefinition) (bodies : List BodyForm) → MayCall known bodies → (inside : Bool) (fs : StmtsForm) (k : Control) → HaveHomes known.program.types (outers known).under s.heap s.masters → stmts_fit known.program.types known.program.variables known.program.texts known.program.exceptions (callable_in known.program) inside fs ≡ true → statements_free_own known.program.types known.program.variables fs ≡ true → Resumes known s.heap a.places s.masters (Does fs ∷ k) → Fine known s.heap s.masters (stmts_next named defined bodies fs (running k a rest s))
     stmts_fine defined bodies calling inside fs k homes fits own (inr h) = half_begins known a rest s defined bodies fs k h
     stmts_fine defined bodies calling inside no_stmts k homes fits own (inl w) = runs_on known k a rest s (at_less w w.rest.2.0) Quiet tt
     stmts_fine defined bodies calling inside (a_stmt f fs) k homes fits own (inl w) = stmt_fine defined bodies calling inside w.rest.0 f fs k homes (and_parts _ _ fits).0 (and_parts _ _ own).0 (at_work w (starts known f fs k (ways known k w.rooms) w.holds w.rest))

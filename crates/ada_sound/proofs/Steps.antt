@@ -18,7 +18,7 @@ use Rattle.ada_meaning.specs.Law.{items_of}
 use Rattle.ada_meaning.specs.Step.{first_or, older, places_of, operands_of, frame_next, mode_next}
 use Rattle.ada_meaning.specs.Named.{Object, State, named, next}
 use Rattle.ada_effects.specs.Effects.{unary_raises, binary_raises}
-use Rattle.ada_scopes.specs.Scopes.{CollectTwoTypes, InnermostHeldInside}
+use Rattle.ada_scopes.specs.Scopes.{CollectTwoTypes}
 use Rattle.ada_typed.proofs.Control.{OwnBody}
 use Rattle.ada_typed.specs.Holding.{Cells, cells_of, HasKind, HaveKinds}
 use Rattle.ada_typed.proofs.Values.{OperandKind, of_kind, AreComputed, AreHeld, AreFilled, filled_at, kind_of}
@@ -35,9 +35,10 @@ use Rattle.ada_typed.proofs.Values as typing
 use Rattle.ada_typed.proofs.Control as typed
 use Rattle.ada_typed.proofs.Kept.{crosses as crosses_by, is_treatment}
 use Rattle.ada_sound.proofs.Calm.{ends_operation, operation_ends_there}
-use Rattle.ada_sound.proofs.Homes.{Pooled, HaveHomes}
+use Rattle.ada_meaning.specs.declared.state.Id.{Id}
+use Rattle.ada_sound.proofs.Homes.{Pooled, NoneIsUnder, HaveHomes}
 use Rattle.ada_sound.proofs.Standing.{AllStand, FinalizesBy, FinalizesIn}
-use Rattle.ada_sound.proofs.Invariant.{Known, outers, Control, ReadyBy, ReadyIn, IsActive, Ready, Fine}
+use Rattle.ada_sound.proofs.Invariant.{innermost, Known, outers, Control, ReadyBy, ReadyIn, IsActive, Ready, Fine}
 use Rattle.ada_sound.proofs.Ready.{running, at_work, at_less, runs_on, goes_in_mode}
 use Rattle.ada_sound.proofs.Raising.{unary_only, binary_only}
 use Rattle.ada_sound.proofs.Expressions.{outcome_fine, null_test_fine, expression_fine, links_fine}
@@ -51,7 +52,7 @@ use Rattle.ada_sound.proofs.Wholes.{copies_fine, record_target_fine, store_recor
 use Rattle.ada_sound.proofs.RecordAssignments.{assigns_fine}
 use Rattle.ada_sound.proofs.Releases.{free_in_fine}
 use Rattle.ada_sound.proofs.Targets.{target_fine, store_fine, receive_fine, clear_fine}
-use Rattle.ada_sound.proofs.Leavings.{HeldIn, NamedBelow}
+use Rattle.ada_sound.proofs.Leavings.{AreInOrder, HeldIn, NamedBelow}
 use Rattle.ada_sound.proofs.Endings.{ends_fine, backs_fine, leave_fine}
 use Rattle.ada_sound.proofs.Treatments.{awaits_fine, confines_fine}
 use Rattle.ada_sound.proofs.Jumps.{closes_fine, raising_fine, exiting_fine, returning_fine}
@@ -113,17 +114,18 @@ heap_typed p s (typed.on_jump mode j goes) = heap_typed_by p s.heap j.filled
 heap_typed p s (typed.operated kinds r ended) = heap_typed_by p s.heap r.filled
 heap_typed p s (typed.out_of_operation e kinds j ended) = heap_typed_by p s.heap j.filled
 
--- What a step needs of a state besides: where words go back to, that no component refers to a record, and that the running body frees by the instances for
--- what it frees.
-pub record StateTyped (p : ProgramForm) (heap : List Object) (masters : List Master) : Type 0 where
+-- What a step needs of a state besides: where words go back to, that no component refers to a record, that the running body frees by the instances for what
+-- it frees, and that no object of an access type is under way.
+pub record StateTyped (p : ProgramForm) (under : List Id) (heap : List Object) (masters : List Master) : Type 0 where
   pub pooled : Pooled p.types heap
   pub lone : AllPairs CollectTwoTypes (items_of masters)
   pub plain : ArePlain heap
   pub own : OwnBody p
+  pub aside : NoneIsUnder p.types under heap
 
 -- Where something is freed, it goes back home.
-homes_in : {p : ProgramForm} {heap : List Object} {masters : List Master} → StateTyped p heap masters → AllStand heap → HaveHomes p.types heap masters
-homes_in kept stand = record { pooled = kept.pooled; lone = kept.lone; stand = stand }
+homes_in : {p : ProgramForm} {under : List Id} {heap : List Object} {masters : List Master} → StateTyped p under heap masters → AllStand p.types heap → HaveHomes p.types under heap masters
+homes_in kept stand = record { pooled = kept.pooled; lone = kept.lone; stand = stand; aside = kept.aside }
 
 -- Does the next step begin the body of a call, or does it come to the end of one; or is it one of a treatment, which may call an operation?
 abbrev pub crosses : Mode → Control → Bool
@@ -156,78 +158,78 @@ module _ (known : Known) where
     record_found first u items [] t r = let fits = t.1 in absurd (no_operand known.program.types (cells_of s.heap) t.0 (of_kind (variable.Access fits.1)) fits.0 fits.3 t.2)
     record_found first u items (v ∷ below) t r = record_target_fine known types reaches k a rest s first u items v below t.0 t.1 t.2 r
 
-    frame_fine : (f : Frame Value) → crosses Running (f ∷ k) ≡ false → RunsTyped known s.heap (f ∷ k) a.places a.operands → StateTyped known.program s.heap s.masters → FinalizesBy types bodies f (running k a rest s) → HeldIn s.heap s.masters → ((mode : Mode) (behind : Control) → f ∷ k ≡ Leaves mode ∷ behind → NamedBelow (outers known) s.heap s.masters) → ReadyBy known f k s.heap a.places a.operands s.masters → Fine known s.heap s.masters (frame_next named types bodies f (running k a rest s))
-    frame_fine (Elaborates ds fs hs) inner t kept well held low r = declarations_fine known a rest s fs hs k types ds t.3 t.1.2 r
-    frame_fine (Does fs) inner t kept well held low r = stmts_fine known a rest s types bodies calling t.1.1 fs k (homes_in kept well) t.1.2.0 (t.1.2.1 kept.own) r
-    frame_fine (Decides fs branches) inner t kept well held low r = decided_fine known (record a { operands = older a.operands }) rest s fs branches (named.reads_boolean (first_or Null a.operands)) k r
-    frame_fine (Repeats condition body) inner t kept well held low r = repeats_fine known a rest s condition body k r
-    frame_fine (Turns e body) inner t kept well held low r = turned_fine known (record a { operands = older a.operands }) rest s e body (named.reads_boolean (first_or Null a.operands)) k r
-    frame_fine (Ranges x body) inner t kept well held low r = ranges_fine known (record a { operands = older (older a.operands) }) rest s x body (named.reads_integer (first_or Null (older a.operands))) (named.reads_integer (first_or Null a.operands)) k r
-    frame_fine (Counts x next last body) inner t kept well held low r = counts_fine known a rest s x next last body k r
-    frame_fine Exits inner t kept well held low r = exited_fine known (record a { operands = older a.operands }) rest s (named.reads_boolean (first_or Null a.operands)) k r
-    frame_fine (Handles hs) inner t kept well held low r = runs_on known k a rest s (at_less r r.rest) Quiet tt
-    frame_fine Closes inner t kept well held low r = closes_fine known k a rest s Running r
-    frame_fine (Leaves mode) inner t kept well held low r = leave_fine known types mode k a rest s s.masters r held (low mode k refl)
-    frame_fine (Calls procedure b actuals) inner t kept well held low r = absurd (cc inner)
-    frame_fine (Returns actuals references) inner t kept well held low r = absurd (cc inner)
-    frame_fine (Evaluates right) inner t kept well held low r = evaluates_fine known k a rest s kept.plain types reaches right t.0 t.1 r
-    frame_fine (Computes e) inner t kept well held low r = expression_fine known k a rest s e t.1.0 t.1.1 r
-    frame_fine (Follows cs) inner t kept well held low r = path_fine kept.plain cs a.operands t r
-    frame_fine (TestsNull equal) inner t kept well held low r = null_test_fine known k a rest s (older a.operands) r equal (named.reads_null (first_or Null a.operands))
-    frame_fine (Refers p) inner t kept well held low r = refers_fine known k a rest s p t.1.1 r
-    frame_fine (RefersIn place u) inner t kept well held low r = referred_fine known k a rest s place u (width_of types u) (first_or Null a.operands) (older a.operands) r
-    frame_fine (Opens path) inner t kept well held low r = opens_fine known k a rest s path t.1.0 t.1.1 r
-    frame_fine (OpensIn c) inner t kept well held low r = opened_fine known k a rest s c (first_or Null a.operands) (older a.operands) r
-    frame_fine (Continues links) inner t kept well held low r = chain_fine links a.operands t r
-    frame_fine (Applies operator) inner t kept well held low r =
+    frame_fine : (f : Frame Value) → crosses Running (f ∷ k) ≡ false → RunsTyped known s.heap (f ∷ k) a.places a.operands → StateTyped known.program (outers known).under s.heap s.masters → FinalizesBy known.program.types types bodies f (running k a rest s) → ((mode : Mode) (behind : Control) → f ∷ k ≡ Leaves mode ∷ behind → HeldIn s.heap s.masters × NamedBelow (outers known) s.heap s.masters × AreInOrder known.program.types (innermost s.masters)) → ReadyBy known f k s.heap a.places a.operands s.masters → Fine known s.heap s.masters (frame_next named types bodies f (running k a rest s))
+    frame_fine (Elaborates ds fs hs) inner t kept well low r = declarations_fine known a rest s fs hs k types ds t.3 t.1.2 r
+    frame_fine (Does fs) inner t kept well low r = stmts_fine known a rest s types bodies calling t.1.1 fs k (homes_in kept well) t.1.2.0 (t.1.2.1 kept.own) r
+    frame_fine (Decides fs branches) inner t kept well low r = decided_fine known (record a { operands = older a.operands }) rest s fs branches (named.reads_boolean (first_or Null a.operands)) k r
+    frame_fine (Repeats condition body) inner t kept well low r = repeats_fine known a rest s condition body k r
+    frame_fine (Turns e body) inner t kept well low r = turned_fine known (record a { operands = older a.operands }) rest s e body (named.reads_boolean (first_or Null a.operands)) k r
+    frame_fine (Ranges x body) inner t kept well low r = ranges_fine known (record a { operands = older (older a.operands) }) rest s x body (named.reads_integer (first_or Null (older a.operands))) (named.reads_integer (first_or Null a.operands)) k r
+    frame_fine (Counts x next last body) inner t kept well low r = counts_fine known a rest s x next last body k r
+    frame_fine Exits inner t kept well low r = exited_fine known (record a { operands = older a.operands }) rest s (named.reads_boolean (first_or Null a.operands)) k r
+    frame_fine (Handles hs) inner t kept well low r = runs_on known k a rest s (at_less r r.rest) Quiet tt
+    frame_fine Closes inner t kept well low r = closes_fine known k a rest s Running r
+    frame_fine (Leaves mode) inner t kept well low r = leave_fine known types mode k a rest s s.masters r (low mode k refl).0 (low mode k refl).1 (low mode k refl).2
+    frame_fine (Calls procedure b actuals) inner t kept well low r = absurd (cc inner)
+    frame_fine (Returns actuals references) inner t kept well low r = absurd (cc inner)
+    frame_fine (Evaluates right) inner t kept well low r = evaluates_fine known k a rest s kept.plain types reaches right t.0 t.1 r
+    frame_fine (Computes e) inner t kept well low r = expression_fine known k a rest s e t.1.0 t.1.1 r
+    frame_fine (Follows cs) inner t kept well low r = path_fine kept.plain cs a.operands t r
+    frame_fine (TestsNull equal) inner t kept well low r = null_test_fine known k a rest s (older a.operands) r equal (named.reads_null (first_or Null a.operands))
+    frame_fine (Refers p) inner t kept well low r = refers_fine known k a rest s p t.1.1 r
+    frame_fine (RefersIn place u) inner t kept well low r = referred_fine known k a rest s place u (width_of types u) (first_or Null a.operands) (older a.operands) r
+    frame_fine (Opens path) inner t kept well low r = opens_fine known k a rest s path t.1.0 t.1.1 r
+    frame_fine (OpensIn c) inner t kept well low r = opened_fine known k a rest s c (first_or Null a.operands) (older a.operands) r
+    frame_fine (Continues links) inner t kept well low r = chain_fine links a.operands t r
+    frame_fine (Applies operator) inner t kept well low r =
         let left = first_or Null (older a.operands) in
         let right = first_or Null a.operands in
         outcome_fine known k a rest s (older (older a.operands)) (at_work r r.rest.1) (binary_raises operator) (named.binary operator left right) (binary_only operator left right) r.rest.0
-    frame_fine (AppliesAlone operator) inner t kept well held low r =
+    frame_fine (AppliesAlone operator) inner t kept well low r =
         let operand = first_or Null a.operands in
         outcome_fine known k a rest s (older a.operands) (at_work r r.rest.1) (unary_raises operator) (named.unary operator operand) (unary_only operator operand) r.rest.0
-    frame_fine (Fills items) inner t kept well held low r = items_fine known k a rest s items t.1.0 t.1.1 r
-    frame_fine (Copies first u) inner t kept well held low r = copies_fine known types reaches k a rest s first u (first_or Null a.operands) (older a.operands) r
-    frame_fine (Creates access count) inner t kept well held low r = creates_fine known k a rest s types access count (words_of types access) t.0 t.1 t.2 r
-    frame_fine (Stores x) inner t kept well held low r = stores_fine known k a rest s kept.plain x (first_or Null a.operands) (older a.operands) r
-    frame_fine (Targets c right) inner t kept well held low r = found_fine c right a.operands t r
-    frame_fine (StoresIn o c) inner t kept well held low r = put_fine o c a.operands t r
-    frame_fine (TargetsRecord first u items) inner t kept well held low r = record_found first u items a.operands t r
-    frame_fine (StoresRecord o first count) inner t kept well held low r = store_record_fine known types reaches k a rest s o first count t.0 t.1 t.2 r
-    frame_fine (Assigns u) inner t kept well held low r = assigns_fine known a rest s types reaches k u a.operands r
-    frame_fine (Receives c) inner t kept well held low r = receive_fine known k a rest s (first_or Null a.operands) (older a.operands) c r
-    frame_fine (FreesIn access c) inner t kept well held low r = free_in_fine known a rest s types access c k (older a.operands) (homes_in kept well) (first_or Null a.operands) r
-    frame_fine (Declares x) inner t kept well held low r = declares_fine known k a rest s kept.plain x (first_or Null a.operands) (older a.operands) r
-    frame_fine (DeclaresRecord x u) inner t kept well held low r = recorded_fine known k a rest s types reaches x u t.0 t.1 t.2 t.3 r
-    frame_fine (Treats v treatment tasks) inner t kept well held low r = absurd (cc inner)
-    frame_fine (frame.Awaits v by done of part tasks) inner t kept well held low r = absurd (t.1)
-    frame_fine frame.Confines inner t kept well held low r = absurd (t.1)
-    frame_fine (frame.Resumes mode) inner t kept well held low r = goes_in_mode known k a rest s mode (at_less r r.rest)
-    frame_fine Writes inner t kept well held low r = writes_fine known k a rest s kept.plain (named.reads_integer (first_or Null a.operands)) (older a.operands) r
-    frame_fine (Ends v) inner t kept well held low r = ends_fine known a rest s v k r
-    frame_fine (GivesBack v cause pool) inner t kept well held low r = backs_fine known a rest s v cause pool k r
-    frame_fine (Clears x) inner t kept well held low r = stores_fine known k a rest s kept.plain x Null a.operands (inl r)
-    frame_fine (ClearsIn o c) inner t kept well held low r = clear_fine known k a rest s o c r
+    frame_fine (Fills items) inner t kept well low r = items_fine known k a rest s items t.1.0 t.1.1 r
+    frame_fine (Copies first u) inner t kept well low r = copies_fine known types reaches k a rest s first u (first_or Null a.operands) (older a.operands) r
+    frame_fine (Creates access count) inner t kept well low r = creates_fine known k a rest s types access count (words_of types access) t.0 t.1 t.2 r
+    frame_fine (Stores x) inner t kept well low r = stores_fine known k a rest s kept.plain x (first_or Null a.operands) (older a.operands) r
+    frame_fine (Targets c right) inner t kept well low r = found_fine c right a.operands t r
+    frame_fine (StoresIn o c) inner t kept well low r = put_fine o c a.operands t r
+    frame_fine (TargetsRecord first u items) inner t kept well low r = record_found first u items a.operands t r
+    frame_fine (StoresRecord o first count) inner t kept well low r = store_record_fine known types reaches k a rest s o first count t.0 t.1 t.2 r
+    frame_fine (Assigns u) inner t kept well low r = assigns_fine known a rest s types reaches k u a.operands r
+    frame_fine (Receives c) inner t kept well low r = receive_fine known k a rest s (first_or Null a.operands) (older a.operands) c r
+    frame_fine (FreesIn access c) inner t kept well low r = free_in_fine known a rest s types access c k (older a.operands) (homes_in kept well) (first_or Null a.operands) r
+    frame_fine (Declares x) inner t kept well low r = declares_fine known k a rest s kept.plain x (first_or Null a.operands) (older a.operands) r
+    frame_fine (DeclaresRecord x u) inner t kept well low r = recorded_fine known k a rest s types reaches x u t.0 t.1 t.2 t.3 r
+    frame_fine (Treats v treatment tasks) inner t kept well low r = absurd (cc inner)
+    frame_fine (frame.Awaits v by done of part tasks) inner t kept well low r = absurd (t.1)
+    frame_fine frame.Confines inner t kept well low r = absurd (t.1)
+    frame_fine (frame.Resumes mode) inner t kept well low r = goes_in_mode known k a rest s mode (at_less r r.rest)
+    frame_fine Writes inner t kept well low r = writes_fine known k a rest s kept.plain (named.reads_integer (first_or Null a.operands)) (older a.operands) r
+    frame_fine (Ends v) inner t kept well low r = ends_fine known a rest s v k r
+    frame_fine (GivesBack v cause pool) inner t kept well low r = backs_fine known a rest s v cause pool k r
+    frame_fine (Clears x) inner t kept well low r = stores_fine known k a rest s kept.plain x Null a.operands (inl r)
+    frame_fine (ClearsIn o c) inner t kept well low r = clear_fine known k a rest s o c r
 
-  mode_fine : (types : List TypeDefinition) → Reaches known types → (bodies : List BodyForm) → MayCall known bodies → (mode : Mode) (k : Control) (a : Activation Value) (rest : List (Activation Value)) (s : State) → crosses mode k ≡ false → (mode ≡ Running → ends_operation k ≡ false → RunsTyped known s.heap k a.places a.operands) → StateTyped known.program s.heap s.masters → FinalizesIn types bodies mode k (record s { activations = a ∷ rest }) → HeldIn s.heap s.masters → ((left : Mode) (behind : Control) → mode ≡ Running → k ≡ Leaves left ∷ behind → NamedBelow (outers known) s.heap s.masters) → ReadyIn known mode k s.heap a.places a.operands s.masters → Fine known s.heap s.masters (mode_next named types bodies mode (record s { mode = mode; control = k; activations = a ∷ rest }))
-  mode_fine types reaches bodies calling Running [] a rest s inner t kept well held low r = r
-  mode_fine types reaches bodies calling Running (frame.Awaits v by done of part tasks ∷ k) a rest s inner t kept well held low r = awaits_fine known a rest s types bodies k v by done of part tasks r.0 r.1
-  mode_fine types reaches bodies calling Running (frame.Confines ∷ k) a rest s inner t kept well held low r = confines_fine known a rest s k r
-  mode_fine types reaches bodies calling Running (f ∷ k) a rest s inner t kept well held low r = frame_fine types reaches bodies calling k a rest s f inner (t refl refl) kept well held (λ left behind is. low left behind refl is) r
-  mode_fine types reaches bodies calling (Raising e) [] a rest s inner t kept well held low r = r
-  mode_fine types reaches bodies calling (Raising e) (f ∷ k) a rest s inner t kept well held low r = raising_fine known k a rest s e f inner r
-  mode_fine types reaches bodies calling Exiting [] a rest s inner t kept well held low r = tt
-  mode_fine types reaches bodies calling Exiting (f ∷ k) a rest s inner t kept well held low r = exiting_fine known k a rest s f inner r
-  mode_fine types reaches bodies calling Returning [] a rest s inner t kept well held low r = r
-  mode_fine types reaches bodies calling Returning (f ∷ k) a rest s inner t kept well held low r = returning_fine known k a rest s f inner r
+  mode_fine : (types : List TypeDefinition) → Reaches known types → (bodies : List BodyForm) → MayCall known bodies → (mode : Mode) (k : Control) (a : Activation Value) (rest : List (Activation Value)) (s : State) → crosses mode k ≡ false → (mode ≡ Running → ends_operation k ≡ false → RunsTyped known s.heap k a.places a.operands) → StateTyped known.program (outers known).under s.heap s.masters → FinalizesIn known.program.types types bodies mode k (record s { activations = a ∷ rest }) → ((left : Mode) (behind : Control) → mode ≡ Running → k ≡ Leaves left ∷ behind → HeldIn s.heap s.masters × NamedBelow (outers known) s.heap s.masters × AreInOrder known.program.types (innermost s.masters)) → ReadyIn known mode k s.heap a.places a.operands s.masters → Fine known s.heap s.masters (mode_next named types bodies mode (record s { mode = mode; control = k; activations = a ∷ rest }))
+  mode_fine types reaches bodies calling Running [] a rest s inner t kept well low r = r
+  mode_fine types reaches bodies calling Running (frame.Awaits v by done of part tasks ∷ k) a rest s inner t kept well low r = awaits_fine known a rest s types bodies k (λ treatment o of. Unit {0}) v by done of part tasks r.0 r.1
+  mode_fine types reaches bodies calling Running (frame.Confines ∷ k) a rest s inner t kept well low r = confines_fine known a rest s k r
+  mode_fine types reaches bodies calling Running (f ∷ k) a rest s inner t kept well low r = frame_fine types reaches bodies calling k a rest s f inner (t refl refl) kept well (λ left behind is. low left behind refl is) r
+  mode_fine types reaches bodies calling (Raising e) [] a rest s inner t kept well low r = r
+  mode_fine types reaches bodies calling (Raising e) (f ∷ k) a rest s inner t kept well low r = raising_fine known k a rest s e f inner r
+  mode_fine types reaches bodies calling Exiting [] a rest s inner t kept well low r = tt
+  mode_fine types reaches bodies calling Exiting (f ∷ k) a rest s inner t kept well low r = exiting_fine known k a rest s f inner r
+  mode_fine types reaches bodies calling Returning [] a rest s inner t kept well low r = r
+  mode_fine types reaches bodies calling Returning (f ∷ k) a rest s inner t kept well low r = returning_fine known k a rest s f inner r
 
-  active_fine : (types : List TypeDefinition) → Reaches known types → (bodies : List BodyForm) → MayCall known bodies → (all : List (Activation Value)) (s : State) → IsActive all → crosses s.mode s.control ≡ false → (s.mode ≡ Running → ends_operation s.control ≡ false → RunsTyped known s.heap s.control (places_of all) (operands_of all)) → StateTyped known.program s.heap s.masters → FinalizesIn types bodies s.mode s.control (record s { activations = all }) → HeldIn s.heap s.masters → ((left : Mode) (behind : Control) → s.mode ≡ Running → s.control ≡ Leaves left ∷ behind → NamedBelow (outers known) s.heap s.masters) → Ready known (record s { activations = all }) → Fine known s.heap s.masters (mode_next named types bodies s.mode (record s { activations = all }))
-  active_fine types reaches bodies calling [] s i inner t kept well held low r = absurd i
-  active_fine types reaches bodies calling (a ∷ rest) s i inner t kept well held low r = mode_fine types reaches bodies calling s.mode s.control a rest s inner t kept well held low r.1
+  active_fine : (types : List TypeDefinition) → Reaches known types → (bodies : List BodyForm) → MayCall known bodies → (all : List (Activation Value)) (s : State) → IsActive all → crosses s.mode s.control ≡ false → (s.mode ≡ Running → ends_operation s.control ≡ false → RunsTyped known s.heap s.control (places_of all) (operands_of all)) → StateTyped known.program (outers known).under s.heap s.masters → FinalizesIn known.program.types types bodies s.mode s.control (record s { activations = all }) → ((left : Mode) (behind : Control) → s.mode ≡ Running → s.control ≡ Leaves left ∷ behind → HeldIn s.heap s.masters × NamedBelow (outers known) s.heap s.masters × AreInOrder known.program.types (innermost s.masters)) → Ready known (record s { activations = all }) → Fine known s.heap s.masters (mode_next named types bodies s.mode (record s { activations = all }))
+  active_fine types reaches bodies calling [] s i inner t kept well low r = absurd i
+  active_fine types reaches bodies calling (a ∷ rest) s i inner t kept well low r = mode_fine types reaches bodies calling s.mode s.control a rest s inner t kept well low r.1
 
   -- One step keeps the invariant, where no body begins and none ends.
-  pub fine : (types : List TypeDefinition) → Reaches known types → (bodies : List BodyForm) → MayCall known bodies → (s : State) → crosses s.mode s.control ≡ false → typed.TypedIn known.program s → OwnBody known.program → AllPairs CollectTwoTypes (items_of s.masters) → FinalizesIn types bodies s.mode s.control s → InnermostHeldInside s → ((left : Mode) (behind : Control) → s.mode ≡ Running → s.control ≡ Leaves left ∷ behind → NamedBelow (outers known) s.heap s.masters) → Ready known s → Fine known s.heap s.masters (next types bodies s)
+  pub fine : (types : List TypeDefinition) → Reaches known types → (bodies : List BodyForm) → MayCall known bodies → (s : State) → crosses s.mode s.control ≡ false → typed.TypedIn known.program s → OwnBody known.program → AllPairs CollectTwoTypes (items_of s.masters) → FinalizesIn known.program.types types bodies s.mode s.control s → NoneIsUnder known.program.types (outers known).under s.heap → ((left : Mode) (behind : Control) → s.mode ≡ Running → s.control ≡ Leaves left ∷ behind → HeldIn s.heap s.masters × NamedBelow (outers known) s.heap s.masters × AreInOrder known.program.types (innermost s.masters)) → Ready known s → Fine known s.heap s.masters (next types bodies s)
   unfolding next
-  fine types reaches bodies calling s inner typing own lone well held low r =
+  fine types reaches bodies calling s inner typing own lone well aside low r =
       let heap = heap_typed known.program s typing in
-      active_fine types reaches bodies calling s.activations s r.0 inner (runs_typed known s typing) (record { pooled = heap.0; lone = lone; plain = heap.1; own = own }) well held low r
+      active_fine types reaches bodies calling s.activations s r.0 inner (runs_typed known s typing) (record { pooled = heap.0; lone = lone; plain = heap.1; own = own; aside = aside }) well low r

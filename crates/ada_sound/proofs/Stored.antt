@@ -1,7 +1,7 @@
--- Objects and their homes: words that are out have a home among the items, and one object at most is under way out of its collection.
+-- Objects and their homes: words that are out have a home among the items, and each object whose words are out is in its collection or under way.
 
 use Rattle.std.proofs.Common.{◌≡◌, ◌≢◌, ℕ, zero, suc, ◌<◌, ◌+◌, Bool, true, false, List, [], ◌∷◌, ◌++◌, length, map, refl, sym, ap, ◌⊎◌, inl, inr, arith}
-use Rattle.std.specs.Prelude.{Option, Some, None, ◌==◌, ◌&&◌, if◌then◌else◌}
+use Rattle.std.specs.Prelude.{Some, ◌==◌, ◌&&◌, if◌then◌else◌}
 use Rattle.std.specs.List.{slice_get, slice_set, slice_index_or}
 use Rattle.std.proofs.lemmas.Bool.{eqb-true, eq-eqb}
 use Rattle.ada_meaning.specs.declared.state.Id.{Id}
@@ -12,31 +12,38 @@ use Rattle.ada_meaning.specs.Heap.{PartState, Cell}
 use Rattle.ada_meaning.specs.State.{Owned, Item, Master, height}
 use Rattle.ada_meaning.specs.Step.{owning}
 use Rattle.ada_meaning.specs.Named.{Object, object_at, new_object, parted, finished, returned, filled, treated, is_member, members_from, members}
+use Rattle.ada_owners.specs.Places.{is_there}
 use Rattle.ada_meaning.specs.Law.{items_of}
 use Rattle.ada_sound.proofs.Objects.{more_get, set_get}
 use Rattle.ada_sound.proofs.Items.{Counted, Houses, HasItem, counted_owning, has_owning}
 
--- What is so of each object, where this one is under way.
-pub record Sane (under : Option Id) (items : List Item) (o : Id) (x : Object) : Type 0 where
+-- An object is one of these.
+abbrev pub IsUnder : List Id → Id → Type 0
+IsUnder [] o = ⊥
+IsUnder (p ∷ ps) o = (p ≡ o) ⊎ IsUnder ps o
+
+-- What is so of each object, where these are under way.
+pub record Sane (under : List Id) (items : List Item) (o : Id) (x : Object) : Type 0 where
   pub back_gone : x.out ≡ false → x.stage ≡ Gone
   pub listed_exists : x.listed ≡ true → x.stage ≡ Existing
+  pub there_exists : is_there x.stage ≡ true → x.stage ≡ Existing
   pub housed : x.out ≡ true → HasItem x.cell.home.item x.cell.access x.cell.home.pool items
-  pub out_listed : x.out ≡ true → (x.listed ≡ true) ⊎ (under ≡ Some o)
+  pub out_listed : x.out ≡ true → (x.listed ≡ true) ⊎ IsUnder under o
 
-pub record Stored (under : Option Id) (heap : List Object) (masters : List Master) : Type 0 where
+pub record Stored (under : List Id) (heap : List Object) (masters : List Master) : Type 0 where
   pub counted : Counted (items_of masters)
   pub sane : (o : Id) (x : Object) → object_at heap o ≡ Some x → Sane under (items_of masters) o x
 
 -- A new object.
-pub stored_new : {heap : List Object} {masters : List Master} (cell : Cell Value) → HasItem cell.home.item cell.access cell.home.pool (items_of masters) → Stored None heap masters → Stored None (heap ++ new_object cell ∷ []) masters
-stored_new {heap} {masters} cell home s = record { counted = s.counted; sane = λ o x e. go o x (more_get heap (new_object cell) o.0 x e) }
+pub stored_new : {under : List Id} {heap : List Object} {masters : List Master} (cell : Cell Value) → HasItem cell.home.item cell.access cell.home.pool (items_of masters) → Stored under heap masters → Stored under (heap ++ new_object cell ∷ []) masters
+stored_new {under} {heap} {masters} cell home s = record { counted = s.counted; sane = λ o x e. go o x (more_get heap (new_object cell) o.0 x e) }
   where
-    go : (o : Id) (x : Object) → (slice_get heap o.0 ≡ Some x) ⊎ ((o.0 ≡ length heap) × (x ≡ new_object cell)) → Sane None (items_of masters) o x
+    go : (o : Id) (x : Object) → (slice_get heap o.0 ≡ Some x) ⊎ ((o.0 ≡ length heap) × (x ≡ new_object cell)) → Sane under (items_of masters) o x
     go o x (inl e) = s.sane o x e
-    go o x (inr e) = rw (e.1) (record { back_gone = λ h. absurd (cc h); listed_exists = λ h. refl; housed = λ h. home; out_listed = λ h. inl refl })
+    go o x (inr e) = rw (e.1) (record { back_gone = λ h. absurd (cc h); listed_exists = λ h. refl; there_exists = λ h. refl; housed = λ h. home; out_listed = λ h. inl refl })
 
 -- One object changes.
-stored_set : {under after : Option Id} {heap : List Object} {masters : List Master} (o : Id) (y : Object) → Sane after (items_of masters) o y → ((p : Id) (z : Object) → p.0 ≢ o.0 → Sane under (items_of masters) p z → Sane after (items_of masters) p z) → Stored under heap masters → Stored after (slice_set heap o.0 y) masters
+stored_set : {under after : List Id} {heap : List Object} {masters : List Master} (o : Id) (y : Object) → Sane after (items_of masters) o y → ((p : Id) (z : Object) → p.0 ≢ o.0 → Sane under (items_of masters) p z → Sane after (items_of masters) p z) → Stored under heap masters → Stored after (slice_set heap o.0 y) masters
 stored_set {under} {after} {heap} {masters} o y here other s = record { counted = s.counted; sane = λ p z e. go p z (set_get heap o.0 p.0 y z e) }
   where
     go : (p : Id) (z : Object) → ((p.0 ≡ o.0) × (z ≡ y)) ⊎ ((p.0 ≢ o.0) × (slice_get heap p.0 ≡ Some z)) → Sane after (items_of masters) p z
@@ -44,59 +51,68 @@ stored_set {under} {after} {heap} {masters} o y here other s = record { counted 
     go p z (inr e) = other p z e.0 (s.sane p z e.1)
 
 -- It leaves its collection, and is under way then.
-pub stored_part : {heap : List Object} {masters : List Master} (o : Id) (x : Object) → object_at heap o ≡ Some x → Stored None heap masters → Stored (Some o) (slice_set heap o.0 (parted x)) masters
-stored_part {heap} {masters} o x is s =
+pub stored_part : {under : List Id} {heap : List Object} {masters : List Master} (o : Id) (x : Object) → object_at heap o ≡ Some x → Stored under heap masters → Stored (o ∷ under) (slice_set heap o.0 (parted x)) masters
+stored_part {under} {heap} {masters} o x is s =
     let h = s.sane o x is in
     stored_set o (parted x)
-    (record { back_gone = h.back_gone; listed_exists = λ e. absurd (cc e); housed = h.housed; out_listed = λ e. inr refl })
-    (λ p z ne g. record { back_gone = g.back_gone; listed_exists = g.listed_exists; housed = g.housed; out_listed = λ e. elim (g.out_listed e) [ inl l ↦ inl l | inr n ↦ absurd (cc n) ] })
+    (record { back_gone = h.back_gone; listed_exists = λ e. absurd (cc e); there_exists = h.there_exists; housed = h.housed; out_listed = λ e. inr (inl refl) })
+    (λ p z ne g. record { back_gone = g.back_gone; listed_exists = g.listed_exists; there_exists = g.there_exists; housed = g.housed; out_listed = λ e. elim (g.out_listed e) [ inl l ↦ inl l | inr n ↦ inr (inr n) ] })
     s
 
 -- It ceases to exist.
-pub stored_finish : {heap : List Object} {masters : List Master} (o : Id) (x : Object) → object_at heap o ≡ Some x → Stored (Some o) heap masters → Stored (Some o) (slice_set heap o.0 (finished x)) masters
-stored_finish {heap} {masters} o x is s =
+pub stored_finish : {under : List Id} {heap : List Object} {masters : List Master} (o : Id) (x : Object) → object_at heap o ≡ Some x → Stored (o ∷ under) heap masters → Stored (o ∷ under) (slice_set heap o.0 (finished x)) masters
+stored_finish {under} {heap} {masters} o x is s =
     let h = s.sane o x is in
     stored_set o (finished x)
-    (record { back_gone = λ e. refl; listed_exists = λ e. absurd (cc e); housed = h.housed; out_listed = λ e. inr refl })
+    (record { back_gone = λ e. refl; listed_exists = λ e. absurd (cc e); there_exists = λ e. absurd (cc e); housed = h.housed; out_listed = λ e. inr (inl refl) })
     (λ p z ne g. g)
     s
 
--- Its words go back, and none is under way then.
-pub stored_back : {heap : List Object} {masters : List Master} (o : Id) (x : Object) → object_at heap o ≡ Some x → x.stage ≡ Gone → Stored (Some o) heap masters → Stored None (slice_set heap o.0 (returned x)) masters
-stored_back {heap} {masters} o x is gone s =
+-- Its words go back, and it is not under way then.
+pub stored_back : {under : List Id} {heap : List Object} {masters : List Master} (o : Id) (x : Object) → object_at heap o ≡ Some x → x.stage ≡ Gone → Stored (o ∷ under) heap masters → Stored under (slice_set heap o.0 (returned x)) masters
+stored_back {under} {heap} {masters} o x is gone s =
     let h = s.sane o x is in
     stored_set o (returned x)
-    (record { back_gone = λ e. gone; listed_exists = h.listed_exists; housed = λ e. absurd (cc e); out_listed = λ e. absurd (cc e) })
-    (λ p z ne g. record { back_gone = g.back_gone; listed_exists = g.listed_exists; housed = g.housed; out_listed = λ e. elim (g.out_listed e) [ inl l ↦ inl l | inr n ↦ absurd (ne (same_id p o n)) ] })
+    (record { back_gone = λ e. gone; listed_exists = h.listed_exists; there_exists = h.there_exists; housed = λ e. absurd (cc e); out_listed = λ e. absurd (cc e) })
+    (λ p z ne g. record { back_gone = g.back_gone; listed_exists = g.listed_exists; there_exists = g.there_exists; housed = g.housed; out_listed = λ e. elim (g.out_listed e) [ inl l ↦ inl l | inr n ↦ inr (other p ne n) ] })
     s
   where
-    same_id : (p q : Id) → Some q ≡ Some p → p.0 ≡ q.0
-    same_id p q n = cc n
+    other : (p : Id) → p.0 ≢ o.0 → IsUnder (o ∷ under) p → IsUnder under p
+    other p ne (inl same) = absurd (ne (ap (λ (q : Id). q.0) (sym same)))
+    other p ne (inr one) = one
 
 -- A component of it gets another value.
-pub stored_filled : {under : Option Id} {heap : List Object} {masters : List Master} (o : Id) (x : Object) (c : ℕ) (v : Value) → object_at heap o ≡ Some x → Stored under heap masters → Stored under (slice_set heap o.0 (filled c v x)) masters
+pub stored_filled : {under : List Id} {heap : List Object} {masters : List Master} (o : Id) (x : Object) (c : ℕ) (v : Value) → object_at heap o ≡ Some x → Stored under heap masters → Stored under (slice_set heap o.0 (filled c v x)) masters
 stored_filled {under} {heap} {masters} o x c v is s =
     let h = s.sane o x is in
     stored_set o (filled c v x)
-    (record { back_gone = h.back_gone; listed_exists = h.listed_exists; housed = h.housed; out_listed = h.out_listed })
+    (record { back_gone = h.back_gone; listed_exists = h.listed_exists; there_exists = h.there_exists; housed = h.housed; out_listed = h.out_listed })
     (λ p z ne g. g)
     s
 
 -- A controlled part of it changes (7.6).
-pub stored_treated : {under : Option Id} {heap : List Object} {masters : List Master} (change : PartState → PartState) (part : ℕ) (o : Id) (x : Object) → object_at heap o ≡ Some x → Stored under heap masters → Stored under (slice_set heap o.0 (treated change part x)) masters
+pub stored_treated : {under : List Id} {heap : List Object} {masters : List Master} (change : PartState → PartState) (part : ℕ) (o : Id) (x : Object) → object_at heap o ≡ Some x → Stored under heap masters → Stored under (slice_set heap o.0 (treated change part x)) masters
 stored_treated {under} {heap} {masters} change part o x is s =
     let h = s.sane o x is in
     stored_set o (treated change part x)
-    (record { back_gone = h.back_gone; listed_exists = h.listed_exists; housed = h.housed; out_listed = h.out_listed })
+    (record { back_gone = h.back_gone; listed_exists = h.listed_exists; there_exists = h.there_exists; housed = h.housed; out_listed = h.out_listed })
     (λ p z ne g. g)
     s
 
 -- One item more.
-pub stored_owning : {under : Option Id} {heap : List Object} {masters : List Master} (owned : Owned) → Stored under heap masters → Stored under heap (owning (record { number = height masters; owned = owned }) masters)
+pub stored_owning : {under : List Id} {heap : List Object} {masters : List Master} (owned : Owned) → Stored under heap masters → Stored under heap (owning (record { number = height masters; owned = owned }) masters)
 stored_owning {under} {heap} {masters} owned s = record {
   counted = counted_owning owned masters s.counted;
-  sane = λ o x e. let h = s.sane o x e in record { back_gone = h.back_gone; listed_exists = h.listed_exists; housed = λ out. has_owning x.cell.home.item x.cell.access x.cell.home.pool (record { number = height masters; owned = owned }) masters (h.housed out); out_listed = h.out_listed };
+  sane = λ o x e. let h = s.sane o x e in record { back_gone = h.back_gone; listed_exists = h.listed_exists; there_exists = h.there_exists; housed = λ out. has_owning x.cell.home.item x.cell.access x.cell.home.pool (record { number = height masters; owned = owned }) masters (h.housed out); out_listed = h.out_listed };
 }
+
+-- What is there is in its collection, where no object is under way.
+pub there_listed : {heap : List Object} {masters : List Master} (o : Id) (x : Object) → object_at heap o ≡ Some x → is_there x.stage ≡ true → Stored [] heap masters → x.listed ≡ true
+there_listed o x is there s = by x.out refl
+  where
+    by : (b : Bool) → x.out ≡ b → x.listed ≡ true
+    by true out = elim ((s.sane o x is).out_listed out) [ inl listed ↦ listed | inr under ↦ absurd under ]
+    by false back = let gone = (s.sane o x is).back_gone back in let nowhere : is_there Gone ≡ true = rw gone at there in absurd (cc nowhere)
 
 -- Members: each is in the collection of its home, and each that is in it is one.
 abbrev pub EachId : (Id → Type 0) → List Id → Type 0
@@ -174,31 +190,33 @@ pub none_is_left : (item : ℕ) (heap : List Object) (o : Id) (x : Object) → m
 none_is_left item heap o x none is listed home = none_from item 0 heap o.0 x none is (rw (listed, home) (eq-eqb item item refl))
 
 -- The newest item goes, where it has no member.
-pub stored_shorter : {heap : List Object} (m : Master) (item : Item) (items : List Item) (ms : List Master) → ((o : Id) (x : Object) → object_at heap o ≡ Some x → x.listed ≡ true → Houses item.owned x.cell.access x.cell.home.pool → x.cell.home.item ≡ item.number → ⊥) → Stored None heap (record m { items = item ∷ items } ∷ ms) → Stored None heap (record m { items = items } ∷ ms)
-stored_shorter {heap} m item items ms none s = record {
+pub stored_shorter : {under : List Id} {heap : List Object} (m : Master) (item : Item) (items : List Item) (ms : List Master) → ((o : Id) (x : Object) → IsUnder under o → object_at heap o ≡ Some x → x.cell.home.item ≡ item.number → ⊥) → ((o : Id) (x : Object) → object_at heap o ≡ Some x → x.listed ≡ true → Houses item.owned x.cell.access x.cell.home.pool → x.cell.home.item ≡ item.number → ⊥) → Stored under heap (record m { items = item ∷ items } ∷ ms) → Stored under heap (record m { items = items } ∷ ms)
+stored_shorter {under} {heap} m item items ms apart none s = record {
   counted = s.counted.1;
   sane = λ o x e. let h = s.sane o x e in record {
     back_gone = h.back_gone;
     listed_exists = h.listed_exists;
+    there_exists = h.there_exists;
     housed = λ out. rest o x e (h.out_listed out) (h.housed out);
     out_listed = h.out_listed;
   };
 }
   where
-    rest : (o : Id) (x : Object) → object_at heap o ≡ Some x → (x.listed ≡ true) ⊎ (None ≡ Some o) → HasItem x.cell.home.item x.cell.access x.cell.home.pool (item ∷ (items ++ items_of ms)) → HasItem x.cell.home.item x.cell.access x.cell.home.pool (items ++ items_of ms)
+    rest : (o : Id) (x : Object) → object_at heap o ≡ Some x → (x.listed ≡ true) ⊎ IsUnder under o → HasItem x.cell.home.item x.cell.access x.cell.home.pool (item ∷ (items ++ items_of ms)) → HasItem x.cell.home.item x.cell.access x.cell.home.pool (items ++ items_of ms)
     rest o x e (inl l) (inl h) = absurd (none o x e l h.1 (sym h.0))
     rest o x e (inl l) (inr h) = h
-    rest o x e (inr n) h = absurd (cc n)
+    rest o x e (inr n) (inl h) = absurd (apart o x n e (sym h.0))
+    rest o x e (inr n) (inr h) = h
 
 -- The innermost master is entered, or goes, where it has no item.
-pub stored_entered : {under : Option Id} {heap : List Object} {ms : List Master} (number : ℕ) → Stored under heap ms → Stored under heap (record { number = number; items = [] } ∷ ms)
+pub stored_entered : {under : List Id} {heap : List Object} {ms : List Master} (number : ℕ) → Stored under heap ms → Stored under heap (record { number = number; items = [] } ∷ ms)
 stored_entered number s = record { counted = s.counted; sane = s.sane }
 
-pub stored_older : {heap : List Object} (m : Master) (ms : List Master) → Stored None heap (record m { items = [] } ∷ ms) → Stored None heap ms
+pub stored_older : {under : List Id} {heap : List Object} (m : Master) (ms : List Master) → Stored under heap (record m { items = [] } ∷ ms) → Stored under heap ms
 stored_older m ms s = record { counted = s.counted; sane = s.sane }
 
 -- The words of an object that exists are out.
-pub exists_out : {under : Option Id} {heap : List Object} {masters : List Master} (o : Id) (x : Object) → object_at heap o ≡ Some x → x.stage ≡ Existing → Stored under heap masters → x.out ≡ true
+pub exists_out : {under : List Id} {heap : List Object} {masters : List Master} (o : Id) (x : Object) → object_at heap o ≡ Some x → x.stage ≡ Existing → Stored under heap masters → x.out ≡ true
 exists_out o x is exists s = go x.out refl
   where
     go : (b : Bool) → x.out ≡ b → x.out ≡ true

@@ -25,8 +25,8 @@ use Rattle.ada_meaning.specs.State.{Master}
 use Rattle.ada_meaning.specs.Named.{Object, object_at, named, store, changed, filled}
 use Rattle.ada_owners.specs.Reliance.{IsOf}
 use Rattle.ada_owners.specs.Keeping.{IsThere}
-use Rattle.ada_owners.specs.Places.{access_at}
-use Rattle.ada_owners.proofs.Objects.{listed_at}
+use Rattle.ada_owners.specs.Places.{is_there, access_at}
+use Rattle.ada_owners.proofs.Objects.{present_at}
 use Rattle.ada_owners.specs.Walks.{walk}
 use Rattle.ada_typed.specs.Holding.{cells_of}
 use Rattle.ada_typed.proofs.Values.{OperandKind, of_kind}
@@ -76,7 +76,7 @@ module _ {types : List TypeForm} {variables : List VariableForm} {outer : Outsid
   move_by x (hold.Alias r) none other is same kept = absurd (cc kept)
   move_by x hold.Lost none other is same kept = absurd (cc kept)
 
-  pub store_by : (o : Id) (object : Object) (c : ℕ) (h : Hold) → hold_at holds y ≡ h → object_at heap o ≡ Some object → object.listed ≡ true → component_access types object c ≡ variable_access variables y → moved_by h spot ≡ None → Fit types variables outer none_spared (store heap (Names o) c (place_at places y)) places (slice_set holds y (left_by_move h))
+  pub store_by : (o : Id) (object : Object) (c : ℕ) (h : Hold) → hold_at holds y ≡ h → object_at heap o ≡ Some object → is_there object.stage ≡ true → component_access types object c ≡ variable_access variables y → moved_by h spot ≡ None → Fit types variables outer none_spared (store heap (Names o) c (place_at places y)) places (slice_set holds y (left_by_move h))
   store_by o object c hold.Null is found listed same kept = let null = null_place is in rw null (store_blank o object c Null found (λ p e. cc e) (null_fit y (null_object y (λ lost. cc (lost, is)) null f) null f))
   store_by o object c (hold.Kept r) is found listed same kept = store_owner o object c (place_at places y) found listed (rw same (hand_of y (rw is tt) f)) (lose y f)
   store_by o object c (hold.Own r) is found listed same kept = store_owner o object c (place_at places y) found listed (rw same (hand_of y (rw is tt) f)) (lose y f)
@@ -130,7 +130,7 @@ cleared_is false (hold.Alias r) spot kept = absurd (cc kept)
 cleared_is false hold.Lost spot kept = absurd (cc kept)
 
 -- Objects stay stored where a component is written.
-pub stored_after : {under : Option Id} {ms : List Master} (heap : List Object) (o : Id) (c : ℕ) (v : Value) → Stored under heap ms → Stored under (store heap (Names o) c v) ms
+pub stored_after : {under : List Id} {ms : List Master} (heap : List Object) (o : Id) (c : ℕ) (v : Value) → Stored under heap ms → Stored under (store heap (Names o) c v) ms
 stored_after {under} {ms} heap o c v s = go (object_at heap o) refl
   where
     go : (t : Option Object) → object_at heap o ≡ t → Stored under (changed (filled c v) t heap o) ms
@@ -231,7 +231,7 @@ root_access {types} {variables} {heap} {places} {holds} f x spot o object kept i
   where
     by_kind : (kind : Option ℕ) → IsOf (access_at heap) kind o → kind ≡ Some object.cell.access
     by_kind None of = absurd of
-    by_kind (Some t) of = let h = listed_at heap o t of in let one : h.object ≡ object = cc (h.found, found) in ap Some (sym h.access ∙ ap (λ (y : Object). y.cell.access) one)
+    by_kind (Some t) of = let h = present_at heap o t of in let one : h.object ≡ object = cc (h.found, found) in ap Some (sym h.access ∙ ap (λ (y : Object). y.cell.access) one)
 
 -- What a moved path leads to is of the kind that it goes to.
 pub one_kind : (p : ProgramForm) (kind to : VariableKind) (path : PathForm) → kind_takes p.types p.variables kind (value_of path) ≡ true → access_of (Some kind) ≡ value_access (Some to) → kind ≡ to

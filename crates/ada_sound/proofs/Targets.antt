@@ -21,6 +21,7 @@ use Rattle.ada_meaning.specs.Heap.{finds}
 use Rattle.ada_meaning.specs.State.{Activation, Master}
 use Rattle.ada_meaning.specs.Step.{jumping, before_last, last_of, path_next, target_next, stored_next, store_next, received_next, receive_next, assign_next, stmts_next, selected}
 use Rattle.ada_meaning.specs.Named.{Object, State, object_at, filled, store, look, named, inside}
+use Rattle.ada_owners.specs.Places.{is_there}
 use Rattle.ada_owners.specs.Keeping.{IsThere}
 use Rattle.ada_owners.specs.Walks.{walk}
 use Rattle.ada_owners.proofs.Changes.{store_is}
@@ -31,7 +32,7 @@ use Rattle.ada_sound.proofs.Fits.{MayFollow, is_object, component_access, place_
 use Rattle.ada_sound.proofs.Stored.{Stored, exists_out, stored_filled}
 use Rattle.ada_sound.proofs.Alters.{alters_set}
 use Rattle.ada_sound.proofs.Begins.{root_follows}
-use Rattle.ada_sound.proofs.Invariant.{begun, along, Known, Control, Rooms, ReadyIn, Goes, Raised, RunsOn, RunsAfter, NoneBroken, MayRaise, RaisesAt, Pairs, IsOne, component_among, Doing, LeadsTo, FillsIn, Receiving, Working, Half, HalfBy, Resumes, Clearing, EvaluatesTo, TargetsTo, StoringIn, StoresOn, Accepts, IsFollowed, Stepped, Fine, front, final, ways}
+use Rattle.ada_sound.proofs.Invariant.{outers, begun, along, Known, Control, Rooms, ReadyIn, Goes, Raised, RunsOn, RunsAfter, NoneBroken, MayRaise, RaisesAt, Pairs, IsOne, component_among, Doing, LeadsTo, FillsIn, Receiving, Working, Half, HalfBy, Resumes, Clearing, EvaluatesTo, TargetsTo, StoringIn, StoresOn, Accepts, IsFollowed, Stepped, Fine, front, final, ways}
 use Rattle.ada_sound.proofs.Objects.{set_here, set_other}
 use Rattle.ada_sound.proofs.Values.{same_or_not}
 use Rattle.ada_sound.proofs.Ready.{stores_ready, running, at_work, at_less, stays, runs_ready, resumes_ready, goes_ready, jumps_less}
@@ -45,9 +46,9 @@ use Rattle.ada_sound.proofs.Assigned.{kind_names, kind_blank, selected_of}
 use Rattle.ada_sound.proofs.Walks.{finds_fine, half_fine}
 
 -- The words of an object that is there are out.
-pub followed : {under : Option Id} {heap : List Object} {ms : List Master} (o : Id) → IsThere heap o → Stored under heap ms → IsFollowed (Names o) heap
+pub followed : {under : List Id} {heap : List Object} {ms : List Master} (o : Id) → IsThere heap o → Stored under heap ms → IsFollowed (Names o) heap
 followed o (object, found, listed) stored =
-    record { id = o; object = object; is = refl; found = found; out = exists_out o object found ((stored.sane o object found).listed_exists listed) stored }
+    record { id = o; object = object; is = refl; found = found; out = exists_out o object found ((stored.sane o object found).there_exists listed) stored }
 
 -- A component gets what names nothing.
 blank_works : {known : Known} {heap : List Object} {places : List Value} {ms : List Master} {more : Rooms → Holds → Type 0} (o : Id) (object : Object) (c : ℕ) (v : Value) → object_at heap o ≡ Some object → ((p : Id) → v ≡ Names p → ⊥) → Working known heap places ms more → Working known (store heap (Names o) c v) places ms more
@@ -125,7 +126,7 @@ module _ (known : Known) (a : Activation Value) (rest : List (Activation Value))
 
 module _ (known : Known) (k : Control) (a : Activation Value) (rest : List (Activation Value)) (s : State) where
   -- What goes into the component of the object that was found is evaluated next: null counts as stored already.
-  evaluates : (right : RightForm) (o : Id) (object : Object) (c : ℕ) → object_at s.heap o ≡ Some object → object.listed ≡ true → Working known s.heap a.places s.masters (λ rooms holds. FillsIn known right (LeadsTo s.heap a.places (Names o) [] c) rooms holds k) → EvaluatesTo known right (StoresIn (Names o) c ∷ k) s.heap a.places s.masters
+  evaluates : (right : RightForm) (o : Id) (object : Object) (c : ℕ) → object_at s.heap o ≡ Some object → is_there object.stage ≡ true → Working known s.heap a.places s.masters (λ rooms holds. FillsIn known right (LeadsTo s.heap a.places (Names o) [] c) rooms holds k) → EvaluatesTo known right (StoresIn (Names o) c ∷ k) s.heap a.places s.masters
   evaluates nothing o object c found listed w =
       let g = target_goes known.program.types w.rest.1 w.rest.0 nothing w.holds (RunsOn known k w.rooms) (Raised (component_among known (path_raises w.rest.0) nothing) (ways known k w.rooms)) w.rest.2 in
       ((object, found, listed), blank_works {more = RunsOn known k} o object c Null found (λ p e. cc e) (at_work w g.1))
@@ -135,9 +136,9 @@ module _ (known : Known) (k : Control) (a : Activation Value) (rest : List (Acti
   evaluates (computes e) o object c found listed w = at_work w ((object, found, listed), w.rest)
 
   -- The object that was found is there.
-  found_fine : {under : Option Id} (o : Id) (there : IsThere s.heap o) (c : ℕ) (right : RightForm) (below : List Value) → Stored under s.heap s.masters → EvaluatesTo known right (StoresIn (Names o) c ∷ k) s.heap a.places s.masters → Fine known s.heap s.masters (target_next named (Names o) c right (look s.heap (Names o)) (running k (record a { operands = below }) rest s))
+  found_fine : {under : List Id} (o : Id) (there : IsThere s.heap o) (c : ℕ) (right : RightForm) (below : List Value) → Stored under s.heap s.masters → EvaluatesTo known right (StoresIn (Names o) c ∷ k) s.heap a.places s.masters → Fine known s.heap s.masters (target_next named (Names o) c right (look s.heap (Names o)) (running k (record a { operands = below }) rest s))
   found_fine o (object, found, listed) c right below stored r =
-      rw (found, (stored.sane o object found).listed_exists listed)
+      rw (found, (stored.sane o object found).there_exists listed)
       (stays known (Followed (Names o)) (running (Evaluates right ∷ StoresIn (Names o) c ∷ k) (record a { operands = below }) rest s) (tt, inl r) (followed o (object, found, listed) stored))
 
   -- The object is there, or null raises Constraint_Error.
@@ -155,29 +156,29 @@ module _ (known : Known) (k : Control) (a : Activation Value) (rest : List (Acti
   target_fine (Part object_id base) below c right kinds fits computed (inr h) = absurd h.1
 
   -- A value is stored in an object that is there, if it has such a component.
-  put_fine : {under : Option Id} (input : List ℤ) (o : Id) (object : Object) (c : ℕ) (v : Value) (below : List Value) → object_at s.heap o ≡ Some object → object.listed ≡ true → Stored under s.heap s.masters → ReadyIn known Running k (store s.heap (Names o) c v) a.places below s.masters → Stepped known s.heap (Followed (Names o)) (record (running k (record a { operands = below }) rest s) { heap = store s.heap (Names o) c v; input = input })
+  put_fine : {under : List Id} (input : List ℤ) (o : Id) (object : Object) (c : ℕ) (v : Value) (below : List Value) → object_at s.heap o ≡ Some object → is_there object.stage ≡ true → Stored under s.heap s.masters → ReadyIn known Running k (store s.heap (Names o) c v) a.places below s.masters → Stepped known s.heap (Followed (Names o)) (record (running k (record a { operands = below }) rest s) { heap = store s.heap (Names o) c v; input = input })
   put_fine input o object c v below found listed stored r = record {
     ready = (tt, r);
     alters = rw (store_is s.heap o object found c v) (alters_set s.heap (Followed (Names o)) o object (filled c v object) found (refl, refl, refl) (λ h. h) (λ h. inl h));
     says = followed o (object, found, listed) stored;
   }
 
-  stored_fine : {under : Option Id} (o : Id) (object : Object) (c : ℕ) (v : Value) (below : List Value) (t : Option Value) → object_at s.heap o ≡ Some object → object.listed ≡ true → Stored under s.heap s.masters → ReadyIn known Running k (store s.heap (Names o) c v) a.places below s.masters → Fine known s.heap s.masters (stored_next named (Names o) c v t (running k (record a { operands = below }) rest s))
+  stored_fine : {under : List Id} (o : Id) (object : Object) (c : ℕ) (v : Value) (below : List Value) (t : Option Value) → object_at s.heap o ≡ Some object → is_there object.stage ≡ true → Stored under s.heap s.masters → ReadyIn known Running k (store s.heap (Names o) c v) a.places below s.masters → Fine known s.heap s.masters (stored_next named (Names o) c v t (running k (record a { operands = below }) rest s))
   stored_fine o object c v below None found listed stored r = tt
   stored_fine o object c v below (Some before) found listed stored r = put_fine s.input o object c v below found listed stored r
 
-  pub filled_fine : {under : Option Id} (o : Id) (there : IsThere s.heap o) (c : ℕ) (v : Value) (below : List Value) → Stored under s.heap s.masters → ReadyIn known Running k (store s.heap (Names o) c v) a.places below s.masters → Fine known s.heap s.masters (store_next named (Names o) c v (look s.heap (Names o)) (running k (record a { operands = below }) rest s))
+  pub filled_fine : {under : List Id} (o : Id) (there : IsThere s.heap o) (c : ℕ) (v : Value) (below : List Value) → Stored under s.heap s.masters → ReadyIn known Running k (store s.heap (Names o) c v) a.places below s.masters → Fine known s.heap s.masters (store_next named (Names o) c v (look s.heap (Names o)) (running k (record a { operands = below }) rest s))
   filled_fine o (object, found, listed) c v below stored r =
-      let looks : look s.heap (Names o) ≡ finds object.cell = rw (found, (stored.sane o object found).listed_exists listed) refl in
+      let looks : look s.heap (Names o) ≡ finds object.cell = rw (found, (stored.sane o object found).there_exists listed) refl in
       rw looks (stored_fine o object c v below (slice_get object.cell.values c) found listed stored r)
 
   -- Objects are stored before a value comes, on which a take pair may rely.
-  half_stored : (heap : List Object) (k : Control) → HalfBy known k heap a.places s.masters → Stored None heap s.masters
+  half_stored : (heap : List Object) (k : Control) → HalfBy known k heap a.places s.masters → Stored (outers known).under heap s.masters
   half_stored heap [] h = absurd h
   half_stored heap (Does fs ∷ k) h = stored_before heap s.masters (Names h.o) h.c Null h.works.stored
   half_stored heap (f ∷ k) h = absurd h
 
-  resumed_stored : (heap : List Object) → Resumes known heap a.places s.masters k → Stored None heap s.masters
+  resumed_stored : (heap : List Object) → Resumes known heap a.places s.masters k → Stored (outers known).under heap s.masters
   resumed_stored heap (inl w) = w.stored
   resumed_stored heap (inr h) = half_stored heap k h
 
@@ -231,7 +232,7 @@ module _ (known : Known) (k : Control) (a : Activation Value) (rest : List (Acti
   clear_fine (Part object_id base) c h = absurd h
 
   -- So does a number of the input, if there is one.
-  received_fine : (o : Id) (object : Object) (c : ℕ) (below : List Value) (input : List ℤ) (t : Option Value) → object_at s.heap o ≡ Some object → object.listed ≡ true → Working known s.heap a.places s.masters (Receiving known s.heap (Names o) k) → Fine known s.heap s.masters (received_next named (Names o) c input t (running k (record a { operands = below }) rest s))
+  received_fine : (o : Id) (object : Object) (c : ℕ) (below : List Value) (input : List ℤ) (t : Option Value) → object_at s.heap o ≡ Some object → is_there object.stage ≡ true → Working known s.heap a.places s.masters (Receiving known s.heap (Names o) k) → Fine known s.heap s.masters (received_next named (Names o) c input t (running k (record a { operands = below }) rest s))
   received_fine o object c below input None found listed w = tt
   received_fine o object c below [] (Some before) found listed w =
       stays known (Followed (Names o)) (jumping (Raising EndError) (running k (record a { operands = below }) rest s))
@@ -244,6 +245,6 @@ module _ (known : Known) (k : Control) (a : Activation Value) (rest : List (Acti
   receive_fine Null below c w = jumps_less known k (record a { operands = below }) rest s (Raising ConstraintError) (at_work w (w.rest.1 refl))
   receive_fine (Names o) below c w =
       let r = w.rest.0 in
-      rw (r.1, (w.stored.sane o r.0 r.1).listed_exists r.2) (received_fine o r.0 c below s.input (slice_get r.0.cell.values c) r.1 r.2 w)
+      rw (r.1, (w.stored.sane o r.0 r.1).there_exists r.2) (received_fine o r.0 c below s.input (slice_get r.0.cell.values c) r.1 r.2 w)
   receive_fine (Scalar n) below c w = tt
   receive_fine (Part object_id base) below c w = tt

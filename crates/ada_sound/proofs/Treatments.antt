@@ -27,7 +27,7 @@ use Rattle.ada_meaning.specs.Frame as frame
 use Rattle.ada_meaning.specs.Heap.{PartState, Cell, Found, on_null, on_gone, on_other, finds}
 use Rattle.ada_meaning.specs.State.{Activation, Master, counted}
 use Rattle.ada_meaning.specs.Step.{picked_task, treating, first_or, halts, moves, tells, asks, picks, direction_of, treated_on, beginning, operating, operation_next, part_reference, born_next, begun_next, awaited_next, ended_next, finalized_next, performed_next, treats_next}
-use Rattle.ada_meaning.specs.Named.{Object, State, Next, object_at, existing, seen, look, named, changed, on_object, store, filled, treated, born_part, finalized_part, parted}
+use Rattle.ada_meaning.specs.Named.{Object, State, Next, object_at, existing, seen, look, named, changed, on_object, store, filled, treated, born_part, finalized_part}
 use Rattle.ada_meaning.specs.Run.{Event}
 use Rattle.ada_typed.proofs.Kept.{behind_call, behind_treating}
 use Rattle.ada_owners.specs.Keeping.{IsThere}
@@ -36,11 +36,11 @@ use Rattle.ada_owners.proofs.Objects.{at_other}
 use Rattle.ada_owners.proofs.Changes.{store_is}
 use Rattle.ada_sound.proofs.Objects.{set_here, set_twice}
 use Rattle.ada_sound.proofs.Stored.{stored_treated}
-use Rattle.ada_sound.proofs.Fits.{treated_fit}
+use Rattle.ada_sound.proofs.Fits.{Fit, treated_fit, same_unnamed, gone_fit}
 use Rattle.ada_sound.proofs.Alters.{Alters, alters_same, alters_set}
-use Rattle.ada_sound.proofs.Invariant.{Known, Control, Rooms, RunsOn, Working, IsHolder, IsPlainIn, IsLive, NamesTo, BegunTo, EndsTo, StoresBehind, CopiesBehind, TreatsBy, ThenBack, Ending, ConfinesBy, EndsWell, Stepped, Fine}
+use Rattle.ada_sound.proofs.Invariant.{outers, Known, Control, Rooms, RunsOn, Working, IsHolder, IsPlainIn, IsLive, NamesTo, BegunTo, EndsTo, StoresBehind, CopiesBehind, TreatsBy, ThenBack, Ending, ConfinesBy, EndsWell, Stepped, Fine}
 use Rattle.ada_sound.proofs.Ready.{running, at_work, stays, treats_ready}
-use Rattle.ada_sound.proofs.Endings.{swapped, behind_set}
+use Rattle.ada_sound.proofs.Endings.{swapped, gone_still, behind_set}
 use Rattle.ada_sound.proofs.Undone.{undo_set}
 use Rattle.ada_sound.proofs.Operating.{StaysLive, WaitsFor, IsCalled}
 
@@ -113,11 +113,17 @@ module _ (change : PartState → PartState) (part : ℕ) where
       }
 
       -- An object is to end still.
-      then_set : (listed : x.listed ≡ false) (places : List Value) (k : Control) → ThenBack known o x.cell.home heap places ms k → ThenBack known o x.cell.home (slice_set heap o.0 (treated change part x)) places ms k
-      then_set listed places [] r = absurd r
-      then_set listed places (GivesBack (Names p) cause pool ∷ k) r =
-          (r.0, r.1, behind_set known o x (treated change part x) heap found listed refl (λ objects held at spared holds f. treated_fit change part o x at f) cause x.cell.home.item places ms k r.2)
-      then_set listed places (f ∷ k) r = absurd r
+      then_set : (places : List Value) (k : Control) → ThenBack known o x.cell.home heap places ms k → ThenBack known o x.cell.home (slice_set heap o.0 (treated change part x)) places ms k
+      then_set places [] r = absurd r
+      then_set places (GivesBack (Names p) cause pool ∷ k) r = (
+        r.0,
+        r.1,
+        behind_set known o x (treated change part x) heap found refl (Some o) (Some o) (λ w holder other. (other, other))
+            (λ objects held at spared holds f aside. (treated_fit change part o x at f, (same_unnamed objects o x at o aside.0 (treated change part x) refl (λ c. refl), aside.1)))
+            (λ spared held holds f. gone_still heap o x (treated change part x) found (λ objects. Fit known.program.types known.program.variables (outers known) spared objects held holds) (gone_fit heap o x (treated change part x) found) f)
+            cause x.cell.home.item places ms k r.2,
+      )
+      then_set places (f ∷ k) r = absurd r
 
       ending_set : (places : List Value) (k : Control) (e : Ending known o k heap places ms) → e.object ≡ x → Ending known o k (slice_set heap o.0 (treated change part x)) places ms
       ending_set places k e one = record {
@@ -127,7 +133,7 @@ module _ (change : PartState → PartState) (part : ℕ) where
         parted = rw one at e.parted;
         stored = stored_treated change part o x found e.stored;
         covered = rw one at e.covered;
-        rest = then_set (rw one at e.parted) places k (rw one at e.rest);
+        rest = then_set places k (rw one at e.rest);
       }
 
       ends_set : (v : Value) (places : List Value) (k : Control) → v ≡ Names o → EndsTo known v k heap places ms → EndsTo known v k (slice_set heap o.0 (treated change part x)) places ms
@@ -188,15 +194,15 @@ module _ (change : PartState → PartState) (part : ℕ) where
 
     copies_set : (places operands : List Value) (k : Control) → CopiesBehind known k heap places operands ms → CopiesBehind known k (slice_set heap o.0 (treated change part x)) places operands ms
     copies_set places operands [] r = absurd r
-    copies_set places operands (Copies first t ∷ k) w =
-        works_set heap o x found known ms (at_work w (holder_set (first_or Null operands) w.rest.0, stores_set k w.rooms w.holds w.rest.1))
+    copies_set places operands (Copies first t ∷ k) (copied, w) =
+        (copied, works_set heap o x found known ms (at_work w (holder_set (first_or Null operands) w.rest.0, stores_set k w.rooms w.holds w.rest.1)))
     copies_set places operands (f ∷ k) r = absurd r
 
     treats_set : (v : Value) (treatment : Treatment) (places operands : List Value) (k : Control) → v ≡ Names o → TreatsBy known v treatment k heap places operands ms → TreatsBy known v treatment k (slice_set heap o.0 (treated change part x)) places operands ms
     treats_set v (begins by done) places operands k is r = (
       begun_set places operands k r.0,
       rw is (undo_set known heap places ms o x (treated change part x) found refl (stored_treated change part o x found)
-          (λ spared holds f. treated_fit change part o (parted x) (set_here heap o.0 x (parted x) found) f) by k (rw is at r.1)),
+          (λ holds f. gone_fit heap o x (treated change part x) found f) by k (rw is at r.1)),
     )
     treats_set v (ends cause) places operands k is (inl r) = inl (ends_set heap o x found known ms v places k is r)
     treats_set v (ends cause) places operands k is (inr r) = inr (copies_set places operands k r)
@@ -242,8 +248,9 @@ TellsNothing (Left master) = Unit {0}
 TellsNothing (Line line) = Unit {0}
 TellsNothing Quiet = Unit {0}
 
--- The body begins of a procedure that overrides an operation: for a part of an object that is there, and that is ready for what waits behind it (7.6, 7.6.1).
-pub record Begins (known : Known) (a : Activation Value) (rest : List (Activation Value)) (s : State) (types : List TypeDefinition) (bodies : List BodyForm) (k : Control) (e : Event) (after : State) : Type 0 where
+-- The body begins of a procedure that overrides an operation, of a controlled type of which the next task is known to speak: for a part of an object that is
+-- there, and that is ready for what waits behind it (7.6, 7.6.1).
+pub record Begins (known : Known) (a : Activation Value) (rest : List (Activation Value)) (s : State) (types : List TypeDefinition) (bodies : List BodyForm) (k : Control) (IsOperated : Treatment → Id → ℕ → Type 0) (e : Event) (after : State) : Type 0 where
   pub of : ℕ
   pub number : ℕ
   pub b : BodyForm
@@ -255,6 +262,7 @@ pub record Begins (known : Known) (a : Activation Value) (rest : List (Activatio
   pub live : StaysLive x.stage
   pub place : Place
   pub treatment : Treatment
+  pub operated : IsOperated treatment o of
   pub called : IsCalled (operations_of types of) treatment number
   pub behind : Control
   pub waits : WaitsFor o of treatment k behind
@@ -265,13 +273,13 @@ pub record Begins (known : Known) (a : Activation Value) (rest : List (Activatio
 
 -- The next step of a treatment: one of some components is picked, or a part comes to have a value, or its value is finalized; or nothing is left; or the body
 -- of an operation begins.
-module _ (known : Known) (a : Activation Value) (rest : List (Activation Value)) (s : State) (types : List TypeDefinition) (bodies : List BodyForm) (k : Control) where
+module _ (known : Known) (a : Activation Value) (rest : List (Activation Value)) (s : State) (types : List TypeDefinition) (bodies : List BodyForm) (k : Control) (IsOperated : Treatment → Id → ℕ → Type 0) where
   -- It goes on in the body that runs.
   abbrev pub StaysHere : State → Type 0
   StaysHere after = (after.activations ≡ a ∷ rest) × (behind_call after.control ≡ behind_call k)
 
   abbrev pub Goes : Event → State → Type 0
-  Goes e after = (Stepped known s.heap e after × StaysHere after) ⊎ Begins known a rest s types bodies k e after
+  Goes e after = (Stepped known s.heap e after × StaysHere after) ⊎ Begins known a rest s types bodies k IsOperated e after
 
   -- What comes next is known.
   abbrev pub Treated : Next → Type 0
@@ -317,7 +325,7 @@ module _ (known : Known) (a : Activation Value) (rest : List (Activation Value))
       there : IsFound s.heap v cell
       there = object_found s.heap v cell is
 
-      calls_first : (by : Birth) (done : List parts.Part) (of part : ℕ) (tasks : List Task) (p : PartState) (number : ℕ) → beginning by (operations_of types of) ≡ Some number → TreatsBy known v (begins by done) k s.heap a.places a.operands s.masters
+      calls_first : (by : Birth) (done : List parts.Part) (of part : ℕ) (tasks : List Task) (p : PartState) (number : ℕ) → ((o : Id) → v ≡ Names o → IsOperated (begins by done) o of) × (beginning by (operations_of types of) ≡ Some number) → TreatsBy known v (begins by done) k s.heap a.places a.operands s.masters
           → (found : Option BodyForm) → slice_get bodies number ≡ found → Treated (operation_next named number found (part_reference named v part p) (frame.Awaits v by done of part tasks ∷ k) Quiet (running k a rest s))
       calls_first by done of part tasks p number called r None at = tt
       calls_first by done of part tasks p number called r (Some b) at = inr (record {
@@ -332,7 +340,8 @@ module _ (known : Known) (a : Activation Value) (rest : List (Activation Value))
         live = there.live;
         place = record { component = p.first; part = part };
         treatment = begins by done;
-        called = called;
+        operated = called.0 there.o there.names;
+        called = called.1;
         behind = frame.Awaits v by done of part tasks ∷ k;
         waits = (part, tasks, ap (λ (u : Value). frame.Awaits u by done of part tasks ∷ k) (there.names));
         treats = subst (λ (u : Value). TreatsBy known u (begins by done) k s.heap a.places a.operands s.masters) (there.names) r;
@@ -341,7 +350,7 @@ module _ (known : Known) (a : Activation Value) (rest : List (Activation Value))
         is = ap (λ (u : Value). operating named number b (part_reference named u part p) (frame.Awaits v by done of part tasks ∷ k) (running k a rest s)) (there.names);
       })
 
-      begun_fine : (by : Birth) (done : List parts.Part) (of part : ℕ) (tasks : List Task) (operation : Option ℕ) → ((number : ℕ) → operation ≡ Some number → beginning by (operations_of types of) ≡ Some number) → (state : Option PartState) → TreatsBy known v (begins by done) k s.heap a.places a.operands s.masters
+      begun_fine : (by : Birth) (done : List parts.Part) (of part : ℕ) (tasks : List Task) (operation : Option ℕ) → ((number : ℕ) → operation ≡ Some number → ((o : Id) → v ≡ Names o → IsOperated (begins by done) o of) × (beginning by (operations_of types of) ≡ Some number)) → (state : Option PartState) → TreatsBy known v (begins by done) k s.heap a.places a.operands s.masters
           → Treated (begun_next named bodies v by done of part tasks operation state (running k a rest s))
       begun_fine by done of part tasks operation called None r = tt
       begun_fine by done of part tasks None called (Some p) r =
@@ -358,7 +367,7 @@ module _ (known : Known) (a : Activation Value) (rest : List (Activation Value))
           subst (λ (u : Value). object_at (on_object (treated finalized_part part) s.heap u) there.o ≡ Some (treated finalized_part part there.x)) (sym (there.names))
           (changed_at (treated finalized_part part) s.heap there.o there.x there.found)
 
-      calls_last : (cause : Cause) (of part : ℕ) (tasks : List Task) (p : PartState) (number : ℕ) → procedure_number (operations_of types of).finalize ≡ Some number → TreatsBy known v (ends cause) k s.heap a.places a.operands s.masters
+      calls_last : (cause : Cause) (of part : ℕ) (tasks : List Task) (p : PartState) (number : ℕ) → ((o : Id) → v ≡ Names o → IsOperated (ends cause) o of) × (procedure_number (operations_of types of).finalize ≡ Some number) → TreatsBy known v (ends cause) k s.heap a.places a.operands s.masters
           → (found : Option BodyForm) → slice_get bodies number ≡ found
           → Treated (operation_next named number found (part_reference named v part p) (frame.Confines ∷ treating v (ends cause) tasks k) (Finalized v part p.turn of p.number cause) (record (running k a rest s) { heap = on_object (treated finalized_part part) s.heap v }))
       calls_last cause of part tasks p number called r None at = tt
@@ -374,7 +383,8 @@ module _ (known : Known) (a : Activation Value) (rest : List (Activation Value))
         live = there.live;
         place = record { component = p.first; part = part };
         treatment = ends cause;
-        called = called;
+        operated = called.0 there.o there.names;
+        called = called.1;
         behind = frame.Confines ∷ treating v (ends cause) tasks k;
         waits = (tasks, ap (λ (u : Value). frame.Confines ∷ treating u (ends cause) tasks k) (there.names));
         treats = subst (λ (u : Value). TreatsBy known u (ends cause) k (on_object (treated finalized_part part) s.heap v) a.places a.operands s.masters) (there.names) (treats_after cause part r);
@@ -383,7 +393,7 @@ module _ (known : Known) (a : Activation Value) (rest : List (Activation Value))
         is = ap (λ (u : Value). operating named number b (part_reference named u part p) (frame.Confines ∷ treating v (ends cause) tasks k) (record (running k a rest s) { heap = on_object (treated finalized_part part) s.heap v })) (there.names);
       })
 
-      ended_fine : (cause : Cause) (of part : ℕ) (tasks : List Task) (p : PartState) (operation : Option ℕ) → ((number : ℕ) → operation ≡ Some number → procedure_number (operations_of types of).finalize ≡ Some number) → TreatsBy known v (ends cause) k s.heap a.places a.operands s.masters
+      ended_fine : (cause : Cause) (of part : ℕ) (tasks : List Task) (p : PartState) (operation : Option ℕ) → ((number : ℕ) → operation ≡ Some number → ((o : Id) → v ≡ Names o → IsOperated (ends cause) o of) × (procedure_number (operations_of types of).finalize ≡ Some number)) → TreatsBy known v (ends cause) k s.heap a.places a.operands s.masters
           → Treated (ended_next named bodies v part p (treating v (ends cause) tasks k) operation (Finalized v part p.turn of p.number cause) (record (running k a rest s) { heap = on_object (treated finalized_part part) s.heap v }))
       ended_fine cause of part tasks p None called r = inl (
         record {
@@ -395,7 +405,7 @@ module _ (known : Known) (a : Activation Value) (rest : List (Activation Value))
       )
       ended_fine cause of part tasks p (Some number) called r = calls_last cause of part tasks p number (called number refl) r (slice_get bodies number) refl
 
-      finalized_fine : (cause : Cause) (of part : ℕ) (tasks : List Task) (operation : Option ℕ) → ((number : ℕ) → operation ≡ Some number → procedure_number (operations_of types of).finalize ≡ Some number) → (state : Option PartState)
+      finalized_fine : (cause : Cause) (of part : ℕ) (tasks : List Task) (operation : Option ℕ) → ((number : ℕ) → operation ≡ Some number → ((o : Id) → v ≡ Names o → IsOperated (ends cause) o of) × (procedure_number (operations_of types of).finalize ≡ Some number)) → (state : Option PartState)
           → (finalized_next named bodies v cause of part tasks operation state (running k a rest s) ≡ halts (Erroneous FinalizesTwice) → ⊥) → TreatsBy known v (ends cause) k s.heap a.places a.operands s.masters
           → Treated (finalized_next named bodies v cause of part tasks operation state (running k a rest s))
       finalized_fine cause of part tasks operation called None once r = tt
@@ -407,19 +417,19 @@ module _ (known : Known) (a : Activation Value) (rest : List (Activation Value))
           by true n once' fine = fine
           by false n once' fine = absurd (once' refl)
 
-    performed_fine : (treatment : Treatment) (of part : ℕ) (tasks : List Task) (found : Found (Cell Value)) → look s.heap v ≡ found → (performed_next named types bodies v treatment of part tasks found (running k a rest s) ≡ halts (Erroneous FinalizesTwice) → ⊥) → TreatsBy known v treatment k s.heap a.places a.operands s.masters → Treated (performed_next named types bodies v treatment of part tasks found (running k a rest s))
-    performed_fine treatment of part tasks on_null at once r = tt
-    performed_fine treatment of part tasks on_gone at once r = absurd (once refl)
-    performed_fine treatment of part tasks on_other at once r = tt
-    performed_fine (begins by done) of part tasks (finds cell) at once r =
-        begun_fine cell at by done of part tasks (beginning by (operations_of types of)) (λ number is. is) (slice_get cell.parts part) r
-    performed_fine (ends cause) of part tasks (finds cell) at once r =
-        finalized_fine cell at cause of part tasks (procedure_number (operations_of types of).finalize) (λ number is. is) (slice_get cell.parts part) once r
+    performed_fine : (treatment : Treatment) (of part : ℕ) (tasks : List Task) (found : Found (Cell Value)) → look s.heap v ≡ found → (performed_next named types bodies v treatment of part tasks found (running k a rest s) ≡ halts (Erroneous FinalizesTwice) → ⊥) → ((o : Id) → v ≡ Names o → IsOperated treatment o of) → TreatsBy known v treatment k s.heap a.places a.operands s.masters → Treated (performed_next named types bodies v treatment of part tasks found (running k a rest s))
+    performed_fine treatment of part tasks on_null at once operated r = tt
+    performed_fine treatment of part tasks on_gone at once operated r = absurd (once refl)
+    performed_fine treatment of part tasks on_other at once operated r = tt
+    performed_fine (begins by done) of part tasks (finds cell) at once operated r =
+        begun_fine cell at by done of part tasks (beginning by (operations_of types of)) (λ number is. (operated, is)) (slice_get cell.parts part) r
+    performed_fine (ends cause) of part tasks (finds cell) at once operated r =
+        finalized_fine cell at cause of part tasks (procedure_number (operations_of types of).finalize) (λ number is. (operated, is)) (slice_get cell.parts part) once r
 
-    pub treats_fine : (n : Follows) (treatment : Treatment) (tasks : List Task) → (treats_next named types bodies v treatment tasks n (running k a rest s) ≡ halts (Erroneous FinalizesTwice) → ⊥) → TreatsBy known v treatment k s.heap a.places a.operands s.masters → Treated (treats_next named types bodies v treatment tasks n (running k a rest s))
-    treats_fine Done treatment tasks once r = inl (goes_on treatment [] r, (refl, refl))
-    treats_fine (Perform of part) treatment tasks once r = performed_fine treatment of part (performed tasks) (look s.heap v) refl once r
-    treats_fine (Pick count) treatment tasks once r = by (count == 0)
+    pub treats_fine : (n : Follows) (treatment : Treatment) (tasks : List Task) → ((of part : ℕ) → n ≡ Perform of part → (o : Id) → v ≡ Names o → IsOperated treatment o of) → (treats_next named types bodies v treatment tasks n (running k a rest s) ≡ halts (Erroneous FinalizesTwice) → ⊥) → TreatsBy known v treatment k s.heap a.places a.operands s.masters → Treated (treats_next named types bodies v treatment tasks n (running k a rest s))
+    treats_fine Done treatment tasks operated once r = inl (goes_on treatment [] r, (refl, refl))
+    treats_fine (Perform of part) treatment tasks operated once r = performed_fine treatment of part (performed tasks) (look s.heap v) refl once (operated of part refl) r
+    treats_fine (Pick count) treatment tasks operated once r = by (count == 0)
       where
         by : (b : Bool) → Treated (if b then halts Stuck else picks count (λ i. treated_on named v treatment (picked_task (shapes_of types) (direction_of treatment) tasks i) (running k a rest s)))
         by true = tt

@@ -35,7 +35,11 @@ module _ (program : Program) (s after : State) (gs : List Suspension) (stands : 
         let lies = low.1 o t refers in
         let y = alters.kept o lies.0 lies.1 in
         (y.0, y.1, rw y.2.2 lies.2)),
-    low_kept ws low.2,
+    (λ o is.
+        let lies = low.2 o is in
+        let y = alters.kept o lies.0 lies.1 in
+        (y.0, y.1, rw y.2.2 lies.2)),
+    low_kept ws low.3,
   )
 
   pub stands_kept : Stands program gs after

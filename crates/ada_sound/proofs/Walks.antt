@@ -21,9 +21,9 @@ use Rattle.ada_meaning.specs.Heap.{finds}
 use Rattle.ada_meaning.specs.State.{Activation, Master}
 use Rattle.ada_meaning.specs.Step.{raised, reading, component_next, path_next}
 use Rattle.ada_meaning.specs.Named.{Object, State, object_at, existing, seen, look, named, whole}
-use Rattle.ada_owners.specs.Places.{access_at}
+use Rattle.ada_owners.specs.Places.{is_there, access_at}
 use Rattle.ada_owners.specs.Reliance.{IsOf}
-use Rattle.ada_owners.proofs.Objects.{listed_at}
+use Rattle.ada_owners.proofs.Objects.{present_at}
 use Rattle.ada_owners.specs.Walks.{then_found, value_found, behind, walk}
 use Rattle.ada_sound.proofs.Stored.{Stored, exists_out}
 use Rattle.ada_sound.proofs.Fits.{Fit, IsPlain, ArePlain, MayFollow, none_spared, component_access, component_is, component_follows, behind_good}
@@ -34,7 +34,7 @@ use Rattle.ada_sound.proofs.Ready.{running, at_work, stays, jumps_less, passes_r
 use Rattle.ada_sound.proofs.Back.{stored_before}
 
 -- The words of an object that is not gone are out.
-pub stage_out : {under : Option Id} {heap : List Object} {masters : List Master} (o : Id) (x : Object) → object_at heap o ≡ Some x → (x.stage ≡ Gone → ⊥) → Stored under heap masters → x.out ≡ true
+pub stage_out : {under : List Id} {heap : List Object} {masters : List Master} (o : Id) (x : Object) → object_at heap o ≡ Some x → (x.stage ≡ Gone → ⊥) → Stored under heap masters → x.out ≡ true
 stage_out o x found there stored = go x.out refl
   where
     go : (b : Bool) → x.out ≡ b → x.out ≡ true
@@ -120,17 +120,17 @@ module _ (known : Known) (k : Control) (a : Activation Value) (rest : List (Acti
   got_fine o object cs (Some w) found out r = followed_fine o object cs w found out (r w refl)
 
   -- A value that may be followed is followed by one selector: null raises Constraint_Error.
-  pub follow_fine : {under : Option Id} (c : ℕ) (cs : List ℕ) (v : Value) → Stored under s.heap s.masters → MayFollow s.heap v → (v ≡ Null → Stepped known s.heap Quiet (raised ConstraintError (running k (record a { operands = below }) rest s))) → ((o : Id) (object : Object) (w : Value) → v ≡ Names o → object_at s.heap o ≡ Some object → object.listed ≡ true → slice_get object.cell.values c ≡ Some w → ReadyIn known Running (behind_these cs k) s.heap a.places (w ∷ below) s.masters) → Fine known s.heap s.masters (path_next named (c ∷ cs) v (running k (record a { operands = below }) rest s))
+  pub follow_fine : {under : List Id} (c : ℕ) (cs : List ℕ) (v : Value) → Stored under s.heap s.masters → MayFollow s.heap v → (v ≡ Null → Stepped known s.heap Quiet (raised ConstraintError (running k (record a { operands = below }) rest s))) → ((o : Id) (object : Object) (w : Value) → v ≡ Names o → object_at s.heap o ≡ Some object → is_there object.stage ≡ true → slice_get object.cell.values c ≡ Some w → ReadyIn known Running (behind_these cs k) s.heap a.places (w ∷ below) s.masters) → Fine known s.heap s.masters (path_next named (c ∷ cs) v (running k (record a { operands = below }) rest s))
   follow_fine c cs Null stored follows fails r = fails refl
   follow_fine c cs (Names o) stored (object, found, listed) fails r =
-      let exists = (stored.sane o object found).listed_exists listed in
+      let exists = (stored.sane o object found).there_exists listed in
       rw (found, exists)
       (got_fine o object cs (slice_get object.cell.values c) found (exists_out o object found exists stored) (λ w is. r o object w refl found listed is))
   follow_fine c cs (Scalar n) stored follows fails r = tt
   follow_fine c cs (Part object_id base) stored follows fails r = tt
 
   -- One selector of a walk that finds something.
-  pub passes_fine : {under : Option Id} (c : ℕ) (cs : List ℕ) (v u : Value) → Stored under s.heap s.masters → walk s.heap v (c ∷ cs) ≡ finds u → ((w : Value) → walk s.heap w cs ≡ finds u → ReadyIn known Running (behind_these cs k) s.heap a.places (w ∷ below) s.masters) → Fine known s.heap s.masters (path_next named (c ∷ cs) v (running k (record a { operands = below }) rest s))
+  pub passes_fine : {under : List Id} (c : ℕ) (cs : List ℕ) (v u : Value) → Stored under s.heap s.masters → walk s.heap v (c ∷ cs) ≡ finds u → ((w : Value) → walk s.heap w cs ≡ finds u → ReadyIn known Running (behind_these cs k) s.heap a.places (w ∷ below) s.masters) → Fine known s.heap s.masters (path_next named (c ∷ cs) v (running k (record a { operands = below }) rest s))
   passes_fine c cs v u stored is r =
       let p = passes s.heap c cs u v is in
       rw (p.names, p.looks, p.holds)
@@ -143,7 +143,7 @@ selected_access types from object c e = rw e refl
 of_access : (heap : List Object) (kind : Option ℕ) (p : Id) (x : Object) → IsOf (access_at heap) kind p → object_at heap p ≡ Some x → kind ≡ Some x.cell.access
 of_access heap None p x of found = absurd of
 of_access heap (Some t) p x of found =
-    let there = listed_at heap p t of in
+    let there = present_at heap p t of in
     let at = there.found in
     let same : there.object ≡ x = cc (at, found) in
     let access = there.access in
@@ -165,7 +165,7 @@ raises_less known k rooms holds access less =
 
 module _ (known : Known) (heap : List Object) (places : List Value) where
   -- What a path is followed for is known one selector on.
-  finds_next : (k : Control) (v : Value) (below : List Value) (c : ℕ) (cs : List ℕ) (o : Id) (object : Object) (w : Value) (rooms : Rooms) (holds : Holds) → v ≡ Names o → object_at heap o ≡ Some object → object.listed ≡ true → object.stage ≡ Existing → slice_get object.cell.values c ≡ Some w → Fit known.program.types known.program.variables (outers known) none_spared heap places holds → FindsFor known heap places v below (c ∷ cs) k rooms holds → FindsFor known heap places w below cs k rooms holds
+  finds_next : (k : Control) (v : Value) (below : List Value) (c : ℕ) (cs : List ℕ) (o : Id) (object : Object) (w : Value) (rooms : Rooms) (holds : Holds) → v ≡ Names o → object_at heap o ≡ Some object → is_there object.stage ≡ true → object.stage ≡ Existing → slice_get object.cell.values c ≡ Some w → Fit known.program.types known.program.variables (outers known) none_spared heap places holds → FindsFor known heap places v below (c ∷ cs) k rooms holds → FindsFor known heap places w below cs k rooms holds
   finds_next [] v below c cs o object w rooms holds is found listed exists at fit f = absurd f
   finds_next (Targets d right ∷ k) v below c cs o object w rooms holds is found listed exists at fit f =
       let on : behind heap v c ≡ finds w = rw is (behind_is heap o object c w found exists at) in
@@ -237,7 +237,7 @@ module _ (known : Known) (a : Activation Value) (rest : List (Activation Value))
       follow_fine known k a rest s below c cs v w.stored follows
       (λ is. jumps_less known k (record a { operands = below }) rest s (Raising ConstraintError) (at_work w (finds_raises known s.heap a.places k v below (c ∷ cs) w.rooms w.holds is w.rest)))
       (λ o object u is found listed at. next cs u (component_follows o object c u refl found listed at w.fit)
-      (finds_next known s.heap a.places k v below c cs o object u w.rooms w.holds is found listed ((w.stored.sane o object found).listed_exists listed) at w.fit w.rest))
+      (finds_next known s.heap a.places k v below c cs o object u w.rooms w.holds is found listed ((w.stored.sane o object found).there_exists listed) at w.fit w.rest))
     where
       next : (ds : List ℕ) (u : Value) → MayFollow s.heap u → FindsFor known s.heap a.places u below ds k w.rooms w.holds → ReadyIn known Running (behind_these ds k) s.heap a.places (u ∷ below) s.masters
       next [] u there f = finds_ready known s.heap a.places k u below s.masters (at_work w f) there
@@ -249,7 +249,7 @@ module _ (known : Known) (a : Activation Value) (rest : List (Activation Value))
       follow_fine known (Fills items ∷ k) a rest s below c cs v w.stored follows
       (λ is. jumps_less known (Fills items ∷ k) (record a { operands = below }) rest s (Raising ConstraintError) (at_work w (raises_null known v (Fills items ∷ k) w.rooms w.holds cs raise is)))
       (λ o object u is found listed at. next cs u raise (component_follows o object c u refl found listed at w.fit)
-      (λ x on. w.rest x (walk_behind s.heap v c cs u (rw is (behind_is s.heap o object c u found ((w.stored.sane o object found).listed_exists listed) at)) ∙ on)))
+      (λ x on. w.rest x (walk_behind s.heap v c cs u (rw is (behind_is s.heap o object c u found ((w.stored.sane o object found).there_exists listed) at)) ∙ on)))
     where
       next : (ds : List ℕ) (u : Value) → RaisesAt known v ds (Fills items ∷ k) w.rooms w.holds → MayFollow s.heap u → ((x : Value) → walk s.heap u ds ≡ finds x → FillsTo known s.heap a.places items k (x ∷ below) w.rooms w.holds) → ReadyIn known Running (behind_these ds (Fills items ∷ k)) s.heap a.places (u ∷ below) s.masters
       next [] u raises there f = at_work w (f u refl)
@@ -263,14 +263,14 @@ module _ (known : Known) (a : Activation Value) (rest : List (Activation Value))
       follow_fine known k a rest s below c cs v w.stored follows
       (λ is. jumps_less known k (record a { operands = below }) rest s (Raising ConstraintError) (at_work w (raises_null known v k w.rooms w.holds cs raise is)))
       (λ o object u is found listed at. next cs u raise (component_follows o object c u refl found listed at w.fit)
-      (λ x on. w.rest x (walk_behind s.heap v c cs u (rw is (behind_is s.heap o object c u found ((w.stored.sane o object found).listed_exists listed) at)) ∙ on)))
+      (λ x on. w.rest x (walk_behind s.heap v c cs u (rw is (behind_is s.heap o object c u found ((w.stored.sane o object found).there_exists listed) at)) ∙ on)))
     where
       next : (ds : List ℕ) (u : Value) → RaisesAt known v ds k w.rooms w.holds → MayFollow s.heap u → ((x : Value) → walk s.heap u ds ≡ finds x → PassesTo known s.heap a.places (x ∷ below) k w.rooms w.holds) → ReadyIn known Running (behind_these ds k) s.heap a.places (u ∷ below) s.masters
       next [] u raises there f = passes_ready known k s.heap a.places (u ∷ below) s.masters (at_work w (f u refl))
       next (d ∷ ds) u raises there f = inl (at_work w (there, inr ((λ may. raises), inr (inr (inr f)))))
 
   -- Objects are stored before a component is cleared, too.
-  clearing_stored : (o : Id) (c : ℕ) (k : Control) → Clearing known (Names o) c k s.heap a.places s.masters → Stored None s.heap s.masters
+  clearing_stored : (o : Id) (c : ℕ) (k : Control) → Clearing known (Names o) c k s.heap a.places s.masters → Stored (outers known).under s.heap s.masters
   clearing_stored o c k clears = stored_before s.heap s.masters (Names o) c Null clears.1.stored
 
   -- What the path of the second half of a take pair leads to is the object of the component; on the way it is followed on.

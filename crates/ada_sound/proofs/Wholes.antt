@@ -26,6 +26,7 @@ use Rattle.ada_meaning.specs.Heap.{finds}
 use Rattle.ada_meaning.specs.State.{Activation, Master}
 use Rattle.ada_meaning.specs.Step.{in_front, if_whole, record_in, copied_next, copies_next, record_target_next, stored_from, record_stored_next, store_record_next, place_in, record_holder_next}
 use Rattle.ada_meaning.specs.Named.{Object, State, object_at, filled, store, look, named}
+use Rattle.ada_owners.specs.Places.{is_there}
 use Rattle.ada_owners.specs.Keeping.{IsThere}
 use Rattle.ada_owners.proofs.Changes.{store_is}
 use Rattle.ada_typed.specs.Holding.{cells_of}
@@ -101,17 +102,17 @@ whole_length count values vs e = go (length values == count) refl e
 
 -- An object of which components get values that name nothing is still there, objects are stored, and all places are as they are relied on to be.
 pub record Stores (known : Known) (heap : List Object) (places : List Value) (ms : List Master) (holds : Holds) (o : Id) (after : List Object) : Type 0 where
-  pub stored : Stored None after ms
+  pub stored : Stored (outers known).under after ms
   pub fit : Fit known.program.types known.program.variables (outers known) none_spared after places holds
   pub alters : Alters heap (Followed (Names o)) after
 
-store_all : (known : Known) (heap : List Object) (places : List Value) (ms : List Master) (holds : Holds) (o : Id) (object : Object) (c : ℕ) (vs : List Value) → object_at heap o ≡ Some object → NameNothing vs → Stored None heap ms → Fit known.program.types known.program.variables (outers known) none_spared heap places holds → Stores known heap places ms holds o (stored_from named heap (Names o) c vs)
+store_all : (known : Known) (heap : List Object) (places : List Value) (ms : List Master) (holds : Holds) (o : Id) (object : Object) (c : ℕ) (vs : List Value) → object_at heap o ≡ Some object → NameNothing vs → Stored (outers known).under heap ms → Fit known.program.types known.program.variables (outers known) none_spared heap places holds → Stores known heap places ms holds o (stored_from named heap (Names o) c vs)
 store_all known heap places ms holds o object c [] found none stored fit = record { stored = stored; fit = fit; alters = alters_same heap (Followed (Names o)) }
 store_all known heap places ms holds o object c (v ∷ vs) found none stored fit =
     let one = store_is heap o object found c v in
     let mid = store heap (Names o) c v in
     let there : object_at mid o ≡ Some (filled c v object) = rw one (set_here heap o.0 object (filled c v object) found) in
-    let stays : Stored None mid ms = rw one (stored_filled o object c v found stored) in
+    let stays : Stored (outers known).under mid ms = rw one (stored_filled o object c v found stored) in
     let alters : Alters heap (Followed (Names o)) mid = rw one (alters_set heap (Followed (Names o)) o object (filled c v object) found (refl, refl, refl) (λ h. h) (λ h. inl h)) in
     let later = store_all known mid places ms holds o (filled c v object) (c + 1) vs there none.1 stays (store_blank o object c v found none.0 fit) in
     record { stored = later.stored; fit = later.fit; alters = alters_then heap mid (stored_from named mid (Names o) (c + 1) vs) (Followed (Names o)) alters later.alters }
@@ -137,13 +138,13 @@ module _ (known : Known) (types : List TypeDefinition) (reaches : Reaches known 
   copies_fine first t Null below w = jumps_less known k (record a { operands = below }) rest s (Raising ConstraintError) (at_work w (w.rest.1 refl))
   copies_fine first t (Names o) below w =
       let there : IsThere s.heap o = w.rest.0 in
-      let looks : look s.heap (Names o) ≡ finds there.0.cell = rw (there.1, (w.stored.sane o there.0 there.1).listed_exists there.2) refl in
+      let looks : look s.heap (Names o) ≡ finds there.0.cell = rw (there.1, (w.stored.sane o there.0 there.1).there_exists there.2) refl in
       rw looks (copied_on k o there t below (record_in there.0.cell.values first (width_of types t)) (λ vs is. whole_length (width_of types t) (take (width_of types t) (drop first there.0.cell.values)) vs is) (at_work w w.rest.2))
   copies_fine first t (Scalar n) below w = tt
   copies_fine first t (Part object_id base) below w = tt
 
   -- The object in which a record lies that is assigned to is found: its items come next.
-  plain_there : (first t : ℕ) (o : Id) (object : Object) (below : List Value) (kinds : List OperandKind) → object_at s.heap o ≡ Some object → object.listed ≡ true → is_owning_record known.program.types t ≡ false → (items : List ItemForm) → typed.Fits known.program (cells_of s.heap) kinds (TargetsRecord first t items ∷ k) → AreComputed known.program.types (cells_of s.heap) kinds (Names o ∷ below) → IsPlainIn known s.heap (Names o) first (width_of types t)
+  plain_there : (first t : ℕ) (o : Id) (object : Object) (below : List Value) (kinds : List OperandKind) → object_at s.heap o ≡ Some object → is_there object.stage ≡ true → is_owning_record known.program.types t ≡ false → (items : List ItemForm) → typed.Fits known.program (cells_of s.heap) kinds (TargetsRecord first t items ∷ k) → AreComputed known.program.types (cells_of s.heap) kinds (Names o ∷ below) → IsPlainIn known s.heap (Names o) first (width_of types t)
   plain_there first t o object below kinds found listed plain items (ks, access, rs, is, components, lies, fits, more) computed =
       let newest : AreComputed known.program.types (cells_of s.heap) (of_kind (variable.Access access) ∷ ks) (Names o ∷ below) = rw is at computed in
       let of : Some access.0 ≡ Some object.cell.access = kind_names known.program.types s.heap (variable.Access access) o object newest.0 found in
@@ -165,7 +166,7 @@ module _ (known : Known) (types : List TypeDefinition) (reaches : Reaches known 
       let there : IsThere s.heap o = w.rest.0 in
       let in_record = w.rest.2 in
       let plain = plain_there first t o there.0 below kinds there.1 there.2 in_record.0 items fits computed in
-      rw (there.1, (w.stored.sane o there.0 there.1).listed_exists there.2)
+      rw (there.1, (w.stored.sane o there.0 there.1).there_exists there.2)
       (stays known (Followed (Names o)) (running (Fills items ∷ StoresRecord (Names o) first (width_of types t) ∷ k) (record a { operands = below }) rest s)
       (tt, at_work w (in_record.1, (plain, runs_behind known k w.rooms w.holds in_record.2))) (followed o there w.stored))
   record_target_fine first t items (Scalar n) below kinds fits computed w = tt
@@ -180,7 +181,7 @@ module _ (known : Known) (types : List TypeDefinition) (reaches : Reaches known 
       let b = begins_some (reached_components known.program.types object.cell.access) first rs (rw same at lies) in
       rw counted (plain_names_nothing known.program.types (cells_of s.heap) rs (reverse (take (length rs) a.operands)) (from_object (drop first b.0) rs b.2 (rw counted at (plain b.0 b.1))) have)
 
-  stored_whole : (o : Id) (object : Object) (first count : ℕ) (found : Option (List Value)) → object_at s.heap o ≡ Some object → object.listed ≡ true → NameNothing (reverse (take count a.operands)) → Working known s.heap a.places s.masters (RunsBehind known k) → Fine known s.heap s.masters (record_stored_next named (Names o) first (reverse (take count a.operands)) found (running k (record a { operands = drop count a.operands }) rest s))
+  stored_whole : (o : Id) (object : Object) (first count : ℕ) (found : Option (List Value)) → object_at s.heap o ≡ Some object → is_there object.stage ≡ true → NameNothing (reverse (take count a.operands)) → Working known s.heap a.places s.masters (RunsBehind known k) → Fine known s.heap s.masters (record_stored_next named (Names o) first (reverse (take count a.operands)) found (running k (record a { operands = drop count a.operands }) rest s))
   stored_whole o object first count None found listed none w = tt
   stored_whole o object first count (Some before) found listed none w =
       let vs = reverse (take count a.operands) in
@@ -197,7 +198,7 @@ module _ (known : Known) (types : List TypeDefinition) (reaches : Reaches known 
   store_record_fine (Names o) first count kinds fits computed w =
       let p = w.rest.0 in
       let none = named_nothing o first count kinds fits computed p in
-      let looks : look s.heap (Names o) ≡ finds p.0.cell = rw (p.1, (w.stored.sane o p.0 p.1).listed_exists p.2) refl in
+      let looks : look s.heap (Names o) ≡ finds p.0.cell = rw (p.1, (w.stored.sane o p.0 p.1).there_exists p.2) refl in
       rw looks (stored_whole o p.0 first count (record_in p.0.cell.values first count) p.1 p.2 none (at_work w w.rest.1))
   store_record_fine (Scalar n) first count kinds fits computed w = absurd w.rest.0
   store_record_fine (Part object_id base) first count kinds fits computed w = absurd w.rest.0

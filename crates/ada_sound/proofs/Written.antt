@@ -1,7 +1,7 @@
 -- An Integer or a Boolean goes into a component of an object while that is treated (7.6): what is behind the treatment stays as it is.
 
 use Rattle.std.proofs.Common.{◌≡◌, ◌≢◌, ℕ, List, [], ◌∷◌, refl, sym, ap, subst, ◌∙◌, ◌⊎◌, inl, inr}
-use Rattle.std.specs.Prelude.{false, Some}
+use Rattle.std.specs.Prelude.{Some}
 use Rattle.std.specs.List.{slice_set}
 use Rattle.ada_flow.specs.Flow.{Holds}
 use Rattle.ada_meaning.specs.declared.state.Id.{Id}
@@ -10,17 +10,17 @@ use Rattle.ada_meaning.specs.declared.state.Value.TheVariants.{Null, Names, Scal
 use Rattle.ada_meaning.specs.Frame.{Copies, Stores, StoresIn, StoresRecord, Declares, Ends, GivesBack, Treatment, begins, ends}
 use Rattle.ada_meaning.specs.State.{Master}
 use Rattle.ada_meaning.specs.Step.{first_or}
-use Rattle.ada_meaning.specs.Named.{Object, object_at, filled, parted, store}
+use Rattle.ada_meaning.specs.Named.{Object, object_at, filled, store}
 use Rattle.ada_owners.specs.Keeping.{IsThere}
 use Rattle.ada_owners.proofs.Kernel.{same_id, same_or_not}
 use Rattle.ada_owners.proofs.Objects.{at_other}
 use Rattle.ada_owners.proofs.Changes.{store_is}
 use Rattle.ada_sound.proofs.Objects.{set_here, set_twice}
 use Rattle.ada_sound.proofs.Stored.{stored_filled}
-use Rattle.ada_sound.proofs.Fits.{store_blank}
-use Rattle.ada_sound.proofs.Invariant.{Known, Control, Rooms, RunsOn, Working, IsHolder, IsPlainIn, NamesTo, BegunTo, EndsTo, StoresBehind, CopiesBehind, TreatsBy, ThenBack, Ending}
+use Rattle.ada_sound.proofs.Fits.{Fit, store_blank, wrote_unnamed, gone_fit}
+use Rattle.ada_sound.proofs.Invariant.{outers, Known, Control, Rooms, RunsOn, Working, IsHolder, IsPlainIn, NamesTo, BegunTo, EndsTo, StoresBehind, CopiesBehind, TreatsBy, ThenBack, Ending}
 use Rattle.ada_sound.proofs.Ready.{at_work}
-use Rattle.ada_sound.proofs.Endings.{KeepsFit, swapped, behind_set}
+use Rattle.ada_sound.proofs.Endings.{KeepsFit, swapped, gone_still, behind_set}
 use Rattle.ada_sound.proofs.Undone.{undo_set}
 
 -- This goes into this component.
@@ -98,11 +98,17 @@ module _ (c : ℕ) (v : Value) (nameless : (p : Id) → v ≡ Names p → ⊥) w
       }
 
       -- An object is to end still.
-      then_set : (listed : x.listed ≡ false) (places : List Value) (k : Control) → ThenBack known o x.cell.home heap places ms k → ThenBack known o x.cell.home (slice_set heap o.0 (wrote x)) places ms k
-      then_set listed places [] r = absurd r
-      then_set listed places (GivesBack (Names p) cause pool ∷ k) r =
-          (r.0, r.1, behind_set known o x (wrote x) heap found listed refl (λ objects held at. wrote_fit known objects held o x at) cause x.cell.home.item places ms k r.2)
-      then_set listed places (f ∷ k) r = absurd r
+      then_set : (places : List Value) (k : Control) → ThenBack known o x.cell.home heap places ms k → ThenBack known o x.cell.home (slice_set heap o.0 (wrote x)) places ms k
+      then_set places [] r = absurd r
+      then_set places (GivesBack (Names p) cause pool ∷ k) r = (
+        r.0,
+        r.1,
+        behind_set known o x (wrote x) heap found refl (Some o) (Some o) (λ w holder other. (other, other))
+            (λ objects held at spared holds f aside. (wrote_fit known objects held o x at spared holds f, (wrote_unnamed objects o x at o aside.0 c v nameless, aside.1)))
+            (λ spared held holds f. gone_still heap o x (wrote x) found (λ objects. Fit known.program.types known.program.variables (outers known) spared objects held holds) (gone_fit heap o x (wrote x) found) f)
+            cause x.cell.home.item places ms k r.2,
+      )
+      then_set places (f ∷ k) r = absurd r
 
       ending_set : (places : List Value) (k : Control) (e : Ending known o k heap places ms) → e.object ≡ x → Ending known o k (slice_set heap o.0 (wrote x)) places ms
       ending_set places k e one = record {
@@ -112,7 +118,7 @@ module _ (c : ℕ) (v : Value) (nameless : (p : Id) → v ≡ Names p → ⊥) w
         parted = rw one at e.parted;
         stored = stored_filled o x c v found e.stored;
         covered = rw one at e.covered;
-        rest = then_set (rw one at e.parted) places k (rw one at e.rest);
+        rest = then_set places k (rw one at e.rest);
       }
 
       ends_set : (u : Value) (places : List Value) (k : Control) → u ≡ Names o → EndsTo known u k heap places ms → EndsTo known u k (slice_set heap o.0 (wrote x)) places ms
@@ -177,8 +183,8 @@ module _ (c : ℕ) (v : Value) (nameless : (p : Id) → v ≡ Names p → ⊥) w
 
     copies_set : (places operands : List Value) (k : Control) → CopiesBehind known k heap places operands ms → CopiesBehind known k (slice_set heap o.0 (wrote x)) places operands ms
     copies_set places operands [] r = absurd r
-    copies_set places operands (Copies first t ∷ k) w =
-        works_set heap o x found known ms (at_work w (holder_set (first_or Null operands) w.rest.0, stores_set k w.rooms w.holds w.rest.1))
+    copies_set places operands (Copies first t ∷ k) (copied, w) =
+        (copied, works_set heap o x found known ms (at_work w (holder_set (first_or Null operands) w.rest.0, stores_set k w.rooms w.holds w.rest.1)))
     copies_set places operands (f ∷ k) r = absurd r
 
     -- Whatever is behind the treatment of the object.
@@ -186,7 +192,7 @@ module _ (c : ℕ) (v : Value) (nameless : (p : Id) → v ≡ Names p → ⊥) w
     treats_written (begins by done) places operands k r = (
       begun_set places operands k r.0,
       undo_set known heap places ms o x (wrote x) found refl (stored_filled o x c v found)
-          (wrote_fit known (slice_set heap o.0 (parted x)) places o (parted x) (set_here heap o.0 x (parted x) found)) by k r.1,
+          (λ holds f. gone_fit heap o x (wrote x) found f) by k r.1,
     )
     treats_written (ends cause) places operands k (inl r) = inl (ends_set heap o x found known ms (Names o) places k refl r)
     treats_written (ends cause) places operands k (inr r) = inr (copies_set places operands k r)

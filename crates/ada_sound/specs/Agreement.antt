@@ -205,7 +205,7 @@ pub record IsCleared (s : State) (p : owners.Place) : Type 0 where
   pub is : p ≡ owners.component object (last_of (inside (value_in s path.root) c) cs)
 
 -- Each variable holds what it is relied on to hold, and no two that own name one object. A record object that is not lost is there. Each component of
--- an object in its collection holds null, an Integer or a Boolean, or names an object that exists. No object has two owners among variables and
+-- an object that is there holds null, an Integer or a Boolean, or names an object that exists. No object has two owners among variables and
 -- components: only between the two statements of a take pair, of which the second sets the component to null that the first one read.
 pub record Agrees (types : List TypeForm) (variables : List VariableForm) (s : State) (holds : Holds) : Type 0 where
   pub each : (x : ℕ) → IsAs s.heap s.masters (variable_access variables x) (hold_at holds x) (value_in s x)
@@ -213,7 +213,7 @@ pub record Agrees (types : List TypeForm) (variables : List VariableForm) (s : S
   pub records : (x : ℕ) (t : TypeNo) → variable_kind variables x ≡ Some (variable.Record t)
       → hold_at holds x ≢ hold.Lost → value_in s x ≢ Null
   pub components : (o : Id) (object : Object) (c : ℕ) (v : Value)
-      → object_at s.heap o ≡ Some object → object.listed ≡ true → slice_get object.cell.values c ≡ Some v
+      → object_at s.heap o ≡ Some object → owners.is_there object.stage ≡ true → slice_get object.cell.values c ≡ Some v
       → IsKept s.heap s.masters (component_access types object c) v
   pub one_owner_each : (p q : owners.Place) (o : Id) → IsOwning holds p → IsOwning holds q
       → value_at s.heap s.activations p ≡ Names o → value_at s.heap s.activations q ≡ Names o → (p ≡ q) ⊎ (IsCleared s p ⊎ IsCleared s q)

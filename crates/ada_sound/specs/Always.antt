@@ -24,7 +24,7 @@ use Rattle.ada_meaning.specs.Run.{Event, Run, Halts, first_state}
 use Rattle.ada_meaning.specs.Law.{IsBackHome, items_of, Falls, MastersFall, GivesBackOf, Happened, IsHoused, HasPool, OwnTwoPools, IsDeclaredPool, IsBack, HasEnded}
 use Rattle.ada_finalized.specs.Law.{NoOperationRuns}
 use Rattle.ada_sound.specs.Agreement.{Agrees, Place, Turning, IsFlowAt, IsBehind, running_procedure}
-use Rattle.ada_quiet.specs.Quiet.{operations_are_in_use}
+use Rattle.ada_quiet.specs.InUse.{operations_are_in_use}
 
 -- Of the events of each run, and the state that it comes to.
 abbrev pub InEveryRun : Program → (List Event → State → Type 0) → Type 0
@@ -34,8 +34,8 @@ InEveryRun program P = (input : List ℤ) (events : List Event) (last : State) �
 pub record IsChecked (program : Program) : Type 0 where
   -- each number is that of something there, and each form has the types that it wants
   pub well_formed : IsWellFormed (program_form program)
-  -- whatever overrides an operation of a controlled type is plain: it touches Integers and Booleans alone, and calls nothing; and what overrides Adjust or
-  -- Finalize raises no exception (7.6)
+  -- what overrides an operation of a controlled type touches Integers and Booleans alone, and calls nothing, and no exception comes out of Adjust or Finalize
+  -- (7.6); where all that has controlled parts is limited, declared, and initialized without an exception, Finalize may move, follow and free what is there
   pub in_use : operations_are_in_use (program_form program) ≡ true
   -- no object lies in a collection that lasts longer than one in which its components' objects lie (3.10.2, 7.6.1)
   pub nests : CollectionsNest (program_form program)

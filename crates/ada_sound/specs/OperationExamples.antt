@@ -1,5 +1,5 @@
 -- The operations, the statements and the events of the programs by which the laws show what operations of controlled types do, where one of them raises an
--- exception, too, and that others must not be in use.
+-- exception and where one of them frees, too, and that others must not be in use.
 
 use Rattle.std.specs.Prelude.{ℕ, List, [], ◌∷◌, ◌++◌, Some, None, false, pos}
 use Rattle.std.proofs.Math.ListN.{replicate}
@@ -153,6 +153,7 @@ operating_events =
 abbrev pub first_operations : Operations
 first_operations = record { initialize = Some (record { 0 = 0 }); adjust = None; finalize = Some (record { 0 = 1 }) }
 
+-- Second has no other one.
 abbrev pub second_operations : Operations
 second_operations = record { initialize = Some (record { 0 = 2 }); adjust = None; finalize = None }
 
@@ -201,6 +202,53 @@ failing_events =
     ∷ Left 0
     ∷ []
 
+-- type Cell is record Value : Integer; end record; which has number 0; type Link is access Cell; which has number 1; type Holder is new Limited_Controlled with
+-- record Head : Link; end record; which has number 2. H : Holder has number 0 in the main procedure.
+
+-- Holder overrides Finalize, by this procedure.
+abbrev pub tidying_operations : Operations
+tidying_operations = record { initialize = None; adjust = None; finalize = Some (record { 0 = 0 }) }
+
+-- The component Head of H, in the main procedure, and in Finalize, where H is the formal parameter.
+abbrev pub head_now : PathForm
+head_now = object_path 0 (0 ∷ [])
+
+-- procedure Finalize (H : in out Holder) is begin Free (H.Head); end Finalize;
+abbrev pub tidying_finalize : BodyForm
+tidying_finalize = operation_body 4 (a_stmt (frees 1 head_now) no_stmts) no_handlers
+
+-- The collection of Link; H : Holder;
+abbrev pub tidying_declarations : List DeclarationForm
+tidying_declarations = collects 1 ∷ declares_record 0 3 None ∷ []
+
+-- H.Head := new Cell;
+abbrev pub tidying_stmts : StmtsForm
+tidying_stmts = a_stmt (assigns head_now (allocates_default 1)) no_stmts
+
+-- The object H.
+abbrev pub object_h : Value
+object_h = Names (record { 0 = 0 })
+
+-- The new cell.
+abbrev pub new_cell : Value
+new_cell = Names (record { 0 = 1 })
+
+-- H is initialized, for which nothing is called, and is followed where its Head is found as a target, and where that is written. At the leaving of the main
+-- procedure H is finalized: its Finalize, a master of its own, follows H to what Head names, the words of that cell go back, H is followed where Head becomes
+-- null, and the body is left. Then the words of H go back. Nothing is left in the collection.
+abbrev pub tidying_events : List Event
+tidying_events =
+    Born object_h 0 0 0 1 Creation
+    ∷ replicate 2 (Followed object_h)
+    ++ Finalized object_h 0 0 0 1 (Leaving 0 1)
+    ∷ Followed object_h
+    ∷ Back new_cell 1 1 (Some 0) None (Freeing 2)
+    ∷ Followed object_h
+    ∷ Left 1
+    ∷ Back object_h 3 0 None None (Leaving 0 1)
+    ∷ Left 0
+    ∷ []
+
 -- type Node is new Controlled with record Value : Integer; Next : Link; end record; which has number 0; type Link is access Node; which has number 1.
 -- Head, Second : Link have the numbers 0 and 1 in the main procedure.
 
@@ -219,9 +267,19 @@ two_nodes =
 abbrev pub next_now : PathForm
 next_now = object_path 0 (1 ∷ [])
 
--- procedure Finalize (N : in out Node) is begin Free (N.Next); end Finalize;
+-- X := N.Next; N.Next := null; Free (X); where X has number 1.
+abbrev pub freeing_next : StmtsForm
+freeing_next =
+    a_stmt (assigns (example_path 1 []) (value_of next_now))
+    (a_stmt (assigns next_now nothing)
+    (a_stmt (frees 1 (example_path 1 [])) no_stmts))
+
+-- procedure Finalize (N : in out Node) is X : Link; begin X := N.Next; N.Next := null; Free (X); end Finalize;
 abbrev pub freeing_finalize : BodyForm
-freeing_finalize = operation_body 2 (a_stmt (frees 1 next_now) no_stmts) no_handlers
+freeing_finalize = record (operation_body 2 freeing_next no_handlers) {
+  variables = unnamed (variable.Record (record { 0 = 2 })) ∷ unnamed (variable.Access (record { 0 = 1 })) ∷ [];
+  declarations = declares 1 nothing ∷ [];
+}
 
 -- procedure Finalize (N : in out Node) is begin if N.Next /= null then Put_Line (Integer'Image (N.Next.Value)); end if; end Finalize;
 abbrev pub following_finalize : BodyForm
@@ -251,6 +309,19 @@ node_events =
     ∷ Back second_node 1 2 (Some 0) None (Leaving 0 0)
     ∷ Finalized first_node 0 0 0 1 (Leaving 0 0)
     ∷ []
+
+-- The Finalize that frees what the component names takes that out of it before.
+abbrev pub freed_events : List Event
+freed_events =
+    Born first_node 0 0 0 1 Creation
+    ∷ Born second_node 0 0 0 2 Creation
+    ∷ replicate 2 (Followed first_node)
+    ++ Finalized second_node 0 0 0 2 (Leaving 0 0)
+    ∷ replicate 3 (Followed second_node)
+    ++ Left 1
+    ∷ Back second_node 1 2 (Some 0) None (Leaving 0 0)
+    ∷ Finalized first_node 0 0 0 1 (Leaving 0 0)
+    ∷ replicate 3 (Followed first_node)
 
 -- The Finalize that follows the component finds that it is not null, and comes to the node.
 abbrev pub following_events : List Event

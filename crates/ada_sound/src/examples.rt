@@ -148,6 +148,10 @@ pub fn premises_are_met()
 /// its 1 and adjusted, to 3; an exception leaves the block, with which the copy is finalized with its 2; the handler frees
 /// the allocated object, which is finalized with its 1; and the first one is finalized with its 3 where the main procedure
 /// is left. Each body that runs is a master of its own.
+///
+/// And one is accepted whose Finalize touches storage (7.6.1, 13.11.2): its record object, of a limited type, owns a cell.
+/// Where the main procedure is left, Finalize frees the cell, whose words go back before those of the record object, so that
+/// none are left to go back with the collection.
 pub fn operations_are_accepted()
     ensures operates { (program : Program)
         × (operations_of program.types.items 0 ≡ operation_examples.count_operations)
@@ -156,6 +160,12 @@ pub fn operations_are_accepted()
         × (stmt_forms program ≡ operation_examples.operating_stmts)
         × (handler_forms program ≡ operation_examples.operating_handlers)
         × IsChecked program × FinishesAfter operation_examples.operating_events program }
+    ensures tidies { (program : Program)
+        × (operations_of program.types.items 0 ≡ operation_examples.tidying_operations)
+        × (body_forms program ≡ operation_examples.tidying_finalize ∷ [])
+        × (declaration_forms program ≡ operation_examples.tidying_declarations)
+        × (stmt_forms program ≡ operation_examples.tidying_stmts)
+        × IsChecked program × FinishesAfter operation_examples.tidying_events program }
 {}
 
 /// Nor are they where an Initialize raises an exception (7.6.1): a program is accepted that allocates an object with two
@@ -307,7 +317,7 @@ pub fn rules_are_needed()
     ensures frees_gone { (program : Program)
         × (operations_of program.types.items 0 ≡ operation_examples.node_operations)
         × (body_forms program ≡ operation_examples.freeing_finalize ∷ []) × (stmt_forms program ≡ operation_examples.two_nodes)
-        × always.NotInUse program × always.HaltsAfter operation_examples.node_events (Erroneous FinalizesTwice) program }
+        × always.NotInUse program × always.HaltsAfter operation_examples.freed_events (Erroneous FinalizesTwice) program }
     ensures follows_gone { (program : Program)
         × (operations_of program.types.items 0 ≡ operation_examples.node_operations)
         × (body_forms program ≡ operation_examples.following_finalize ∷ []) × (stmt_forms program ≡ operation_examples.two_nodes)

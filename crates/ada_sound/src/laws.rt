@@ -1,5 +1,6 @@
 //! The laws of storage. Each is a function that does nothing, and whose contract is the theorem.
 
+ghost use Rattle.ada_flow.specs.Parts.{DepthsAreEnough};
 ghost use Rattle.ada_program.specs.declared.program.Program.{Program};
 ghost use Rattle.ada_meaning.specs.declared.event.Why.{Why};
 ghost use Rattle.ada_meaning.specs.declared.event.Why.TheVariants.{FollowsGone, EndsTwice, GivesElsewhere};
@@ -259,4 +260,23 @@ pub fn implicit_calls_spare_what_waits()
     ensures freed { implicit_calls.FreesSpareTheWay }
     ensures let_through { implicit_calls.StartSparesTheTarget }
     ensures refused { implicit_calls.StartIsRefused }
+{}
+
+/// A component of a record parameter's own is freed only where its finalization comes to no object in which the parameter may
+/// lie (6.2, 7.6, 13.11.2): it frees and follows no value of an access type whose objects are of the parameter's record type,
+/// or have a part of it, however deep. Where this is so, the path follows no value of the component's own access type or of one
+/// that the finalization reaches, and begins with none that is lost, the Free is let through. Record parameters are known as another's where their body begins, and record objects as
+/// their own where they are declared. Two such statements are refused, and three are let through: where no object that is
+/// reached has such a part, where the record is an object of its own, and where the path follows a value.
+pub fn frees_spare_record_parameters()
+    ensures freed { implicit_calls.FreesSpareTheFormal }
+    ensures no_more { implicit_calls.SafeFreesAreLetThrough }
+    ensures depths { DepthsAreEnough }
+    ensures formals { implicit_calls.FormalsAreAnothers }
+    ensures declared { implicit_calls.DeclaredRecordsAreTheirOwn }
+    ensures refused { implicit_calls.FormalIsRefused }
+    ensures refused_around { implicit_calls.BoxedFormalIsRefused }
+    ensures let_through { implicit_calls.OtherFormalIsSpared }
+    ensures object { implicit_calls.RecordObjectIsSpared }
+    ensures followed { implicit_calls.FollowedPathIsSpared }
 {}

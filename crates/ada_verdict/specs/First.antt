@@ -42,7 +42,7 @@ OperationsObey program = IsFirstOf (program_form program) None
 abbrev pub AdjustsNoAccess : Program → Type 0
 AdjustsNoAccess program = IsFirstUntracked (program_form program) None
 
--- Each operation is in use: Initialize is plain, Adjust and Finalize are quiet.
+-- Each operation is in use: Initialize is plain, Adjust is quiet, and Finalize is quiet or, where it may be, frugal.
 abbrev pub OperationsAreInUse : Program → Type 0
 OperationsAreInUse program = IsFirstNotInUse (program_form program) None
 
@@ -60,7 +60,8 @@ abbrev pub IsFirstBroken : Program → OperationFault → Type 0
 IsFirstBroken program (operations.Broken spot rule) = IsFirstOf (program_form program) (Some (spot, rule))
 IsFirstBroken program operations.NoMemory = Unit {0}
 
--- The first operation that is not in use: one that flow does not follow, or, where the rules of flow are obeyed, one that is not plain, or not quiet.
+-- The first operation that is not in use: one that flow does not follow, or, where the rules of flow are obeyed, one that is not plain, quiet or frugal as it
+-- must be.
 abbrev pub IsFirstUnused : Program → UnusedFault → Type 0
 IsFirstUnused program (unused.Adjust spot) = IsFirstUntracked (program_form program) (Some spot)
 IsFirstUnused program (unused.Operation spot) = AdjustsNoAccess program × ObeysRules program × IsFirstNotInUse (program_form program) (Some spot)

@@ -10,7 +10,7 @@ ghost use Rattle.ada_program.specs.Freed.{FreesItsOwn};
 ghost use Rattle.ada_program.specs.Nested.{CollectionsNest};
 ghost use Rattle.ada_program.specs.ProgramForm.{program_form};
 ghost use Rattle.ada_program.specs.WellFormed.{IsWellFormed};
-ghost use Rattle.ada_quiet.specs.Quiet.{operations_are_in_use};
+ghost use Rattle.ada_quiet.specs.InUse.{operations_are_in_use};
 ghost use Rattle.ada_sound.specs.Always.{IsChecked};
 ghost use Rattle.ada_tree.specs.StatementView.{unit_of};
 ghost use Rattle.ada_verdict.specs.First.{AdjustsNoAccess, HasNoFault, IsAccepted, IsFirst, IsFirstIn, IsFirstUnused, IsProgramOf, IsSourceOf, OperationsAreInUse, RefusesRightly};
@@ -142,7 +142,7 @@ fn obey(alloc: Global, program: &Program, implicit: &Implicit) -> Result<(), Flo
     flow(alloc, program, implicit)
 }
 
-/// Each operation is in use: Initialize is plain, Adjust and Finalize are quiet.
+/// Each operation is in use: Initialize is plain, Adjust is quiet, and Finalize is quiet or, where it may be, frugal.
 ///
 /// # Errors
 /// The first one that is not, or want of memory.

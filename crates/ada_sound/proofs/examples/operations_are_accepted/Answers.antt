@@ -1,5 +1,6 @@
--- By a program and its run.
+-- By two programs and their runs.
 use Rattle.ada_sound.proofs.ExampleOperations as operations
+use Rattle.ada_sound.proofs.ExampleTidying as tidying
 use Rattle.ada_sound.proofs.examples.operations_are_accepted.Goals as goal
 
 pub returns : goal.returns
@@ -13,5 +14,14 @@ returns c = record {
     operations.operating_handles,
     operations.operating_accepted,
     operations.operates,
+  );
+  tidies = (
+    tidying.tidying,
+    tidying.tidying_overrides,
+    tidying.tidying_bodies,
+    tidying.tidying_declares,
+    tidying.tidying_form,
+    tidying.tidying_accepted,
+    tidying.tidies,
   );
 }

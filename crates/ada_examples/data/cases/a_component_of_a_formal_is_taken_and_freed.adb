@@ -1,0 +1,35 @@
+with Ada.Finalization; with Ada.Text_IO; with Ada.Unchecked_Deallocation;
+procedure Main is
+   type Cell;
+   type Cell_Link is access Cell;
+   type Guard;
+   type Guard_Link is access Guard;
+   type Cell is record Value : Integer := 1; Own : Guard_Link; end record;
+   type Guard is new Ada.Finalization.Limited_Controlled with record Back : Cell_Link; end record;
+   overriding procedure Finalize (Object : in out Guard);
+   procedure Free_Cell is new Ada.Unchecked_Deallocation (Cell, Cell_Link);
+   procedure Free is new Ada.Unchecked_Deallocation (Guard, Guard_Link);
+   procedure Finalize (Object : in out Guard) is
+      X : access Cell := Object.Back;
+   begin
+      X.Value := 2;
+   exception
+      when others =>
+         null;
+   end Finalize;
+   procedure Drop (N : in out Cell) is
+      G : Guard_Link;
+      H : Guard_Link;
+   begin
+      G := N.Own;
+      N.Own := null;
+      Free (G);
+      H := G;
+      G := new Guard;
+      H := G;
+      Free (G);
+   end Drop;
+   A : Cell_Link := new Cell;
+begin
+   Drop (A.all);
+end Main;

@@ -1,0 +1,19 @@
+with Ada.Finalization; with Ada.Text_IO; with Ada.Unchecked_Deallocation;
+procedure Main is
+   type Node;
+   type Link is access Node;
+   type Node is record Value : Integer := 0; Next : Link; end record;
+   type List is new Ada.Finalization.Limited_Controlled with record Head : Link; end record;
+   overriding procedure Finalize (Object : in out List);
+   procedure Free is new Ada.Unchecked_Deallocation (Node, Link);
+   overriding procedure Finalize (Object : in out List) is
+   begin
+      Object.Head := new Node'(Value => 2, Next => Object.Head);
+      Free (Object.Head);
+   exception
+      when Storage_Error => null;
+   end Finalize;
+   L : List;
+begin
+   L.Head := new Node'(Value => 1, Next => null);
+end Main;

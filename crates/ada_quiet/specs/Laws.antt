@@ -1,0 +1,15 @@
+-- Laws of what is in use.
+
+use Rattle.std.specs.Prelude.{◌≡◌, true, List}
+use Rattle.ada_program.specs.ProgramForm.{TypeForm, BodyForm, ProgramForm}
+use Rattle.ada_quiet.specs.Quiet.{is_quiet_body, operations_are_quiet}
+use Rattle.ada_quiet.specs.Frugal.{is_frugal_body}
+use Rattle.ada_quiet.specs.InUse.{operations_are_in_use}
+
+-- A quiet body is frugal.
+abbrev pub QuietIsFrugal : Type 0
+QuietIsFrugal = (types : List TypeForm) (b : BodyForm) → is_quiet_body types b ≡ true → is_frugal_body b ≡ true
+
+-- Where all operations are quiet, all are in use.
+abbrev pub QuietIsInUse : Type 0
+QuietIsInUse = (p : ProgramForm) → operations_are_quiet p ≡ true → operations_are_in_use p ≡ true

@@ -1,0 +1,13 @@
+//! Laws of what is in use, by the definitions alone. Each is a function that does nothing, and whose contract is the theorem.
+
+ghost use Rattle.ada_quiet.specs.Laws.{QuietIsFrugal, QuietIsInUse};
+
+/// A quiet body is frugal: what touches no storage moves, follows and frees nothing.
+pub fn quiet_is_frugal()
+    ensures { QuietIsFrugal }
+{}
+
+/// Where all operations are quiet, all are in use.
+pub fn quiet_is_in_use()
+    ensures { QuietIsInUse }
+{}

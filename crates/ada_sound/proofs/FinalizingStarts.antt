@@ -1,0 +1,139 @@
+-- The treatment of an object calls a Finalize that touches storage: its body begins in a sound state (7.6.1).
+
+use Rattle.std.proofs.Common.{◌≡◌, ℕ, true, false, List, ◌∷◌, refl, sym, ap, subst, ◌∙◌}
+use Rattle.std.specs.Prelude.{Option, Some, None}
+use Rattle.std.specs.Option.{option_map}
+use Rattle.std.proofs.lemmas.Option.{slice_get-map}
+use Rattle.ada_deeds.specs.Implicit.{implicit_of}
+use Rattle.ada_effects.specs.Effects.{endings_free}
+use Rattle.ada_finalized.specs.Law.{NoOperationRuns}
+use Rattle.ada_finalized.proofs.Standing.{untreated_end}
+use Rattle.ada_parts.specs.Task.{Task}
+use Rattle.ada_program.specs.declared.program.Program.{Program}
+use Rattle.ada_program.specs.declared.program.TypeNo.{TypeNo}
+use Rattle.ada_program.specs.declared.program.VariableKind.{VariableKind}
+use Rattle.ada_program.specs.declared.program.VariableKind.TheVariants as variable_kinds
+use Rattle.ada_program.specs.Controlled.{operations_of, procedure_number}
+use Rattle.ada_program.specs.ProgramForm.{TypeForm, ProgramForm, program_form, body_forms, seen_by, seen_in}
+use Rattle.ada_program.specs.WellFormed.{finalization_of, is_access, variable_kind}
+use Rattle.ada_quiet.specs.Frugal.{is_frugal_body}
+use Rattle.ada_quiet.specs.InUse.{may_be_frugal}
+use Rattle.ada_meaning.specs.declared.event.Cause.{Cause}
+use Rattle.ada_meaning.specs.declared.state.Id.{Id}
+use Rattle.ada_meaning.specs.declared.state.Mode.TheVariants.{Running}
+use Rattle.ada_meaning.specs.declared.state.Place.{Place}
+use Rattle.ada_meaning.specs.declared.state.Stage.{Stage}
+use Rattle.ada_meaning.specs.declared.state.Stage.TheVariants.{Building, Existing, Gone}
+use Rattle.ada_meaning.specs.declared.state.Value.{Value}
+use Rattle.ada_meaning.specs.declared.state.Value.TheVariants.{Names, Part}
+use Rattle.ada_meaning.specs.Finalization.{NothingTreated}
+use Rattle.ada_meaning.specs.Frame.{Ends, Treatment, Treats, ends}
+use Rattle.ada_meaning.specs.Heap.{Cell}
+use Rattle.ada_meaning.specs.Law.{items_of}
+use Rattle.ada_meaning.specs.State.{Activation}
+use Rattle.ada_meaning.specs.Step.{operating}
+use Rattle.ada_meaning.specs.Named.{Object, State, object_at, named}
+use Rattle.ada_meaning.specs.Run.{Event}
+use Rattle.ada_owners.specs.Places.{is_there}
+use Rattle.ada_scopes.proofs.Components.{items_fit}
+use Rattle.ada_scopes.proofs.Homes.{ItemsFit}
+use Rattle.ada_typed.specs.Holding.{Designates, cells_of}
+use Rattle.ada_typed.proofs.Bodies.{seen_as}
+use Rattle.ada_typed.proofs.Control as typed
+use Rattle.ada_typed.proofs.Kept.{behind_call}
+use Rattle.ada_typed.proofs.Overridings.{ending_for}
+use Rattle.ada_sound.proofs.Alters.{Alters}
+use Rattle.ada_sound.proofs.Callers.{Suspension, known_in, Stands}
+use Rattle.ada_sound.proofs.Finalizing.{Finalizing}
+use Rattle.ada_sound.proofs.FinalizingBegins.{IsAlone, alone, finalizing_begins}
+use Rattle.ada_sound.proofs.FinalizingRests.{AtRest, at_rest}
+use Rattle.ada_sound.proofs.Fits.{IsWithin}
+use Rattle.ada_sound.proofs.FrugalUseCopies.{limited_parts}
+use Rattle.ada_sound.proofs.FrugalUseEnds.{endings_free_of}
+use Rattle.ada_sound.proofs.FrugalUseParts.{operable_is_object}
+use Rattle.ada_sound.proofs.FrugalUseStarts.{none_starts}
+use Rattle.ada_sound.proofs.Invariant.{Control, CoveredIn, IsCopied, TreatsBy}
+use Rattle.ada_sound.proofs.Operated.{OperatedOn}
+use Rattle.ada_sound.proofs.Operating.{IsCalm, StaysLive}
+use Rattle.ada_sound.proofs.OperationBegins.{formal_holds}
+use Rattle.ada_sound.proofs.OperationStarts.{calm_behind}
+use Rattle.ada_sound.proofs.Returns.{same_types}
+use Rattle.ada_sound.proofs.Starts.{Sound}
+use Rattle.ada_sound.proofs.Treatments.{Begins}
+
+-- What is looked for and found is there.
+live_there : (stage : Stage) → StaysLive stage → is_there stage ≡ true
+live_there Building live = refl
+live_there Existing live = refl
+live_there Gone live = absurd live
+
+-- An object of this type keeps it.
+kept_type : (before heap : List Object) (e : Event) (o : Id) (x : Object) (access : ℕ) → Alters before e heap → object_at heap o ≡ Some x → Designates (cells_of before) access o → x.cell.access ≡ access
+kept_type before heap e o x access alters found (cell, at, of) = by (object_at before o) refl (sym (slice_get-map (λ (y : Object). y.cell) before o.0) ∙ at)
+  where
+    by : (there : Option Object) → object_at before o ≡ there → option_map (λ (y : Object). y.cell) there ≡ Some cell → x.cell.access ≡ access
+    by None is seen = absurd (cc seen)
+    by (Some y) is seen =
+        let z = alters.kept o y is in
+        let same : z.0 ≡ x = let here = z.1 in cc (here, found) in
+        let cells : y.cell ≡ cell = cc seen in
+        let kept : x.cell.access ≡ y.cell.access = rw same at (z.2.0) in
+        kept ∙ (ap (λ (c : Cell Value). c.access) cells ∙ of)
+
+-- What its formal parameter stands for lies there.
+within_by : (types : List TypeForm) (kind : Option VariableKind) (o : Id) (access : ℕ) (place : Place) (object : TypeNo) → kind ≡ Some (variable_kinds.Record object)
+    → ((at : Place) × (Part o place ≡ Part o at) × IsWithin types (Some (variable_kinds.Record object)) access at.component) → IsWithin types kind access place.component
+within_by types kind o access place object is (at, same, within) =
+    let one : at ≡ place = cc same in
+    rw (is, ← one) within
+
+module _ (program : Program) (a : Activation Value) (rest : List (Activation Value)) (s : State) (k : Control) (v : Value) (treatment : Treatment) (tasks : List Task) (gs : List Suspension) (o : Id) (cause : Cause) (may : may_be_frugal (program_form program) ≡ true) where
+  abbrev p : ProgramForm
+  p = program_form program
+
+  module _ (whole : State) (is : whole.control ≡ Treats v treatment tasks ∷ k) (by : ends cause ≡ treatment) (sound : Sound program whole) (still : NoOperationRuns whole.control) where
+    -- Nothing is treated behind it.
+    untreated : (w : Value) (behind : Control) → k ≡ Ends w ∷ behind → NothingTreated behind
+    untreated w behind at =
+        untreated_end program sound.reached.0 sound.reached.1 whole still sound.reached.2 v w cause tasks behind
+        (is ∙ (ap (λ (t : Treatment). Treats v t tasks ∷ k) (sym by) ∙ ap (λ (j : Control). Treats v (ends cause) tasks ∷ j) at))
+
+    fits_here : ItemsFit p.types (items_of whole.masters)
+    fits_here = items_fit p whole sound.nested
+
+  no_copy : (t : ℕ) → IsCopied (known_in program a.procedure gs) t → ⊥
+  no_copy t (f, is, limited) =
+      let found : finalization_of p.types t ≡ Some f = subst (λ (types : List TypeForm). finalization_of types t ≡ Some f) (same_types a.procedure p) is in
+      let other = limited_parts p may t f found in
+      cc (limited, other)
+
+  -- The body of a Finalize begins.
+  module _ (whole : State) (is : whole.control ≡ Treats v treatment tasks ∷ k) (same : whole.masters ≡ s.masters) (sound : Sound program whole) (still : NoOperationRuns whole.control) (calm : IsCalm (behind_call k)) (stands : Stands program gs (record s { activations = a ∷ rest })) where
+    abbrev IsOperated : Treatment → Id → ℕ → Type 0
+    IsOperated by object of = (by ≡ treatment) × OperatedOn p.types (cells_of s.heap) object of
+
+    pub finalizing_starts : (e : Event) (after : State) (c : Begins (known_in program a.procedure gs) a rest s program.types.items (body_forms program) k IsOperated e after) → c.treatment ≡ ends cause → is_frugal_body c.b ≡ true → typed.Typed p after → Finalizing program after
+    finalizing_starts e after c ends_so frugal typing =
+        let operated = c.operated.1 in
+        let of_type : c.x.cell.access ≡ operated.0 = kept_type s.heap c.heap e c.o c.x operated.0 c.alters c.found operated.2 in
+        let object : is_access p.types c.x.cell.access ≡ false = rw of_type (operable_is_object program sound.well may operated.0 c.of operated.1 operated.3) in
+        let treats : TreatsBy (known_in program a.procedure gs) (Names c.o) (ends cause) k c.heap a.places a.operands s.masters = rw ends_so at c.treats in
+        let at : AtRest (known_in program a.procedure gs) c.o c.x k c.heap a.places s.masters =
+        at_rest (known_in program a.procedure gs) c.o c.x c.heap c.found a.places a.operands s.masters
+        (subst (λ (types : List TypeForm). is_access types c.x.cell.access ≡ false) (sym (same_types a.procedure p)) object)
+        (subst (λ (types : List TypeForm). ItemsFit types (items_of s.masters)) (sym (same_types a.procedure p)) (rw same at (fits_here whole is (sym ends_so ∙ c.operated.0) sound still)))
+        (λ access raised. none_starts program sound.well may sound.in_use access raised) no_copy cause k treats (untreated whole is (sym ends_so ∙ c.operated.0) sound still) in
+        let overrides : procedure_number (operations_of program.types.items c.of).finalize ≡ Some c.number = rw ends_so at c.called in
+        let operation = ending_for p program.types.items refl sound.well.operations_fit c.of c.number overrides in
+        let body : operation.body ≡ c.b = let found = operation.there in let there = c.there in cc (found, there) in
+        let lone : IsAlone c.b = alone c.b operation.object (rw body at operation.formals) in
+        let begun = operating named c.number c.b (Part c.o c.place) c.behind (record s { activations = a ∷ rest; heap = c.heap; mode = Running; control = k }) in
+        let now : typed.Typed p begun = rw c.is at typing in
+        let inside : typed.TypedIn (seen_in (Some c.number) p) begun = now.inside in
+        let own : typed.TypedIn (seen_by c.number c.b p) begun = rw (seen_as p c.number c.b c.there) at inside in
+        let holds = formal_holds program c.number c.b c.o c.place begun (_, refl) c.x c.found own in
+        let within : IsWithin p.types (variable_kind c.b.variables 0) c.x.cell.access c.place.component = within_by p.types (variable_kind c.b.variables 0) c.o c.x.cell.access c.place lone.object lone.is (rw lone.is at holds) in
+        let frees : (t : ℕ) → CoveredIn (implicit_of p) (seen_in (Some c.number) p) t → endings_free (implicit_of p) at.gone.types t ≡ true =
+        endings_free_of program sound.well c.x.cell.access c.of operated.1 c.number c.b (rw of_type operated.3) overrides c.there at.gone.types at.among in
+        rw c.is (finalizing_begins program sound.well sound.obeys c.number c.b c.there may frugal lone a rest gs s k c.o c.x c.heap c.found (live_there c.x.stage c.live) c.place within at c.behind frees e c.of cause c.alters (rw ends_so at c.waits) stands
+        (calm_behind c.o c.of (ends cause) k c.behind (rw ends_so at c.waits) calm))

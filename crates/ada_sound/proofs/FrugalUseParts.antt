@@ -1,0 +1,52 @@
+-- Where a Finalize may be frugal, what has controlled parts lies in declared objects alone (7.6, 3.10).
+
+use Rattle.std.proofs.Common.{◌≡◌, ℕ, Bool, true, false, List, refl, ap}
+use Rattle.std.specs.Prelude.{Option, Some, None, is_some, not}
+use Rattle.std.specs.List.{slice_get}
+use Rattle.ada_deeds.proofs.Naming.{all_at}
+use Rattle.ada_meaning.proofs.Places.{is_declared}
+use Rattle.ada_program.specs.declared.program.Program.{Program}
+use Rattle.ada_program.specs.ProgramForm.{TypeForm, record_of, access_to, object_of, ProgramForm, program_form}
+use Rattle.ada_program.specs.Walks.{Walks, ends, into}
+use Rattle.ada_program.specs.WellFormed.{IsWellFormed, designated_in, finalization_in, finalization_of, is_access, named_in}
+use Rattle.ada_quiet.specs.InUse.{lets_be_frugal, may_be_frugal}
+use Rattle.ada_sound.proofs.FrugalFrees.{NoAccessToParts}
+use Rattle.ada_sound.proofs.OperationStarts.{apart}
+use Rattle.ada_typed.specs.Holding.{WalksTo}
+use Rattle.ada_typed.proofs.Inner.{lies_at}
+use Rattle.ada_typed.proofs.Lying.{IsOperable}
+
+no_no : (b : Bool) → not b ≡ true → b ≡ false
+no_no true e = absurd (cc e)
+no_no false e = refl
+
+-- Each type of the program lets one be frugal.
+pub each_lets : (p : ProgramForm) → may_be_frugal p ≡ true → (t : ℕ) (u : TypeForm) → slice_get p.types t ≡ Some u → lets_be_frugal p u ≡ true
+each_lets p may t u at = all_at (lets_be_frugal p) p.types t u may at
+
+-- So no access type designates a record type whose objects have controlled parts.
+pub no_access_to_parts : (p : ProgramForm) → may_be_frugal p ≡ true → NoAccessToParts p.types
+no_access_to_parts p may t name designated pool at =
+    no_no (is_some (finalization_of p.types designated)) (apart _ _ (each_lets p may t (access_to name designated pool) at)).0
+
+-- A record in which one with controlled parts lies has some, too.
+pub walked_parts : (types : List TypeForm) (t first part u : ℕ) → Walks types t first part u → is_some (finalization_of types u) ≡ true → is_some (finalization_of types t) ≡ true
+walked_parts types t _ _ _ ends h = h
+walked_parts types t _ _ u (into i first part _ m name ps components f q v at there is known walks) h = ap (λ (o : Option TypeForm). is_some (finalization_in o)) at
+
+object_by : (p : ProgramForm) → may_be_frugal p ≡ true → (access t first part : ℕ) (o : Option TypeForm) → slice_get p.types access ≡ o → WalksTo p.types (named_in o) (Some t) first part → is_some (finalization_of p.types t) ≡ true → is_some (designated_in o) ≡ false
+object_by p may access t first part None at walks has = refl
+object_by p may access t first part (Some (record_of name parts components finalization)) at walks has = refl
+object_by p may access t first part (Some (access_to name designated pool)) at walks has =
+    let none = no_access_to_parts p may access name designated pool at in
+    let some = walked_parts p.types designated first part t walks has in
+    absurd (cc (none, some))
+object_by p may access t first part (Some (object_of record_type)) at walks has = refl
+
+-- A controlled record lies in declared objects, and in none that an access value designates.
+pub operable_is_object : (program : Program) → IsWellFormed (program_form program) → may_be_frugal (program_form program) ≡ true → (access of part : ℕ) → IsOperable (program_form program).types access of part → is_access (program_form program).types access ≡ false
+operable_is_object program well may access of part operable =
+    let p = program_form program in
+    let l = lies_at program well access of part operable.0 in
+    let d = is_declared program l.record_type of l.numbered in
+    object_by p may access l.record_type l.first part (slice_get p.types access) refl l.walk (ap (λ (o : Option TypeForm). is_some (finalization_in o)) d.declares.2)
