@@ -6,12 +6,14 @@ use Rattle.std.specs.List.{slice_get}
 use Rattle.ada_program.specs.declared.program.Program.{Program}
 use Rattle.ada_program.specs.declared.program.TypeDefinition.{TypeDefinition}
 use Rattle.ada_program.specs.Controlled.{OverridesNothing, shapes_of}
+use Rattle.ada_parts.specs.Part as parts
 use Rattle.ada_parts.specs.Task.{Task}
 use Rattle.ada_meaning.specs.declared.state.Id.{Id}
 use Rattle.ada_meaning.specs.declared.state.Value.{Value}
 use Rattle.ada_meaning.specs.declared.state.Value.TheVariants.{Names}
 use Rattle.ada_meaning.specs.declared.state.Mode.{Mode}
 use Rattle.ada_meaning.specs.declared.state.Mode.TheVariants.{Running, Raising, Exiting, Returning}
+use Rattle.ada_meaning.specs.declared.event.Birth.{Birth}
 use Rattle.ada_meaning.specs.declared.event.Birth.TheVariants.{Adjustment}
 use Rattle.ada_meaning.specs.declared.event.Cause.{Cause}
 use Rattle.ada_meaning.specs.Frame.{Frame, Treatment, begins, ends, begins_by}
@@ -229,6 +231,31 @@ module _ (types : List TypeDefinition) (s : State) (still : NoOperationRuns s.co
   behind_end v w cause tasks k is (leaving o x because pool j running c own st at_o gone) = let e = sym is ∙ c in absurd (cc e)
   behind_end v w cause tasks k is (storing o n to width left j running c st) = let e = sym is ∙ c in absurd (cc e)
 
+  -- What is left of a finalization does not begin with an initialization or an adjustment: so behind these nothing is treated.
+  not_finalization :
+      (acts : Acts) (v : Value) (by : Birth) (done : List parts.Part) (tasks : List Task) (k : Control)
+      → Stack types s.heap finalization acts (frame.Treats v (begins by done) tasks ∷ k) → ⊥
+  not_finalization acts v by done tasks k (to_end o because pool [] j is own once st) = absurd (cc is)
+  not_finalization acts v by done tasks k (to_end o because pool (task ∷ left) j is own once st) = absurd (cc is)
+  not_finalization acts v by done tasks k (to_copy o n from t to width source [] later j is less once operand st) = absurd (cc is)
+  not_finalization acts v by done tasks k (to_copy o n from t to width source (task ∷ left) later j is less once operand st) = absurd (cc is)
+
+  pub behind_start :
+      (v : Value) (by : Birth) (done : List parts.Part) (tasks : List Task) (k : Control) → s.control ≡ frame.Treats v (begins by done) tasks ∷ k
+      → Stands types s.heap s → NothingTreated k
+  behind_start v by done tasks k is (runs st) = absurd (subst NothingTreated is (code_nothing s.control s.activations still st))
+  behind_start v by done tasks k is (finding running g after) = absurd (subst NothingTreated is (assigns_nothing s.activations s.control still after))
+  behind_start v by done tasks k is (passing e raises p after) = absurd (subst NothingTreated is (assigns_nothing s.activations s.control still after))
+  behind_start v by done tasks k is (ends_operation st) = absurd (guard_never types s.heap s.activations s.control st still)
+  behind_start v by done tasks k is (beginning o how before task left j running c st) =
+      let e = sym is ∙ c in
+      let same : k ≡ j = cc e in
+      subst NothingTreated (sym same) (code_nothing j s.activations (subst NoOperationRuns c still).1 st)
+  behind_start v by done tasks k is (ending running st) =
+      absurd (not_finalization s.activations v by done tasks k (subst (Stack types s.heap finalization s.activations) is st))
+  behind_start v by done tasks k is (leaving o x because pool j running c own st at_o gone) = let e = sym is ∙ c in absurd (cc e)
+  behind_start v by done tasks k is (storing o n to width left j running c st) = let e = sym is ∙ c in absurd (cc e)
+
 -- So it is at any frame that treats nothing, as one of a Free does.
 pub nothing_treated_at :
     (program : Program) (input : List ℤ) (events : List Event) (last : State) → NoOperationRuns last.control
@@ -244,6 +271,14 @@ pub untreated_end :
     → last.control ≡ frame.Treats v (ends cause) tasks ∷ frame.Ends w ∷ k → NothingTreated k
 untreated_end program input events last still run v w cause tasks k is =
     behind_end program.types.items last still v w cause tasks k is (last_holds program input events last run).fits.stands
+
+-- So it is behind the initialization of a new object, or the adjustment of a copy (7.6).
+pub untreated_start :
+    (program : Program) (input : List ℤ) (events : List Event) (last : State) → NoOperationRuns last.control
+    → Run program (first_state program input) events last → (v : Value) (by : Birth) (done : List parts.Part) (tasks : List Task) (k : Control)
+    → last.control ≡ frame.Treats v (begins by done) tasks ∷ k → NothingTreated k
+untreated_start program input events last still run v by done tasks k is =
+    behind_start program.types.items last still v by done tasks k is (last_holds program input events last run).fits.stands
 
 -- And so it is where a statement begins.
 beginning_in : (mode : Mode) (k : Control) → begins_in mode k ≡ true → begins_among k ≡ true
